@@ -1,0 +1,14 @@
+pub mod Walk
+pub mod Decided
+pub mod Walked
+pub mod Closed
+pub mod Placed
+pub mod Slots
+pub mod Again
+pub mod AgainNames
+pub mod AgainAddresses
+pub mod Packing
+pub mod Spelled
+pub mod Read
+pub mod Reading
+pub mod Finding

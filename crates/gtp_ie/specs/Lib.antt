@@ -1,0 +1,12 @@
+pub mod Steps
+pub mod Element
+pub mod View
+pub mod Walked
+pub mod Layout
+pub mod Digits
+pub mod Value
+pub mod Parts
+pub mod Decides
+pub mod Octets
+pub mod Text
+pub mod Spelling

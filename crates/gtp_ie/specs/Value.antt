@@ -1,0 +1,213 @@
+-- The values that elements have, what a body says, and the one body that is written for a value.
+use Rattle.std.specs.Prelude.{ℕ, ◌+◌, ◌*◌, ◌-◌, ◌^◌, ◌<◌, Bool, true, false, ◌&&◌, ◌||◌, List, [], ◌∷◌, ◌++◌, length, take, drop, Option, Some, None, is_some, option_map, Result, Ok, Err, nat_lt, nat_le, ◌==◌, if◌then◌else◌}
+use Rattle.byteorder.specs.Endian.{big_bytes}
+use Rattle.gtp_values.specs.declared.cause.Cause.{Cause}
+use Rattle.gtp_values.specs.declared.cause.Offending.{Offending}
+use Rattle.gtp_values.specs.declared.qos.Ambr.{Ambr}
+use Rattle.gtp_values.specs.declared.qos.Qos.{Qos}
+use Rattle.gtp_values.specs.declared.qos.Rates.{Rates}
+use Rattle.gtp_values.specs.declared.paa.Paa.{Paa}
+use Rattle.gtp_values.specs.declared.paa.Paa.TheVariants as paas
+use Rattle.gtp_values.specs.Apn.{are_labels_from}
+use Rattle.gtp_values.specs.TunnelEnd.{TunnelEnd}
+use Rattle.gtp_values.specs.Plmn.{Network}
+use Rattle.gtp_ie.specs.declared.fault.ReadFault.{ReadFault}
+use Rattle.gtp_ie.specs.declared.fault.ReadFault.TheVariants.{Short, Bad}
+use Rattle.gtp_ie.specs.Layout.{octet, octets_from, number_in, bits, is_set}
+use Rattle.gtp_ie.specs.Digits.{digits_in, packed, are_imsi_digits, are_network_digits, network_text}
+
+-- a value of any type of element
+pub data Value : Type 0 where
+  OfImsi : List ℕ → Value
+  OfCause : Cause → Value
+  OfRecovery : ℕ → Value
+  OfApn : List ℕ → Value
+  OfAmbr : Ambr → Value
+  OfEbi : ℕ → Value
+  OfPaa : Paa → Value
+  OfQos : Qos → Value
+  OfRat : ℕ → Value
+  OfPlmn : Network → Value
+  OfTft : List ℕ → Value
+  OfFTeid : TunnelEnd → Value
+  OfChargingId : ℕ → Value
+  OfPdnType : ℕ → Value
+  OfPti : ℕ → Value
+  OfSelection : ℕ → Value
+
+-- ---- the parts of a body
+
+-- TS 29.274 8.4: the element at fault stands in four further octets, of which its length is not looked at
+abbrev pub offending_in : List ℕ → Option Offending
+offending_in body = if nat_lt (length body) 6 then None else Some (record { kind = octet 7 body; instance = bits 4 1 (octet 10 body) })
+
+-- TS 29.274 8.4
+abbrev pub cause_in : List ℕ → Cause
+cause_in body =
+    record { value = octet 5 body; pce = is_set 3 (octet 6 body); bce = is_set 2 (octet 6 body); cs = is_set 1 (octet 6 body); offending = offending_in body }
+
+-- TS 29.274 8.7
+abbrev pub ambr_in : List ℕ → Ambr
+ambr_in body = record { up = number_in 4 5 body; down = number_in 4 9 body }
+
+-- TS 29.274 8.14: the PDN type
+abbrev pub pdn_type_in : List ℕ → ℕ
+pdn_type_in body = bits 3 1 (octet 5 body)
+
+-- TS 29.274 8.14: behind the type an IPv4 address, or a prefix length and an IPv6 address, or all three
+abbrev pub paa_in : List ℕ → Paa
+paa_in body =
+    if pdn_type_in body == 1 then paas.V4 (take 4 (octets_from 6 body))
+    else (if pdn_type_in body == 2 then paas.V6 (octet 6 body) (take 16 (octets_from 7 body))
+    else (if pdn_type_in body == 3 then paas.V4V6 (octet 6 body) (take 16 (octets_from 7 body)) (take 4 (octets_from 23 body))
+    else paas.Other (pdn_type_in body)))
+
+-- TS 29.274 8.15: rates in five octets each
+abbrev pub rates_in : ℕ → List ℕ → Rates
+rates_in n body = record { up = number_in 5 n body; down = number_in 5 (n + 5) body }
+
+-- TS 29.274 8.15
+abbrev pub qos_in : List ℕ → Qos
+qos_in body =
+    record { pci = is_set 7 (octet 5 body); pl = bits 6 3 (octet 5 body); pvi = is_set 1 (octet 5 body); qci = octet 6 body; mbr = rates_in 7 body; gbr = rates_in 17 body }
+
+-- TS 29.274 8.18: the third digit of the network code is 15 where the code has two
+abbrev pub third_digit : ℕ → List ℕ
+third_digit digit = if digit == 15 then [] else digit ∷ []
+
+-- TS 29.274 8.18
+abbrev pub network_in : List ℕ → Network
+network_in body =
+    record {
+      mcc = bits 4 1 (octet 5 body) ∷ bits 8 5 (octet 5 body) ∷ bits 4 1 (octet 6 body) ∷ [];
+      mnc = bits 4 1 (octet 7 body) ∷ bits 8 5 (octet 7 body) ∷ third_digit (bits 8 5 (octet 6 body));
+    }
+
+-- TS 29.274 8.22: which addresses there are
+abbrev pub has_v4 : List ℕ → Bool
+has_v4 body = is_set 8 (octet 5 body)
+
+abbrev pub has_v6 : List ℕ → Bool
+has_v6 body = is_set 7 (octet 5 body)
+
+-- how many octets an address takes, where it is there
+abbrev pub room : Bool → ℕ → ℕ
+room there n = if there then n else 0
+
+-- TS 29.274 8.22: an IPv4 address stands before an IPv6 one
+abbrev pub fteid_in : List ℕ → TunnelEnd
+fteid_in body =
+    record {
+      interface = bits 6 1 (octet 5 body);
+      teid = number_in 4 6 body;
+      v4 = if has_v4 body then Some (take 4 (octets_from 10 body)) else None;
+      v6 = if has_v6 body then Some (take 16 (octets_from (10 + room (has_v4 body) 4) body)) else None;
+    }
+
+-- TS 29.274 8.14: the least length by the PDN type
+abbrev pub least_paa : ℕ → ℕ
+least_paa pdn = if pdn == 1 then 5 else (if pdn == 2 then 18 else (if pdn == 3 then 22 else 1))
+
+-- ---- reading
+
+-- the least length of a body, by the type of the element
+abbrev pub least : ℕ → List ℕ → ℕ
+least kind body =
+    if kind == 1 then 3
+    else (if kind == 2 then 2
+    else (if kind == 3 then 1
+    else (if kind == 71 then 1
+    else (if kind == 72 then 8
+    else (if kind == 73 then 1
+    else (if kind == 79 then least_paa (pdn_type_in body)
+    else (if kind == 80 then 22
+    else (if kind == 82 then 1
+    else (if kind == 83 then 3
+    else (if kind == 87 then 5 + room (has_v4 body) 4 + room (has_v6 body) 16
+    else (if kind == 94 then 4
+    else (if kind == 99 then 1
+    else (if kind == 100 then 1
+    else (if kind == 128 then 1
+    else 0))))))))))))))
+
+-- a value, where a test lets it stand
+abbrev pub only_if : Bool → Value → Option Value
+only_if good v = if good then Some v else None
+
+-- what a body that is long enough says, by the type of the element
+abbrev pub said : ℕ → List ℕ → Option Value
+said kind body =
+    if kind == 1 then only_if (are_imsi_digits (digits_in body)) (OfImsi (digits_in body))
+    else (if kind == 2 then Some (OfCause (cause_in body))
+    else (if kind == 3 then Some (OfRecovery (octet 5 body))
+    else (if kind == 71 then only_if (nat_le (length body) 100 && are_labels_from 0 body) (OfApn body)
+    else (if kind == 72 then Some (OfAmbr (ambr_in body))
+    else (if kind == 73 then Some (OfEbi (bits 4 1 (octet 5 body)))
+    else (if kind == 79 then Some (OfPaa (paa_in body))
+    else (if kind == 80 then Some (OfQos (qos_in body))
+    else (if kind == 82 then Some (OfRat (octet 5 body))
+    else (if kind == 83 then only_if (are_network_digits (network_in body)) (OfPlmn (network_in body))
+    else (if kind == 84 then only_if (nat_le (length body) 255) (OfTft body)
+    else (if kind == 87 then only_if (has_v4 body || has_v6 body) (OfFTeid (fteid_in body))
+    else (if kind == 94 then Some (OfChargingId (number_in 4 5 body))
+    else (if kind == 99 then Some (OfPdnType (bits 3 1 (octet 5 body)))
+    else (if kind == 100 then Some (OfPti (octet 5 body))
+    else (if kind == 128 then Some (OfSelection (bits 2 1 (octet 5 body)))
+    else None)))))))))))))))
+
+-- a value, or that there is none
+abbrev pub or_bad : Option Value → Result Value ReadFault
+or_bad None = Err Bad
+or_bad (Some v) = Ok v
+
+-- the value of a body, by the type of the element: too short below the least length, and bad where it says nothing
+unfoldable pub value_at : ℕ → List ℕ → Result Value ReadFault
+value_at kind body = if nat_lt (length body) (least kind body) then Err Short else or_bad (said kind body)
+
+-- ---- writing
+
+-- rates below their bound
+pub record AreRates (r : Rates) : Type 0 where
+  pub up : r.up < 2 ^ 40
+  pub down : r.down < 2 ^ 40
+
+-- 1 or 0
+abbrev pub bit : Bool → ℕ
+bit true = 1
+bit false = 0
+
+abbrev pub offending_text : Option Offending → List ℕ
+offending_text None = []
+offending_text (Some o) = o.kind ∷ 0 ∷ 0 ∷ o.instance ∷ []
+
+abbrev pub address_text : Option (List ℕ) → List ℕ
+address_text None = []
+address_text (Some octets) = octets
+
+abbrev pub paa_text : Paa → List ℕ
+paa_text (paas.V4 v4) = 1 ∷ v4
+paa_text (paas.V6 prefix v6) = 2 ∷ prefix ∷ v6
+paa_text (paas.V4V6 prefix v6 v4) = 3 ∷ prefix ∷ (v6 ++ v4)
+paa_text (paas.Other pdn) = pdn ∷ []
+
+abbrev pub rates_text : Rates → List ℕ
+rates_text r = big_bytes 5 r.up ++ big_bytes 5 r.down
+
+-- the one body that is written for a value: spare bits 0, no octets behind the form
+unfoldable pub text_of : Value → List ℕ
+text_of (OfImsi digits) = packed digits
+text_of (OfCause c) = c.value ∷ (4 * bit c.pce + 2 * bit c.bce + bit c.cs) ∷ offending_text c.offending
+text_of (OfRecovery counter) = counter ∷ []
+text_of (OfApn octets) = octets
+text_of (OfAmbr a) = big_bytes 4 a.up ++ big_bytes 4 a.down
+text_of (OfEbi n) = n ∷ []
+text_of (OfPaa p) = paa_text p
+text_of (OfQos q) = (64 * bit q.pci + 4 * q.pl + bit q.pvi) ∷ q.qci ∷ (rates_text q.mbr ++ rates_text q.gbr)
+text_of (OfRat n) = n ∷ []
+text_of (OfPlmn n) = network_text n
+text_of (OfTft octets) = octets
+text_of (OfFTeid f) = (128 * bit (is_some f.v4) + 64 * bit (is_some f.v6) + f.interface) ∷ (big_bytes 4 f.teid ++ address_text f.v4 ++ address_text f.v6)
+text_of (OfChargingId n) = big_bytes 4 n
+text_of (OfPdnType n) = n ∷ []
+text_of (OfPti n) = n ∷ []
+text_of (OfSelection n) = n ∷ []

@@ -1,0 +1,17 @@
+//! Information elements of GTPv2-C in the place where they lie, and the values that they spell.
+#![tactic(auto)]
+
+mod elements;
+mod fault;
+mod value;
+mod view;
+mod writing;
+
+pub use elements::{AllOf, Elements, all_elements, elements_at};
+pub use fault::{IeFault, ReadFault};
+pub use value::{ChargingId, EbiValue, IeValue, PdnType, Pti, Rat, Recovery, Selection};
+pub use view::ElementView;
+pub use writing::{append, close, open, put, put_value};
+
+#[cfg(test)]
+mod tests;

@@ -1,0 +1,51 @@
+//! What elements say: the law of element values.
+
+ghost use Rattle.std.specs.Prelude.{◌≡◌, ◌↔◌, ℕ, ◌++◌, OnOk, OnErr, IfOk, IsOkAnd, IsErrOf};
+ghost use Rattle.gtp_ie.specs.Steps.{Gives};
+ghost use Rattle.gtp_ie.specs.Value.{Value, value_at, text_of};
+ghost use Rattle.gtp_ie.specs.Spelling.{Spells, IsShort, IsBad};
+
+use crate::fault::ReadFault;
+use std::alloc::AllocError;
+
+mod addresses;
+mod cause;
+mod names;
+mod numbers;
+mod quality;
+
+pub use numbers::{ChargingId, EbiValue, PdnType, Pti, Rat, Recovery, Selection};
+
+/// A value that the body of an element of one type spells (TS 29.274 8.1).
+pub trait IeValue: Copy {
+    /// The type of the element.
+    const KIND: u8;
+
+    ghost KIND: { ℕ };
+
+    /// Which value it is.
+    ghost value: { Self → Value };
+
+    /// The value that the body spells, by the form of its type.
+    fn parse(body: &[u8]) -> Result<Self, ReadFault>
+        ensures { Gives value result (value_at KIND body.now) };
+
+    /// Appends the one body of the value: spare bits 0, and no octets behind the form. After want of
+    /// memory the vector is as before.
+    fn write(&self, out: &mut Vec<u8>) -> Result<(), AllocError>
+        ensures ok { OnOk result (out.new.items ≡ out.old.items ++ text_of (value self.now)) }
+        ensures err { OnErr result (out.new.items ≡ out.old.items) }
+        // What is written spells the value.
+        ensures again { Spells KIND (text_of (value self.now)) (value self.now) };
+
+    /// The value that the body spells; `Short` exactly below the least length of its type, `Bad`
+    /// exactly where the body is long enough and spells none.
+    final fn read(body: &[u8]) -> Result<Self, ReadFault>
+        ensures value { IfOk result (λ x. Spells KIND body.now (value x)) }
+        ensures only { (v : Value) → Spells KIND body.now v → IsOkAnd result (λ x. value x ≡ v) }
+        ensures short { IsErrOf result ReadFault.Short ↔ IsShort KIND body.now }
+        ensures bad { IsErrOf result ReadFault.Bad ↔ IsBad KIND body.now }
+    {
+        Self::parse(body)
+    }
+}

@@ -1,0 +1,155 @@
+//! Addresses, tunnel ends and networks as elements.
+
+ghost use Rattle.std.specs.Prelude.{◌≡◌, ◌≤◌, length, take, drop};
+ghost use Rattle.gtp_ie.specs.Value.{OfPaa, OfPlmn, OfFTeid, address_text};
+
+use crate::fault::ReadFault;
+use crate::value::IeValue;
+use crate::writing::append;
+use byteorder::{BigEndian, ByteOrder};
+use gtp_values::{FTeid, OtherPdnType, Paa, Plmn, Teid};
+use std::alloc::AllocError;
+
+/// The first octets of a slice.
+fn first<const N: usize>(octets: &[u8]) -> [u8; N]
+    requires { N ≤ length octets.now }
+    ensures { result ≡ take N octets.now }
+{
+    let mut cells = [0u8; N];
+    cells.copy_from_slice(&octets[..N]);
+    cells
+}
+
+/// The octets of an address, or none.
+fn octets_of<const N: usize>(address: &Option<[u8; N]>) -> &[u8]
+    ensures { result.now ≡ address_text address.now }
+{
+    match address {
+        Some(octets) => octets,
+        None => &[],
+    }
+}
+
+impl IeValue for FTeid {
+    const KIND: u8 = 87;
+
+    ghost KIND = { 87 };
+
+    ghost value = { OfFTeid };
+
+    #[tactic(auto, unfolding(crate::specs::Value::value_at))]
+    fn parse(body: &[u8]) -> Result<FTeid, ReadFault> {
+        let [flags, ..] = body else {
+            return Err(ReadFault::Short);
+        };
+        let has_v4 = *flags / 128 % 2 == 1;
+        let has_v6 = *flags / 64 % 2 == 1;
+        let after_v4 = if has_v4 { 9 } else { 5 };
+        let end = if has_v6 { after_v4 + 16 } else { after_v4 };
+        if body.len() < end {
+            return Err(ReadFault::Short);
+        }
+        let v4 = if has_v4 {
+            Some(first::<4>(&body[5..]))
+        } else {
+            None
+        };
+        let v6 = if has_v6 {
+            Some(first::<16>(&body[after_v4..]))
+        } else {
+            None
+        };
+        let teid = Teid(BigEndian::read_u32(&body[1..]));
+        FTeid::try_new(*flags % 64, teid, v4, v6).map_err(|_| ReadFault::Bad)
+    }
+
+    #[tactic(auto, unfolding(crate::specs::Value::text_of), using(crate::proofs::AgainAddresses::fteid_again))]
+    fn write(&self, out: &mut Vec<u8>) -> Result<(), AllocError> {
+        let v4 = octets_of(self.v4());
+        let v6 = octets_of(self.v6());
+        let flags = 128 * u8::from(self.v4().is_some())
+            + 64 * u8::from(self.v6().is_some())
+            + self.interface();
+        let mut teid = [0u8; 4];
+        BigEndian::write_u32(&mut teid, self.teid().0);
+        append(out, &[&[flags], &teid, v4, v6])
+    }
+}
+
+impl IeValue for Paa {
+    const KIND: u8 = 79;
+
+    ghost KIND = { 79 };
+
+    ghost value = { OfPaa };
+
+    #[tactic(auto, unfolding(crate::specs::Value::value_at))]
+    fn parse(body: &[u8]) -> Result<Paa, ReadFault> {
+        let [octet, rest @ ..] = body else {
+            return Err(ReadFault::Short);
+        };
+        match *octet % 8 {
+            1 if rest.len() < 4 => Err(ReadFault::Short),
+            1 => Ok(Paa::V4(first(rest))),
+            2 if rest.len() < 17 => Err(ReadFault::Short),
+            2 => Ok(Paa::V6 {
+                prefix: rest[0],
+                address: first(&rest[1..]),
+            }),
+            3 if rest.len() < 21 => Err(ReadFault::Short),
+            3 => Ok(Paa::V4V6 {
+                prefix: rest[0],
+                v6: first(&rest[1..]),
+                v4: first(&rest[17..]),
+            }),
+            other => OtherPdnType::try_new(other)
+                .map(Paa::Other)
+                .map_err(|_| ReadFault::Bad),
+        }
+    }
+
+    #[tactic(auto, unfolding(crate::specs::Value::text_of), using(crate::proofs::AgainAddresses::v4_again, crate::proofs::AgainAddresses::v6_again, crate::proofs::AgainAddresses::v4v6_again, crate::proofs::AgainAddresses::other_again))]
+    fn write(&self, out: &mut Vec<u8>) -> Result<(), AllocError> {
+        match self {
+            Paa::V4(v4) => append(out, &[&[1], v4]),
+            Paa::V6 { prefix, address } => append(out, &[&[2, *prefix], address]),
+            Paa::V4V6 { prefix, v6, v4 } => append(out, &[&[3, *prefix], v6, v4]),
+            Paa::Other(other) => append(out, &[&[other.number()]]),
+        }
+    }
+}
+
+impl IeValue for Plmn {
+    const KIND: u8 = 83;
+
+    ghost KIND = { 83 };
+
+    ghost value = { OfPlmn };
+
+    #[tactic(auto, unfolding(crate::specs::Value::value_at), using(crate::proofs::Read::plmn_read, crate::proofs::Read::plmn_unread))]
+    fn parse(body: &[u8]) -> Result<Plmn, ReadFault> {
+        let [first, second, third, ..] = body else {
+            return Err(ReadFault::Short);
+        };
+        let mcc = [*first % 16, *first / 16, *second % 16];
+        let mnc = [*third % 16, *third / 16, *second / 16];
+        let count = if mnc[2] == 15 { 2 } else { 3 };
+        match Plmn::try_new(&mcc, &mnc[..count]) {
+            Ok(plmn) => Ok(plmn),
+            Err(_) => Err(ReadFault::Bad),
+        }
+    }
+
+    #[tactic(auto, unfolding(crate::specs::Value::text_of), using(crate::proofs::AgainAddresses::plmn_again))]
+    fn write(&self, out: &mut Vec<u8>) -> Result<(), AllocError> {
+        let mcc = self.mcc();
+        let mnc = self.mnc();
+        let third = if mnc.len() == 3 { mnc[2] } else { 15 };
+        out.extend_from_slice(&[
+            16 * mcc[1] + mcc[0],
+            16 * third + mcc[2],
+            16 * mnc[1] + mnc[0],
+        ])?;
+        Ok(())
+    }
+}

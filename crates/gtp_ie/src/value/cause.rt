@@ -1,0 +1,52 @@
+//! Causes as elements.
+
+ghost use Rattle.gtp_ie.specs.Value.{OfCause};
+
+use crate::fault::ReadFault;
+use crate::value::IeValue;
+use gtp_values::{Below, Cause, Offending};
+use std::alloc::AllocError;
+
+impl IeValue for Cause {
+    const KIND: u8 = 2;
+
+    ghost KIND = { 2 };
+
+    ghost value = { OfCause };
+
+    #[tactic(auto, unfolding(crate::specs::Value::value_at))]
+    fn parse(body: &[u8]) -> Result<Cause, ReadFault> {
+        if body.len() < 2 {
+            return Err(ReadFault::Short);
+        }
+        let flags = body[1];
+        let offending = if body.len() < 6 {
+            None
+        } else {
+            Some(Offending {
+                kind: body[2],
+                instance: Below::new(body[5] % 16),
+            })
+        };
+        Ok(Cause {
+            value: body[0],
+            pce: flags / 4 % 2 == 1,
+            bce: flags / 2 % 2 == 1,
+            cs: flags % 2 == 1,
+            offending,
+        })
+    }
+
+    #[tactic(auto, unfolding(crate::specs::Value::text_of), using(crate::proofs::Again::cause_again))]
+    fn write(&self, out: &mut Vec<u8>) -> Result<(), AllocError> {
+        let flags = 4 * u8::from(self.pce) + 2 * u8::from(self.bce) + u8::from(self.cs);
+        match self.offending {
+            None => out.extend_from_slice(&[self.value, flags])?,
+            Some(offending) => {
+                let instance = offending.instance.number();
+                out.extend_from_slice(&[self.value, flags, offending.kind, 0, 0, instance])?
+            }
+        }
+        Ok(())
+    }
+}

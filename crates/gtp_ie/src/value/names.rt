@@ -1,0 +1,117 @@
+//! Names of subscribers and access points, and templates: elements whose form is the whole body.
+
+ghost use Rattle.std.specs.Prelude.{◌≡◌, ◌≤◌, ◌+◌, ◌*◌, length};
+ghost use Rattle.gtp_ie.specs.Value.{OfImsi, OfApn, OfTft};
+ghost use Rattle.gtp_values.specs.Imsi.{IsImsi};
+ghost use Rattle.gtp_ie.specs.Digits.{digits_in, packed};
+
+use crate::fault::ReadFault;
+use crate::value::IeValue;
+use gtp_values::{Apn, Imsi, Octets, Tft};
+use std::alloc::AllocError;
+
+/// The digits in the halves of octets, the low half first, but for a filler at the end.
+fn unpacked(body: &[u8]) -> Octets<16>
+    requires { length body.now ≤ 8 }
+    ensures { result ≡ digits_in body.now }
+{
+    let mut digits = Octets::new();
+    let mut left = body;
+    while let [octet, rest @ ..] = left {
+        digits.push(*octet % 16);
+        if !(rest.is_empty() && *octet / 16 == 15) {
+            digits.push(*octet / 16);
+        }
+        left = rest;
+    }
+    digits
+}
+
+/// Digits two an octet, the first in the low half, with a filler at the end for an odd count.
+fn packed_octets(digits: &[u8]) -> Octets<8>
+    requires { IsImsi digits.now }
+    ensures { result ≡ packed digits.now }
+{
+    let mut octets = Octets::new();
+    let mut left = digits;
+    while let [low, high, rest @ ..] = left {
+        octets.push(16 * *high + *low);
+        left = rest;
+    }
+    if let [last] = left {
+        octets.push(240 + *last);
+    }
+    octets
+}
+
+impl IeValue for Imsi {
+    const KIND: u8 = 1;
+
+    ghost KIND = { 1 };
+
+    ghost value = { OfImsi };
+
+    #[tactic(auto, unfolding(crate::specs::Value::value_at), using(crate::proofs::Read::imsi_read, crate::proofs::Read::imsi_unread, crate::proofs::Read::imsi_long))]
+    fn parse(body: &[u8]) -> Result<Imsi, ReadFault> {
+        if body.len() < 3 {
+            return Err(ReadFault::Short);
+        }
+        if body.len() > 8 {
+            return Err(ReadFault::Bad);
+        }
+        match Imsi::try_new(unpacked(body).as_slice()) {
+            Ok(imsi) => Ok(imsi),
+            Err(_) => Err(ReadFault::Bad),
+        }
+    }
+
+    #[tactic(auto, unfolding(crate::specs::Value::text_of), using(crate::proofs::AgainNames::imsi_again))]
+    fn write(&self, out: &mut Vec<u8>) -> Result<(), AllocError> {
+        out.extend_from_slice(packed_octets(self.digits()).as_slice())?;
+        Ok(())
+    }
+}
+
+impl IeValue for Apn {
+    const KIND: u8 = 71;
+
+    ghost KIND = { 71 };
+
+    ghost value = { OfApn };
+
+    #[tactic(auto, unfolding(crate::specs::Value::value_at), using(crate::proofs::Read::apn_read, crate::proofs::Read::apn_unread))]
+    fn parse(body: &[u8]) -> Result<Apn, ReadFault> {
+        if body.is_empty() {
+            return Err(ReadFault::Short);
+        }
+        match Apn::try_new(body) {
+            Ok(apn) => Ok(apn),
+            Err(_) => Err(ReadFault::Bad),
+        }
+    }
+
+    #[tactic(auto, unfolding(crate::specs::Value::text_of), using(crate::proofs::AgainNames::apn_again))]
+    fn write(&self, out: &mut Vec<u8>) -> Result<(), AllocError> {
+        out.extend_from_slice(self.octets())?;
+        Ok(())
+    }
+}
+
+impl IeValue for Tft {
+    const KIND: u8 = 84;
+
+    ghost KIND = { 84 };
+
+    ghost value = { OfTft };
+
+    #[tactic(auto, unfolding(crate::specs::Value::value_at))]
+    fn parse(body: &[u8]) -> Result<Tft, ReadFault> {
+        Tft::try_new(body).map_err(|_| ReadFault::Bad)
+    }
+
+    #[tactic(auto, unfolding(crate::specs::Value::text_of), using(crate::proofs::AgainNames::tft_again))]
+    fn write(&self, out: &mut Vec<u8>) -> Result<(), AllocError> {
+        out.extend_from_slice(self.octets())?;
+        Ok(())
+    }
+}

@@ -1,0 +1,194 @@
+//! Elements that say one number.
+
+ghost use Rattle.gtp_ie.specs.Value.{OfRecovery, OfEbi, OfRat, OfChargingId, OfPdnType, OfPti, OfSelection};
+
+use crate::fault::ReadFault;
+use crate::value::IeValue;
+use byteorder::{BigEndian, ByteOrder};
+use gtp_values::{Below, Counter};
+use std::alloc::AllocError;
+
+/// The restart counter of the sender (TS 29.274 8.5).
+#[derive(Clone, Copy, Debug, PartialEq, Eq)]
+pub struct Recovery(pub Counter);
+
+impl IeValue for Recovery {
+    const KIND: u8 = 3;
+
+    ghost KIND = { 3 };
+
+    ghost value = { λ recovery. OfRecovery recovery.0.0 };
+
+    #[tactic(auto, unfolding(crate::specs::Value::value_at))]
+    fn parse(body: &[u8]) -> Result<Recovery, ReadFault> {
+        match body {
+            [] => Err(ReadFault::Short),
+            [counter, ..] => Ok(Recovery(Counter(*counter))),
+        }
+    }
+
+    #[tactic(auto, unfolding(crate::specs::Value::text_of), using(crate::proofs::Again::recovery_again))]
+    fn write(&self, out: &mut Vec<u8>) -> Result<(), AllocError> {
+        out.push(self.0.0)?;
+        Ok(())
+    }
+}
+
+/// An EPS bearer identity as an element has it, 0 to 15: 0 where none is given yet (TS 29.274 8.8).
+#[derive(Clone, Copy, Debug, PartialEq, Eq)]
+pub struct EbiValue(pub Below<16>);
+
+impl IeValue for EbiValue {
+    const KIND: u8 = 73;
+
+    ghost KIND = { 73 };
+
+    ghost value = { λ ebi. OfEbi ebi.0 };
+
+    #[tactic(auto, unfolding(crate::specs::Value::value_at))]
+    fn parse(body: &[u8]) -> Result<EbiValue, ReadFault> {
+        match body {
+            [] => Err(ReadFault::Short),
+            [octet, ..] => Ok(EbiValue(Below::new(*octet % 16))),
+        }
+    }
+
+    #[tactic(auto, unfolding(crate::specs::Value::text_of), using(crate::proofs::Again::ebi_again))]
+    fn write(&self, out: &mut Vec<u8>) -> Result<(), AllocError> {
+        out.push(self.0.number())?;
+        Ok(())
+    }
+}
+
+/// The charging identifier of a bearer (TS 29.274 8.29).
+#[derive(Clone, Copy, Debug, PartialEq, Eq)]
+pub struct ChargingId(pub u32);
+
+impl IeValue for ChargingId {
+    const KIND: u8 = 94;
+
+    ghost KIND = { 94 };
+
+    ghost value = { λ id. OfChargingId id.0 };
+
+    #[tactic(auto, unfolding(crate::specs::Value::value_at))]
+    fn parse(body: &[u8]) -> Result<ChargingId, ReadFault> {
+        if body.len() < 4 {
+            return Err(ReadFault::Short);
+        }
+        Ok(ChargingId(BigEndian::read_u32(body)))
+    }
+
+    #[tactic(auto, unfolding(crate::specs::Value::text_of), using(crate::proofs::Again::charging_id_again))]
+    fn write(&self, out: &mut Vec<u8>) -> Result<(), AllocError> {
+        let number = self.0;
+        let mut octets = [0u8; 4];
+        BigEndian::write_u32(&mut octets, number);
+        out.extend_from_slice(&octets)?;
+        Ok(())
+    }
+}
+
+/// The radio access technology, by its number: 6 is E-UTRAN (TS 29.274 8.17).
+#[derive(Clone, Copy, Debug, PartialEq, Eq)]
+pub struct Rat(pub u8);
+
+impl IeValue for Rat {
+    const KIND: u8 = 82;
+
+    ghost KIND = { 82 };
+
+    ghost value = { λ x. OfRat x.0 };
+
+    #[tactic(auto, unfolding(crate::specs::Value::value_at))]
+    fn parse(body: &[u8]) -> Result<Rat, ReadFault> {
+        match body {
+            [] => Err(ReadFault::Short),
+            [octet, ..] => Ok(Rat(*octet)),
+        }
+    }
+
+    #[tactic(auto, unfolding(crate::specs::Value::text_of), using(crate::proofs::Again::rat_again))]
+    fn write(&self, out: &mut Vec<u8>) -> Result<(), AllocError> {
+        out.push(self.0)?;
+        Ok(())
+    }
+}
+
+/// The PDN type that is asked for, by its number: 1 is IPv4, 2 IPv6, 3 IPv4v6 (TS 29.274 8.34).
+#[derive(Clone, Copy, Debug, PartialEq, Eq)]
+pub struct PdnType(pub Below<8>);
+
+impl IeValue for PdnType {
+    const KIND: u8 = 99;
+
+    ghost KIND = { 99 };
+
+    ghost value = { λ x. OfPdnType x.0 };
+
+    #[tactic(auto, unfolding(crate::specs::Value::value_at))]
+    fn parse(body: &[u8]) -> Result<PdnType, ReadFault> {
+        match body {
+            [] => Err(ReadFault::Short),
+            [octet, ..] => Ok(PdnType(Below::new(*octet % 8))),
+        }
+    }
+
+    #[tactic(auto, unfolding(crate::specs::Value::text_of), using(crate::proofs::Again::pdn_type_again))]
+    fn write(&self, out: &mut Vec<u8>) -> Result<(), AllocError> {
+        out.push(self.0.number())?;
+        Ok(())
+    }
+}
+
+/// The procedure transaction identity (TS 29.274 8.35).
+#[derive(Clone, Copy, Debug, PartialEq, Eq)]
+pub struct Pti(pub u8);
+
+impl IeValue for Pti {
+    const KIND: u8 = 100;
+
+    ghost KIND = { 100 };
+
+    ghost value = { λ x. OfPti x.0 };
+
+    #[tactic(auto, unfolding(crate::specs::Value::value_at))]
+    fn parse(body: &[u8]) -> Result<Pti, ReadFault> {
+        match body {
+            [] => Err(ReadFault::Short),
+            [octet, ..] => Ok(Pti(*octet)),
+        }
+    }
+
+    #[tactic(auto, unfolding(crate::specs::Value::text_of), using(crate::proofs::Again::pti_again))]
+    fn write(&self, out: &mut Vec<u8>) -> Result<(), AllocError> {
+        out.push(self.0)?;
+        Ok(())
+    }
+}
+
+/// How the access point name was selected, by its number (TS 29.274 8.58).
+#[derive(Clone, Copy, Debug, PartialEq, Eq)]
+pub struct Selection(pub Below<4>);
+
+impl IeValue for Selection {
+    const KIND: u8 = 128;
+
+    ghost KIND = { 128 };
+
+    ghost value = { λ x. OfSelection x.0 };
+
+    #[tactic(auto, unfolding(crate::specs::Value::value_at))]
+    fn parse(body: &[u8]) -> Result<Selection, ReadFault> {
+        match body {
+            [] => Err(ReadFault::Short),
+            [octet, ..] => Ok(Selection(Below::new(*octet % 4))),
+        }
+    }
+
+    #[tactic(auto, unfolding(crate::specs::Value::text_of), using(crate::proofs::Again::selection_again))]
+    fn write(&self, out: &mut Vec<u8>) -> Result<(), AllocError> {
+        out.push(self.0.number())?;
+        Ok(())
+    }
+}

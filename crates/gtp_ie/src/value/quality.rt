@@ -1,0 +1,110 @@
+//! Bit rates and quality of service as elements.
+
+ghost use Rattle.std.specs.Prelude.{◌≡◌, ◌≤◌, ◌+◌, length, drop};
+ghost use Rattle.byteorder.specs.Endian.{big_number};
+ghost use Rattle.gtp_ie.specs.Value.{OfAmbr, OfQos, AreRates, rates_text};
+
+use crate::fault::ReadFault;
+use crate::value::IeValue;
+use crate::writing::append;
+use byteorder::{BigEndian, ByteOrder};
+use gtp_values::{Ambr, Below, Qos, Rate, Rates};
+use std::alloc::AllocError;
+
+impl IeValue for Ambr {
+    const KIND: u8 = 72;
+
+    ghost KIND = { 72 };
+
+    ghost value = { OfAmbr };
+
+    #[tactic(auto, unfolding(crate::specs::Value::value_at))]
+    fn parse(body: &[u8]) -> Result<Ambr, ReadFault> {
+        if body.len() < 8 {
+            return Err(ReadFault::Short);
+        }
+        Ok(Ambr {
+            up: BigEndian::read_u32(body),
+            down: BigEndian::read_u32(&body[4..]),
+        })
+    }
+
+    #[tactic(auto, unfolding(crate::specs::Value::text_of), using(crate::proofs::Again::ambr_again))]
+    fn write(&self, out: &mut Vec<u8>) -> Result<(), AllocError> {
+        let up = self.up;
+        let down = self.down;
+        let mut octets = [0u8; 8];
+        BigEndian::write_u32(&mut octets, up);
+        BigEndian::write_u32(&mut octets[4..], down);
+        out.extend_from_slice(&octets)?;
+        Ok(())
+    }
+}
+
+/// A bit rate in five octets.
+fn rate(octets: &[u8]) -> Rate
+    requires { 5 ≤ length octets.now }
+    ensures { result ≡ big_number 5 octets.now }
+{
+    Rate::new(BigEndian::read_uint(octets, 5))
+}
+
+/// Bit rates in five octets each, those up before those down.
+fn rates(octets: &[u8]) -> Rates
+    requires { 10 ≤ length octets.now }
+    ensures up { result.up ≡ big_number 5 octets.now }
+    ensures down { result.down ≡ big_number 5 (drop 5 octets.now) }
+{
+    Rates {
+        up: rate(octets),
+        down: rate(&octets[5..]),
+    }
+}
+
+/// Writes bit rates into ten octets.
+fn octets_of(rates: &Rates) -> [u8; 10]
+    ensures text { result ≡ rates_text rates.now }
+    ensures range { AreRates rates.now }
+{
+    let mut octets = [0u8; 10];
+    BigEndian::write_uint(&mut octets, rates.up.number(), 5);
+    BigEndian::write_uint(&mut octets[5..], rates.down.number(), 5);
+    octets
+}
+
+impl IeValue for Qos {
+    const KIND: u8 = 80;
+
+    ghost KIND = { 80 };
+
+    ghost value = { OfQos };
+
+    #[tactic(auto, unfolding(crate::specs::Value::value_at))]
+    fn parse(body: &[u8]) -> Result<Qos, ReadFault> {
+        if body.len() < 22 {
+            return Err(ReadFault::Short);
+        }
+        let flags = body[0];
+        Ok(Qos {
+            pci: flags / 64 % 2 == 1,
+            pl: Below::new(flags / 4 % 16),
+            pvi: flags % 2 == 1,
+            qci: body[1],
+            mbr: rates(&body[2..]),
+            gbr: rates(&body[12..]),
+        })
+    }
+
+    #[tactic(auto, unfolding(crate::specs::Value::text_of), using(crate::proofs::Again::qos_again))]
+    fn write(&self, out: &mut Vec<u8>) -> Result<(), AllocError> {
+        let flags = 64 * u8::from(self.pci) + 4 * self.pl.number() + u8::from(self.pvi);
+        append(
+            out,
+            &[
+                &[flags, self.qci],
+                &octets_of(&self.mbr),
+                &octets_of(&self.gbr),
+            ],
+        )
+    }
+}

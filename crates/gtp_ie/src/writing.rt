@@ -1,0 +1,83 @@
+//! Writing elements.
+
+ghost use Rattle.std.specs.Prelude.{◌≡◌, ◌+◌, ◌-◌, ◌≤◌, ◌<◌, ◌↔◌, ◌⊎◌, [], ◌∷◌, ◌++◌, OnOk, OnErr, IfErr, IsErrOf, length};
+ghost use Rattle.gtp_ie.specs.Text.{element_text, closed};
+ghost use Rattle.gtp_ie.specs.Value.{text_of};
+ghost use Rattle.gtp_ie.specs.Parts.{joined};
+ghost use Rattle.gtp_ie.specs.declared.fault.IeFault.TheVariants.{Memory, TooLong};
+
+use crate::fault::IeFault;
+use crate::value::IeValue;
+use std::alloc::AllocError;
+
+/// Appends all parts, or none.
+pub fn append(out: &mut Vec<u8>, parts: &[&[u8]]) -> Result<(), AllocError>
+    ensures ok { OnOk result (out.new.items ≡ out.old.items ++ joined parts.now) }
+    ensures err { OnErr result (out.new.items ≡ out.old.items) }
+{
+    let before = out.len();
+    for part in parts {
+        if let Err(refused) = out.extend_from_slice(part) {
+            out.truncate(before);
+            return Err(refused);
+        }
+    }
+    Ok(())
+}
+
+/// Begins an element with spare bits 0 (TS 29.274 8.2.1). Its length is written by `close`.
+pub fn open(out: &mut Vec<u8>, kind: u8, instance: u8) -> Result<(), AllocError>
+    requires { instance < 16 }
+    ensures ok { OnOk result (out.new.items ≡ out.old.items ++ kind ∷ 0 ∷ 0 ∷ instance ∷ []) }
+    ensures err { OnErr result (out.new.items ≡ out.old.items) }
+{
+    out.extend_from_slice(&[kind, 0, 0, instance])?;
+    Ok(())
+}
+
+/// Writes the length of the element that begins at `start` and runs to the end, modulo 65536: who
+/// writes whole messages refuses longer ones.
+pub fn close(out: &mut Vec<u8>, start: usize)
+    requires { start + 4 ≤ length out.old.items }
+    ensures { out.new.items ≡ closed start (length out.old.items - (start + 4)) out.old.items }
+{
+    let size = out.len() - (start + 4);
+    out[start + 1] = (size / 256 % 256) as u8;
+    out[start + 2] = (size % 256) as u8;
+}
+
+/// Appends the element of a value. After want of memory the vector is as before.
+pub fn put_value<T: IeValue>(out: &mut Vec<u8>, instance: u8, value: &T) -> Result<(), AllocError>
+    requires { instance < 16 }
+    ensures ok { OnOk result (out.new.items ≡ out.old.items ++ element_text T.KIND instance (text_of (T.value value.now))) }
+    ensures err { OnErr result (out.new.items ≡ out.old.items) }
+{
+    let start = out.len();
+    open(out, T::KIND, instance)?;
+    if let Err(refused) = value.write(out) {
+        out.truncate(start);
+        return Err(refused);
+    }
+    close(out, start);
+    Ok(())
+}
+
+/// Appends the element of a type and instance with this body and spare bits 0: `TooLong` exactly
+/// for a body above 65,535 octets, else `Memory` where a growth was refused. After a refusal the
+/// vector is as before.
+pub fn put(out: &mut Vec<u8>, kind: u8, instance: u8, body: &[u8]) -> Result<(), IeFault>
+    requires { instance < 16 }
+    ensures ok { OnOk result (out.new.items ≡ out.old.items ++ element_text kind instance body.now) }
+    ensures long { IsErrOf result IeFault.TooLong ↔ (65535 < length body.now) }
+    ensures fault { IfErr result (λ f. (f ≡ TooLong) ⊎ (f ≡ Memory)) }
+    ensures err { OnErr result (out.new.items ≡ out.old.items) }
+{
+    let Ok(len) = u16::try_from(body.len()) else {
+        return Err(IeFault::TooLong);
+    };
+    let [high, low] = len.to_be_bytes();
+    match append(out, &[&[kind, high, low, instance], body]) {
+        Ok(()) => Ok(()),
+        Err(_) => Err(IeFault::Memory),
+    }
+}

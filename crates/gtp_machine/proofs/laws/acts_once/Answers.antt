@@ -1,0 +1,12 @@
+-- The laws are proved in `ActsOnce`.
+use Rattle.gtp_machine.proofs.ActsOnce as law
+use Rattle.gtp_machine.proofs.laws.acts_once.Goals as goal
+
+pub returns-clause-until_forgotten : goal.returns-clause-until_forgotten
+returns-clause-until_forgotten c = law.acts_once
+
+pub returns-clause-in_time : goal.returns-clause-in_time
+returns-clause-in_time c = law.acts_once_in_time
+
+pub returns-clause-held : goal.returns-clause-held
+returns-clause-held c = law.held_until_forgotten

@@ -1,0 +1,33 @@
+-- Each law is proved of all runs in `Safety`.
+use Rattle.gtp_machine.proofs.Safety.{always_one_message, always_goes_back, always_names_back, always_responses, always_none_ahead, always_known, always_opened, always_closes_whole, always_made_once, always_once}
+use Rattle.gtp_machine.proofs.laws.foundations.Goals as goal
+
+pub returns-clause-one_message : goal.returns-clause-one_message
+returns-clause-one_message c = always_one_message
+
+pub returns-clause-goes_back : goal.returns-clause-goes_back
+returns-clause-goes_back c = always_goes_back
+
+pub returns-clause-names : goal.returns-clause-names
+returns-clause-names c = always_names_back
+
+pub returns-clause-responses : goal.returns-clause-responses
+returns-clause-responses c = always_responses
+
+pub returns-clause-none_ahead : goal.returns-clause-none_ahead
+returns-clause-none_ahead c = always_none_ahead
+
+pub returns-clause-known : goal.returns-clause-known
+returns-clause-known c = always_known
+
+pub returns-clause-bearers_once : goal.returns-clause-bearers_once
+returns-clause-bearers_once c = always_once
+
+pub returns-clause-opened : goal.returns-clause-opened
+returns-clause-opened c = always_opened
+
+pub returns-clause-closes_whole : goal.returns-clause-closes_whole
+returns-clause-closes_whole c = always_closes_whole
+
+pub returns-clause-made_once : goal.returns-clause-made_once
+returns-clause-made_once c = always_made_once

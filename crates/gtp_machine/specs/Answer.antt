@@ -1,0 +1,82 @@
+-- Answers that a gateway gives (TS 29.274, 7.6 and 7.7), and the place where requests come in.
+use Rattle.std.specs.Prelude.{◌≡◌, ◌⊎◌, ℕ, [], ◌∷◌, Option, Some, None}
+use Rattle.std.specs.FinMap.{get}
+use Rattle.gtp_values.specs.declared.cause.Cause.{Cause}
+use Rattle.gtp_machine.specs.Table.{Among}
+use Rattle.gtp_machine.specs.Ordered.{Unless}
+use Rattle.gtp_machine.specs.Element.{cause_at, teid_in}
+use Rattle.gtp_machine.specs.Message.{Message, Echo, Echo_response, Create_session_response, Delete_session_response, Create_bearer_response, Delete_bearer_response}
+use Rattle.gtp_machine.specs.Node.{Waiting, Active, Closing, State, Session, Arrival, Held, Node, holding, written}
+use Rattle.gtp_machine.specs.Input.{RequestKind, Of_create_session, Of_delete_session, Of_create_bearer, Of_delete_bearer, Defect, Mandatory_missing, Conditional_missing, Too_short, Out_of_range, FaultyRequest, Effect, Answered, Echoed, Repeated, says, dropped, Not_peer}
+
+-- an answer goes to where the request came from, and is held
+abbrev pub answered : Arrival → Message → ℕ → Node → Effect
+answered request answer cause new = record { out = says request.source answer; outcome = Answered cause; node = holding request answer new }
+
+-- the same, where a context was made for the request
+abbrev pub making : Arrival → Message → ℕ → Node → Effect
+making request answer cause new = record { out = record (says request.source answer) { made = request ∷ [] }; outcome = Answered cause; node = holding request answer new }
+
+-- an Echo Request is answered with the own counter and the same number (7.1.2); the answer is not held
+abbrev pub echoed : Arrival → Echo → Node → Effect
+echoed request q old = record { out = says request.source (Echo_response (record { number = q.number; recovery = old.counter })); outcome = Echoed; node = old }
+
+-- a request that came before from there, octet for octet, gets the answer that is held for it, and nothing changes (7.6)
+pub record Repeats (old : Node) (request : Arrival) (e : Effect) : Type 0 where
+  pub held : Held
+  pub stands : Among held old.held
+  pub same : held.request ≡ request
+  pub gives : e ≡ record { out = says request.source held.answer; outcome = Repeated; node = old }
+
+-- no answer is held for the request
+abbrev pub IsNew : Node → Arrival → Type 0
+IsNew node request = (held : Held) → Among held node.held → held.request ≡ request → ⊥
+
+-- the printed number of the fault: H6 for a missing element, H7 for a bad one
+abbrev pub fault_number : Defect → ℕ
+fault_number Mandatory_missing = 6
+fault_number Conditional_missing = 6
+fault_number Too_short = 7
+fault_number Out_of_range = 7
+
+-- the cause that a defect is answered with (7.7): mandatory or conditional element missing, invalid length, mandatory element incorrect
+abbrev pub defect_cause : Defect → ℕ
+defect_cause Mandatory_missing = 70
+defect_cause Conditional_missing = 103
+defect_cause Too_short = 67
+defect_cause Out_of_range = 69
+
+-- the remote as it is written, and 0 while the session is pending
+abbrev pub remote_by : State → Option ℕ → ℕ
+remote_by Waiting remote = 0
+remote_by Active remote = written remote
+remote_by Closing remote = written remote
+
+-- the header that answers a request for an opened session: its remote, or 0
+abbrev pub opened_remote : Option Session → ℕ
+opened_remote None = 0
+opened_remote (Some s) = remote_by s.state s.remote
+
+-- the header of the answer to a faulty request (5.5.2)
+abbrev pub faulty_header : Node → RequestKind → FaultyRequest → ℕ
+faulty_header old Of_create_session f = written (teid_in f.sender)
+faulty_header old Of_delete_session f = opened_remote (get old.sessions f.header)
+faulty_header old Of_create_bearer f = opened_remote (get old.sessions f.header)
+faulty_header old Of_delete_bearer f = opened_remote (get old.sessions f.header)
+
+-- a response that refuses: Cause and Recovery alone
+abbrev pub refusing : RequestKind → ℕ → ℕ → Cause → ℕ → Message
+refusing Of_create_session header number cause counter = Create_session_response (record { header = header; number = number; cause = cause; control = None; address = None; ambr = None; contexts = []; recovery = Some counter })
+refusing Of_delete_session header number cause counter = Delete_session_response (record { header = header; number = number; cause = cause; recovery = Some counter })
+refusing Of_create_bearer header number cause counter = Create_bearer_response (record { header = header; number = number; cause = cause; contexts = []; recovery = Some counter })
+refusing Of_delete_bearer header number cause counter = Delete_bearer_response (record { header = header; number = number; cause = cause; linked = None; contexts = []; recovery = Some counter })
+
+-- a faulty request is answered with the element at fault (7.7.6 to 7.7.8); the answer is not held, and nothing changes
+abbrev pub faulted : Arrival → FaultyRequest → Node → Effect
+faulted request f old = record { out = says request.source (refusing f.kind (faulty_header old f.kind f) f.number (cause_at (defect_cause f.defect) f.element f.instance) old.counter); outcome = Answered (defect_cause f.defect); node = old }
+
+-- A control plane datagram: first its source address is looked at, then the answers that are held, then what was read.
+abbrev pub ControlStep : (Arrival → Node → Effect → Type 0) → Arrival → Node → Effect → Type 0
+ControlStep Reads request old e =
+    Unless (request.source.ip ≡ old.config.peer.control) (e ≡ dropped old Not_peer) (λ peer.
+    Repeats old request e ⊎ (IsNew old request × Reads request old e))

@@ -1,0 +1,213 @@
+-- What a gateway is told to do; the refusals stand in their order.
+use Rattle.std.specs.Prelude.{◌≡◌, ◌≢◌, ℕ, ◌≤◌, List, [], ◌∷◌, Option, Some, None, false, length}
+use Rattle.std.specs.FinMap.{insert}
+use Rattle.gtp_values.specs.declared.qos.Qos.{Qos}
+use Rattle.gtp_machine.specs.Ordered.{Unless}
+use Rattle.gtp_machine.specs.Config.{control_end, user_end}
+use Rattle.gtp_machine.specs.Element.{Ipv4, tunnel_end}
+use Rattle.gtp_machine.specs.Message.{CreateSessionRequest, CreateBearerRequest, Echo_request, Create_session_request, Delete_session_request, Create_bearer_request, Delete_bearer_request, Packet_data, End_marker, subscriber_of}
+use Rattle.gtp_machine.specs.Node.{Role, Serving, Packet, Waiting, Active, Closing, Session, Default, Dedicated, Bearer, Pending, Node, written}
+use Rattle.gtp_machine.specs.Input.{Specification, Command, Create_session, Delete_session, Create_bearer, Delete_bearer, Release_session, Mark_end, Send_echo, Send_user, Effect, Begun, Gone_out, entry_for, says, refused, No_such_context, Not_active, Wrong_role, Sessions_full, Teids_used, Pending_full, Bearer_ended, Packet_too_long}
+use Rattle.gtp_machine.specs.Choice.{IsFree, HasDraws, IsFreeNumber, HasSessionRoom, HasPendingRoom, HasSession, HasBearer}
+use Rattle.gtp_machine.specs.Removal.{session_closing}
+use Rattle.gtp_machine.specs.User.{ended_bearer}
+
+-- a request is sent to the peer, and waits for its answer
+abbrev pub asks : Node → ℕ → Pending → Option ℕ → Node → Effect
+asks old number pending teid new = record { out = says (control_end old.config.peer.control) pending.request; outcome = Begun teid; node = record new { pending = insert old.pending number pending } }
+
+-- the Create Session Request for a specification, with these TEIDs and this number
+abbrev pub session_request : Node → Specification → ℕ → ℕ → ℕ → CreateSessionRequest
+session_request node spec control user number =
+    record {
+      header = 0;
+      number = number;
+      imsi = spec.subscriber.imsi;
+      rat = spec.rat;
+      network = Some spec.network;
+      control = tunnel_end 6 control node.config.own.control;
+      access_point = spec.subscriber.access_point;
+      selection = Some spec.selection;
+      pdn = spec.pdn;
+      address = Some (Ipv4 0);
+      ambr = Some spec.ambr;
+      context = record { identity = spec.subscriber.identity; qos = spec.qos; user = tunnel_end 4 user node.config.own.user };
+      further = [];
+      recovery = Some node.counter;
+    }
+
+-- a session that is pending
+abbrev pub waiting_session : CreateSessionRequest → Session
+waiting_session q = record { remote = None; subscriber = subscriber_of q; address = None; state = Waiting }
+
+-- its default bearer
+abbrev pub waiting_bearer : ℕ → CreateSessionRequest → Bearer
+waiting_bearer control q = record { remote = None; session = control; identity = Some q.context.identity; kind = Default; state = Waiting; ended = false }
+
+-- two draws, and a pending session with its default bearer
+abbrev pub session_begun : Node → ℕ → ℕ → CreateSessionRequest → Node
+session_begun old control user q =
+    record old {
+      drawn = user ∷ control ∷ old.drawn;
+      sessions = insert old.sessions control (waiting_session q);
+      bearers = insert old.bearers user (waiting_bearer control q);
+    }
+
+-- A session is begun (7.2.1): any two free TEIDs and any free number, and the request.
+pub record BeginsSession (old : Node) (spec : Specification) (e : Effect) : Type 0 where
+  pub control : ℕ
+  pub user : ℕ
+  pub number : ℕ
+  pub control_free : IsFree old control
+  pub user_free : IsFree old user
+  pub apart : control ≢ user
+  pub number_free : IsFreeNumber old number
+  pub gives : e ≡ asks old number (record { session = Some control; bearer = None; request = Create_session_request (session_request old spec control user number) }) (Some control) (session_begun old control user (session_request old spec control user number))
+
+-- A session and its bearers are closing, and the serving gateway asks to delete it (7.2.9.1).
+pub record ClosesSession (old : Node) (session : ℕ) (at : Session) (e : Effect) : Type 0 where
+  pub number : ℕ
+  pub number_free : IsFreeNumber old number
+  pub gives : e ≡ asks old number (record { session = Some session; bearer = None; request = Delete_session_request (record { header = written at.remote; number = number; linked = Some at.subscriber.identity }) }) (Some session) (session_closing old session at)
+
+-- A session and its bearers are closing, and the packet gateway asks to delete its default bearer (7.2.9.2).
+pub record ReleasesSession (old : Node) (session : ℕ) (at : Session) (e : Effect) : Type 0 where
+  pub number : ℕ
+  pub number_free : IsFreeNumber old number
+  pub gives : e ≡ asks old number (record { session = Some session; bearer = None; request = Delete_bearer_request (record { header = written at.remote; number = number; linked = Some at.subscriber.identity; identities = [] }) }) (Some session) (session_closing old session at)
+
+-- the Create Bearer Request for a session, with this TEID and this number
+abbrev pub bearer_request : Node → Session → List ℕ → Qos → ℕ → ℕ → CreateBearerRequest
+bearer_request node s tft qos user number =
+    record {
+      header = written s.remote;
+      number = number;
+      transaction = None;
+      linked = s.subscriber.identity;
+      context = record { identity = 0; tft = tft; user = tunnel_end 5 user node.config.own.user; qos = qos; charging = Some user };
+      further = [];
+    }
+
+-- a dedicated bearer that is pending: it has no identity and no remote
+abbrev pub waiting_dedicated : ℕ → Bearer
+waiting_dedicated session = record { remote = None; session = session; identity = None; kind = Dedicated; state = Waiting; ended = false }
+
+-- A dedicated bearer is begun (7.2.3): any free TEID and any free number, and the request.
+pub record BeginsBearer (old : Node) (session : ℕ) (at : Session) (tft : List ℕ) (qos : Qos) (e : Effect) : Type 0 where
+  pub user : ℕ
+  pub number : ℕ
+  pub user_free : IsFree old user
+  pub number_free : IsFreeNumber old number
+  pub gives : e ≡ asks old number (record { session = Some session; bearer = Some user; request = Create_bearer_request (bearer_request old at tft qos user number) }) (Some user) (record old { drawn = user ∷ old.drawn; bearers = insert old.bearers user (waiting_dedicated session) })
+
+-- the session's dedicated bearer with this identity
+pub record NamesBearer (node : Node) (session identity : ℕ) : Type 0 where
+  pub key : ℕ
+  pub at : HasBearer node key
+  pub of : at.bearer.session ≡ session
+  pub dedicated : at.bearer.kind ≡ Dedicated
+  pub has : at.bearer.identity ≡ Some identity
+
+-- A dedicated bearer is closing, and the packet gateway asks to delete it (7.2.9.2).
+pub record ClosesBearer (old : Node) (session : ℕ) (at : Session) (identity bearer : ℕ) (b : Bearer) (e : Effect) : Type 0 where
+  pub number : ℕ
+  pub number_free : IsFreeNumber old number
+  pub gives : e ≡ asks old number (record { session = Some session; bearer = Some bearer; request = Delete_bearer_request (record { header = written at.remote; number = number; linked = None; identities = identity ∷ [] }) }) (Some bearer) (record old { bearers = insert old.bearers bearer (record b { state = Closing }) })
+
+-- An Echo Request is sent (7.1.1).
+pub record SendsEcho (old : Node) (e : Effect) : Type 0 where
+  pub number : ℕ
+  pub number_free : IsFreeNumber old number
+  pub gives : e ≡ asks old number (record { session = None; bearer = None; request = Echo_request (record { number = number; recovery = old.counter }) }) None old
+
+-- A packet is handed in for a bearer, and sent.
+pub record SendsPacket (old : Node) (at : Bearer) (payload : List ℕ) (e : Effect) : Type 0 where
+  pub of : HasSession old at.session
+  pub gives : e ≡ record { out = record (says (user_end old.config.peer.user) (Packet_data (written at.remote) payload)) { handed = entry_for (written at.remote) payload of.session.subscriber at.identity ∷ [] }; outcome = Gone_out; node = old }
+
+-- no End Marker was sent before: that counts at the packet gateway alone
+abbrev pub MayGo : Role → Bearer → Type 0
+MayGo Serving b = Unit {0}
+MayGo Packet b = b.ended ≡ false
+
+-- create_session: at the serving gateway
+abbrev pub SessionBegun : Role → Specification → Node → Effect → Type 0
+SessionBegun Packet spec old e = e ≡ refused old Wrong_role
+SessionBegun Serving spec old e =
+    Unless (HasSessionRoom old) (e ≡ refused old Sessions_full) (λ room.
+    Unless (HasDraws old 2) (e ≡ refused old Teids_used) (λ draws.
+    Unless (HasPendingRoom old) (e ≡ refused old Pending_full) (λ few.
+    BeginsSession old spec e)))
+
+-- delete_session: at the serving gateway, of an active session
+abbrev pub SessionDeleted : Role → ℕ → Node → Effect → Type 0
+SessionDeleted Packet session old e = e ≡ refused old Wrong_role
+SessionDeleted Serving session old e =
+    Unless (HasSession old session) (e ≡ refused old No_such_context) (λ at.
+    Unless (at.session.state ≡ Active) (e ≡ refused old Not_active) (λ active.
+    Unless (HasPendingRoom old) (e ≡ refused old Pending_full) (λ few.
+    ClosesSession old session at.session e)))
+
+-- create_bearer: at the packet gateway, for an active session
+abbrev pub BearerBegun : Role → ℕ → List ℕ → Qos → Node → Effect → Type 0
+BearerBegun Serving session tft qos old e = e ≡ refused old Wrong_role
+BearerBegun Packet session tft qos old e =
+    Unless (HasSession old session) (e ≡ refused old No_such_context) (λ at.
+    Unless (at.session.state ≡ Active) (e ≡ refused old Not_active) (λ active.
+    Unless (HasDraws old 1) (e ≡ refused old Teids_used) (λ draws.
+    Unless (HasPendingRoom old) (e ≡ refused old Pending_full) (λ few.
+    BeginsBearer old session at.session tft qos e))))
+
+-- delete_bearer: at the packet gateway, of an active dedicated bearer in an active session
+abbrev pub BearerDeleted : Role → ℕ → ℕ → Node → Effect → Type 0
+BearerDeleted Serving session identity old e = e ≡ refused old Wrong_role
+BearerDeleted Packet session identity old e =
+    Unless (HasSession old session) (e ≡ refused old No_such_context) (λ at.
+    Unless (NamesBearer old session identity) (e ≡ refused old No_such_context) (λ named.
+    Unless ((at.session.state ≡ Active) × (named.at.bearer.state ≡ Active)) (e ≡ refused old Not_active) (λ active.
+    Unless (HasPendingRoom old) (e ≡ refused old Pending_full) (λ few.
+    ClosesBearer old session at.session identity named.key named.at.bearer e))))
+
+-- release_session: at the packet gateway, of an active session
+abbrev pub SessionReleased : Role → ℕ → Node → Effect → Type 0
+SessionReleased Serving session old e = e ≡ refused old Wrong_role
+SessionReleased Packet session old e =
+    Unless (HasSession old session) (e ≡ refused old No_such_context) (λ at.
+    Unless (at.session.state ≡ Active) (e ≡ refused old Not_active) (λ active.
+    Unless (HasPendingRoom old) (e ≡ refused old Pending_full) (λ few.
+    ReleasesSession old session at.session e)))
+
+-- end_marker: at the packet gateway, once on an active bearer
+abbrev pub EndMarked : Role → ℕ → Node → Effect → Type 0
+EndMarked Serving bearer old e = e ≡ refused old Wrong_role
+EndMarked Packet bearer old e =
+    Unless (HasBearer old bearer) (e ≡ refused old No_such_context) (λ at.
+    Unless (at.bearer.state ≡ Active) (e ≡ refused old Not_active) (λ active.
+    Unless (at.bearer.ended ≡ false) (e ≡ refused old Bearer_ended) (λ before.
+    e ≡ record { out = says (user_end old.config.peer.user) (End_marker (written at.bearer.remote)); outcome = Gone_out; node = record old { bearers = insert old.bearers bearer (ended_bearer at.bearer) } })))
+
+-- echo: at both
+abbrev pub EchoBegun : Node → Effect → Type 0
+EchoBegun old e =
+    Unless (HasPendingRoom old) (e ≡ refused old Pending_full) (λ few.
+    SendsEcho old e)
+
+-- send_user: at both, on an active bearer, at most 65,000 octets
+abbrev pub PacketSent : Role → ℕ → List ℕ → Node → Effect → Type 0
+PacketSent role bearer payload old e =
+    Unless (HasBearer old bearer) (e ≡ refused old No_such_context) (λ at.
+    Unless (at.bearer.state ≡ Active) (e ≡ refused old Not_active) (λ active.
+    Unless (MayGo role at.bearer) (e ≡ refused old Bearer_ended) (λ goes.
+    Unless (length payload ≤ 65000) (e ≡ refused old Packet_too_long) (λ short.
+    SendsPacket old at.bearer payload e))))
+
+-- a command
+abbrev pub CommandStep : Role → Command → Node → Effect → Type 0
+CommandStep role (Create_session spec) old e = SessionBegun role spec old e
+CommandStep role (Delete_session session) old e = SessionDeleted role session old e
+CommandStep role (Create_bearer session tft qos) old e = BearerBegun role session tft qos old e
+CommandStep role (Delete_bearer session identity) old e = BearerDeleted role session identity old e
+CommandStep role (Release_session session) old e = SessionReleased role session old e
+CommandStep role (Mark_end bearer) old e = EndMarked role bearer old e
+CommandStep role Send_echo old e = EchoBegun old e
+CommandStep role (Send_user bearer payload) old e = PacketSent role bearer payload old e

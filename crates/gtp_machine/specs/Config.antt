@@ -1,0 +1,25 @@
+-- What a gateway is set up with.
+use Rattle.std.specs.Prelude.{ℕ, List}
+use Rattle.gtp_values.specs.declared.address.Ip.{Ip}
+use Rattle.gtp_values.specs.declared.address.Endpoint.{Endpoint}
+
+-- the address of each plane
+pub record Addresses : Type 0 where
+  pub control : Ip
+  pub user : Ip
+
+-- the two ends of the path, the access points, and the pool of IPv4 addresses
+pub record Config : Type 0 where
+  pub own : Addresses
+  pub peer : Addresses
+  pub access_points : List (List ℕ)
+  pub pool_start : ℕ  -- the first address, as a number
+  pub pool_count : ℕ
+
+-- where control requests go: UDP port 2123 (TS 29.274, 4.2.1.1)
+abbrev pub control_end : Ip → Endpoint
+control_end ip = record { ip = ip; port = 2123 }
+
+-- where user plane datagrams go: UDP port 2152 (TS 29.281, 4.4.2.3)
+abbrev pub user_end : Ip → Endpoint
+user_end ip = record { ip = ip; port = 2152 }

@@ -1,0 +1,179 @@
+-- What a gateway may be told, and what a step of it gives.
+use Rattle.std.specs.Prelude.{ℕ, List, [], ◌∷◌, Option, None}
+use Rattle.gtp_values.specs.Plmn.{Network}
+use Rattle.gtp_values.specs.TunnelEnd.{TunnelEnd}
+use Rattle.gtp_values.specs.declared.address.Endpoint.{Endpoint}
+use Rattle.gtp_values.specs.declared.qos.Ambr.{Ambr}
+use Rattle.gtp_values.specs.declared.qos.Qos.{Qos}
+use Rattle.gtp_machine.specs.Element.{Subscriber}
+use Rattle.gtp_machine.specs.Message.{Message}
+use Rattle.gtp_machine.specs.Node.{Arrival, Node}
+
+-- what a session is to be made with
+pub record Specification : Type 0 where
+  pub subscriber : Subscriber
+  pub rat : ℕ
+  pub network : Network
+  pub selection : ℕ
+  pub pdn : ℕ
+  pub ambr : Ambr
+  pub qos : Qos
+
+-- the requests whose faults are answered
+pub data RequestKind : Type 0 where
+  Of_create_session : RequestKind
+  Of_delete_session : RequestKind
+  Of_create_bearer : RequestKind
+  Of_delete_bearer : RequestKind
+
+-- why a row of a message can't be taken (TS 29.274, 7.7)
+pub data Defect : Type 0 where
+  Mandatory_missing : Defect
+  Conditional_missing : Defect
+  Too_short : Defect
+  Out_of_range : Defect
+
+-- a request with a faulty element: its head, the element's type and instance, and its sender's control F-TEID where that reads
+pub record FaultyRequest : Type 0 where
+  pub kind : RequestKind
+  pub header : ℕ
+  pub number : ℕ
+  pub defect : Defect
+  pub element : ℕ
+  pub instance : ℕ
+  pub sender : Option TunnelEnd
+
+-- a control plane datagram: a message, a request with a faulty element, or another fault, by its printed number
+pub data ControlReading : Type 0 where
+  Control_message : Message → ControlReading
+  Faulty : FaultyRequest → ControlReading
+  Control_fault : ℕ → ControlReading
+
+-- a user plane datagram: a message, one with an extension header that is needed and not known, or another fault
+pub data UserReading : Type 0 where
+  User_message : Message → UserReading
+  Extension_needed : UserReading
+  User_fault : ℕ → UserReading
+
+-- what a gateway may be told to do
+pub data Command : Type 0 where
+  Create_session : Specification → Command
+  Delete_session : ℕ → Command
+  Create_bearer : ℕ → List ℕ → Qos → Command  -- for this session, with this TFT and QoS
+  Delete_bearer : ℕ → ℕ → Command  -- of this session, with this identity
+  Release_session : ℕ → Command
+  Mark_end : ℕ → Command  -- of this bearer
+  Send_echo : Command
+  Send_user : ℕ → List ℕ → Command  -- on this bearer, this payload
+
+-- what a gateway does by itself as time goes by
+pub data Move : Type 0 where
+  Resend : ℕ → Move  -- the request with this number
+  Give_up : ℕ → Move  -- the request with this number
+  Forget : Arrival → Move  -- the answer to this request
+
+-- what may happen to a gateway
+pub data Input : Type 0 where
+  Commanded : Command → Input
+  Control_came : Arrival → ControlReading → Input
+  User_came : Endpoint → UserReading → Input
+  Moves_on : Move → Input
+
+-- why a command is refused (printed G1 to G5 and G7, with S1, S4 or B1 for what is full)
+pub data Refusal : Type 0 where
+  No_such_context : Refusal  -- G1
+  Not_active : Refusal  -- G2
+  Wrong_role : Refusal  -- G3
+  Sessions_full : Refusal  -- G4 S1
+  Teids_used : Refusal  -- G4 S4
+  Pending_full : Refusal  -- G4 B1
+  Bearer_ended : Refusal  -- G5
+  Packet_too_long : Refusal  -- G7
+
+-- why a datagram is dropped (printed X1 to X11)
+pub data Drop : Type 0 where
+  Undecodable : ℕ → Drop  -- X1, with the fault's printed number
+  Old_counter : Drop  -- X2
+  No_pending : Drop  -- X3
+  Mismatch : Drop  -- X4
+  Context_not_active : Drop  -- X5
+  Unknown_context : Drop  -- X6
+  After_end : Drop  -- X7
+  Held_full : Drop  -- X8
+  Unexpected : Drop  -- X9
+  Unknown_extension : Drop  -- X10
+  Not_peer : Drop  -- X11
+
+-- what a step comes to
+pub data Outcome : Type 0 where
+  Begun : Option ℕ → Outcome  -- a command, with the TEID of its context
+  Gone_out : Outcome  -- a packet or an End Marker was sent
+  Refused : Refusal → Outcome
+  Answered : ℕ → Outcome  -- a request, with this cause
+  Echoed : Outcome
+  Repeated : Outcome
+  Opened : Outcome
+  Closed : Outcome
+  Clash : Outcome
+  Rejected : ℕ → Outcome  -- by the peer, with this cause
+  Alive : Outcome
+  Accepted : Outcome
+  Ended : Outcome
+  Broken : Outcome
+  Dropped : Drop → Outcome
+  Moved : Outcome  -- a move of a tick, which has no outcome of its own
+
+-- a user packet, and the context that it is for
+pub record Entry : Type 0 where
+  pub target : ℕ  -- the TEID that the packet names
+  pub payload : List ℕ
+  pub imsi : List ℕ  -- of the bearer's session
+  pub access_point : List ℕ  -- of the bearer's session
+  pub identity : Option ℕ  -- of the bearer
+
+-- the entry of a packet for a bearer with this identity, of a session for this subscriber
+abbrev pub entry_for : ℕ → List ℕ → Subscriber → Option ℕ → Entry
+entry_for target payload subscriber identity = record { target = target; payload = payload; imsi = subscriber.imsi; access_point = subscriber.access_point; identity = identity }
+
+-- a message that is sent, and where to
+pub record Sending : Type 0 where
+  pub destination : Endpoint
+  pub message : Message
+
+-- what a step sends and tells
+pub record Out : Type 0 where
+  pub sent : List Sending
+  pub heard : Option ℕ  -- the counter that the peer told
+  pub learned : Option ℕ  -- the same, where it is later than the one that was known
+  pub gave_up : List ℕ  -- numbers of requests that wait no more
+  pub forgot : List Arrival  -- requests whose answers are held no more
+  pub made : List Arrival  -- create requests for which a context was made
+  pub handed : List Entry  -- packets handed in
+  pub accepted : List Entry  -- packets accepted
+
+-- nothing is sent or told
+abbrev pub nothing : Out
+nothing = record { sent = []; heard = None; learned = None; gave_up = []; forgot = []; made = []; handed = []; accepted = [] }
+
+-- one message is sent
+abbrev pub says : Endpoint → Message → Out
+says destination message = record nothing { sent = record { destination = destination; message = message } ∷ [] }
+
+-- the messages that are sent
+abbrev pub messages : List Sending → List Message
+messages [] = []
+messages (s ∷ sent) = s.message ∷ messages sent
+
+-- what a step gives: what it sends and tells, its outcome, and the gateway after it
+pub record Effect : Type 0 where
+  pub out : Out
+  pub outcome : Outcome
+  pub node : Node
+
+-- nothing changes, and the command is refused
+abbrev pub refused : Node → Refusal → Effect
+refused node why = record { out = nothing; outcome = Refused why; node = node }
+
+-- nothing changes, and the datagram is dropped
+abbrev pub dropped : Node → Drop → Effect
+dropped node why = record { out = nothing; outcome = Dropped why; node = node }

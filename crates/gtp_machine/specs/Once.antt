@@ -1,0 +1,91 @@
+-- The steps of one gateway by itself, and what it makes for a request.
+use Rattle.std.specs.Prelude.{◌≡◌, ◌⊎◌, ℕ, List, [], ◌∷◌, ◌++◌, Some, None}
+use Rattle.std.specs.FinMap.{get}
+use Rattle.gtp_machine.specs.Table.{Among}
+use Rattle.gtp_machine.specs.Config.{Config}
+use Rattle.gtp_machine.specs.Message.{Message, Create_session_request, Create_bearer_request}
+use Rattle.gtp_machine.specs.Node.{Role, Serving, Packet, Bearer, Arrival, Held, Node, fresh_node}
+use Rattle.gtp_machine.specs.Input.{Input, Control_came, Control_message, Effect, messages}
+use Rattle.gtp_machine.specs.World.{Step}
+
+-- a step: the gateway before it, what it took, and what that gave
+pub record Done : Type 0 where
+  pub before : Node
+  pub input : Input
+  pub effect : Effect
+
+-- the gateway goes from one node to the other by these steps
+abbrev pub Steps : Role → Node → List Done → Node → Type 0
+Steps role old [] new = new ≡ old
+Steps role old (done ∷ log) new = (done.before ≡ old) × Step role old done.input done.effect × Steps role done.effect.node log new
+
+-- a request by which this gateway makes a session or a bearer
+abbrev pub Makes : Role → Message → Type 0
+Makes Serving (Create_bearer_request r) = Unit {0}
+Makes Packet (Create_session_request q) = Unit {0}
+Makes role m = ⊥
+
+-- the step takes the request
+abbrev pub Takes : Done → Arrival → Message → Type 0
+Takes done request message = done.input ≡ Control_came request (Control_message message)
+
+-- the step makes a context: a bearer, as a session comes with its default bearer
+pub record MakesContext (done : Done) : Type 0 where
+  pub key : ℕ
+  pub none : get done.before.bearers key ≡ None
+  pub bearer : Bearer
+  pub comes : get done.effect.node.bearers key ≡ Some bearer
+
+-- the steps do not give up the answer to the request
+abbrev pub NeverForgets : List Done → Arrival → Type 0
+NeverForgets log request = (done : Done) → Among done log → Among request done.effect.out.forgot → ⊥
+
+-- An answer that is held stays so until it is forgotten, whatever else a gateway does.
+abbrev pub HeldUntilForgotten : Type 0
+HeldUntilForgotten = (role : Role) (old : Node) (input : Input) (effect : Effect) → Step role old input effect → (held : Held) → Among held old.held → Among held effect.node.held ⊎ Among held.request effect.out.forgot
+
+-- two steps that take the same create request, with no giving up of its answer between them
+pub record ComesTwice (role : Role) (request : Arrival) (message : Message) (first second : Done) : Type 0 where
+  pub makes : Makes role message
+  pub config : Config
+  pub counter : ℕ
+  pub before : List Done
+  pub between : List Done
+  pub start : Node
+  pub finish : Node
+  pub reached : Steps role (fresh_node config counter) before start
+  pub steps : Steps role start (first ∷ (between ++ (second ∷ []))) finish
+  pub first_takes : Takes first request message
+  pub second_takes : Takes second request message
+  pub kept : NeverForgets between request
+
+-- the second of them makes no context where the first made one, and sends what the first sent
+pub record IsOnce (first second : Done) : Type 0 where
+  pub one_context : MakesContext first → MakesContext second → ⊥
+  pub one_answer : (a b : Message) → Among a (messages first.effect.out.sent) → Among b (messages second.effect.out.sent) → a ≡ b
+
+-- Until its answer is given up, a Create Session or Create Bearer Request makes one context and has one answer, however often it comes.
+abbrev pub ActsOnce : Type 0
+ActsOnce = (role : Role) (request : Arrival) (message : Message) (first second : Done) → ComesTwice role request message first second → IsOnce first second
+
+-- no taking of the request in these steps is late: its answer was not given up before
+abbrev pub NeverLate : List Done → Arrival → Type 0
+NeverLate log request = (front back : List Done) (done : Done) (message : Message) → log ≡ front ++ (done ∷ back) → Takes done request message → NeverForgets front request
+
+-- two steps of one start that take the same create request, where none that takes it is late
+pub record TakenInTime (role : Role) (request : Arrival) (message : Message) (first second : Done) : Type 0 where
+  pub makes : Makes role message
+  pub config : Config
+  pub counter : ℕ
+  pub before : List Done
+  pub between : List Done
+  pub after : List Done
+  pub finish : Node
+  pub steps : Steps role (fresh_node config counter) (before ++ (first ∷ (between ++ (second ∷ after)))) finish
+  pub first_takes : Takes first request message
+  pub second_takes : Takes second request message
+  pub in_time : NeverLate (before ++ (first ∷ (between ++ (second ∷ after)))) request
+
+-- Where none of its deliveries is late, a Create Session or Create Bearer Request makes one context in a start and has one answer.
+abbrev pub ActsOnceInTime : Type 0
+ActsOnceInTime = (role : Role) (request : Arrival) (message : Message) (first second : Done) → TakenInTime role request message first second → IsOnce first second

@@ -1,0 +1,181 @@
+-- The control plane of the packet gateway.
+use Rattle.std.specs.Prelude.{◌≡◌, ◌≢◌, ◌⊎◌, ℕ, ◌==◌, [], ◌∷◌, Option, Some, None, Bool, true, false, if◌then◌else◌}
+use Rattle.std.specs.FinMap.{insert, remove}
+use Rattle.gtp_values.specs.declared.cause.Cause.{Cause}
+use Rattle.gtp_machine.specs.Ordered.{Unless}
+use Rattle.gtp_machine.specs.Table.{Among}
+use Rattle.gtp_machine.specs.Element.{IsAccepting, Ipv4, cause_of, cause_at, teid_in, tunnel_end}
+use Rattle.gtp_machine.specs.Message.{CreateSessionRequest, CreateSessionResponse, DeleteSessionRequest, CreateBearerRequest, GivenBearer, CreateBearerResponse, DeleteBearerRequest, DeleteBearerResponse, Message, Echo_request, Echo_response, Create_session_request, Create_session_response, Delete_session_request, Delete_session_response, Create_bearer_request, Create_bearer_response, Delete_bearer_request, Delete_bearer_response, recovery_of, subscriber_of, first_given, first_identity}
+use Rattle.gtp_machine.specs.Node.{Active, Closing, Session, Bearer, Default, Pending, Arrival, Node, written}
+use Rattle.gtp_machine.specs.Input.{ControlReading, Control_message, Faulty, Control_fault, RequestKind, Of_create_session, Of_delete_session, Of_create_bearer, Of_delete_bearer, FaultyRequest, Effect, Opened, Closed, Clash, Rejected, nothing, dropped, Undecodable, No_pending, Mismatch, Held_full, Unexpected}
+use Rattle.gtp_machine.specs.Choice.{IsFree, HasDraws, IsFreeAddress, HasFreeAddress, IsIdentity, IsUnused, HasSessionRoom, HasHeldRoom, HasSession, HasBearer, HasPending}
+use Rattle.gtp_machine.specs.Removal.{without_session}
+use Rattle.gtp_machine.specs.Recovery.{Hears}
+use Rattle.gtp_machine.specs.Response.{Named, finishing, EchoAnswered}
+use Rattle.gtp_machine.specs.Answer.{answered, making, echoed, refusing, faulted, fault_number}
+
+-- 18 (new PDN type due to network preference) where IPv4v6 was asked for, else 16
+abbrev pub session_cause : ℕ → ℕ
+session_cause pdn = if pdn == 3 then 18 else 16
+
+-- the answer that makes a session: any two free TEIDs and any free address
+abbrev pub session_response : Node → CreateSessionRequest → ℕ → ℕ → ℕ → CreateSessionResponse
+session_response node q control user address =
+    record {
+      header = q.control.teid;
+      number = q.number;
+      cause = cause_of (session_cause q.pdn);
+      control = Some (tunnel_end 7 control node.config.own.control);
+      address = Some (Ipv4 address);
+      ambr = q.ambr;
+      contexts = record { identity = q.context.identity; cause = cause_of 16; user = Some (tunnel_end 5 user node.config.own.user); qos = Some q.context.qos; charging = Some user } ∷ [];
+      recovery = Some node.counter;
+    }
+
+-- a session of the packet gateway, active at once
+abbrev pub made_session : CreateSessionRequest → ℕ → Session
+made_session q address = record { remote = Some q.control.teid; subscriber = subscriber_of q; address = Some address; state = Active }
+
+-- its default bearer
+abbrev pub made_bearer : CreateSessionRequest → ℕ → Bearer
+made_bearer q control = record { remote = Some q.context.user.teid; session = control; identity = Some q.context.identity; kind = Default; state = Active; ended = false }
+
+-- two draws, and an active session with its default bearer
+abbrev pub session_made : Node → CreateSessionRequest → ℕ → ℕ → ℕ → Node
+session_made old q control user address =
+    record old {
+      drawn = user ∷ control ∷ old.drawn;
+      sessions = insert old.sessions control (made_session q address);
+      bearers = insert old.bearers user (made_bearer q control);
+    }
+
+-- A session is made, and the answer is held.
+pub record MakesSession (request : Arrival) (old : Node) (q : CreateSessionRequest) (e : Effect) : Type 0 where
+  pub control : ℕ
+  pub user : ℕ
+  pub address : ℕ
+  pub control_free : IsFree old control
+  pub user_free : IsFree old user
+  pub apart : control ≢ user
+  pub address_free : IsFreeAddress old address
+  pub gives : e ≡ making request (Create_session_response (session_response old q control user address)) (session_cause q.pdn) (session_made old q control user address)
+
+-- a refusal of a Create Session Request goes to the sender's control plane TEID
+abbrev pub session_refused : Arrival → CreateSessionRequest → Cause → Node → Effect
+session_refused request q cause old = answered request (refusing Of_create_session q.control.teid q.number cause old.counter) cause.value old
+
+-- A Create Session Request (7.2.1), with its refusals in their order.
+abbrev pub SessionAsked : Arrival → CreateSessionRequest → Node → Effect → Type 0
+SessionAsked request q old e =
+    Unless (HasHeldRoom old) (e ≡ dropped old Held_full) (λ room.
+    Unless (q.further ≡ []) (e ≡ session_refused request q (cause_of 94) old) (λ one.
+    Unless (IsIdentity q.context.identity) (e ≡ session_refused request q (cause_at 69 73 0) old) (λ identity.
+    Unless (Among q.access_point old.config.access_points) (e ≡ session_refused request q (cause_of 78) old) (λ configured.
+    Unless ((q.pdn ≡ 1) ⊎ (q.pdn ≡ 3)) (e ≡ session_refused request q (cause_of 83) old) (λ pdn.
+    Unless (HasSessionRoom old × HasDraws old 2) (e ≡ session_refused request q (cause_of 73) old) (λ few.
+    Unless (HasFreeAddress old) (e ≡ session_refused request q (cause_of 84) old) (λ address.
+    MakesSession request old q e)))))))
+
+-- the linked identity is absent, or the session's default
+abbrev pub IsLinkedTo : Option ℕ → Session → Type 0
+IsLinkedTo None s = Unit {0}
+IsLinkedTo (Some identity) s = identity ≡ s.subscriber.identity
+
+-- A Delete Session Request (7.2.9.1), in any state of the session.
+abbrev pub DeletionAsked : Arrival → DeleteSessionRequest → Node → Effect → Type 0
+DeletionAsked request d old e =
+    Unless (HasHeldRoom old) (e ≡ dropped old Held_full) (λ room.
+    Unless (HasSession old d.header) (e ≡ answered request (refusing Of_delete_session 0 d.number (cause_of 64) old.counter) 64 old) (λ at.
+    Unless (IsLinkedTo d.linked at.session) (e ≡ answered request (refusing Of_delete_session (written at.session.remote) d.number (cause_of 64) old.counter) 64 old) (λ linked.
+    e ≡ answered request (Delete_session_response (record { header = written at.session.remote; number = d.number; cause = cause_of 16; recovery = Some old.counter })) 16 (without_session old d.header))))
+
+-- the request is a Create Bearer Request for the session that the response names
+pub record FitsBearer (p : Pending) (x : CreateBearerResponse) : Type 0 where
+  pub request : CreateBearerRequest
+  pub asked : p.request ≡ Create_bearer_request request
+  pub session : ℕ
+  pub about : p.session ≡ Some session
+  pub bearer : ℕ
+  pub about_bearer : p.bearer ≡ Some bearer
+  pub named : Named p x.header x.cause
+
+-- an accepting response has one bearer context
+pub record DescribesBearer (x : CreateBearerResponse) : Type 0 where
+  pub context : GivenBearer
+  pub alone : x.contexts ≡ context ∷ []
+
+-- the bearer can be opened with the identity: 5 to 15, not in use in the session, which is not closing
+pub record CanOpen (old : Node) (session identity : ℕ) : Type 0 where
+  pub range : IsIdentity identity
+  pub unused : IsUnused old session identity
+  pub at : HasSession old session
+  pub not_closing : at.session.state ≢ Closing
+
+-- a dedicated bearer, opened by the response
+abbrev pub opened_dedicated : Bearer → CreateBearerResponse → Bearer
+opened_dedicated b x = record b { remote = first_given x.contexts; identity = first_identity x.contexts; state = Active }
+
+-- The bearer is active, with its remote and identity.
+pub record OpensBearer (old : Node) (x : CreateBearerResponse) (bearer : ℕ) (e : Effect) : Type 0 where
+  pub at : HasBearer old bearer
+  pub gives : e ≡ record { out = nothing; outcome = Opened; node = record old { bearers = insert old.bearers bearer (opened_dedicated at.bearer x); pending = remove old.pending x.number } }
+
+-- A Create Bearer Response (7.2.4). What does not accept, or clashes, removes the pending bearer.
+abbrev pub BearerAnswered : CreateBearerResponse → Node → Effect → Type 0
+BearerAnswered x old e =
+    Unless (HasPending old x.number) (e ≡ dropped old No_pending) (λ at.
+    Unless (FitsBearer at.pending x) (e ≡ dropped old Mismatch) (λ fits.
+    Unless (IsAccepting x.cause) (e ≡ finishing old x.number at.pending (Rejected x.cause.value)) (λ accepts.
+    Unless (DescribesBearer x) (e ≡ dropped old Mismatch) (λ new.
+    Unless (IsAccepting new.context.cause) (e ≡ finishing old x.number at.pending (Rejected new.context.cause.value)) (λ both.
+    Unless (teid_in new.context.packet_user ≡ Some fits.bearer) (e ≡ dropped old Mismatch) (λ returned.
+    Unless (CanOpen old fits.session new.context.identity) (e ≡ finishing old x.number at.pending Clash) (λ can.
+    OpensBearer old x fits.bearer e)))))))
+
+-- the request is a Delete Bearer Request for the session that the response names
+pub record FitsRemoval (p : Pending) (d : DeleteBearerResponse) : Type 0 where
+  pub request : DeleteBearerRequest
+  pub asked : p.request ≡ Delete_bearer_request request
+  pub named : Named p d.header d.cause
+
+-- A Delete Bearer Response (7.2.10.2): with any cause the closing session or bearer goes.
+abbrev pub RemovalAnswered : DeleteBearerResponse → Node → Effect → Type 0
+RemovalAnswered d old e =
+    Unless (HasPending old d.number) (e ≡ dropped old No_pending) (λ at.
+    Unless (FitsRemoval at.pending d) (e ≡ dropped old Mismatch) (λ fits.
+    e ≡ finishing old d.number at.pending Closed))
+
+-- what the packet gateway does with a message of a kind that it takes, once the peer's counter was heard
+abbrev pub PacketTakes : Arrival → Message → Node → Effect → Type 0
+PacketTakes request (Echo_request q) old e = e ≡ echoed request q old
+PacketTakes request (Echo_response a) old e = EchoAnswered a old e
+PacketTakes request (Create_session_request q) old e = SessionAsked request q old e
+PacketTakes request (Delete_session_request d) old e = DeletionAsked request d old e
+PacketTakes request (Create_bearer_response x) old e = BearerAnswered x old e
+PacketTakes request (Delete_bearer_response d) old e = RemovalAnswered d old e
+PacketTakes request _ old e = e ≡ dropped old Unexpected
+
+-- the kinds that the packet gateway takes
+abbrev pub packet_takes : Message → Bool
+packet_takes (Echo_request q) = true
+packet_takes (Echo_response a) = true
+packet_takes (Create_session_request q) = true
+packet_takes (Delete_session_request d) = true
+packet_takes (Create_bearer_response x) = true
+packet_takes (Delete_bearer_response d) = true
+packet_takes _ = false
+
+-- a faulty request is answered where the packet gateway takes its kind
+abbrev pub PacketFaulted : Arrival → FaultyRequest → RequestKind → Node → Effect → Type 0
+PacketFaulted request f Of_create_session old e = e ≡ faulted request f old
+PacketFaulted request f Of_delete_session old e = e ≡ faulted request f old
+PacketFaulted request f Of_create_bearer old e = e ≡ dropped old (Undecodable (fault_number f.defect))
+PacketFaulted request f Of_delete_bearer old e = e ≡ dropped old (Undecodable (fault_number f.defect))
+
+-- what was read: other kinds are dropped before their counter is heard
+abbrev pub PacketReads : ControlReading → Arrival → Node → Effect → Type 0
+PacketReads (Control_message message) request old e =
+    Unless (packet_takes message ≡ true) (e ≡ dropped old Unexpected) (λ taken.
+    Hears (PacketTakes request message) old (recovery_of message) e)
+PacketReads (Faulty f) request old e = PacketFaulted request f f.kind old e
+PacketReads (Control_fault fault) request old e = e ≡ dropped old (Undecodable fault)

@@ -1,0 +1,228 @@
+-- How datagrams read: what the decoders of the two planes tell, as the machine sees it.
+use Rattle.std.specs.Prelude.{◌≡◌, ◌⊎◌, ℕ, ◌+◌, ◌*◌, ◌==◌, Bool, true, false, List, [], ◌∷◌, map, Option, Some, None, option_map, unwrap_or, if◌then◌else◌}
+use Rattle.gtp_values.specs.declared.identifiers.Teid.{Teid}
+use Rattle.gtp_values.specs.declared.paa.Paa.{Paa}
+use Rattle.gtp_values.specs.declared.paa.Paa.TheVariants as paas
+use Rattle.gtp_ie.specs.declared.fault.IeFault.{IeFault}
+use Rattle.gtp_ie.specs.declared.fault.IeFault.TheVariants as elements
+use Rattle.gtp_ie.specs.declared.value.numbers.Recovery.{Recovery}
+use Rattle.gtp_ie.specs.declared.value.numbers.ChargingId.{ChargingId}
+use Rattle.gtp_v2.specs.declared.message.Message as decoded
+use Rattle.gtp_v2.specs.declared.body.Body.{Body}
+use Rattle.gtp_v2.specs.declared.body.Body.TheVariants as bodies
+use Rattle.gtp_v2.specs.declared.session.CreateSessionRequest as session_requests
+use Rattle.gtp_v2.specs.declared.bearer.CreateBearerRequest as bearer_requests
+use Rattle.gtp_v2.specs.declared.context.SessionRequestContext.{SessionRequestContext}
+use Rattle.gtp_v2.specs.declared.context.SessionResponseContext.{SessionResponseContext}
+use Rattle.gtp_v2.specs.declared.context.BearerRequestContext.{BearerRequestContext}
+use Rattle.gtp_v2.specs.declared.context.BearerResponseContext.{BearerResponseContext}
+use Rattle.gtp_v2.specs.declared.context.RemovalResponseContext.{RemovalResponseContext}
+use Rattle.gtp_v2.specs.declared.fault.Head.{Head}
+use Rattle.gtp_v2.specs.declared.fault.V2Fault.{V2Fault}
+use Rattle.gtp_v2.specs.declared.fault.V2Fault.TheVariants as faults
+use Rattle.gtp_v2.specs.Body.{spoken_of}
+use Rattle.gtp_v2.specs.Datagram.{IsMessage, IsFault}
+use Rattle.gtp_user.specs.declared.message.UserBody.{UserBody}
+use Rattle.gtp_user.specs.declared.message.UserBody.TheVariants as user_bodies
+use Rattle.gtp_user.specs.declared.message.UserMessage.{UserMessage}
+use Rattle.gtp_user.specs.declared.fault.UserFault.{UserFault}
+use Rattle.gtp_user.specs.declared.fault.UserFault.TheVariants as user_faults
+use Rattle.gtp_user.specs.Message as user_messages
+use Rattle.gtp_user.specs.Datagram.{IsUserMessage, IsUserFault}
+use Rattle.gtp_machine.specs.Element.{PdnAddress, Ipv4, Other_address}
+use Rattle.gtp_machine.specs.Message.{CreateSessionRequest, CreateBearerRequest, RequestedBearer, CreatedBearer, WantedBearer, GivenBearer, RemovedBearer, Message, Echo_request, Echo_response, Create_session_request, Create_session_response, Delete_session_request, Delete_session_response, Create_bearer_request, Create_bearer_response, Delete_bearer_request, Delete_bearer_response, Other_control, Packet_data, End_marker, Error_indication, User_echo_request, User_echo_response, Supported_extensions, Other_user}
+use Rattle.gtp_machine.specs.Input.{RequestKind, Of_create_session, Of_delete_session, Of_create_bearer, Of_delete_bearer, Defect, Mandatory_missing, Conditional_missing, Too_short, Out_of_range, ControlReading, Control_message, Faulty, Control_fault, UserReading, User_message, Extension_needed, User_fault}
+use Rattle.gtp_machine.specs.Node.{written}
+use Rattle.gtp_machine.specs.Answer.{fault_number}
+
+-- the number that octets stand for, the highest first, behind what stands before them
+abbrev pub number_behind : ℕ → List ℕ → ℕ
+number_behind before [] = before
+number_behind before (octet ∷ octets) = number_behind (256 * before + octet) octets
+
+-- a PDN Address Allocation (TS 29.274, 8.14): an IPv4 address as a number, another one as it is
+abbrev pub address_of : Paa → PdnAddress
+address_of (paas.V4 octets) = Ipv4 (number_behind 0 octets)
+address_of (paas.V6 prefix octets) = Other_address (paas.V6 prefix octets)
+address_of (paas.V4V6 prefix v6 v4) = Other_address (paas.V4V6 prefix v6 v4)
+address_of (paas.Other number) = Other_address (paas.Other number)
+
+-- the TEID of a header (5.1), 0 where it has none
+abbrev pub header_in : Option Teid → ℕ
+header_in teid = written (option_map (λ t. t.0) teid)
+
+-- a restart counter (Recovery, 8.5), where there is one
+abbrev pub counter_in : Option Recovery → Option ℕ
+counter_in recovery = option_map (λ r. r.0.0) recovery
+
+-- a charging identifier (8.29), where there is one
+abbrev pub charging_in : Option ChargingId → Option ℕ
+charging_in charging = option_map (λ c. c.0) charging
+
+-- a bearer context of a Create Session Request (7.2.1, table 7.2.1-2)
+abbrev pub requested_bearer : SessionRequestContext → RequestedBearer
+requested_bearer c = record { identity = c.ebi.0; qos = c.qos; user = c.user }
+
+-- a bearer context of a Create Session Response (7.2.2, table 7.2.2-2)
+abbrev pub created_bearer : SessionResponseContext → CreatedBearer
+created_bearer c = record { identity = c.ebi.0; cause = c.cause; user = c.user; qos = c.qos; charging = charging_in c.charging_id }
+
+-- a bearer context of a Create Bearer Request (7.2.3, table 7.2.3-2)
+abbrev pub wanted_bearer : BearerRequestContext → WantedBearer
+wanted_bearer c = record { identity = c.ebi.0; tft = c.tft; user = c.user; qos = c.qos; charging = charging_in c.charging_id }
+
+-- a bearer context of a Create Bearer Response (7.2.4, table 7.2.4-2)
+abbrev pub given_bearer : BearerResponseContext → GivenBearer
+given_bearer c = record { identity = c.ebi.0; cause = c.cause; serving_user = c.serving_user; packet_user = c.packet_user }
+
+-- a bearer context of a Delete Bearer Response (7.2.10.2, table 7.2.10.2-2)
+abbrev pub removed_bearer : RemovalResponseContext → RemovedBearer
+removed_bearer c = record { identity = c.ebi.0; cause = c.cause }
+
+-- a Create Session Request (7.2.1) with these bearer contexts; each that is decoded has one
+abbrev pub session_request_of : ℕ → ℕ → session_requests.CreateSessionRequest → List SessionRequestContext → Message
+session_request_of header number q [] = Other_control 32
+session_request_of header number q (first ∷ further) =
+    Create_session_request (record {
+      header = header;
+      number = number;
+      imsi = q.imsi;
+      rat = q.rat.0;
+      network = q.serving_network;
+      control = q.control;
+      access_point = q.apn;
+      selection = option_map (λ s. s.0) q.selection;
+      pdn = q.pdn_type.0;
+      address = option_map address_of q.paa;
+      ambr = q.ambr;
+      context = requested_bearer first;
+      further = map requested_bearer further;
+      recovery = counter_in q.recovery;
+    })
+
+-- a Create Bearer Request (7.2.3) with these bearer contexts; each that is decoded has one
+abbrev pub bearer_request_of : ℕ → ℕ → bearer_requests.CreateBearerRequest → List BearerRequestContext → Message
+bearer_request_of header number r [] = Other_control 95
+bearer_request_of header number r (first ∷ further) =
+    Create_bearer_request (record {
+      header = header;
+      number = number;
+      transaction = option_map (λ t. t.0) r.pti;
+      linked = r.linked_ebi.0;
+      context = wanted_bearer first;
+      further = map wanted_bearer further;
+    })
+
+-- what a control message says, by its type (6.1), under the TEID and the sequence number of its header
+abbrev pub body_message : ℕ → ℕ → Body → Message
+body_message header number (bodies.EchoRequest m) = Echo_request (record { number = number; recovery = m.recovery.0.0 })
+body_message header number (bodies.EchoResponse m) = Echo_response (record { number = number; recovery = m.recovery.0.0 })
+body_message header number (bodies.VersionNotSupported m) = Other_control 3
+body_message header number (bodies.CreateSessionRequest q) = session_request_of header number q q.contexts
+body_message header number (bodies.CreateSessionResponse a) = Create_session_response (record { header = header; number = number; cause = a.cause; control = a.control; address = option_map address_of a.paa; ambr = a.ambr; contexts = map created_bearer a.contexts; recovery = counter_in a.recovery })
+body_message header number (bodies.DeleteSessionRequest d) = Delete_session_request (record { header = header; number = number; linked = option_map (λ e. e.0) d.linked_ebi })
+body_message header number (bodies.DeleteSessionResponse d) = Delete_session_response (record { header = header; number = number; cause = d.cause; recovery = counter_in d.recovery })
+body_message header number (bodies.CreateBearerRequest r) = bearer_request_of header number r r.contexts
+body_message header number (bodies.CreateBearerResponse x) = Create_bearer_response (record { header = header; number = number; cause = x.cause; contexts = map given_bearer x.contexts; recovery = counter_in x.recovery })
+body_message header number (bodies.DeleteBearerRequest d) = Delete_bearer_request (record { header = header; number = number; linked = option_map (λ e. e.0) d.linked_ebi; identities = map (λ e. e.0) d.ebis })
+body_message header number (bodies.DeleteBearerResponse d) = Delete_bearer_response (record { header = header; number = number; cause = d.cause; linked = option_map (λ e. e.0) d.linked_ebi; contexts = map removed_bearer d.contexts; recovery = counter_in d.recovery })
+body_message header number (bodies.Other kind octets) = Other_control kind
+
+-- a control message (5.1); its priority is not looked at
+abbrev pub control_message : decoded.Message → Message
+control_message m = body_message (header_in m.teid) m.seq m.body
+
+-- the requests whose faults are answered, by their type (6.1)
+abbrev pub request_kind : ℕ → Option RequestKind
+request_kind kind =
+    if kind == 32 then Some Of_create_session
+    else (if kind == 36 then Some Of_delete_session
+    else (if kind == 95 then Some Of_create_bearer
+    else (if kind == 99 then Some Of_delete_bearer
+    else None)))
+
+-- an element at fault (7.7): of a request that is answered, or of another message
+abbrev pub defect_in : Option RequestKind → Head → Defect → ℕ → ℕ → ControlReading
+defect_in None head defect element instance = Control_fault (fault_number defect)
+defect_in (Some kind) head defect element instance = Faulty (record { kind = kind; header = header_in head.teid; number = head.seq; defect = defect; element = element; instance = instance; sender = head.sender })
+
+-- an element that is missing (7.7.6)
+abbrev pub missing_in : Bool → Defect
+missing_in true = Conditional_missing
+missing_in false = Mandatory_missing
+
+-- an element that has no value (7.7.7, 7.7.8): too short, or out of its range; one that runs past the end of its list is answered by none
+abbrev pub element_fault : Head → IeFault → ControlReading
+element_fault head (elements.Truncated at) = Control_fault 7
+element_fault head (elements.ShortValue kind instance at) = defect_in (request_kind head.kind) head Too_short kind instance
+element_fault head (elements.BadValue kind instance at) = defect_in (request_kind head.kind) head Out_of_range kind instance
+element_fault head elements.Memory = Control_fault 7
+element_fault head elements.TooLong = Control_fault 7
+
+-- a control datagram at fault: by an element (7.7.6 to 7.7.8), or by the fault's printed number, H1 to H9 (7.7.2, 7.7.3)
+abbrev pub control_fault : V2Fault → ControlReading
+control_fault (faults.Short held) = Control_fault 1
+control_fault (faults.Version version) = Control_fault 2
+control_fault faults.Piggyback = Control_fault 5
+control_fault (faults.Length stated held) = Control_fault 3
+control_fault (faults.FlagT kind) = Control_fault 4
+control_fault (faults.Missing kind instance conditional head) = defect_in (request_kind head.kind) head (missing_in conditional) kind instance
+control_fault (faults.Element fault head) = element_fault head fault
+control_fault faults.Memory = Control_fault 8
+control_fault faults.TooLong = Control_fault 9
+
+-- The octets of a control datagram (TS 29.274, 5 to 8) read so: they spell this message, or this is their first fault.
+abbrev pub ControlReads : List ℕ → ControlReading → Type 0
+ControlReads octets reading =
+    ((m : decoded.Message) × IsMessage octets (spoken_of m) × (reading ≡ Control_message (control_message m)))
+    ⊎ ((fault : V2Fault) × IsFault octets fault × (reading ≡ control_fault fault))
+
+-- what a user plane message carries, by its type (TS 29.281, 6.1); the sequence number counts in Echo messages alone
+abbrev pub user_body_message : Option ℕ → UserBody → Message
+user_body_message number user_bodies.EchoRequest = User_echo_request (unwrap_or number 0)
+user_body_message number user_bodies.EchoResponse = User_echo_response (unwrap_or number 0)
+user_body_message number (user_bodies.ErrorIndication teid peer) = Error_indication teid.0 peer
+user_body_message number (user_bodies.Notification types) = Supported_extensions types.now
+user_body_message number (user_bodies.EndMarker teid) = End_marker teid.0
+user_body_message number (user_bodies.Packet teid payload) = Packet_data teid.0 payload.now
+user_body_message number (user_bodies.Other kind teid octets) = Other_user kind
+
+-- a user plane message (5.1); its N-PDU number and its extension headers are not looked at
+abbrev pub user_message : UserMessage → Message
+user_message m = user_body_message m.seq m.body
+
+-- a user plane datagram at fault: an extension header that is needed and not known (5.2.1), or by the fault's printed number, U1 to U11
+abbrev pub user_fault : UserFault → UserReading
+user_fault (user_faults.Short held) = User_fault 1
+user_fault (user_faults.Version version) = User_fault 2
+user_fault user_faults.Protocol = User_fault 3
+user_fault (user_faults.Length stated held) = User_fault 4
+user_fault (user_faults.ExtensionZero at) = User_fault 5
+user_fault (user_faults.ExtensionPast at) = User_fault 6
+user_fault (user_faults.ExtensionNeeded kind) = Extension_needed
+user_fault (user_faults.Missing kind) = User_fault 8
+user_fault (user_faults.Element at) = User_fault 9
+user_fault user_faults.Memory = User_fault 10
+user_fault user_faults.TooLong = User_fault 11
+
+-- The octets of a user plane datagram (TS 29.281, 5, 7 and 8) read so: they spell this message, or this is their first fault.
+abbrev pub UserReads : List ℕ → UserReading → Type 0
+UserReads octets reading =
+    ((m : UserMessage) × IsUserMessage octets (user_messages.spoken_of m) × (reading ≡ User_message (user_message m)))
+    ⊎ ((fault : UserFault) × IsUserFault octets fault × (reading ≡ user_fault fault))
+
+-- Octets of the control plane read in at most one way.
+abbrev pub ControlReadsOnce : Type 0
+ControlReadsOnce = (octets : List ℕ) (r s : ControlReading) → ControlReads octets r → ControlReads octets s → r ≡ s
+
+-- Octets of the user plane read in at most one way.
+abbrev pub UserReadsOnce : Type 0
+UserReadsOnce = (octets : List ℕ) (r s : UserReading) → UserReads octets r → UserReads octets s → r ≡ s
+
+-- Each Create Session Request that is decoded reads as one, for the subscriber and the access point that it names.
+abbrev pub KeepsSubscriber : Type 0
+KeepsSubscriber = (octets : List ℕ) (m : decoded.Message) (q : session_requests.CreateSessionRequest) → IsMessage octets (spoken_of m) → m.body ≡ bodies.CreateSessionRequest q → (r : CreateSessionRequest) × (control_message m ≡ Create_session_request r) × (r.imsi ≡ q.imsi) × (r.access_point ≡ q.apn)
+
+-- Each Create Bearer Request that is decoded reads as one, for the session that its header names and with its linked identity.
+abbrev pub KeepsSession : Type 0
+KeepsSession = (octets : List ℕ) (m : decoded.Message) (q : bearer_requests.CreateBearerRequest) → IsMessage octets (spoken_of m) → m.body ≡ bodies.CreateBearerRequest q → (r : CreateBearerRequest) × (control_message m ≡ Create_bearer_request r) × (r.header ≡ header_in m.teid) × (r.linked ≡ q.linked_ebi.0)

@@ -1,0 +1,64 @@
+-- How sessions and bearers go and close.
+use Rattle.std.specs.Prelude.{ℕ, ◌==◌, ◌||◌, Option, Some, None, Bool, true, false, not, if◌then◌else◌}
+use Rattle.std.specs.FinMap.{insert, remove}
+use Rattle.gtp_machine.specs.Table.{kept, changed}
+use Rattle.gtp_machine.specs.Node.{State, Waiting, Active, Closing, Session, Bearer, Pending, Node}
+
+-- the test of what a request is about, where it is about something
+abbrev pub on : (ℕ → Bool) → Option ℕ → Bool
+on goes None = false
+on goes (Some t) = goes t
+
+-- Without some sessions and some bearers: bearers go with their session, and requests go with what they are about.
+abbrev pub without : (ℕ → Bool) → (ℕ → Bool) → Node → Node
+without session_goes bearer_goes node =
+    record node {
+      sessions = kept (λ t (s : Session). not (session_goes t)) node.sessions;
+      bearers = kept (λ t (b : Bearer). not (bearer_goes t || session_goes b.session)) node.bearers;
+      pending = kept (λ number (p : Pending). not (on session_goes p.session || on bearer_goes p.bearer)) node.pending;
+    }
+
+-- without the session, its bearers and their requests
+abbrev pub without_session : Node → ℕ → Node
+without_session node session = without (λ t. t == session) (λ t. false) node
+
+-- without the bearer and its requests
+abbrev pub without_bearer : Node → ℕ → Node
+without_bearer node bearer = without (λ t. false) (λ t. t == bearer) node
+
+-- What a request was about goes, as it is finished: a bearer, else a session, else the request alone.
+abbrev pub finished_about : Node → ℕ → Option ℕ → Option ℕ → Node
+finished_about node number session (Some bearer) = without_bearer node bearer
+finished_about node number (Some session) None = without_session node session
+finished_about node number None None = record node { pending = remove node.pending number }
+
+-- the request with this number is finished, and what it was about goes
+abbrev pub finished : Node → ℕ → Pending → Node
+finished node number p = finished_about node number p.session p.bearer
+
+-- the session, closing
+abbrev pub closing_session : Session → Session
+closing_session s = record s { state = Closing }
+
+-- each bearer of the session is closing, whatever it was
+abbrev pub closing_bearer : ℕ → Bearer → Bearer
+closing_bearer session b = if b.session == session then record b { state = Closing } else b
+
+-- the session and its bearers are closing
+abbrev pub session_closing : Node → ℕ → Session → Node
+session_closing node session s =
+    record node {
+      sessions = insert node.sessions session (closing_session s);
+      bearers = changed (closing_bearer session) node.bearers;
+    }
+
+-- the state is pending
+abbrev pub is_waiting : State → Bool
+is_waiting Waiting = true
+is_waiting Active = false
+is_waiting Closing = false
+
+-- a session that was opened stands there
+abbrev pub is_opened : Option Session → Bool
+is_opened None = false
+is_opened (Some s) = not (is_waiting s.state)

@@ -1,0 +1,201 @@
+-- The control plane of the serving gateway.
+use Rattle.std.specs.Prelude.{◌≡◌, ◌≢◌, ℕ, ◌≤◌, ◌==◌, ◌&&◌, ◌||◌, List, [], ◌∷◌, Option, Some, None, Bool, true, false, length, if◌then◌else◌}
+use Rattle.std.specs.FinMap.{insert, remove}
+use Rattle.gtp_machine.specs.Ordered.{Unless}
+use Rattle.gtp_machine.specs.Element.{IsAccepting, Ipv4, cause_of, teid_in, tunnel_end}
+use Rattle.gtp_machine.specs.Message.{CreateSessionRequest, CreatedBearer, CreateSessionResponse, DeleteSessionRequest, DeleteSessionResponse, CreateBearerRequest, CreateBearerResponse, DeleteBearerRequest, RemovedBearer, Message, Echo_request, Echo_response, Create_session_request, Create_session_response, Delete_session_request, Delete_session_response, Create_bearer_request, Create_bearer_response, Delete_bearer_request, Delete_bearer_response, recovery_of, first_created}
+use Rattle.gtp_machine.specs.Node.{Waiting, Active, Session, Bearer, Dedicated, Pending, Arrival, Node, written}
+use Rattle.gtp_machine.specs.Input.{ControlReading, Control_message, Faulty, Control_fault, RequestKind, Of_create_session, Of_delete_session, Of_create_bearer, Of_delete_bearer, FaultyRequest, Effect, Opened, Closed, Rejected, nothing, dropped, Undecodable, No_pending, Mismatch, Context_not_active, Held_full, Unexpected}
+use Rattle.gtp_machine.specs.Choice.{IsFree, HasDraws, IsFreeIdentity, HasFreeIdentity, HasHeldRoom, HasSession, HasBearer, HasPending}
+use Rattle.gtp_machine.specs.Removal.{without_session, without_bearer}
+use Rattle.gtp_machine.specs.Recovery.{Hears}
+use Rattle.gtp_machine.specs.Response.{Named, finishing, EchoAnswered}
+use Rattle.gtp_machine.specs.Command.{NamesBearer}
+use Rattle.gtp_machine.specs.Answer.{answered, making, echoed, refusing, faulted, fault_number}
+
+-- the request is a Create Session Request for the session that the response names
+pub record FitsSession (p : Pending) (a : CreateSessionResponse) : Type 0 where
+  pub request : CreateSessionRequest
+  pub asked : p.request ≡ Create_session_request request
+  pub session : ℕ
+  pub about : p.session ≡ Some session
+  pub named : Named p a.header a.cause
+
+-- an accepting response has one bearer context, of the session's default identity, and an IPv4 address
+pub record DescribesSession (old : Node) (session : ℕ) (a : CreateSessionResponse) : Type 0 where
+  pub at : HasSession old session
+  pub context : CreatedBearer
+  pub alone : a.contexts ≡ context ∷ []
+  pub default : context.identity ≡ at.session.subscriber.identity
+  pub address : ℕ
+  pub given : a.address ≡ Some (Ipv4 address)
+
+-- the session, opened by the response
+abbrev pub opened_session : Session → CreateSessionResponse → ℕ → Session
+opened_session s a address = record s { remote = teid_in a.control; address = Some address; state = Active }
+
+-- its default bearer
+abbrev pub opened_bearer : Bearer → CreateSessionResponse → Bearer
+opened_bearer b a = record b { remote = first_created a.contexts; state = Active }
+
+-- The session and its default bearer are active, with their remotes and the address.
+pub record OpensSession (old : Node) (a : CreateSessionResponse) (q : CreateSessionRequest) (session : ℕ) (s : Session) (address : ℕ) (e : Effect) : Type 0 where
+  pub default : HasBearer old q.context.user.teid
+  pub gives : e ≡ record {
+    out = nothing;
+    outcome = Opened;
+    node = record old {
+      sessions = insert old.sessions session (opened_session s a address);
+      bearers = insert old.bearers q.context.user.teid (opened_bearer default.bearer a);
+      pending = remove old.pending a.number;
+    };
+  }
+
+-- A Create Session Response (7.2.2). What does not accept removes the pending session.
+abbrev pub SessionAnswered : CreateSessionResponse → Node → Effect → Type 0
+SessionAnswered a old e =
+    Unless (HasPending old a.number) (e ≡ dropped old No_pending) (λ at.
+    Unless (FitsSession at.pending a) (e ≡ dropped old Mismatch) (λ fits.
+    Unless (IsAccepting a.cause) (e ≡ finishing old a.number at.pending (Rejected a.cause.value)) (λ accepts.
+    Unless (DescribesSession old fits.session a) (e ≡ dropped old Mismatch) (λ new.
+    Unless (IsAccepting new.context.cause) (e ≡ finishing old a.number at.pending (Rejected new.context.cause.value)) (λ both.
+    OpensSession old a fits.request fits.session new.at.session new.address e)))))
+
+-- the request is a Delete Session Request for the session that the response names
+pub record FitsDeletion (p : Pending) (d : DeleteSessionResponse) : Type 0 where
+  pub request : DeleteSessionRequest
+  pub asked : p.request ≡ Delete_session_request request
+  pub named : Named p d.header d.cause
+
+-- A Delete Session Response (7.2.10.1): with any cause the closing session goes.
+abbrev pub DeletionAnswered : DeleteSessionResponse → Node → Effect → Type 0
+DeletionAnswered d old e =
+    Unless (HasPending old d.number) (e ≡ dropped old No_pending) (λ at.
+    Unless (FitsDeletion at.pending d) (e ≡ dropped old Mismatch) (λ fits.
+    e ≡ finishing old d.number at.pending Closed))
+
+-- the answer that makes a bearer: any free TEID and any free identity, and the request's F-TEID as it came
+abbrev pub bearer_response : Node → CreateBearerRequest → Session → ℕ → ℕ → CreateBearerResponse
+bearer_response node r s user identity =
+    record {
+      header = written s.remote;
+      number = r.number;
+      cause = cause_of 16;
+      contexts = record { identity = identity; cause = cause_of 16; serving_user = Some (tunnel_end 4 user node.config.own.user); packet_user = Some r.context.user } ∷ [];
+      recovery = Some node.counter;
+    }
+
+-- a dedicated bearer of the serving gateway, active at once
+abbrev pub granted_bearer : CreateBearerRequest → ℕ → Bearer
+granted_bearer r identity = record { remote = Some r.context.user.teid; session = r.header; identity = Some identity; kind = Dedicated; state = Active; ended = false }
+
+-- A bearer is made in an active session: a draw, an active bearer, and the answer, which is held.
+pub record MakesBearer (request : Arrival) (old : Node) (r : CreateBearerRequest) (s : Session) (e : Effect) : Type 0 where
+  pub user : ℕ
+  pub identity : ℕ
+  pub user_free : IsFree old user
+  pub identity_free : IsFreeIdentity old r.header identity
+  pub gives : e ≡ making request (Create_bearer_response (bearer_response old r s user identity)) 16 (record old { drawn = user ∷ old.drawn; bearers = insert old.bearers user (granted_bearer r identity) })
+
+-- the refusal for want of an identity or a TEID has a context with the packet gateway's F-TEID
+abbrev pub no_resources : Node → CreateBearerRequest → ℕ → CreateBearerResponse
+no_resources node r header =
+    record {
+      header = header;
+      number = r.number;
+      cause = cause_of 73;
+      contexts = record { identity = 0; cause = cause_of 73; serving_user = None; packet_user = Some r.context.user } ∷ [];
+      recovery = Some node.counter;
+    }
+
+-- A Create Bearer Request (7.2.3), with its refusals in their order.
+abbrev pub BearerAsked : Arrival → CreateBearerRequest → Node → Effect → Type 0
+BearerAsked request r old e =
+    Unless (HasHeldRoom old) (e ≡ dropped old Held_full) (λ room.
+    Unless (HasSession old r.header) (e ≡ answered request (refusing Of_create_bearer 0 r.number (cause_of 64) old.counter) 64 old) (λ at.
+    Unless (at.session.state ≡ Active) (e ≡ dropped old Context_not_active) (λ active.
+    Unless (r.further ≡ []) (e ≡ answered request (refusing Of_create_bearer (written at.session.remote) r.number (cause_of 94) old.counter) 94 old) (λ one.
+    Unless (r.linked ≡ at.session.subscriber.identity) (e ≡ answered request (refusing Of_create_bearer (written at.session.remote) r.number (cause_of 64) old.counter) 64 old) (λ linked.
+    Unless (HasFreeIdentity old r.header × HasDraws old 1) (e ≡ answered request (Create_bearer_response (no_resources old r (written at.session.remote))) 73 old) (λ free.
+    MakesBearer request old r at.session e))))))
+
+-- Each identity in turn: the session's dedicated bearer that has it is removed (16), and without one its context says 64.
+abbrev pub RemovesEach : ℕ → List ℕ → Node → List RemovedBearer → Node → Type 0
+RemovesEach session [] old contexts new = (contexts ≡ []) × (new ≡ old)
+RemovesEach session (identity ∷ rest) old contexts new =
+    (others : List RemovedBearer) ×
+    Unless (NamesBearer old session identity) ((contexts ≡ record { identity = identity; cause = cause_of 64 } ∷ others) × RemovesEach session rest old others new) (λ named.
+    (contexts ≡ record { identity = identity; cause = cause_of 16 } ∷ others) × RemovesEach session rest (without_bearer old named.key) others new)
+
+-- each context says that its bearer was removed
+abbrev pub all_removed : List RemovedBearer → Bool
+all_removed [] = true
+all_removed (context ∷ rest) = (context.cause.value == 16) && all_removed rest
+
+-- some context says that its bearer was removed
+abbrev pub any_removed : List RemovedBearer → Bool
+any_removed [] = false
+any_removed (context ∷ rest) = (context.cause.value == 16) || any_removed rest
+
+-- 16 if all were removed, 17 (accepted partially) if some were, 64 if none was
+abbrev pub removal_cause : List RemovedBearer → ℕ
+removal_cause contexts = if all_removed contexts then 16 else if any_removed contexts then 17 else 64
+
+-- Dedicated bearers are removed as the packet gateway asks, and the answer is held.
+pub record RemovesBearers (request : Arrival) (d : DeleteBearerRequest) (old : Node) (s : Session) (e : Effect) : Type 0 where
+  pub contexts : List RemovedBearer
+  pub left : Node
+  pub removes : RemovesEach d.header d.identities old contexts left
+  pub gives : e ≡ answered request (Delete_bearer_response (record { header = written s.remote; number = d.number; cause = cause_of (removal_cause contexts); linked = None; contexts = contexts; recovery = Some old.counter })) (removal_cause contexts) left
+
+-- with a linked identity the session is removed, and else the bearers of the list, at most 11
+abbrev pub RemovalTaken : Arrival → DeleteBearerRequest → Option ℕ → Node → Session → Effect → Type 0
+RemovalTaken request d (Some identity) old s e =
+    Unless (identity ≡ s.subscriber.identity) (e ≡ answered request (refusing Of_delete_bearer (written s.remote) d.number (cause_of 64) old.counter) 64 old) (λ linked.
+    e ≡ answered request (Delete_bearer_response (record { header = written s.remote; number = d.number; cause = cause_of 16; linked = Some identity; contexts = []; recovery = Some old.counter })) 16 (without_session old d.header))
+RemovalTaken request d None old s e =
+    Unless (length d.identities ≤ 11) (e ≡ answered request (refusing Of_delete_bearer (written s.remote) d.number (cause_of 94) old.counter) 94 old) (λ few.
+    RemovesBearers request d old s e)
+
+-- A Delete Bearer Request (7.2.9.2), with its refusals in their order.
+abbrev pub RemovalAsked : Arrival → DeleteBearerRequest → Node → Effect → Type 0
+RemovalAsked request d old e =
+    Unless (HasHeldRoom old) (e ≡ dropped old Held_full) (λ room.
+    Unless (HasSession old d.header) (e ≡ answered request (refusing Of_delete_bearer 0 d.number (cause_of 64) old.counter) 64 old) (λ at.
+    Unless (at.session.state ≢ Waiting) (e ≡ dropped old Context_not_active) (λ opened.
+    RemovalTaken request d d.linked old at.session e)))
+
+-- what the serving gateway does with a message of a kind that it takes, once the peer's counter was heard
+abbrev pub ServingTakes : Arrival → Message → Node → Effect → Type 0
+ServingTakes request (Echo_request q) old e = e ≡ echoed request q old
+ServingTakes request (Echo_response a) old e = EchoAnswered a old e
+ServingTakes request (Create_session_response a) old e = SessionAnswered a old e
+ServingTakes request (Delete_session_response d) old e = DeletionAnswered d old e
+ServingTakes request (Create_bearer_request r) old e = BearerAsked request r old e
+ServingTakes request (Delete_bearer_request d) old e = RemovalAsked request d old e
+ServingTakes request _ old e = e ≡ dropped old Unexpected
+
+-- the kinds that the serving gateway takes
+abbrev pub serving_takes : Message → Bool
+serving_takes (Echo_request q) = true
+serving_takes (Echo_response a) = true
+serving_takes (Create_session_response a) = true
+serving_takes (Delete_session_response d) = true
+serving_takes (Create_bearer_request r) = true
+serving_takes (Delete_bearer_request d) = true
+serving_takes _ = false
+
+-- a faulty request is answered where the serving gateway takes its kind
+abbrev pub ServingFaulted : Arrival → FaultyRequest → RequestKind → Node → Effect → Type 0
+ServingFaulted request f Of_create_session old e = e ≡ dropped old (Undecodable (fault_number f.defect))
+ServingFaulted request f Of_delete_session old e = e ≡ dropped old (Undecodable (fault_number f.defect))
+ServingFaulted request f Of_create_bearer old e = e ≡ faulted request f old
+ServingFaulted request f Of_delete_bearer old e = e ≡ faulted request f old
+
+-- what was read: other kinds are dropped before their counter is heard
+abbrev pub ServingReads : ControlReading → Arrival → Node → Effect → Type 0
+ServingReads (Control_message message) request old e =
+    Unless (serving_takes message ≡ true) (e ≡ dropped old Unexpected) (λ taken.
+    Hears (ServingTakes request message) old (recovery_of message) e)
+ServingReads (Faulty f) request old e = ServingFaulted request f f.kind old e
+ServingReads (Control_fault fault) request old e = e ≡ dropped old (Undecodable fault)

@@ -1,0 +1,105 @@
+//! The laws of the machine. Their functions do nothing: each contract is a law.
+
+ghost use Rattle.gtp_machine.specs.Laws.{
+  ARunIsPossible,
+  Always,
+  BearersAgree,
+  BearersOnce,
+  EachClosesWhole,
+  EachGoesBack,
+  EachOpened,
+  EachOwed,
+  KnownIsLatest,
+  MadeOnce,
+  NamesGoBack,
+  NoneAhead,
+  NoneOver,
+  OneMessage,
+  ResponsesGoBack,
+  SessionsAgree,
+};
+ghost use Rattle.gtp_machine.specs.Reading.{ControlReadsOnce, KeepsSession, KeepsSubscriber, UserReadsOnce};
+ghost use Rattle.gtp_machine.specs.Once.{ActsOnce, ActsOnceInTime, HeldUntilForgotten};
+
+/// Tunnel safety: what holds at the end of each run, whatever is lost, cut, repeated, held back or delivered in another
+/// order, and whenever a gateway restarts.
+pub fn tunnel_safety()
+    // Sessions that name each other have the same subscriber, access point, default identity and address.
+    ensures sessions { Always SessionsAgree }
+
+    // Bearers that name each other have the same identity, and their sessions agree.
+    ensures bearers { Always BearersAgree }
+
+    // Where no delivery was late, each packet that was accepted was handed in at the other gateway,
+    // octet for octet, for the same subscriber, access point and bearer.
+    ensures owed { Always EachOwed }
+
+    // No session outlives a restart of the peer that its gateway has heard of.
+    ensures none_over { Always NoneOver }
+{}
+
+/// What tunnel safety rests on.
+pub fn foundations()
+    // Each TEID stands as its sender's own in one message and its repeats.
+    ensures one_message { Always OneMessage }
+
+    // The TEIDs of each session and bearer go back to such messages.
+    ensures goes_back { Always EachGoesBack }
+
+    // The TEIDs that messages name, in their headers and for their packets, go back to such messages.
+    ensures names { Always NamesGoBack }
+
+    // Responses go back to requests.
+    ensures responses { Always ResponsesGoBack }
+
+    // No counter in a message is ahead of its sender.
+    ensures none_ahead { Always NoneAhead }
+
+    // What is known of the peer is the latest counter that was heard.
+    ensures known { Always KnownIsLatest }
+
+    // A context has a remote once it is active, and a pending session has none.
+    ensures opened { Always EachOpened }
+
+    // The bearers of a closing session are closing.
+    ensures closes_whole { Always EachClosesWhole }
+
+    // Where no delivery of a create request was late, its gateway made at most one context for it since it started.
+    ensures made_once { Always MadeOnce }
+
+    // Where no delivery was late, each Create Bearer Request has one response that makes a bearer.
+    ensures bearers_once { Always BearersOnce }
+{}
+
+/// What one gateway makes for a request: its steps alone, whatever comes to it.
+pub fn acts_once()
+    // Until its answer is given up, a Create Session or Create Bearer Request makes one context and has one answer,
+    // however often it comes.
+    ensures until_forgotten { ActsOnce }
+
+    // Where none of its deliveries is late, it makes one context in a start of the gateway and has one answer.
+    ensures in_time { ActsOnceInTime }
+
+    // An answer that is held stays so until it is forgotten.
+    ensures held { HeldUntilForgotten }
+{}
+
+/// No law is empty: there is a run to sessions and dedicated bearers that name each other, and to an accepted packet.
+pub fn a_run_is_possible()
+    ensures { ARunIsPossible }
+{}
+
+/// How datagrams read.
+pub fn readings()
+    // Octets of the control plane read in at most one way.
+    ensures control { ControlReadsOnce }
+
+    // Octets of the user plane read in at most one way.
+    ensures user { UserReadsOnce }
+
+    // A Create Session Request reads as one, for the subscriber and the access point that it names.
+    ensures subscriber { KeepsSubscriber }
+
+    // A Create Bearer Request reads as one, for the session that its header names and with its linked identity.
+    ensures session { KeepsSession }
+{}

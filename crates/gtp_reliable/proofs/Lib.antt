@@ -1,0 +1,5 @@
+pub mod Numbers
+pub mod Lists
+pub mod Requests
+pub mod Pairs
+pub mod OnTime

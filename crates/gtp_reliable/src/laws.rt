@@ -1,0 +1,20 @@
+//! Laws of the ticks, each the contract of a function that does nothing.
+
+ghost use Rattle.std.specs.Prelude.{◌≡◌, ℕ, ◌+◌, ◌*◌, ◌<◌, ◌≤◌, List, Some, None};
+ghost use Rattle.gtp_values.specs.declared.address.Endpoint.{Endpoint as Place};
+ghost use Rattle.gtp_reliable.specs.Waiting.{just_sent};
+ghost use Rattle.gtp_reliable.specs.Held.{just_kept};
+ghost use Rattle.gtp_reliable.specs.Ticks.{after_ticks, held_after};
+
+/// A request was sent again `r` times, at most `n3`, where `t3` ticks passed so often, and it waits for the
+/// `k` ticks since, fewer than `t3`. After `t3` ticks more than those of the last time it is given up.
+pub fn requests_are_sent_again_on_time<P: Copy>()
+    ensures waits { (t3 n3 r k seq : ℕ) (to : Place) (octets : List ℕ) (purpose : P) → r ≤ n3 → k < t3 → after_ticks t3 n3 (r * t3 + k) (just_sent seq to octets purpose) ≡ Some (record { seq = seq; to = to; octets = octets; purpose = purpose; waited = k; resent = r }) }
+    ensures ends { (t3 n3 seq : ℕ) (to : Place) (octets : List ℕ) (purpose : P) → 0 < t3 → after_ticks t3 n3 ((n3 + 1) * t3) (just_sent seq to octets purpose) ≡ None }
+{}
+
+/// An answer is held for fewer than `hold` ticks, and given up in the tick of that number.
+pub fn answers_are_held_on_time()
+    ensures stays { (hold k : ℕ) (source : Place) (request answer : List ℕ) → k < hold → held_after hold k (just_kept source request answer) ≡ Some (record { source = source; request = request; answer = answer; age = k }) }
+    ensures ends { (hold : ℕ) (source : Place) (request answer : List ℕ) → 0 < hold → held_after hold hold (just_kept source request answer) ≡ None }
+{}

@@ -1,0 +1,274 @@
+//! Requests that wait for their answers.
+
+ghost use Rattle.std.specs.Prelude.{◌≡◌, ◌<◌, ◌≤◌, ◌↔◌, ◌⊎◌, [], ◌∷◌, ◌++◌, ◌+◌, ◌==◌, All, true, not, length, filter, map, IsOk, OnOk, OnErr, IfOk, IfErr, Err, option_map, is_some, unwrap_or};
+ghost use Rattle.std.specs.List.{filter_map};
+ghost use Rattle.gtp_reliable.specs.Waiting.{just_sent, after_tick, sent_again, given_up};
+ghost use Rattle.gtp_reliable.specs.Pending.{numbers, number_after, is_pending, IsNextFree, purpose_of, IsPrepared, AreLimits, AreRequests, SameTimes, IsQuiet, resends, given_ups};
+ghost use Rattle.gtp_reliable.specs.Due.{message_of};
+
+use crate::fault::ReliableFault;
+use crate::waiting::Waiting;
+use gtp_values::{Endpoint, Seq};
+use std::alloc::{AllocError, Global};
+use std::marker::Model;
+
+/// The most requests that are pending at a time.
+const MOST: usize = 256;
+
+/// The last number of a request.
+const LAST: u32 = 8_388_607;
+
+/// A request to be sent again: the same octets to the same place.
+#[derive(Debug, Drop)]
+pub struct Resend {
+    pub seq: Seq,
+    pub to: Endpoint,
+    pub octets: Vec<u8>,
+}
+
+/// What the next tick does, in order of beginning.
+#[derive(Debug, Drop)]
+pub struct Due<P: Copy> {
+    /// What it sends again.
+    pub resend: Vec<Resend>,
+    /// The number and the purpose of what it gives up.
+    pub gave_up: Vec<(Seq, P)>,
+}
+
+/// Requests that wait for their answers, in order of beginning, each with a purpose. A request waits `t3`
+/// ticks (T3-RESPONSE); then it is sent again, at most `n3` times (N3-REQUESTS), and then given up.
+/// Numbers rise by one from 0, or from where they were told to, to 8,388,607, and then from 0 again; one that is
+/// pending is passed over. At most 256 requests are pending.
+#[derive(Debug, Drop)]
+pub struct Pending<P: Copy> {
+    alloc: Global,
+    t3: u32,
+    n3: u32,
+    /// The number from which the next free one is sought.
+    next: u32,
+    waiting: Vec<Waiting<P>>,
+}
+
+impl<P: Copy> Model for Pending<P> {
+    ghost use Rattle.std.specs.Prelude.{nat_lt, vec_len, vec_capacity};
+    ghost use Rattle.gtp_reliable.specs.Pending.{Requests, AreRequests};
+
+    ghost Value = { Requests P };
+
+    ghost view = { λ a. record { t3 = a.t3; n3 = a.n3; next = a.next; waiting = a.waiting.items; has_room = nat_lt (vec_len a.waiting) (vec_capacity a.waiting) } };
+
+    ghost invariant = { λ a. AreRequests (record { t3 = a.t3; n3 = a.n3; next = a.next; waiting = a.waiting.items; has_room = nat_lt (vec_len a.waiting) (vec_capacity a.waiting) }) };
+}
+
+/// Whether a request of this number is pending.
+#[tactic(auto, unfolding(crate::specs::Pending::is_pending))]
+fn has_number<P: Copy>(waiting: &[Waiting<P>], number: u32) -> bool
+    ensures { result ≡ is_pending number waiting.now }
+{
+    waiting.iter().any(|w| w.seq().number() == number)
+}
+
+/// The number behind a number.
+fn following(number: u32) -> u32
+    requires { number < numbers }
+    ensures { result ≡ number_after number }
+{
+    if number == LAST { 0 } else { number + 1 }
+}
+
+/// The first number from a start on that no request has.
+pub fn next_free<P: Copy>(start: u32, waiting: &[Waiting<P>]) -> u32
+    requires start { start < numbers }
+    requires count { length waiting.now ≤ 256 }
+    ensures number { IsNextFree start waiting.now result }
+    ensures small { result < numbers }
+{
+    let mut number = start;
+    while has_number(waiting, number) {
+        number = following(number);
+    }
+    number
+}
+
+/// What the next tick sends again. Takes no memory where nothing is due.
+fn resends<P: Copy>(
+    alloc: Global,
+    waiting: &[Waiting<P>],
+    t3: u32,
+    n3: u32,
+) -> Result<Vec<Resend>, AllocError>
+    requires { 1 ≤ t3 }
+    ensures list { IfOk result (λ v. map message_of v.items ≡ filter_map (sent_again t3 n3) waiting.now) }
+    ensures quiet { All (λ w. w.waited + 1 < t3) waiting.now → IsOk result }
+{
+    let mut resend = Vec::new(alloc);
+    for w in waiting {
+        if !w.is_resent(t3, n3) {
+            continue;
+        }
+        resend.push(Resend {
+            seq: w.seq(),
+            to: w.to(),
+            octets: Vec::from_slice(alloc, w.octets())?,
+        })?;
+    }
+    Ok(resend)
+}
+
+/// What the next tick gives up. Takes no memory where nothing is due.
+fn given_ups<P: Copy>(
+    alloc: Global,
+    waiting: &[Waiting<P>],
+    t3: u32,
+    n3: u32,
+) -> Result<Vec<(Seq, P)>, AllocError>
+    requires { 1 ≤ t3 }
+    ensures list { IfOk result (λ v. v.items ≡ filter_map (given_up t3 n3) waiting.now) }
+    ensures quiet { All (λ w. w.waited + 1 < t3) waiting.now → IsOk result }
+{
+    let mut gave_up = Vec::new(alloc);
+    for w in waiting {
+        if !w.is_given_up(t3, n3) {
+            continue;
+        }
+        gave_up.push((w.seq(), *w.purpose()))?;
+    }
+    Ok(gave_up)
+}
+
+/// Drops the requests that the next tick gives up.
+fn drop_given_up<P: Copy>(waiting: &mut Vec<Waiting<P>>, t3: u32, n3: u32)
+    requires { 1 ≤ t3 }
+    ensures { waiting.new.items ≡ filter (λ w. is_some (after_tick t3 n3 w)) waiting.old.items }
+{
+    waiting.retain(|w| w.stays(t3, n3));
+}
+
+/// A tick passes for requests that stay.
+fn pass_all<P: Copy>(waiting: &mut Vec<Waiting<P>>, t3: u32, n3: u32)
+    requires { 1 ≤ t3 }
+    ensures { waiting.new.items ≡ map (λ w. unwrap_or (after_tick t3 n3 w) w) waiting.old.items }
+{
+    for w in waiting.iter_mut() {
+        w.pass(t3, n3);
+    }
+}
+
+/// Drops the request of this number.
+fn drop_number<P: Copy>(waiting: &mut Vec<Waiting<P>>, number: u32)
+    ensures { waiting.new.items ≡ filter (λ w. not (w.seq == number)) waiting.old.items }
+{
+    waiting.retain(|w| w.seq().number() != number);
+}
+
+impl<P: Copy> Pending<P> {
+    /// No requests; numbers begin at 0. `t3` is 1 to 1,000 ticks, `n3` at most 100. Takes no memory.
+    pub fn new(alloc: Global, t3: u32, n3: u32) -> Pending<P>
+        requires { AreLimits t3 n3 }
+        ensures empty { result.waiting ≡ [] }
+        ensures next { result.next ≡ 0 }
+        ensures times { (result.t3 ≡ t3) × (result.n3 ≡ n3) }
+    {
+        Pending {
+            alloc,
+            t3,
+            n3,
+            next: 0,
+            waiting: Vec::new(alloc),
+        }
+    }
+
+    /// The same with numbers that begin at `next`, at most 8,388,607.
+    pub fn new_at(alloc: Global, t3: u32, n3: u32, next: Seq) -> Pending<P>
+        requires limits { AreLimits t3 n3 }
+        requires number { next < numbers }
+        ensures empty { result.waiting ≡ [] }
+        ensures next { result.next ≡ next }
+        ensures times { (result.t3 ≡ t3) × (result.n3 ≡ n3) }
+    {
+        Pending {
+            alloc,
+            t3,
+            n3,
+            next: next.number(),
+            waiting: Vec::new(alloc),
+        }
+    }
+
+    /// The next free number, and room for its request; nothing else changes.
+    pub fn prepare(&mut self) -> Result<Seq, ReliableFault>
+        ensures prepared { IfOk result (IsPrepared self.new) }
+        ensures room { OnOk result (self.new ≡ record self.old { has_room = true }) }
+        ensures full { (result ≡ Err ReliableFault.PendingFull) ↔ (256 ≤ length self.old.waiting) }
+        ensures fault { IfErr result (λ f. (f ≡ ReliableFault.PendingFull) ⊎ (f ≡ ReliableFault.Memory)) }
+        ensures err { OnErr result (self.new ≡ self.old) }
+    {
+        if self.waiting.len() >= MOST {
+            return Err(ReliableFault::PendingFull);
+        }
+        self.waiting.try_reserve(1)?;
+        Ok(Seq::new(next_free(self.next, self.waiting.as_slice())))
+    }
+
+    /// Begins the request that was prepared, which is sent now.
+    pub fn begin(&mut self, seq: Seq, to: Endpoint, octets: Vec<u8>, purpose: P)
+        requires { IsPrepared self.old seq }
+        ensures waiting { self.new.waiting ≡ self.old.waiting ++ just_sent seq to octets.items purpose ∷ [] }
+        ensures next { self.new.next ≡ number_after seq }
+        ensures times { SameTimes self.old self.new }
+    {
+        self.next = following(seq.number());
+        if self
+            .waiting
+            .push(Waiting::new(seq, to, octets, purpose))
+            .is_err()
+        {
+            unreachable!()
+        }
+    }
+
+    /// What the pending request of this number is for.
+    #[tactic(auto, unfolding(crate::specs::Pending::purpose_of))]
+    pub fn matched(&self, seq: Seq) -> Option<&P>
+        ensures { option_map (λ p. p.now) result ≡ purpose_of seq self.now.waiting }
+    {
+        for waiting in &self.waiting {
+            if waiting.seq().number() == seq.number() {
+                return Some(waiting.purpose());
+            }
+        }
+        None
+    }
+
+    /// The request of this number, if it is pending, waits no longer.
+    pub fn finish(&mut self, seq: Seq)
+        ensures waiting { self.new.waiting ≡ filter (λ w. not (w.seq == seq)) self.old.waiting }
+        ensures next { self.new.next ≡ self.old.next }
+        ensures times { SameTimes self.old self.new }
+    {
+        drop_number(&mut self.waiting, seq.number());
+    }
+
+    /// What the next tick does. Takes no memory where that is nothing.
+    pub fn due(&self) -> Result<Due<P>, ReliableFault>
+        ensures resend { IfOk result (λ due. map message_of due.resend.items ≡ resends self.now) }
+        ensures gave_up { IfOk result (λ due. due.gave_up.items ≡ given_ups self.now) }
+        ensures quiet { IsQuiet self.now → IsOk result }
+        ensures fault { IfErr result (λ f. f ≡ ReliableFault.Memory) }
+    {
+        let waiting = self.waiting.as_slice();
+        let resend = resends(self.alloc, waiting, self.t3, self.n3)?;
+        let gave_up = given_ups(self.alloc, waiting, self.t3, self.n3)?;
+        Ok(Due { resend, gave_up })
+    }
+
+    /// A tick passes: what is due is sent again, by who asked, or given up.
+    pub fn tick(&mut self)
+        ensures waiting { self.new.waiting ≡ filter_map (after_tick self.old.t3 self.old.n3) self.old.waiting }
+        ensures next { self.new.next ≡ self.old.next }
+        ensures times { SameTimes self.old self.new }
+    {
+        drop_given_up(&mut self.waiting, self.t3, self.n3);
+        pass_all(&mut self.waiting, self.t3, self.n3);
+    }
+}

@@ -1,0 +1,11 @@
+pub mod Decided
+pub mod Appends
+pub mod Begun
+pub mod Gathers
+pub mod Chains
+pub mod Told
+pub mod Headers
+pub mod Spanned
+pub mod Messages
+pub mod Again
+pub mod Fronts

@@ -1,0 +1,62 @@
+-- Extension headers (TS 29.281 5.2.1), and the chain that they form behind a header.
+use Rattle.std.specs.Prelude.{◌≡◌, ℕ, ◌+◌, ◌-◌, ◌*◌, ◌/◌, ◌<◌, ◌≤◌, List, [], ◌∷◌, ◌++◌, length, ◌⊎◌}
+use Rattle.gtp_user.specs.declared.fault.UserFault.{UserFault}
+use Rattle.gtp_user.specs.declared.fault.UserFault.TheVariants as faults
+
+-- an extension header: its type and its content
+pub record Extension : Type 0 where
+  pub kind : ℕ
+  pub content : List ℕ
+
+-- the octets are a header, the type of the next one, and then the rest (5.2.1): a length in units of four octets, which counts itself and the
+-- type of the next header, and so is at least 1. A type with the highest bit set is for who understands it (figure 5.2.1-2), and none is understood here
+abbrev pub BeginsExtension : List ℕ → Extension → ℕ → List ℕ → Type 0
+BeginsExtension octets e next rest = (units : ℕ) × (octets ≡ units ∷ (e.content ++ next ∷ rest)) × (2 + length e.content ≡ 4 * units) × (0 < e.kind) × (e.kind < 128)
+
+-- the octets are whole headers in order, the first one of this type, and then there follow a next type and the rest
+abbrev pub Leads : ℕ → List ℕ → List Extension → ℕ → List ℕ → Type 0
+Leads kind octets [] next rest = (kind ≡ next) × (octets ≡ rest)
+Leads kind octets (e ∷ es) next rest = (follows : ℕ) × (after : List ℕ) × (e.kind ≡ kind) × BeginsExtension octets e follows after × Leads follows after es next rest
+
+-- the octets are a whole chain, and then the rest: type 0 ends it
+abbrev pub IsChain : ℕ → List ℕ → List Extension → List ℕ → Type 0
+IsChain kind octets es rest = Leads kind octets es 0 rest
+
+-- why no header of this type begins the octets, which are the last ones of `end` octets: it is missing, of length 0, past the end, or not understood
+abbrev pub ExtensionFails : ℕ → ℕ → List ℕ → UserFault → Type 0
+ExtensionFails end kind octets f =
+    ((octets ≡ []) × (f ≡ faults.ExtensionPast end))
+    ⊎ (((rest : List ℕ) × (octets ≡ 0 ∷ rest) × (f ≡ faults.ExtensionZero (end - length octets)))
+    ⊎ (((units : ℕ) × (rest : List ℕ) × (octets ≡ units ∷ rest) × (0 < units) × (length octets < 4 * units) × (f ≡ faults.ExtensionPast (end - length octets)))
+    ⊎ ((units : ℕ) × (rest : List ℕ) × (octets ≡ units ∷ rest) × (0 < units) × (4 * units ≤ length octets) × (128 ≤ kind) × (f ≡ faults.ExtensionNeeded kind))))
+
+-- behind whole headers a header is at fault
+abbrev pub ChainFails : ℕ → ℕ → List ℕ → UserFault → Type 0
+ChainFails end kind octets f = (es : List Extension) × (next : ℕ) × (rest : List ℕ) × Leads kind octets es next rest × (0 < next) × ExtensionFails end next rest f
+
+-- a chain and nothing else is at fault: a header is, or octets are left
+abbrev pub WholeChainFails : ℕ → List ℕ → UserFault → Type 0
+WholeChainFails kind octets f =
+    ChainFails (length octets) kind octets f
+    ⊎ ((es : List Extension) × (rest : List ℕ) × IsChain kind octets es rest × (0 < length rest) × (f ≡ faults.Length (length octets - length rest) (length octets)))
+
+-- ---- the one text
+
+-- the type of the first header, 0 where there is none
+abbrev pub first_kind : List Extension → ℕ
+first_kind [] = 0
+first_kind (e ∷ es) = e.kind
+
+-- the octets of a chain, behind the type of its first header
+abbrev pub chain_text : List Extension → List ℕ
+chain_text [] = []
+chain_text (e ∷ es) = ((2 + length e.content) / 4) ∷ (e.content ++ first_kind es ∷ chain_text es)
+
+-- what a header needs so that its text is read again; where the text is one of octets, its units are below 256 by themselves
+abbrev pub IsExtension : Extension → Type 0
+IsExtension e = (0 < e.kind) × (e.kind < 128) × ((units : ℕ) × (2 + length e.content ≡ 4 * units))
+
+-- each of the headers is such a one
+abbrev pub AreExtensions : List Extension → Type 0
+AreExtensions [] = Unit {0}
+AreExtensions (e ∷ es) = IsExtension e × AreExtensions es

@@ -1,0 +1,15 @@
+pub mod Steps
+pub mod Decides
+pub mod Chain
+pub mod Walk
+pub mod Chained
+pub mod Headed
+pub mod Header
+pub mod Element
+pub mod Elements
+pub mod Gathered
+pub mod Message
+pub mod Reading
+pub mod Datagram
+pub mod Text
+pub mod Fronts

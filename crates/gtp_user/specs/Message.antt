@@ -1,0 +1,46 @@
+-- What a message of the user plane says, without how it is kept.
+use Rattle.std.specs.Prelude.{ℕ, List, Option, Some, unwrap_or}
+use Rattle.gtp_values.specs.declared.address.Ip.{Ip}
+use Rattle.gtp_user.specs.declared.message.UserBody.{UserBody}
+use Rattle.gtp_user.specs.declared.message.UserBody.TheVariants as bodies
+use Rattle.gtp_user.specs.declared.message.UserMessage.{UserMessage}
+use Rattle.gtp_user.specs.Chain.{Extension}
+
+-- what it carries: a TEID stands before the rest
+pub data Content : Type 0 where
+  EchoRequest : Content
+  EchoResponse : Content
+  ErrorIndication : ℕ → Ip → Content
+  Notification : List ℕ → Content
+  EndMarker : ℕ → Content
+  Packet : ℕ → List ℕ → Content
+  Other : ℕ → ℕ → List ℕ → Content
+
+-- sequence number, N-PDU number, extension headers in order, and what it carries
+pub record Spoken : Type 0 where
+  pub seq : Option ℕ
+  pub npdu : Option ℕ
+  pub ext : List Extension
+  pub content : Content
+
+abbrev pub content_of : UserBody → Content
+content_of bodies.EchoRequest = EchoRequest
+content_of bodies.EchoResponse = EchoResponse
+content_of (bodies.ErrorIndication teid peer) = ErrorIndication teid.0 peer
+content_of (bodies.Notification types) = Notification types.now
+content_of (bodies.EndMarker teid) = EndMarker teid.0
+content_of (bodies.Packet teid payload) = Packet teid.0 payload.now
+content_of (bodies.Other kind teid octets) = Other kind teid.0 octets.now
+
+abbrev pub spoken_of : UserMessage → Spoken
+spoken_of m = record { seq = m.seq; npdu = m.npdu; ext = m.ext; content = content_of m.body }
+
+-- the sequence number of a message whose header has this one: the messages of a path always have one, 0 where their flag S is not set
+abbrev pub numbered : Content → Option ℕ → Option ℕ
+numbered EchoRequest seq = Some (unwrap_or seq 0)
+numbered EchoResponse seq = Some (unwrap_or seq 0)
+numbered (ErrorIndication teid peer) seq = Some (unwrap_or seq 0)
+numbered (Notification types) seq = Some (unwrap_or seq 0)
+numbered (EndMarker teid) seq = seq
+numbered (Packet teid payload) seq = seq
+numbered (Other kind teid octets) seq = seq

@@ -1,0 +1,111 @@
+-- The one text of a message, and which messages have one.
+use Rattle.std.specs.Prelude.{◌≡◌, ℕ, ◌+◌, ◌/◌, ◌%◌, ◌<◌, ◌^◌, not, List, [], ◌∷◌, ◌++◌, length, Option, is_some, unwrap_or, IsSome, IfSome, ◌==◌, if◌then◌else◌}
+use Rattle.gtp_values.specs.declared.address.Ip.{Ip}
+use Rattle.gtp_values.specs.declared.address.Ip.TheVariants as addresses
+use Rattle.gtp_user.specs.Chain.{AreExtensions, first_kind, chain_text}
+use Rattle.gtp_user.specs.Header.{Flags, bits}
+use Rattle.gtp_user.specs.Message.{Content, EchoRequest, EchoResponse, ErrorIndication, Notification, EndMarker, Packet, Other, Spoken}
+use Rattle.gtp_user.specs.Datagram.{IsOtherKind}
+
+-- a number in two octets and in four, and then the rest
+abbrev pub two : ℕ → List ℕ → List ℕ
+two n rest = ((n / 256) % 256) ∷ (n % 256) ∷ rest
+
+abbrev pub four : ℕ → List ℕ → List ℕ
+four n rest = ((n / 16777216) % 256) ∷ ((n / 65536) % 256) ∷ ((n / 256) % 256) ∷ (n % 256) ∷ rest
+
+abbrev pub kind_of : Content → ℕ
+kind_of EchoRequest = 1
+kind_of EchoResponse = 2
+kind_of (ErrorIndication teid peer) = 26
+kind_of (Notification types) = 31
+kind_of (EndMarker teid) = 254
+kind_of (Packet teid payload) = 255
+kind_of (Other kind teid octets) = kind
+
+-- the TEID in the header: 0 in the messages of a path
+abbrev pub teid_of : Content → ℕ
+teid_of EchoRequest = 0
+teid_of EchoResponse = 0
+teid_of (ErrorIndication teid peer) = 0
+teid_of (Notification types) = 0
+teid_of (EndMarker teid) = teid
+teid_of (Packet teid payload) = teid
+teid_of (Other kind teid octets) = teid
+
+abbrev pub octets_of : Ip → List ℕ
+octets_of (addresses.V4 address) = address
+octets_of (addresses.V6 address) = address
+
+-- an address has four octets, or sixteen
+abbrev pub HasAddressSize : Ip → Type 0
+HasAddressSize (addresses.V4 address) = length address ≡ 4
+HasAddressSize (addresses.V6 address) = length address ≡ 16
+
+-- a length in two octets, and the address
+abbrev pub address_text : Ip → List ℕ
+address_text address = 0 ∷ length (octets_of address) ∷ octets_of address
+
+-- the octets behind the chain
+unfoldable pub content_text : Content → List ℕ
+content_text EchoRequest = []
+content_text EchoResponse = 14 ∷ 0 ∷ []
+content_text (ErrorIndication teid peer) = 16 ∷ four teid (133 ∷ address_text peer)
+content_text (Notification types) = 141 ∷ length types ∷ types
+content_text (EndMarker teid) = []
+content_text (Packet teid payload) = payload
+content_text (Other kind teid octets) = octets
+
+-- the flags of a message: each part that it has
+abbrev pub flags_of : Spoken → Flags
+flags_of m = record { chain = not (first_kind m.ext == 0); seq = is_some m.seq; npdu = is_some m.npdu }
+
+-- sequence number, N-PDU number and type of the first extension header, where a flag is set; what the message has not is 0
+unfoldable pub options_text : Spoken → List ℕ
+options_text m = if bits (flags_of m) == 0 then [] else two (unwrap_or m.seq 0) (unwrap_or m.npdu 0 ∷ first_kind m.ext ∷ [])
+
+-- the octets behind the first eight
+abbrev pub behind_text : Spoken → List ℕ
+behind_text m = options_text m ++ (chain_text m.ext ++ content_text m.content)
+
+-- the first eight octets with this length
+abbrev pub opening_text : ℕ → Spoken → List ℕ
+opening_text size m = (48 + bits (flags_of m)) ∷ kind_of m.content ∷ two size (four (teid_of m.content) [])
+
+-- the whole text: spare bits 0
+abbrev pub text : Spoken → List ℕ
+text m = opening_text (length (behind_text m)) m ++ behind_text m
+
+-- a list of types has a length of one octet
+abbrev pub HasShortList : Content → Type 0
+HasShortList (Notification types) = length types < 256
+HasShortList content = Unit {0}
+
+-- a message that can be written: one of a path has a sequence number, a list of types has a length of one octet, and another type has no form of its own
+abbrev pub IsWritableBy : Content → Option ℕ → Type 0
+IsWritableBy EchoRequest seq = IsSome seq
+IsWritableBy EchoResponse seq = IsSome seq
+IsWritableBy (ErrorIndication teid peer) seq = IsSome seq
+IsWritableBy (Notification types) seq = IsSome seq × (length types < 256)
+IsWritableBy (EndMarker teid) seq = Unit {0}
+IsWritableBy (Packet teid payload) seq = Unit {0}
+IsWritableBy (Other kind teid octets) seq = IsOtherKind kind
+
+abbrev pub IsWritable : Spoken → Type 0
+IsWritable m = IsWritableBy m.content m.seq
+
+-- ---- what reads again
+
+-- the ranges of what an element says
+abbrev pub IsInRange : Content → Type 0
+IsInRange (ErrorIndication teid peer) = (teid < 2 ^ 32) × HasAddressSize peer
+IsInRange content = Unit {0}
+
+-- a message whose text spells it
+pub record Meets (m : Spoken) : Type 0 where
+  pub writable : IsWritable m
+  pub seq : IfSome m.seq (λ n. n < 2 ^ 16)
+  pub ext : AreExtensions m.ext
+  pub teid : teid_of m.content < 2 ^ 32
+  pub range : IsInRange m.content
+  pub short : length (behind_text m) < 65536

@@ -1,0 +1,57 @@
+-- Reading a chain of extension headers, one after the other.
+use Rattle.std.specs.Prelude.{ℕ, zero, suc, ◌+◌, ◌-◌, ◌*◌, List, [], ◌∷◌, length, take, drop, slice_index, Option, Some, None, Result, Ok, Err, nat_lt, nat_le, ◌==◌, if◌then◌else◌}
+use Rattle.gtp_user.specs.declared.fault.UserFault.{UserFault}
+use Rattle.gtp_user.specs.declared.fault.UserFault.TheVariants as faults
+use Rattle.gtp_user.specs.Steps.{◌>>=◌}
+use Rattle.gtp_user.specs.Chain.{Extension}
+
+-- the content of the header at the front, the type of the next one, and the octets behind
+pub record Front : Type 0 where
+  pub content : List ℕ
+  pub next : ℕ
+  pub rest : List ℕ
+
+abbrev pub front_at : ℕ → ℕ → List ℕ → Result Front UserFault
+front_at end kind [] = Err (faults.ExtensionPast end)
+front_at end kind (units ∷ behind) =
+    if units == 0 then Err (faults.ExtensionZero (end - length (units ∷ behind)))
+    else (if nat_le (length behind) (4 * units - 2) then Err (faults.ExtensionPast (end - length (units ∷ behind)))
+    else (if nat_lt kind 128
+    then Ok (record { content = take (4 * units - 2) behind; next = slice_index behind (4 * units - 2); rest = drop (4 * units - 2 + 1) behind })
+    else Err (faults.ExtensionNeeded kind)))
+
+-- the headers of a chain, and the octets behind it
+pub record Chained : Type 0 where
+  pub headers : List Extension
+  pub rest : List ℕ
+
+abbrev pub with_front : ℕ → Front → Chained → Chained
+with_front kind front c = record { headers = record { kind = kind; content = front.content } ∷ c.headers; rest = c.rest }
+
+-- the chain from this type on, in at most so many steps
+unfoldable pub walk : ℕ → ℕ → ℕ → List ℕ → Result Chained UserFault
+walk zero end kind octets = if kind == 0 then Ok (record { headers = []; rest = octets }) else Err (faults.ExtensionPast end)
+walk (suc steps) end kind octets =
+    if kind == 0 then Ok (record { headers = []; rest = octets })
+    else (front_at end kind octets >>= λ front. walk steps end front.next front.rest >>= λ c. Ok (with_front kind front c))
+
+-- the chain that begins the octets
+unfoldable pub chain_at : ℕ → ℕ → List ℕ → Result Chained UserFault
+chain_at end kind octets = walk (length octets) end kind octets
+
+-- the headers, or none
+abbrev pub headers_of : Result Chained UserFault → List Extension
+headers_of (Ok c) = c.headers
+headers_of (Err f) = []
+
+-- the octets behind the chain, where there is one
+abbrev pub rest_of : Result Chained UserFault → Option (List ℕ)
+rest_of (Ok c) = Some c.rest
+rest_of (Err f) = None
+
+-- the headers of a chain with nothing behind it
+abbrev pub with_no_rest : ℕ → Chained → Result (List Extension) UserFault
+with_no_rest end c = if length c.rest == 0 then Ok c.headers else Err (faults.Length (end - length c.rest) end)
+
+unfoldable pub whole_at : ℕ → List ℕ → Result (List Extension) UserFault
+whole_at first octets = chain_at (length octets) first octets >>= λ c. with_no_rest (length octets) c

@@ -1,0 +1,56 @@
+//! What can be wrong with a datagram of the user plane.
+
+ghost use Rattle.std.specs.Prelude.{◌≡◌};
+ghost use Rattle.gtp_user.specs.declared.fault.UserFault.TheVariants.{Memory};
+
+use std::alloc::AllocError;
+use thiserror::Error;
+
+/// Why a datagram is no message: the first of these, in the order of the checks, that applies.
+/// A place counts octets from the start of the datagram, from 0.
+///
+/// The last two are answered by writing alone.
+#[derive(Clone, Copy, Debug, PartialEq, Eq, Error)]
+pub enum UserFault {
+    /// U1: the header is not whole.
+    #[error("only {held} octets")]
+    Short { held: usize },
+    /// U2: the version is not 1.
+    #[error("version {version}")]
+    Version { version: u8 },
+    /// U3: the protocol type is GTP' and not GTP.
+    #[error("not of the protocol GTP")]
+    Protocol,
+    /// U4: the length that is stated is not that of the octets behind the first eight.
+    #[error("the length is stated as {stated} and is {held}")]
+    Length { stated: usize, held: usize },
+    /// U5: an extension header whose length octet, at this place, is 0.
+    #[error("the extension header at {at} has length 0")]
+    ExtensionZero { at: usize },
+    /// U6: an extension header, its length octet at this place, that is missing or runs past the end.
+    #[error("the extension header at {at} is not whole")]
+    ExtensionPast { at: usize },
+    /// U7: an extension header that the receiver has to understand, and does not.
+    #[error("the extension header of type {kind} is not understood")]
+    ExtensionNeeded { kind: u8 },
+    /// U8: the element that the message must have is missing.
+    #[error("the element {kind} is missing")]
+    Missing { kind: u8 },
+    /// U9: at this place there is no whole element of a known form.
+    #[error("there is no element at {at}")]
+    Element { at: usize },
+    /// U10: a growth was refused.
+    #[error("no memory")]
+    Memory,
+    /// U11: the length passes what two octets can state.
+    #[error("a message of more than 65535 octets")]
+    TooLong,
+}
+
+impl From<AllocError> for UserFault {
+    ghost from_gives = { λ _ e. e ≡ Memory };
+
+    fn from(_e: AllocError) -> UserFault {
+        UserFault::Memory
+    }
+}

@@ -1,0 +1,77 @@
+//! The octets before a chain of extension headers or a payload (TS 29.281 5.1).
+
+ghost use Rattle.std.specs.Prelude.{◌≡◌, ◌≤◌, ◌/◌, ◌%◌, ◌==◌, length, IfOk, option_map};
+ghost use Rattle.gtp_user.specs.Steps.{Gives};
+ghost use Rattle.gtp_user.specs.Headed.{headed_of, header_at, after_flags};
+
+use crate::fault::UserFault;
+use gtp_values::Teid;
+
+/// What the octets before the chain say, and the octets from the chain on.
+#[derive(Clone, Copy)]
+pub struct Header<'a> {
+    pub kind: u8,
+    pub teid: Teid,
+    pub seq: Option<u16>,
+    pub npdu: Option<u8>,
+    /// The type of the first extension header, 0 where there is none.
+    pub first: u8,
+    pub rest: &'a [u8],
+}
+
+/// The header behind its first eight octets, where a flag is set.
+fn with_flags(flags: u8, kind: u8, teid: Teid, octets: &[u8]) -> Result<Header<'_>, UserFault>
+    ensures header { Gives headed_of result (after_flags flags kind teid.0 octets.now) }
+    ensures within { IfOk result (λ h. length h.rest.now ≤ length octets.now) }
+{
+    let [a, b, npdu, first, rest @ ..] = octets else {
+        return Err(UserFault::Short {
+            held: 8 + octets.len(),
+        });
+    };
+    let seq = u16::from_be_bytes([*a, *b]);
+    Ok(Header {
+        kind,
+        teid,
+        seq: (flags / 2 % 2 == 1).then_some(seq),
+        npdu: (flags % 2 == 1).then_some(*npdu),
+        first: if flags / 4 % 2 == 1 { *first } else { 0 },
+        rest,
+    })
+}
+
+/// The header of a datagram, which it fills exactly.
+pub fn read_header(octets: &[u8]) -> Result<Header<'_>, UserFault>
+    ensures header { Gives headed_of result (header_at octets.now) }
+    ensures within { IfOk result (λ h. length h.rest.now ≤ length octets.now) }
+{
+    let [flags, kind, high, low, a, b, c, d, rest @ ..] = octets else {
+        return Err(UserFault::Short { held: octets.len() });
+    };
+    let version = *flags / 32;
+    if version != 1 {
+        return Err(UserFault::Version { version });
+    }
+    if *flags / 16 % 2 == 0 {
+        return Err(UserFault::Protocol);
+    }
+    let stated = usize::from(u16::from_be_bytes([*high, *low]));
+    if stated != rest.len() {
+        return Err(UserFault::Length {
+            stated,
+            held: rest.len(),
+        });
+    }
+    let teid = Teid(u32::from_be_bytes([*a, *b, *c, *d]));
+    if *flags % 8 != 0 {
+        return with_flags(*flags, *kind, teid, rest);
+    }
+    Ok(Header {
+        kind: *kind,
+        teid,
+        seq: None,
+        npdu: None,
+        first: 0,
+        rest,
+    })
+}

@@ -1,0 +1,25 @@
+//! GTP-U, the user plane of TS 29.281: a datagram is decoded in place, without memory, and a message is
+//! encoded as its one text.
+#![tactic(auto)]
+
+mod element;
+mod extension;
+mod fault;
+mod header;
+pub mod laws;
+mod message;
+mod numbers;
+mod reading;
+mod writing;
+
+pub use extension::Extensions;
+pub use fault::UserFault;
+pub use message::{UserBody, UserMessage};
+pub use reading::decode;
+pub use writing::encode;
+
+/// What the signatures and contracts here name of the crate below.
+pub use gtp_values::{Ip, Teid};
+
+#[cfg(test)]
+mod tests;

@@ -1,0 +1,9 @@
+pub mod Loop
+pub mod Decided
+pub mod Appends
+pub mod Again
+pub mod Told
+pub mod Fronts
+pub mod Encoded
+pub mod Headers
+pub mod Senders

@@ -1,0 +1,119 @@
+-- Reading a datagram decides which message it is.
+use Rattle.std.proofs.Common.{◌≡◌, ℕ, Bool, true, false, cond, List, Option, Some, None, Result, Ok, Err, ◌⊎◌, inl, inr, refl, sym, ap, subst, ◌∙◌}
+use Rattle.std.specs.Prelude.{is_some, IfOk, IfErr}
+use Rattle.gtp_ie.specs.Steps.{◌>>=◌}
+use Rattle.gtp_ie.specs.Decides.{Decides, First_or_later}
+use Rattle.gtp_ie.specs.Element.{Element, elements_of}
+use Rattle.gtp_ie.specs.Octets.{AreElements}
+use Rattle.gtp_ie.proofs.Decided.{decide_bind, decide_map, decide_as, known_ok, known_err}
+use Rattle.gtp_v2.specs.declared.fault.RowFault.{RowFault}
+use Rattle.gtp_v2.specs.declared.fault.V2Fault.{V2Fault}
+use Rattle.gtp_v2.specs.declared.fault.V2Fault.TheVariants as faults
+use Rattle.gtp_values.specs.TunnelEnd.{TunnelEnd}
+use Rattle.gtp_ie.specs.declared.fault.IeFault.TheVariants.{Truncated}
+use Rattle.gtp_v2.specs.declared.fault.RowFault.TheVariants as row_faults
+use Rattle.gtp_v2.specs.declared.fault.Head.{Head}
+use Rattle.gtp_v2.specs.Table.{Line, Field, start}
+use Rattle.gtp_v2.specs.Rows.{whole, lines_at}
+use Rattle.gtp_v2.specs.Grammar.{IsCutShort, LinesAre, LinesFail}
+use Rattle.gtp_v2.specs.Headed.{Headed, header_at}
+use Rattle.gtp_v2.specs.Header.{IsHeaded, HeaderFails}
+use Rattle.gtp_v2.proofs.Headers.{header_decided}
+use Rattle.gtp_v2.specs.Message.{Table, table_of, same_flag, head_of, with_head, sender_of, told, typed_at, by_table, content_at, Content, Fields, Raw, Spoken, spoken, message_at, FaultIs, MessageGives}
+use Rattle.gtp_v2.specs.Datagram.{FieldsAre, ListFails, FieldsFail, CarriesBy, FailsBy, IsMessage, IsFault}
+use Rattle.gtp_v2.proofs.Decided.{whole_decided, lines_decided}
+use Rattle.gtp_v2.proofs.Senders.{sender_is, sender_only}
+
+abbrev read_ok : {X : Type 0} → X → Result X RowFault
+read_ok x = Ok x
+
+abbrev read_err : (X : Type 0) → RowFault → Result X RowFault
+read_err X f = Err f
+
+ok_same : {X : Type 0} (y x : X) → read_ok x ≡ Ok y → y ≡ x
+ok_same y x h = cc
+
+ok_err : {X : Type 0} (x : X) (f : RowFault) → read_ok x ≡ Err f → ⊥
+ok_err x f h = cc
+
+err_ok : {X : Type 0} (f : RowFault) (x : X) → read_err X f ≡ Ok x → ⊥
+err_ok f x h = cc
+
+err_same : {X : Type 0} (f g : RowFault) → read_err X f ≡ Err g → g ≡ f
+err_same f g h = cc
+
+told_decided : {X : Type 0} (head : Head) (r : Result X RowFault) (P : X → Type 0) (F : RowFault → Type 0) → Decides r P F → Decides (told head r) P (λ f. (g : RowFault) × F g × (f ≡ with_head head g))
+told_decided head (Ok x) P F d = known_ok x P (λ f. (g : RowFault) × F g × (f ≡ with_head head g)) (d.ok x refl) (λ y p. ok_same y x (d.is y p)) (λ f q. ok_err x q.0 (d.fails q.0 q.1))
+told_decided {X = X} head (Err e) P F d = known_err (with_head head e) P (λ f. (g : RowFault) × F g × (f ≡ with_head head g)) (e, d.err e refl, refl) (λ y p. err_ok e y (d.is y p)) (λ f q. q.2 ∙ ap (λ (g : RowFault). with_head head g) (err_same {X = X} e q.0 (d.fails q.0 q.1)))
+
+-- the list of elements, told with no sender
+list_decided : (h : Headed) → Decides (told (head_of h None) (whole (elements_of h.at h.rest))) (AreElements h.at h.rest) (ListFails h)
+list_decided h =
+    decide_as (told (head_of h None) (whole (elements_of h.at h.rest))) (AreElements h.at h.rest) (AreElements h.at h.rest)
+    (λ f. (g : RowFault) × IsCutShort h.at h.rest g × (f ≡ with_head (head_of h None) g)) (ListFails h)
+    (λ es p. p) (λ es p. p)
+    (λ f q. (q.1.0, q.1.1, q.2 ∙ ap (with_head (head_of h None)) q.1.2))
+    (λ f q. (row_faults.Element (Truncated q.0), (q.0, q.1, refl), q.2))
+    (told_decided (head_of h None) (whole (elements_of h.at h.rest)) (AreElements h.at h.rest) (IsCutShort h.at h.rest) (whole_decided h.at h.rest))
+
+-- the lines, told with the sender
+fields_decided : (lines : List Line) (h : Headed) (es : List Element) → Decides (told (head_of h (sender_of h.kind es)) (lines_at start lines es)) (LinesAre start lines es) (FieldsFail lines h es)
+fields_decided lines h es =
+    let head : Head = head_of h (sender_of h.kind es) in
+    decide_as (told head (lines_at start lines es)) (LinesAre start lines es) (LinesAre start lines es)
+    (λ f. (g : RowFault) × LinesFail start lines es g × (f ≡ with_head head g)) (FieldsFail lines h es)
+    (λ fs p. p) (λ fs p. p)
+    (λ f q. (q.0, q.1, (sender_of h.kind es, sender_is h.kind es, q.2)))
+    (λ f q. (q.0, q.1, q.2.2 ∙ ap (λ (sender : Option TunnelEnd). with_head (head_of h sender) q.0) (sender_only h.kind es q.2.0 q.2.1)))
+    (told_decided head (lines_at start lines es) (LinesAre start lines es) (LinesFail start lines es) (lines_decided start lines es))
+
+content_decided : (table : Option Table) (h : Headed) → Decides (by_table table h) (CarriesBy table h) (FailsBy table h)
+unfolding typed_at
+content_decided None h = known_ok (Raw h.rest) (CarriesBy None h) (FailsBy None h) refl (λ c p. p) (λ f q. q)
+content_decided (Some table) h = by_flag (same_flag (is_some h.teid) table.has_teid) refl where
+  by_flag : (b : Bool) → same_flag (is_some h.teid) table.has_teid ≡ b
+      → Decides (cond b (told (head_of h None) (whole (elements_of h.at h.rest)) >>= λ es. told (head_of h (sender_of h.kind es)) (lines_at start table.lines es)) (Err (faults.FlagT h.kind)) >>= λ fields. Ok (Fields fields)) (CarriesBy (Some table) h) (FailsBy (Some table) h)
+  by_flag true s =
+      decide_as (told (head_of h None) (whole (elements_of h.at h.rest)) >>= (λ es. told (head_of h (sender_of h.kind es)) (lines_at start table.lines es)) >>= λ fields. Ok (Fields fields)) (λ c. (fields : List Field) × FieldsAre table.lines h fields × (c ≡ Fields fields)) (CarriesBy (Some table) h)
+      (First_or_later (AreElements h.at h.rest) (ListFails h) (FieldsFail table.lines h)) (FailsBy (Some table) h)
+      (λ c p. (s, p.0, p.1, p.2)) (λ c p. (p.1, p.2, p.3)) (λ f p. inr (s, p)) (λ f q. elim q [ inl p ↦ cc | inr p ↦ p.1 ])
+      (decide_map (told (head_of h None) (whole (elements_of h.at h.rest)) >>= λ es. told (head_of h (sender_of h.kind es)) (lines_at start table.lines es)) (λ fields. Fields fields) (FieldsAre table.lines h) (First_or_later (AreElements h.at h.rest) (ListFails h) (FieldsFail table.lines h))
+      (decide_bind (told (head_of h None) (whole (elements_of h.at h.rest))) (λ es. told (head_of h (sender_of h.kind es)) (lines_at start table.lines es)) (AreElements h.at h.rest) (ListFails h) (λ es. LinesAre start table.lines es) (λ es. FieldsFail table.lines h es) (list_decided h) (λ es. fields_decided table.lines h es)))
+  by_flag false s = known_err (faults.FlagT h.kind) (CarriesBy (Some table) h) (FailsBy (Some table) h) (inl (s, refl)) (λ c p. cc) (λ f q. elim q [ inl p ↦ p.1 | inr p ↦ cc ])
+
+pub message_decided : (octets : List ℕ) → Decides (message_at octets) (IsMessage octets) (IsFault octets)
+unfolding message_at content_at
+message_decided octets =
+    decide_bind (header_at octets) (λ h. content_at h >>= λ content. Ok (spoken h content)) (IsHeaded octets) (HeaderFails octets)
+    (λ h m. (content : Content) × CarriesBy (table_of h.kind) h content × (m ≡ spoken h content)) (λ h. FailsBy (table_of h.kind) h)
+    (header_decided octets) (λ h. decide_map (content_at h) (spoken h) (CarriesBy (table_of h.kind) h) (FailsBy (table_of h.kind) h) (content_decided (table_of h.kind) h))
+
+-- ---- what a caller of decode is told
+
+-- what is answered is a message that the octets spell
+pub answers_ok : {X : Type 0} (view : X → Spoken) (r : Result X V2Fault) (octets : List ℕ) → MessageGives view r (message_at octets) → IfOk r (λ m. IsMessage octets (view m))
+answers_ok view (Ok x) octets h = (message_decided octets).ok (view x) h
+answers_ok view (Err f) octets h = tt
+
+-- a fault is the first one, or want of memory
+pub answers_fault : {X : Type 0} (view : X → Spoken) (r : Result X V2Fault) (octets : List ℕ) → MessageGives view r (message_at octets) → IfErr r (λ f. (f ≡ faults.Memory) ⊎ IsFault octets f)
+answers_fault view (Ok x) octets h = tt
+answers_fault view (Err f) octets h = by_fault f h where
+  by_fault : (f : V2Fault) → FaultIs f (message_at octets) → (f ≡ faults.Memory) ⊎ IsFault octets f
+  by_fault faults.Memory h = inl refl
+  by_fault (faults.Short n) h = inr ((message_decided octets).err (faults.Short n) h)
+  by_fault (faults.Version n) h = inr ((message_decided octets).err (faults.Version n) h)
+  by_fault faults.Piggyback h = inr ((message_decided octets).err faults.Piggyback h)
+  by_fault (faults.Length a b) h = inr ((message_decided octets).err (faults.Length a b) h)
+  by_fault (faults.FlagT n) h = inr ((message_decided octets).err (faults.FlagT n) h)
+  by_fault faults.TooLong h = inr ((message_decided octets).err faults.TooLong h)
+  by_fault (faults.Missing a b c d) h = inr ((message_decided octets).err (faults.Missing a b c d) h)
+  by_fault (faults.Element a b) h = inr ((message_decided octets).err (faults.Element a b) h)
+
+-- what the octets spell is answered, unless memory runs out
+pub answers_only : {X : Type 0} (view : X → Spoken) (r : Result X V2Fault) (octets : List ℕ) → MessageGives view r (message_at octets) → (m : Spoken) → IsMessage octets m → MessageGives view r (Ok m)
+answers_only view r octets h m is = subst (MessageGives view r) ((message_decided octets).is m is) h
+
+-- and so is their first fault
+pub answers_first : {X : Type 0} (view : X → Spoken) (r : Result X V2Fault) (octets : List ℕ) → MessageGives view r (message_at octets) → (f : V2Fault) → IsFault octets f → MessageGives view r (Err f)
+answers_first view r octets h f is = subst (MessageGives view r) ((message_decided octets).fails f is) h

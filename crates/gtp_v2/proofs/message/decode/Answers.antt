@@ -1,0 +1,21 @@
+use Rattle.gtp_v2.specs.declared.message.Datagram.{Datagram}
+use Rattle.gtp_v2.specs.Body.{spoken_of}
+use Rattle.gtp_v2.specs.Message.{Spoken}
+use Rattle.gtp_v2.proofs.Told.{answers_ok, answers_fault, answers_only, answers_first}
+use Rattle.gtp_v2.proofs.message.decode.Goals as goal
+
+-- what a datagram says
+abbrev said : Datagram → Spoken
+said d = spoken_of d.message
+
+pub returns-clause-found : goal.returns-clause-found
+returns-clause-found c = answers_ok said c.read_datagram.result c.args.octets.now c.read_datagram.ensures.spoken
+
+pub returns-clause-only : goal.returns-clause-only
+returns-clause-only c = answers_only said c.read_datagram.result c.args.octets.now c.read_datagram.ensures.spoken
+
+pub returns-clause-fault : goal.returns-clause-fault
+returns-clause-fault c = answers_fault said c.read_datagram.result c.args.octets.now c.read_datagram.ensures.spoken
+
+pub returns-clause-first : goal.returns-clause-first
+returns-clause-first c = answers_first said c.read_datagram.result c.args.octets.now c.read_datagram.ensures.spoken

@@ -1,0 +1,61 @@
+-- The one text of a message, and which messages have one.
+use Rattle.std.specs.Prelude.{◌≡◌, ℕ, ◌+◌, ◌*◌, ◌/◌, ◌%◌, ◌<◌, ◌^◌, Bool, true, List, [], ◌∷◌, ◌++◌, length, Option, Some, None, is_some, IfSome}
+use Rattle.gtp_v2.specs.Table.{Line, Field, start}
+use Rattle.gtp_v2.specs.Meets.{LinesMeet}
+use Rattle.gtp_v2.specs.Message.{Table, table_of, same_flag, Content, Fields, Raw, Spoken}
+use Rattle.gtp_v2.specs.Text.{lines_text}
+
+-- the octets of what a message carries
+abbrev pub carried_by : Option Table → Content → List ℕ
+carried_by (Some table) (Fields fields) = lines_text table.lines fields
+carried_by (Some table) (Raw octets) = []
+carried_by None (Fields fields) = []
+carried_by None (Raw octets) = octets
+
+abbrev pub carried : Spoken → List ℕ
+carried m = carried_by (table_of m.kind) m.content
+
+-- a number in two, three and four octets
+abbrev pub two : ℕ → List ℕ → List ℕ
+two n rest = ((n / 256) % 256) ∷ (n % 256) ∷ rest
+
+abbrev pub three : ℕ → List ℕ → List ℕ
+three n rest = ((n / 65536) % 256) ∷ ((n / 256) % 256) ∷ (n % 256) ∷ rest
+
+abbrev pub four : ℕ → List ℕ → List ℕ
+four n rest = ((n / 16777216) % 256) ∷ ((n / 65536) % 256) ∷ ((n / 256) % 256) ∷ (n % 256) ∷ rest
+
+-- the header, and what the message carries: spare bits 0
+abbrev pub headed_text : ℕ → Option ℕ → ℕ → Option ℕ → List ℕ → List ℕ
+headed_text kind None seq priority rest = 64 ∷ kind ∷ two (4 + length rest) (three seq (0 ∷ rest))
+headed_text kind (Some teid) seq None rest = 72 ∷ kind ∷ two (8 + length rest) (four teid (three seq (0 ∷ rest)))
+headed_text kind (Some teid) seq (Some priority) rest = 76 ∷ kind ∷ two (8 + length rest) (four teid (three seq ((16 * priority) ∷ rest)))
+
+-- the header with its length still 0
+abbrev pub open_header : ℕ → Option ℕ → ℕ → Option ℕ → List ℕ
+open_header kind None seq priority = 64 ∷ kind ∷ 0 ∷ 0 ∷ three seq (0 ∷ [])
+open_header kind (Some teid) seq None = 72 ∷ kind ∷ 0 ∷ 0 ∷ four teid (three seq (0 ∷ []))
+open_header kind (Some teid) seq (Some priority) = 76 ∷ kind ∷ 0 ∷ 0 ∷ four teid (three seq ((16 * priority) ∷ []))
+
+abbrev pub text : Spoken → List ℕ
+text m = headed_text m.kind m.teid m.seq m.priority (carried m)
+
+-- the ranges of a header's numbers; a priority needs a TEID
+abbrev pub HeaderMeets : Option ℕ → ℕ → Option ℕ → Type 0
+HeaderMeets None seq None = seq < 2 ^ 24
+HeaderMeets None seq (Some priority) = ⊥
+HeaderMeets (Some teid) seq None = (teid < 2 ^ 32) × (seq < 2 ^ 24)
+HeaderMeets (Some teid) seq (Some priority) = (teid < 2 ^ 32) × (seq < 2 ^ 24) × (priority < 16)
+
+-- the fields meet the kind's table
+abbrev pub ContentMeets : Option Table → Option ℕ → Content → Type 0
+ContentMeets None teid (Raw octets) = Unit {0}
+ContentMeets None teid (Fields fields) = ⊥
+ContentMeets (Some table) teid (Raw octets) = ⊥
+ContentMeets (Some table) teid (Fields fields) = (same_flag (is_some teid) table.has_teid ≡ true) × LinesMeet start table.lines fields
+
+-- a message that has a text
+pub record Meets (m : Spoken) : Type 0 where
+  pub header : HeaderMeets m.teid m.seq m.priority
+  pub content : ContentMeets (table_of m.kind) m.teid m.content
+  pub short : 8 + length (carried m) < 65536

@@ -1,0 +1,114 @@
+-- What a datagram says, or its first fault.
+use Rattle.std.specs.Prelude.{◌≡◌, ℕ, Bool, List, Option, Some, None, option_map, is_some, not, Result, Ok, Err, true, false, ◌==◌, if◌then◌else◌}
+use Rattle.gtp_ie.specs.Steps.{◌>>=◌}
+use Rattle.gtp_ie.specs.Element.{Element, elements_of}
+use Rattle.gtp_ie.specs.Value.{Value, OfFTeid}
+use Rattle.gtp_values.specs.TunnelEnd.{TunnelEnd}
+use Rattle.gtp_v2.specs.declared.fault.Head.{Head}
+use Rattle.gtp_v2.specs.declared.fault.RowFault.{RowFault}
+use Rattle.gtp_v2.specs.declared.fault.RowFault.TheVariants as row_faults
+use Rattle.gtp_v2.specs.declared.fault.V2Fault.{V2Fault}
+use Rattle.gtp_v2.specs.declared.fault.V2Fault.TheVariants as faults
+use Rattle.gtp_v2.specs.Table.{Line, Field, start}
+use Rattle.gtp_v2.specs.Rows.{whole, optional_at, lines_at}
+use Rattle.gtp_v2.specs.Headed.{Headed, header_at}
+use Rattle.gtp_v2.specs.EchoTables.{echo_lines, version_not_supported_lines}
+use Rattle.gtp_v2.specs.SessionTables.{create_session_request_lines, create_session_response_lines, delete_session_request_lines, delete_session_response_lines}
+use Rattle.gtp_v2.specs.BearerTables.{create_bearer_request_lines, create_bearer_response_lines, delete_bearer_request_lines, delete_bearer_response_lines}
+
+-- what a fault in an element tells of the message
+abbrev pub head_of : Headed → Option TunnelEnd → Head
+head_of h sender = record { kind = h.kind; teid = option_map (λ t. record { 0 = t }) h.teid; seq = h.seq; priority = h.priority; sender = sender }
+
+-- a fault in a row, told with the head
+abbrev pub with_head : Head → RowFault → V2Fault
+with_head head (row_faults.Missing kind instance conditional) = faults.Missing kind instance conditional head
+with_head head (row_faults.Element fault) = faults.Element fault head
+
+-- a reading of elements or rows, its fault told with the head
+abbrev pub told : {X : Type 0} → Head → Result X RowFault → Result X V2Fault
+told head (Ok x) = Ok x
+told head (Err f) = Err (with_head head f)
+
+-- the tunnel end that a value is
+abbrev pub end_in : Option Value → Option TunnelEnd
+end_in (Some (OfFTeid e)) = Some e
+end_in _ = None
+
+-- the sender's end for control messages, which a Create Session Request gives
+unfoldable pub sender_of : ℕ → List Element → Option TunnelEnd
+sender_of kind es = if kind == 32 then end_in (optional_at 87 0 es) else None
+
+-- both or neither
+abbrev pub same_flag : Bool → Bool → Bool
+same_flag true b = b
+same_flag false b = not b
+
+-- the fields of a message with a table
+unfoldable pub typed_at : Bool → List Line → Headed → Result (List Field) V2Fault
+typed_at has_teid lines h =
+    if same_flag (is_some h.teid) has_teid
+    then (told (head_of h None) (whole (elements_of h.at h.rest)) >>= λ es. told (head_of h (sender_of h.kind es)) (lines_at start lines es))
+    else Err (faults.FlagT h.kind)
+
+-- what a message carries: the fields of its table's lines, or octets
+pub data Content : Type 0 where
+  Fields : List Field → Content
+  Raw : List ℕ → Content
+
+-- a message, without how it is kept
+pub record Spoken : Type 0 where
+  pub kind : ℕ
+  pub teid : Option ℕ
+  pub seq : ℕ
+  pub priority : Option ℕ
+  pub content : Content
+
+-- want of memory, or this fault
+abbrev pub FaultIs : {Y : Type 0} → V2Fault → Result Y V2Fault → Type 0
+FaultIs faults.Memory outcome = Unit {0}
+FaultIs fault outcome = outcome ≡ Err fault
+
+-- the outcome of a call, its value seen by view, is this one, unless memory ran out
+abbrev pub MessageGives : {X Y : Type 0} → (X → Y) → Result X V2Fault → Result Y V2Fault → Type 0
+MessageGives view (Ok x) outcome = outcome ≡ Ok (view x)
+MessageGives view (Err fault) outcome = FaultIs fault outcome
+
+-- a kind's form of header and its lines
+pub record Table : Type 0 where
+  pub has_teid : Bool
+  pub lines : List Line
+
+-- the table of a kind that has one (TS 29.274 6.1)
+abbrev pub table_of : ℕ → Option Table
+table_of kind =
+    if kind == 1 then Some (record { has_teid = false; lines = echo_lines })
+    else (if kind == 2 then Some (record { has_teid = false; lines = echo_lines })
+    else (if kind == 3 then Some (record { has_teid = false; lines = version_not_supported_lines })
+    else (if kind == 32 then Some (record { has_teid = true; lines = create_session_request_lines })
+    else (if kind == 33 then Some (record { has_teid = true; lines = create_session_response_lines })
+    else (if kind == 36 then Some (record { has_teid = true; lines = delete_session_request_lines })
+    else (if kind == 37 then Some (record { has_teid = true; lines = delete_session_response_lines })
+    else (if kind == 95 then Some (record { has_teid = true; lines = create_bearer_request_lines })
+    else (if kind == 96 then Some (record { has_teid = true; lines = create_bearer_response_lines })
+    else (if kind == 99 then Some (record { has_teid = true; lines = delete_bearer_request_lines })
+    else (if kind == 100 then Some (record { has_teid = true; lines = delete_bearer_response_lines })
+    else None))))))))))
+
+-- what a message carries, by its kind's table
+abbrev pub by_table : Option Table → Headed → Result Content V2Fault
+by_table None h = Ok (Raw h.rest)
+by_table (Some table) h = typed_at table.has_teid table.lines h >>= λ fields. Ok (Fields fields)
+
+unfoldable pub content_at : Headed → Result Content V2Fault
+content_at h = by_table (table_of h.kind) h
+
+abbrev pub spoken : Headed → Content → Spoken
+spoken h content = record { kind = h.kind; teid = h.teid; seq = h.seq; priority = h.priority; content = content }
+
+-- the message that a datagram spells
+unfoldable pub message_at : List ℕ → Result Spoken V2Fault
+message_at octets = do
+  h ← header_at octets
+  content ← content_at h
+  Ok (spoken h content)

@@ -1,0 +1,137 @@
+//! What can be wrong with a datagram.
+
+ghost use Rattle.std.specs.Prelude.{◌≡◌};
+ghost use Rattle.gtp_v2.specs.Needs.{need_where};
+ghost use Rattle.gtp_v2.specs.declared.fault.BodyFault.TheVariants.{Memory, Row};
+
+use gtp_ie::IeFault;
+use gtp_values::{Below, FTeid, Seq, Teid};
+use std::alloc::{AllocError, AllocFailed};
+use thiserror::Error;
+
+/// Why a row of a message's table has no value.
+#[derive(Debug, Drop, Error)]
+pub enum RowFault {
+    #[error("the element {kind}/{instance} is missing")]
+    Missing {
+        kind: u8,
+        instance: u8,
+        conditional: bool,
+    },
+    #[error("{0}")]
+    Element(IeFault),
+}
+
+/// Whether a row must have an element, and which fault it is where there is none.
+#[derive(Clone, Copy, Debug, PartialEq, Eq)]
+pub enum Need {
+    Mandatory,
+    Conditional,
+    Free,
+}
+
+impl Need {
+    /// Of a row that is needed where the causes accept.
+    pub fn where_accepting(accepting: bool) -> Need
+        ensures { result ≡ need_where accepting }
+    {
+        if accepting {
+            Need::Conditional
+        } else {
+            Need::Free
+        }
+    }
+}
+
+/// Why a message has no value.
+#[derive(Debug, Drop, Error)]
+pub enum BodyFault {
+    #[error("{0}")]
+    Row(RowFault),
+    #[error("no memory")]
+    Memory,
+}
+
+impl From<RowFault> for BodyFault {
+    ghost from_gives = { λ fault e. e ≡ Row fault };
+
+    fn from(fault: RowFault) -> BodyFault {
+        BodyFault::Row(fault)
+    }
+}
+
+impl From<AllocError> for BodyFault {
+    ghost from_gives = { λ _ e. e ≡ Memory };
+
+    fn from(_e: AllocError) -> BodyFault {
+        BodyFault::Memory
+    }
+}
+
+impl<T: Drop> From<AllocFailed<T>> for BodyFault {
+    ghost from_gives = { λ _ e. e ≡ Memory };
+
+    fn from(_e: AllocFailed<T>) -> BodyFault {
+        BodyFault::Memory
+    }
+}
+
+/// What is known of a message whose elements are at fault.
+#[derive(Clone, Copy, Debug, PartialEq, Eq)]
+pub struct Head {
+    pub kind: u8,
+    pub teid: Option<Teid>,
+    pub seq: Seq,
+    pub priority: Option<Below<16>>,
+    /// The sender's end for control messages, of a Create Session Request whose top list is whole
+    /// and in which that element reads.
+    pub sender: Option<FTeid>,
+}
+
+/// Why a datagram is no message: the first check that fails, or want of memory. `held` counts
+/// octets, `at` of an `IeFault` from the start of the datagram.
+#[derive(Debug, Drop, Error)]
+pub enum V2Fault {
+    /// H1: the header is not whole.
+    #[error("only {held} octets")]
+    Short {
+        held: usize,
+    },
+    /// H2.
+    #[error("version {0}")]
+    Version(u8),
+    /// H5.
+    #[error("a second message is announced")]
+    Piggyback,
+    /// H3: `held` is without the first four octets.
+    #[error("the length is stated as {stated} and is {held}")]
+    Length {
+        stated: usize,
+        held: usize,
+    },
+    /// H4: a TEID where the type has none, or none where it has one.
+    #[error("type {kind} has the wrong form of header")]
+    FlagT {
+        kind: u8,
+    },
+    /// H6.
+    #[error("the element {kind}/{instance} is missing")]
+    Missing {
+        kind: u8,
+        instance: u8,
+        conditional: bool,
+        head: Head,
+    },
+    /// H7.
+    #[error("{fault}")]
+    Element {
+        fault: IeFault,
+        head: Head,
+    },
+    /// H8.
+    #[error("no memory")]
+    Memory,
+    /// H9: answered by `encode` alone.
+    #[error("a message of more than 65535 octets")]
+    TooLong,
+}

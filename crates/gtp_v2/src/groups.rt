@@ -1,0 +1,93 @@
+//! Rows of groups.
+
+ghost use Rattle.std.specs.Prelude.{◌≡◌, ◌++◌, List, map, OnOk};
+ghost use Rattle.gtp_v2.specs.declared.fault.RowFault.TheVariants.{Missing};
+ghost use Rattle.gtp_ie.specs.Element.{all_of};
+ghost use Rattle.gtp_ie.specs.View.{element_of};
+ghost use Rattle.gtp_ie.specs.Steps.{Gives};
+ghost use Rattle.gtp_ie.specs.Value.{Value};
+ghost use Rattle.gtp_v2.specs.Table.{Row};
+ghost use Rattle.gtp_v2.specs.Rows.{rows_at, group_at, groups_at, some_groups};
+ghost use Rattle.gtp_v2.specs.Text.{rows_text};
+ghost use Rattle.gtp_v2.specs.Outcome.{GivesOrMemory};
+
+use crate::fault::{BodyFault, Need, RowFault};
+use crate::listed::Listed;
+use gtp_ie::{ElementView, Elements};
+use std::alloc::{AllocError, Global};
+
+/// A bearer context of one kind of message.
+pub trait Context: Copy {
+    /// The rows of its table.
+    ghost rows: { List Row };
+
+    /// The values of the rows.
+    ghost values: { Self → List (List Value) };
+
+    /// The context that the elements of a group spell.
+    fn read(accepting: bool, elements: &Elements) -> Result<Self, RowFault>
+        ensures { Gives values result (rows_at accepting rows elements.now) };
+
+    /// Appends the elements of the rows.
+    fn write(&self, out: &mut Vec<u8>) -> Result<(), AllocError>
+        ensures ok { OnOk result (out.new.items ≡ out.old.items ++ rows_text rows (values self.now)) };
+}
+
+/// The context that an element holds.
+#[tactic(auto, unfolding(crate::specs::Rows::group_at))]
+fn context_in<C: Context>(accepting: bool, view: &ElementView) -> Result<C, RowFault>
+    ensures { Gives C.values result (group_at accepting C.rows (element_of view.now)) }
+{
+    match view.inner() {
+        Ok(elements) => C::read(accepting, &elements),
+        Err(fault) => Err(RowFault::Element(fault)),
+    }
+}
+
+/// The bearer contexts among the elements.
+fn all_contexts<C: Context>(
+    alloc: Global,
+    accepting: bool,
+    elements: &Elements,
+) -> Result<Vec<C>, BodyFault>
+    ensures { GivesOrMemory (λ v. map C.values v.items) result (groups_at accepting C.rows (all_of 93 0 elements.now)) }
+{
+    let mut contexts = Vec::new(alloc);
+    for view in elements.all(93, 0) {
+        let context = context_in::<C>(accepting, &view)?;
+        contexts.push(context)?;
+    }
+    Ok(contexts)
+}
+
+/// The same, at least one where that is needed.
+#[tactic(auto, unfolding(crate::specs::Rows::some_groups))]
+pub fn contexts<C: Context>(
+    alloc: Global,
+    need: Need,
+    accepting: bool,
+    elements: &Elements,
+) -> Result<Listed<C>, BodyFault>
+    ensures { GivesOrMemory (λ list. map C.values list) result (some_groups need 93 0 accepting C.rows (all_of 93 0 elements.now)) }
+{
+    let contexts = all_contexts::<C>(alloc, accepting, elements)?;
+    if contexts.is_empty() {
+        match need {
+            Need::Mandatory => return Err(BodyFault::Row(missing(false))),
+            Need::Conditional => return Err(BodyFault::Row(missing(true))),
+            Need::Free => {}
+        }
+    }
+    Ok(Listed::of(contexts))
+}
+
+/// That there is no bearer context.
+fn missing(conditional: bool) -> RowFault
+    ensures { result ≡ Missing 93 0 conditional }
+{
+    RowFault::Missing {
+        kind: 93,
+        instance: 0,
+        conditional,
+    }
+}

@@ -1,0 +1,18 @@
+//! The octets before a message's elements.
+
+ghost use Rattle.std.specs.Prelude.{◌≡◌, ◌+◌, ◌<◌, ◌^◌, length};
+
+use gtp_values::{Below, Seq, Teid};
+
+/// What the octets before the elements say, and the octets after them.
+#[derive(Clone, Copy, Debug)]
+pub struct Header<'a> {
+    pub kind: u8,
+    pub teid: Option<Teid>,
+    pub seq: Seq,
+    pub priority: Option<Below<16>>,
+    pub rest: &'a [u8],
+    /// The place of the rest in the datagram.
+    pub at: usize,
+    pub ghost fits: { at + length rest.now < 2 ^ 64 },
+}

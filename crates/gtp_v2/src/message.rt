@@ -1,0 +1,138 @@
+//! Messages.
+
+ghost use Rattle.std.specs.Prelude.{◌≡◌, [], ◌∷◌, ◌++◌, ◌⊎◌, OnOk, IfOk, IfErr};
+ghost use Rattle.gtp_v2.specs.Message.{MessageGives, Spoken, message_at};
+ghost use Rattle.gtp_v2.specs.Body.{kind_of, spoken_of, HasFreeKind, Encodes};
+ghost use Rattle.gtp_v2.specs.Places.{HasPlace};
+ghost use Rattle.gtp_v2.specs.Encoding.{open_header, three, four};
+ghost use Rattle.gtp_v2.specs.Datagram.{IsMessage, IsFault};
+ghost use Rattle.gtp_v2.specs.declared.fault.V2Fault.{V2Fault as AnyFault};
+
+use crate::body::{Body, read_body, write_body};
+use crate::fault::V2Fault;
+use crate::reading::read_header;
+use byteorder::{BigEndian, ByteOrder};
+use gtp_values::{Below, Seq, Teid};
+use std::alloc::{AllocError, Global};
+
+/// A control message (TS 29.274 5.1).
+#[derive(Debug, Drop)]
+pub struct Message {
+    /// The receiver's TEID, where the header has one.
+    pub teid: Option<Teid>,
+    pub seq: Seq,
+    /// The message's priority: only where the header has a TEID.
+    pub priority: Option<Below<16>>,
+    pub body: Body,
+}
+
+/// What a datagram holds: one message.
+#[derive(Debug, Drop)]
+pub struct Datagram {
+    pub message: Message,
+}
+
+/// The message that a datagram spells, by one reading.
+#[tactic(auto, unfolding(crate::specs::Message::message_at))]
+fn read_datagram(alloc: Global, octets: &[u8]) -> Result<Datagram, V2Fault>
+    ensures spoken { MessageGives (λ d. spoken_of d.message) result (message_at octets.now) }
+    ensures kind { IfOk result (λ d. HasFreeKind d.message.body) }
+    ensures header { IfOk result (λ d. HasPlace d.message.teid d.message.priority) }
+{
+    let header = match read_header(octets) {
+        Ok(header) => header,
+        Err(fault) => return Err(fault),
+    };
+    let body = read_body(alloc, &header)?;
+    let message = Message {
+        teid: header.teid,
+        seq: header.seq,
+        priority: header.priority,
+        body,
+    };
+    Ok(Datagram { message })
+}
+
+/// The message that a datagram spells, or its first fault.
+pub fn decode(alloc: Global, octets: &[u8]) -> Result<Datagram, V2Fault>
+    // What is answered is spelled so.
+    ensures found { IfOk result (λ d. IsMessage octets.now (spoken_of d.message)) }
+    // What is spelled so is answered, unless memory runs out.
+    ensures only { (m : Spoken) → IsMessage octets.now m → MessageGives (λ d. spoken_of d.message) result (Ok m) }
+    // A fault is the first one.
+    ensures fault { IfErr result (λ f. (f ≡ V2Fault.Memory) ⊎ IsFault octets.now f) }
+    // The first fault is answered, unless memory runs out.
+    ensures first { (f : AnyFault) → IsFault octets.now f → MessageGives (λ d. spoken_of d.message) result (Err f) }
+
+    // What was decoded can be encoded.
+    ensures kind { IfOk result (λ d. HasFreeKind d.message.body) }
+    ensures header { IfOk result (λ d. HasPlace d.message.teid d.message.priority) }
+{
+    read_datagram(alloc, octets)
+}
+
+/// Appends a header with a TEID, its length still 0.
+fn write_long_header(
+    out: &mut Vec<u8>,
+    flags: u8,
+    kind: u8,
+    teid: Teid,
+    seq: Seq,
+    last: u8,
+) -> Result<(), AllocError>
+    ensures ok { OnOk result (out.new.items ≡ out.old.items ++ flags ∷ kind ∷ 0 ∷ 0 ∷ four teid.0 (three seq (last ∷ []))) }
+{
+    let mut header = [flags, kind, 0, 0, 0, 0, 0, 0, 0, 0, 0, last];
+    BigEndian::write_u32(&mut header[4..], teid.0);
+    BigEndian::write_u24(&mut header[8..], seq.number());
+    out.extend_from_slice(&header)?;
+    Ok(())
+}
+
+/// Appends a header without a TEID, its length still 0.
+fn write_short_header(out: &mut Vec<u8>, kind: u8, seq: Seq) -> Result<(), AllocError>
+    ensures ok { OnOk result (out.new.items ≡ out.old.items ++ 64 ∷ kind ∷ 0 ∷ 0 ∷ three seq (0 ∷ [])) }
+{
+    let mut header = [64, kind, 0, 0, 0, 0, 0, 0];
+    BigEndian::write_u24(&mut header[4..], seq.number());
+    out.extend_from_slice(&header)?;
+    Ok(())
+}
+
+/// Appends the octets before what a message carries, its length still 0.
+fn write_header(out: &mut Vec<u8>, message: &Message) -> Result<(), AllocError>
+    requires { HasPlace message.now.teid message.now.priority }
+    ensures ok { OnOk result (out.new.items ≡ out.old.items ++ open_header (kind_of message.now.body) (spoken_of message.now).teid message.now.seq message.now.priority) }
+{
+    let kind = message.body.kind();
+    let seq = message.seq;
+    match (message.teid, message.priority) {
+        (None, _) => write_short_header(out, kind, seq),
+        (Some(teid), None) => write_long_header(out, 72, kind, teid, seq, 0),
+        (Some(teid), Some(priority)) => {
+            write_long_header(out, 76, kind, teid, seq, 16 * priority.number())
+        }
+    }
+}
+
+/// The one text of a message: its elements in the order of its table, all spare bits 0. `TooLong`
+/// exactly where its length passes the 65,535 octets that its header can state.
+pub fn encode(alloc: Global, message: &Message) -> Result<Vec<u8>, V2Fault>
+    // A priority stands in a header with a TEID alone.
+    requires header { HasPlace message.now.teid message.now.priority }
+    // A message of a type that has a table is not kept as octets.
+    requires kind { HasFreeKind message.now.body }
+    ensures { Encodes (spoken_of message.now) result }
+{
+    let mut out = Vec::new(alloc);
+    if write_header(&mut out, message).is_err() || write_body(&mut out, &message.body).is_err() {
+        return Err(V2Fault::Memory);
+    }
+    let size = out.len() - 4;
+    if size > 65535 {
+        return Err(V2Fault::TooLong);
+    }
+    out[2] = (size / 256) as u8;
+    out[3] = (size % 256) as u8;
+    Ok(out)
+}

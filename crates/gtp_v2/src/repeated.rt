@@ -1,0 +1,71 @@
+//! Rows of which a message may have several values.
+
+ghost use Rattle.std.specs.Prelude.{map};
+ghost use Rattle.gtp_ie.specs.Element.{all_of};
+ghost use Rattle.gtp_ie.specs.Steps.{Gives};
+ghost use Rattle.gtp_ie.specs.View.{element_of};
+ghost use Rattle.gtp_v2.specs.Rows.{one_at, values_at, several_at};
+ghost use Rattle.gtp_v2.specs.Outcome.{GivesOrMemory};
+
+use crate::fault::{BodyFault, RowFault};
+use crate::listed::Listed;
+use gtp_ie::{ElementView, Elements, IeFault, IeValue, ReadFault};
+use std::alloc::Global;
+
+/// The value of an element.
+#[tactic(auto, unfolding(crate::specs::Rows::one_at))]
+pub fn value_in<T: IeValue>(instance: u8, view: &ElementView) -> Result<T, RowFault>
+    ensures { Gives T.value result (one_at T.KIND instance (element_of view.now)) }
+{
+    match T::parse(view.body) {
+        Ok(value) => Ok(value),
+        Err(ReadFault::Short) => Err(RowFault::Element(IeFault::ShortValue {
+            kind: T::KIND,
+            instance,
+            at: view.at,
+        })),
+        Err(ReadFault::Bad) => Err(RowFault::Element(IeFault::BadValue {
+            kind: T::KIND,
+            instance,
+            at: view.at,
+        })),
+    }
+}
+
+/// The values of the elements of the value's type and an instance.
+fn all_values<T: IeValue>(
+    alloc: Global,
+    elements: &Elements,
+    instance: u8,
+) -> Result<Vec<T>, BodyFault>
+    ensures { GivesOrMemory (λ v. map T.value v.items) result (values_at T.KIND instance (all_of T.KIND instance elements.now)) }
+{
+    let mut values = Vec::new(alloc);
+    for view in elements.all(T::KIND, instance) {
+        let value = value_in::<T>(instance, &view)?;
+        values.push(value)?;
+    }
+    Ok(values)
+}
+
+/// The same; where they are needed and there is none, the element of another instance is missing.
+#[tactic(auto, unfolding(crate::specs::Rows::several_at))]
+pub fn several<T: IeValue>(
+    alloc: Global,
+    needed: bool,
+    elements: &Elements,
+    instance: u8,
+    missed: u8,
+) -> Result<Listed<T>, BodyFault>
+    ensures { GivesOrMemory (λ list. map T.value list) result (several_at needed T.KIND instance missed elements.now) }
+{
+    let values = all_values::<T>(alloc, elements, instance)?;
+    if needed && values.is_empty() {
+        return Err(BodyFault::Row(RowFault::Missing {
+            kind: T::KIND,
+            instance: missed,
+            conditional: true,
+        }));
+    }
+    Ok(Listed::of(values))
+}

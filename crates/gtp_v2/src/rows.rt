@@ -1,0 +1,68 @@
+//! Rows of a message's table, one at a time.
+
+ghost use Rattle.std.specs.Prelude.{◌≡◌, true, false, option_map};
+ghost use Rattle.gtp_ie.specs.Steps.{Gives};
+ghost use Rattle.gtp_v2.specs.Rows.{needed_at, optional_at, needed_if_at};
+
+use crate::fault::RowFault;
+use crate::repeated::value_in;
+use gtp_ie::{Elements, IeValue};
+
+/// The value of the first element of the value's type and an instance, which is needed.
+#[tactic(auto, unfolding(crate::specs::Rows::needed_at))]
+pub fn needed<T: IeValue>(
+    conditional: bool,
+    elements: &Elements,
+    instance: u8,
+) -> Result<T, RowFault>
+    ensures { Gives T.value result (needed_at conditional T.KIND instance elements.now) }
+{
+    let Some(view) = elements.first(T::KIND, instance) else {
+        return Err(RowFault::Missing {
+            kind: T::KIND,
+            instance,
+            conditional,
+        });
+    };
+    value_in(instance, &view)
+}
+
+/// The same, of a row that each message needs.
+pub fn mandatory<T: IeValue>(elements: &Elements, instance: u8) -> Result<T, RowFault>
+    ensures { Gives T.value result (needed_at false T.KIND instance elements.now) }
+{
+    needed(false, elements, instance)
+}
+
+/// The same, of a row that each message needs by a condition.
+pub fn conditional<T: IeValue>(elements: &Elements, instance: u8) -> Result<T, RowFault>
+    ensures { Gives T.value result (needed_at true T.KIND instance elements.now) }
+{
+    needed(true, elements, instance)
+}
+
+/// The same, where no message needs it. An element that doesn't read counts as absent.
+#[tactic(auto, unfolding(crate::specs::Rows::optional_at))]
+pub fn optional<T: IeValue>(elements: &Elements, instance: u8) -> Option<T>
+    ensures { option_map T.value result ≡ optional_at T.KIND instance elements.now }
+{
+    let view = elements.first(T::KIND, instance)?;
+    T::parse(view.body).ok()
+}
+
+/// The same, where some messages need it.
+#[tactic(auto, unfolding(crate::specs::Rows::needed_if_at))]
+pub fn needed_if<T: IeValue>(
+    is_needed: bool,
+    elements: &Elements,
+    instance: u8,
+) -> Result<Option<T>, RowFault>
+    ensures { Gives (option_map T.value) result (needed_if_at is_needed T.KIND instance elements.now) }
+{
+    if is_needed {
+        let value = needed(true, elements, instance)?;
+        Ok(Some(value))
+    } else {
+        Ok(optional(elements, instance))
+    }
+}

@@ -1,0 +1,72 @@
+//! Writing the rows of a table.
+
+ghost use Rattle.std.specs.Prelude.{◌≡◌, ◌<◌, [], ◌∷◌, ◌++◌, OnOk, map, option_map, option_to_list};
+ghost use Rattle.gtp_v2.specs.Text.{value_text, rows_text, groups_text, several_text};
+ghost use Rattle.gtp_ie.specs.Text.{element_text};
+
+use crate::groups::Context;
+use gtp_ie::{IeValue, close, open, put_value};
+use std::alloc::AllocError;
+
+/// Appends the element of a value.
+#[tactic(auto, unfolding(crate::specs::Text::value_text))]
+pub fn put_row<T: IeValue>(out: &mut Vec<u8>, instance: u8, value: &T) -> Result<(), AllocError>
+    requires { instance < 16 }
+    ensures ok { OnOk result (out.new.items ≡ out.old.items ++ value_text T.KIND instance (T.value value.now ∷ [])) }
+{
+    put_value(out, instance, value)
+}
+
+/// Appends the element of a value, where there is one.
+#[tactic(auto, unfolding(crate::specs::Text::value_text))]
+pub fn put_option<T: IeValue>(
+    out: &mut Vec<u8>,
+    instance: u8,
+    value: &Option<T>,
+) -> Result<(), AllocError>
+    requires { instance < 16 }
+    ensures ok { OnOk result (out.new.items ≡ out.old.items ++ value_text T.KIND instance (option_to_list (option_map T.value value.now))) }
+{
+    if let Some(value) = value {
+        put_value(out, instance, value)?;
+    }
+    Ok(())
+}
+
+/// Appends a bearer context.
+fn put_context<C: Context>(out: &mut Vec<u8>, context: &C) -> Result<(), AllocError>
+    ensures ok { OnOk result (out.new.items ≡ out.old.items ++ element_text 93 0 (rows_text C.rows (C.values context.now))) }
+{
+    let start = out.len();
+    open(out, 93, 0)?;
+    context.write(out)?;
+    close(out, start);
+    Ok(())
+}
+
+/// Appends bearer contexts.
+#[tactic(auto, unfolding(crate::specs::Text::groups_text))]
+pub fn put_contexts<C: Context>(out: &mut Vec<u8>, contexts: &[C]) -> Result<(), AllocError>
+    ensures ok { OnOk result (out.new.items ≡ out.old.items ++ groups_text 93 0 C.rows (map C.values contexts.now)) }
+{
+    for context in contexts {
+        put_context(out, context)?;
+    }
+    Ok(())
+}
+
+/// Appends the elements of values, in order.
+#[tactic(auto, unfolding(crate::specs::Text::several_text))]
+pub fn put_several<T: IeValue>(
+    out: &mut Vec<u8>,
+    instance: u8,
+    values: &[T],
+) -> Result<(), AllocError>
+    requires { instance < 16 }
+    ensures ok { OnOk result (out.new.items ≡ out.old.items ++ several_text T.KIND instance (map T.value values.now)) }
+{
+    for value in values {
+        put_value(out, instance, value)?;
+    }
+    Ok(())
+}

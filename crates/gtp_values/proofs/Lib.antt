@@ -1,0 +1,3 @@
+pub mod Labels
+pub mod Fills
+pub mod Digits

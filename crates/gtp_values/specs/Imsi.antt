@@ -1,0 +1,32 @@
+-- Subscribers (TS 29.274 8.3).
+use Rattle.std.specs.Prelude.{ℕ, ◌≤◌, ◌<◌, ◌+◌, ◌-◌, List, length, All, map}
+
+-- 6 to 15 digits
+pub record HasImsiLength (digits : List ℕ) : Type 0 where
+  pub least : 6 ≤ length digits
+  pub most : length digits ≤ 15
+
+-- a subscriber's digits
+pub record IsImsi (digits : List ℕ) : Type 0 where
+  pub least : 6 ≤ length digits
+  pub most : length digits ≤ 15
+  pub decimal : All (λ digit. digit < 10) digits
+
+-- the character of a decimal digit
+pub record IsDigitCode (octet : ℕ) : Type 0 where
+  pub least : 48 ≤ octet
+  pub most : octet ≤ 57
+
+-- the digit that a character stands for
+abbrev pub value_of_digit : ℕ → ℕ
+value_of_digit octet = octet - 48
+
+-- 6 to 15 characters of digits
+pub record IsImsiText (text : List ℕ) : Type 0 where
+  pub least : 6 ≤ length text
+  pub most : length text ≤ 15
+  pub decimal : All IsDigitCode text
+
+-- digits as a text, a character each
+abbrev pub digits_text : List ℕ → List ℕ
+digits_text digits = map (λ digit. 48 + digit) digits

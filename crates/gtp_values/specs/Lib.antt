@@ -1,0 +1,9 @@
+pub mod Apn
+pub mod Cause
+pub mod Counter
+pub mod Ebi
+pub mod Imsi
+pub mod Padded
+pub mod Paa
+pub mod Plmn
+pub mod TunnelEnd

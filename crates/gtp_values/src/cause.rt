@@ -1,0 +1,37 @@
+//! Causes.
+
+ghost use Rattle.std.specs.Prelude.{◌≡◌};
+ghost use Rattle.gtp_values.specs.Cause.{is_accepting_value};
+
+use crate::below::Below;
+
+/// Why a request was accepted or refused (TS 29.274 8.4).
+#[derive(Clone, Copy, Debug, PartialEq, Eq)]
+pub struct Cause {
+    /// The cause value: 16 to 63 accept.
+    pub value: u8,
+    /// PDN connection information element error.
+    pub pce: bool,
+    /// Bearer context information element error.
+    pub bce: bool,
+    /// Cause source: whether the cause is of the remote node.
+    pub cs: bool,
+    /// The element at fault, where one is named.
+    pub offending: Option<Offending>,
+}
+
+/// The type and instance of an element at fault.
+#[derive(Clone, Copy, Debug, PartialEq, Eq)]
+pub struct Offending {
+    pub kind: u8,
+    pub instance: Below<16>,
+}
+
+impl Cause {
+    /// Whether the request was accepted: the value is 16 to 63.
+    pub fn is_accepting(&self) -> bool
+        ensures { result ≡ is_accepting_value self.now.value }
+    {
+        16 <= self.value && self.value < 64
+    }
+}

@@ -1,0 +1,111 @@
+//! Subscribers.
+
+ghost use Rattle.std.specs.Prelude.{◌≡◌, ◌<◌, ◌≤◌, ◌↔◌, length, map, All, Some, IsOk, IfOk, IsErrOf};
+ghost use Rattle.gtp_values.specs.Imsi.{IsImsi, HasImsiLength, IsImsiText, IsDigitCode, value_of_digit, digits_text};
+
+use crate::fault::ValueFault;
+use crate::octets::Octets;
+use std::fmt;
+use std::marker::Model;
+use std::str::FromStr;
+
+/// The international mobile subscriber identity: 6 to 15 decimal digits (TS 29.274 8.3, TS 23.003
+/// 2.2). Contracts see the list of the digits.
+#[derive(Clone, Copy, Debug, PartialEq, Eq)]
+pub struct Imsi {
+    digits: Octets<15>,
+}
+
+impl Model for Imsi {
+    ghost use Rattle.std.specs.Prelude.{ℕ, List};
+
+    ghost Value = { List ℕ };
+
+    ghost use Rattle.gtp_values.specs.Imsi.{IsImsi};
+
+    ghost view = { λ a. a.digits };
+
+    ghost invariant = { λ a. IsImsi a.digits };
+
+    ghost inverse = { λ digits. record { digits = digits } };
+}
+
+impl Imsi {
+    /// The identity with these digits, each 0 to 9: `TooShort` below 6, `TooLong` above 15,
+    /// `BadDigit` where one is above 9.
+    pub fn try_new(digits: &[u8]) -> Result<Imsi, ValueFault>
+        ensures ok { IsOk result ↔ IsImsi digits.now }
+        ensures value { IfOk result (λ imsi. imsi ≡ digits.now) }
+        ensures short { IsErrOf result ValueFault.TooShort ↔ (length digits.now < 6) }
+        ensures long { IsErrOf result ValueFault.TooLong ↔ (15 < length digits.now) }
+        ensures digit { IsErrOf result ValueFault.BadDigit ↔ (HasImsiLength digits.now × ¬ All (λ digit. digit < 10) digits.now) }
+    {
+        if digits.len() < 6 {
+            return Err(ValueFault::TooShort);
+        }
+        if digits.len() > 15 {
+            return Err(ValueFault::TooLong);
+        }
+        if !digits.iter().all(|digit| *digit < 10) {
+            return Err(ValueFault::BadDigit);
+        }
+        Ok(Imsi {
+            digits: Octets::of(digits),
+        })
+    }
+
+    /// The identity that a text of decimal digits says: `TooShort` below 6 octets, `TooLong` above
+    /// 15, `BadDigit` where one isn't a digit.
+    pub fn from_text(text: &str) -> Result<Imsi, ValueFault>
+        ensures ok { IsOk result ↔ IsImsiText text.now }
+        ensures value { IfOk result (λ imsi. imsi ≡ map value_of_digit text.now) }
+        ensures short { IsErrOf result ValueFault.TooShort ↔ (length text.now < 6) }
+        ensures long { IsErrOf result ValueFault.TooLong ↔ (15 < length text.now) }
+        ensures digit { IsErrOf result ValueFault.BadDigit ↔ (HasImsiLength text.now × ¬ All IsDigitCode text.now) }
+    {
+        let octets = text.as_bytes();
+        if octets.len() < 6 {
+            return Err(ValueFault::TooShort);
+        }
+        if octets.len() > 15 {
+            return Err(ValueFault::TooLong);
+        }
+        if !octets.iter().all(|octet| b'0' <= *octet && *octet <= b'9') {
+            return Err(ValueFault::BadDigit);
+        }
+        let mut digits = Octets::new();
+        for octet in octets {
+            digits.push(*octet - b'0');
+        }
+        Ok(Imsi { digits })
+    }
+
+    /// The digits, each 0 to 9.
+    pub fn digits(&self) -> &[u8]
+        ensures value { result.now ≡ self.now }
+        ensures range { IsImsi self.now }
+    {
+        self.digits.as_slice()
+    }
+}
+
+impl fmt::Display for Imsi {
+    ghost output = { λ imsi. Some (digits_text imsi) };
+
+    fn fmt<W: fmt::Write>(&self, f: &mut fmt::Formatter<W>) -> fmt::Result {
+        for digit in self.digits() {
+            write!(f, "{digit}")?;
+        }
+        Ok(())
+    }
+}
+
+impl FromStr for Imsi {
+    type Err = ValueFault;
+
+    ghost from_str_gives = { λ text result. (IsOk result ↔ IsImsiText text) × IfOk result (λ imsi. imsi ≡ map value_of_digit text) };
+
+    fn from_str(text: &str) -> Result<Imsi, ValueFault> {
+        Imsi::from_text(text)
+    }
+}

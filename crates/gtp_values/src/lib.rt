@@ -1,0 +1,37 @@
+//! Identifiers, names and addresses of GTP: values of a fixed size, none of which takes memory.
+#![tactic(auto)]
+
+mod address;
+mod apn;
+mod below;
+mod cause;
+mod counter;
+mod ebi;
+mod fault;
+mod fteid;
+mod identifiers;
+mod imsi;
+mod octets;
+mod paa;
+mod plmn;
+mod qos;
+mod tft;
+
+pub use address::{Endpoint, Ip};
+pub use apn::Apn;
+pub use below::Below;
+pub use cause::{Cause, Offending};
+pub use counter::{Age, Counter};
+pub use ebi::Ebi;
+pub use fault::{Memory, ValueFault};
+pub use fteid::FTeid;
+pub use identifiers::{Seq, Teid};
+pub use imsi::Imsi;
+pub use octets::Octets;
+pub use paa::{OtherPdnType, Paa};
+pub use plmn::Plmn;
+pub use qos::{Ambr, Qos, Rate, Rates};
+pub use tft::Tft;
+
+#[cfg(test)]
+mod tests;

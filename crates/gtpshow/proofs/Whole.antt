@@ -1,0 +1,78 @@
+-- The elements of a message that a datagram spells.
+use Rattle.std.proofs.Common.{◌≡◌, ℕ, ◌+◌, ◌-◌, ◌≤◌, List, [], ◌∷◌, length, take, drop, Option, Some, None, ◌⊎◌, inl, inr, refl, sym, ap, subst, ◌∙◌, arith}
+use Rattle.std.proofs.lemmas.List.{append-nil, take_at, length-drop}
+use Rattle.gtp_ie.specs.Element.{Element}
+use Rattle.gtp_ie.specs.Octets.{AreElements}
+use Rattle.gtp_v2.specs.Table.{Field}
+use Rattle.gtp_v2.specs.Headed.{Headed}
+use Rattle.gtp_v2.specs.Header.{IsHeaded}
+use Rattle.gtp_v2.specs.Message.{Table, table_of, Content, Fields, Raw, Spoken, spoken}
+use Rattle.gtp_v2.specs.Datagram.{CarriesBy, IsMessage}
+use Rattle.std.specs.Global.{Vec}
+use Rattle.gtp_v2.specs.declared.body.Body.{Body}
+use Rattle.gtp_v2.specs.declared.body.Body.TheVariants as bodies
+use Rattle.gtp_v2.specs.Body.{content_of}
+use Rattle.gtpshow.specs.Control.{place_of}
+
+-- where the octets behind a header stand
+record IsBehind (octets : List ℕ) (h : Headed) : Type 0 where
+  pub place : place_of h.teid ≡ h.at
+  pub rest : drop h.at octets ≡ h.rest
+  pub room : h.at ≤ length octets
+
+behind : (octets : List ℕ) (h : Headed) → IsHeaded octets h → IsBehind octets h
+behind octets h is = elim is [
+  | inl (flags, a, b, c, spare, small, (high, low, lt, text, long), e) ↦
+      let at : h.at ≡ 8 = ap (λ (x : Headed). x.at) e in
+      let teid : place_of h.teid ≡ 8 = ap (λ (x : Headed). place_of x.teid) e in
+      record { place = teid ∙ sym at; rest = ap (λ (n : ℕ). drop n octets) at ∙ ap (drop 8) text; room = omega (arith, at, ap length text) }
+  | inr (flags, a, b, c, d, p, q, r, last, small, (high, low, lt, text, long), e) ↦
+      let at : h.at ≡ 12 = ap (λ (x : Headed). x.at) e in
+      let teid : place_of h.teid ≡ 12 = ap (λ (x : Headed). place_of x.teid) e in
+      record { place = teid ∙ sym at; rest = ap (λ (n : ℕ). drop n octets) at ∙ ap (drop 12) text; room = omega (arith, at, ap length text) }
+]
+
+-- a message's first octets are its header
+pub room_of : (octets : List ℕ) (m : Spoken) → IsMessage octets m → place_of m.teid ≤ length octets
+room_of octets m (h, headed, (content, carries, e)) =
+    let b = behind octets h headed in
+    let same : place_of m.teid ≡ h.at = ap (λ (x : Spoken). place_of x.teid) e ∙ b.place in
+    omega (arith, same, b.room)
+
+by_table : (table : Option Table) (h : Headed) (fields : List Field) → CarriesBy table h (Fields fields) → (es : List Element) × AreElements h.at h.rest es
+by_table None h fields c = absurd cc
+by_table (Some table) h fields (flag, others, (es, are, lines), e) = (es, are)
+
+-- what a message with fields carries is elements
+pub elements_in : (octets : List ℕ) (m : Spoken) (fields : List Field) → IsMessage octets m → m.content ≡ Fields fields → (es : List Element) × AreElements (place_of m.teid) (drop (place_of m.teid) octets) es
+elements_in octets m fields (h, headed, (content, carries, e)) has =
+    let b = behind octets h headed in
+    let same : place_of m.teid ≡ h.at = ap (λ (x : Spoken). place_of x.teid) e ∙ b.place in
+    let typed : content ≡ Fields fields = sym (ap (λ (x : Spoken). x.content) e) ∙ has in
+    let found = by_table (table_of h.kind) h fields (subst (CarriesBy (table_of h.kind) h) typed carries) in
+    (found.0, subst (λ (n : ℕ). AreElements n (drop n octets) found.0) (sym same) (subst (λ (xs : List ℕ). AreElements h.at xs found.0) (sym b.rest) found.1))
+
+-- a message of a type with a table has fields
+pub typed_fields : (b : Body) → ((kind : ℕ) (octets : Vec ℕ) → b ≡ bodies.Other kind octets → ⊥) → (fields : List Field) × (content_of b ≡ Fields fields)
+typed_fields (bodies.EchoRequest m) h = (_, refl)
+typed_fields (bodies.EchoResponse m) h = (_, refl)
+typed_fields (bodies.VersionNotSupported m) h = (_, refl)
+typed_fields (bodies.CreateSessionRequest m) h = (_, refl)
+typed_fields (bodies.CreateSessionResponse m) h = (_, refl)
+typed_fields (bodies.DeleteSessionRequest m) h = (_, refl)
+typed_fields (bodies.DeleteSessionResponse m) h = (_, refl)
+typed_fields (bodies.CreateBearerRequest m) h = (_, refl)
+typed_fields (bodies.CreateBearerResponse m) h = (_, refl)
+typed_fields (bodies.DeleteBearerRequest m) h = (_, refl)
+typed_fields (bodies.DeleteBearerResponse m) h = (_, refl)
+typed_fields (bodies.Other kind octets) h = absurd (h kind octets refl)
+
+-- the same octets as the end of a slice
+pub slice_elements : (octets : List ℕ) (n place : ℕ) (es : List Element) → place ≡ n → AreElements n (drop n octets) es → AreElements place (take (length octets - place) (drop place octets)) es
+slice_elements octets n place es same are =
+    let moved : AreElements place (drop place octets) es = subst (λ (p : ℕ). AreElements p (drop p octets) es) (sym same) are in
+    let whole : take (length octets - place) (drop place octets) ≡ drop place octets = take_rest (drop place octets) (length octets - place) (length-drop place octets) in
+    subst (λ (xs : List ℕ). AreElements place xs es) (sym whole) moved
+  where
+    take_rest : (xs : List ℕ) (k : ℕ) → length xs ≡ k → take k xs ≡ xs
+    take_rest xs k e = ap (take k) (sym (append-nil xs)) ∙ take_at xs [] k e

@@ -1,0 +1,6 @@
+pub mod Text
+pub mod Values
+pub mod Control
+pub mod User
+pub mod Lines
+pub mod Status
