@@ -1,16 +1,15 @@
 -- What is written spells the value.
-use Rattle.std.proofs.Common.{◌≡◌, Bool, true, false, ℕ, ◌+◌, ◌*◌, ◌/◌, ◌%◌, ◌<◌, ◌≤◌, ◌^◌, List, [], ◌∷◌, ◌++◌, length, refl, sym, ap, ◌∙◌, arith}
-use Rattle.std.proofs.lemmas.List.{append-nil}
+use Rattle.std.proofs.Common.{◌≡◌, Bool, true, false, ℕ, ◌+◌, ◌*◌, ◌<◌, ◌^◌, List, [], ◌++◌, refl, sym, ap, ◌∙◌, arith}
 use Rattle.byteorder.specs.Endian.{big_bytes, big_number}
 use Rattle.byteorder.specs.Numbers.{big_from-bytes}
-use Rattle.gtp_ie.specs.Value.{Value, OfRecovery, OfEbi, OfRat, OfChargingId, OfPdnType, OfPti, OfSelection, OfCause, OfAmbr, OfQos, text_of, bit, offending_text, rates_text, rates_in, AreRates}
+use Rattle.gtp_ie.specs.Value.{OfRecovery, OfEbi, OfRat, OfChargingId, OfPdnType, OfPti, OfSelection, OfCause, OfAmbr, OfQos, text_of, bit, rates_text, AreRates}
 use Rattle.gtp_values.specs.declared.cause.Cause.{Cause}
 use Rattle.gtp_values.specs.declared.cause.Offending.{Offending}
 use Rattle.gtp_values.specs.declared.qos.Ambr.{Ambr}
 use Rattle.gtp_values.specs.declared.qos.Qos.{Qos}
 use Rattle.gtp_values.specs.declared.qos.Rates.{Rates}
 use Rattle.std.specs.Prelude.{◌==◌, Option, Some, None}
-use Rattle.gtp_ie.specs.Layout.{octet, octets_from, number_in, bits, is_set}
+use Rattle.gtp_ie.specs.Layout.{bits, is_set}
 use Rattle.gtp_ie.specs.Spelling.{Spells, Says}
 
 pub recovery_again : (counter : ℕ) → Spells 3 (text_of (OfRecovery counter)) (OfRecovery counter)

@@ -1,6 +1,6 @@
 -- What is written of an address, a tunnel end or a network spells it.
-use Rattle.std.proofs.Common.{◌≡◌, ℕ, zero, suc, ◌+◌, ◌*◌, ◌/◌, ◌%◌, ◌<◌, ◌≤◌, ◌^◌, Bool, true, false, cond, eqb, ◌||◌, List, [], ◌∷◌, ◌++◌, length, take, drop, Option, Some, None, refl, sym, ap, subst, ◌∙◌, arith, length-append}
-use Rattle.std.specs.Prelude.{◌==◌, IsTrue, IfSome, is_some, slice_index, All}
+use Rattle.std.proofs.Common.{◌≡◌, ℕ, ◌+◌, ◌*◌, ◌/◌, ◌%◌, ◌<◌, ◌^◌, true, false, List, [], ◌∷◌, ◌++◌, length, take, drop, Option, Some, None, refl, sym, ap, subst, ◌∙◌, arith, length-append}
+use Rattle.std.specs.Prelude.{◌==◌}
 use Rattle.std.proofs.lemmas.Bool.Decides.{nat_tests}
 use Rattle.std.proofs.lemmas.List.{take_at, drop_at, append-nil}
 use Rattle.std.proofs.lemmas.List.Elements.{All-head, All-tail}
@@ -9,10 +9,9 @@ use Rattle.byteorder.specs.Numbers.{big_from-bytes}
 use Rattle.gtp_values.specs.TunnelEnd.{TunnelEnd, IsTunnelEnd}
 use Rattle.gtp_values.specs.Plmn.{Network, IsNetwork}
 use Rattle.gtp_values.specs.Paa.{IsOtherPdnType}
-use Rattle.gtp_values.specs.declared.paa.Paa.{Paa}
 use Rattle.gtp_values.specs.declared.paa.Paa.TheVariants as paas
-use Rattle.gtp_ie.specs.Value.{Value, OfPaa, OfPlmn, OfFTeid, text_of, bit, address_text, fteid_in, network_in}
-use Rattle.gtp_ie.specs.Digits.{network_text, third_or_filler}
+use Rattle.gtp_ie.specs.Value.{OfPaa, OfPlmn, OfFTeid, text_of, network_in}
+use Rattle.gtp_ie.specs.Digits.{network_text}
 use Rattle.gtp_ie.specs.Spelling.{Spells, Says}
 
 -- the first octets of a list that has no others

@@ -1,11 +1,11 @@
 -- What is written of a name or a template spells it.
-use Rattle.std.proofs.Common.{◌≡◌, ℕ, ◌+◌, ◌*◌, ◌/◌, ◌%◌, ◌<◌, ◌≤◌, Bool, true, false, cond, eqb, List, [], ◌∷◌, ◌++◌, length, refl, sym, ap, subst, ◌∙◌, arith}
-use Rattle.std.specs.Prelude.{◌==◌, All}
+use Rattle.std.proofs.Common.{◌≡◌, ℕ, ◌+◌, ◌*◌, ◌/◌, ◌%◌, ◌<◌, ◌≤◌, false, List, [], ◌∷◌, length, refl, arith}
+use Rattle.std.specs.Prelude.{◌==◌}
 use Rattle.std.proofs.lemmas.Bool.Decides.{nat_tests}
 use Rattle.gtp_values.specs.Apn.{IsApn}
 use Rattle.gtp_values.specs.Imsi.{IsImsi}
-use Rattle.gtp_ie.specs.Digits.{packed, digits_in, last_digits}
-use Rattle.gtp_ie.specs.Value.{Value, OfImsi, OfApn, OfTft, text_of}
+use Rattle.gtp_ie.specs.Digits.{packed, last_digits}
+use Rattle.gtp_ie.specs.Value.{OfImsi, OfApn, OfTft, text_of}
 use Rattle.gtp_ie.specs.Spelling.{Spells, Says}
 
 -- two digits an octet, and one more where their count is odd

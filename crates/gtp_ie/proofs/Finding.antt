@@ -1,10 +1,9 @@
 -- What a caller of a walk is told.
-use Rattle.std.proofs.Common.{◌≡◌, ℕ, List, Result, Ok, Err, refl, sym, ap, subst, ◌∙◌}
-use Rattle.std.specs.Prelude.{IfOk, IfErr}
+use Rattle.std.proofs.Common.{◌≡◌, ℕ, List, Result, Ok, Err, refl, sym, ap, ◌∙◌}
 use Rattle.gtp_ie.specs.declared.elements.Elements.{Elements}
 use Rattle.gtp_ie.specs.declared.fault.IeFault.{IeFault}
 use Rattle.gtp_ie.specs.declared.fault.IeFault.TheVariants.{Truncated}
-use Rattle.gtp_ie.specs.Decides.{Decides}
+use Rattle.gtp_values.specs.Decides.{Decides}
 use Rattle.gtp_ie.specs.Element.{Element, elements_of}
 use Rattle.gtp_ie.specs.Octets.{AreElements, IsCut}
 use Rattle.gtp_ie.specs.Walked.{IsWalked, FindsElements}

@@ -1,5 +1,4 @@
 pub mod Walk
-pub mod Decided
 pub mod Walked
 pub mod Closed
 pub mod Placed
@@ -12,3 +11,5 @@ pub mod Spelled
 pub mod Read
 pub mod Reading
 pub mod Finding
+pub mod Free
+pub mod FreeKinds

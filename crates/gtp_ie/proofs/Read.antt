@@ -1,5 +1,5 @@
 -- What is read of names and networks.
-use Rattle.std.proofs.Common.{◌≡◌, ℕ, ◌+◌, ◌*◌, ◌/◌, ◌%◌, ◌<◌, ◌≤◌, Bool, false, List, [], ◌∷◌, length, take, get_or, Ok, Err, refl, sym, ap, subst, ◌∙◌, arith}
+use Rattle.std.proofs.Common.{◌≡◌, ℕ, ◌+◌, ◌*◌, ◌/◌, ◌%◌, ◌<◌, ◌≤◌, false, List, [], ◌∷◌, length, take, get_or, Ok, Err, refl, sym, ap, subst, ◌∙◌, arith}
 use Rattle.gtp_values.specs.Apn.{IsApn}
 use Rattle.gtp_values.specs.Imsi.{IsImsi}
 use Rattle.gtp_values.specs.Plmn.{Network, IsNetwork}
@@ -9,7 +9,6 @@ use Rattle.gtp_ie.specs.Value.{OfImsi, OfApn, OfPlmn, network_in, value_at}
 use Rattle.std.specs.Prelude.{◌==◌}
 use Rattle.gtp_ie.specs.Spelling.{Says}
 use Rattle.gtp_ie.proofs.Spelled.{value_decided, packed_again, digits_again}
-use Rattle.gtp_ie.proofs.AgainNames.{length-packed}
 
 pub apn_read : (body : List ℕ) → 1 ≤ length body → IsApn body → value_at 71 body ≡ Ok (OfApn body)
 unfolding Says
@@ -43,6 +42,11 @@ imsi_long body long =
 pub plmn_read : (body : List ℕ) → 3 ≤ length body → IsNetwork (network_in body) → value_at 83 body ≡ Ok (OfPlmn (network_in body))
 unfolding Says
 plmn_read body long is = (value_decided 83 body).is (OfPlmn (network_in body)) (record { long_enough = long; says = (is, refl) })
+
+-- the same of a network that was made of the digits
+pub plmn_found : (body : List ℕ) → 3 ≤ length body → (digits made : Network) → network_in body ≡ digits → IsNetwork digits → made ≡ digits → value_at 83 body ≡ Ok (OfPlmn made)
+plmn_found body long digits made same is e =
+    plmn_read body long (subst IsNetwork (sym same) is) ∙ ap (λ (n : Network). Ok (OfPlmn n)) (same ∙ sym e)
 
 pub plmn_unread : (body : List ℕ) → 3 ≤ length body → (IsNetwork (network_in body) → ⊥) → value_at 83 body ≡ Err Bad
 unfolding Says

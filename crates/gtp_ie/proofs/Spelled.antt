@@ -1,7 +1,6 @@
 -- Reading a body decides which value it spells.
-use Rattle.std.proofs.Common.{◌≡◌, ℕ, ◌+◌, ◌*◌, ◌/◌, ◌%◌, ◌<◌, ◌≤◌, Bool, true, false, cond, ltb, ◌&&◌, ◌||◌, List, [], ◌∷◌, length, Option, Some, None, Result, Ok, Err, refl, sym, ap, subst, ◌∙◌, arith}
+use Rattle.std.proofs.Common.{◌≡◌, ℕ, ◌+◌, ◌*◌, ◌/◌, ◌%◌, ◌<◌, ◌≤◌, Bool, true, false, cond, ◌&&◌, ◌||◌, List, [], ◌∷◌, length, Option, Some, None, Err, refl, sym, ap, subst, ◌∙◌, arith}
 use Rattle.std.specs.Prelude.{◌==◌, IsTrue, All, nat_le, nat_lt}
-use Rattle.std.specs.List.{list_all}
 use Rattle.std.proofs.lemmas.Bool.Decides.{nat_tests}
 use Rattle.std.proofs.lemmas.Bool.{ltb-false, ltb-true, eqb-true}
 use Rattle.std.proofs.lemmas.List.Elements.{All-nil, All-head, All-tail, All-cons}
@@ -11,12 +10,12 @@ use Rattle.gtp_values.specs.Plmn.{Network, IsNetwork}
 use Rattle.gtp_values.proofs.Labels.{are_labels, labels_are}
 use Rattle.gtp_ie.specs.declared.fault.ReadFault.{ReadFault}
 use Rattle.gtp_ie.specs.declared.fault.ReadFault.TheVariants.{Short, Bad}
-use Rattle.gtp_ie.specs.Decides.{Decides}
+use Rattle.gtp_values.specs.Decides.{Decides}
 use Rattle.gtp_ie.specs.Layout.{octet, bits}
 use Rattle.gtp_ie.specs.Digits.{packed, last_digits, digits_in, are_decimal, are_imsi_digits, are_network_digits}
 use Rattle.gtp_ie.specs.Value.{Value, OfImsi, OfApn, OfPlmn, OfTft, OfFTeid, third_digit, network_in, fteid_in, has_v4, has_v6, least, only_if, said, or_bad, value_at}
-use Rattle.gtp_ie.specs.Spelling.{SpellsImsi, SpellsApn, SpellsPlmn, SpellsTft, SpellsFTeid, Says, Spells, IsShort, IsBad, SpellsNone}
-use Rattle.gtp_ie.proofs.Decided.{known_ok, known_err}
+use Rattle.gtp_ie.specs.Spelling.{SpellsImsi, SpellsApn, Says, Spells, SpellsNone}
+use Rattle.gtp_values.proofs.Decided.{known_ok, known_err}
 
 -- what is found is what is
 pub record Finds (found : Option Value) (P : Value → Type 0) : Type 0 where

@@ -1,4 +1,3 @@
-pub mod Steps
 pub mod Element
 pub mod View
 pub mod Walked
@@ -6,7 +5,7 @@ pub mod Layout
 pub mod Digits
 pub mod Value
 pub mod Parts
-pub mod Decides
 pub mod Octets
 pub mod Text
 pub mod Spelling
+pub mod Free

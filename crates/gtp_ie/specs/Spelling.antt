@@ -1,14 +1,13 @@
 -- Which bodies spell which values, one case for each type of element, and which spell none. Spare bits and, but for names
 -- and templates that are the whole body, octets behind the form stand in no case: they are free.
-use Rattle.std.specs.Prelude.{◌≡◌, ◌==◌, cond, ◌||◌, IsTrue, ℕ, ◌≤◌, ◌<◌, List, length, ◌⊎◌}
+use Rattle.std.specs.Prelude.{◌≡◌, ◌==◌, cond, ◌||◌, IsTrue, ℕ, ◌≤◌, ◌<◌, List, length}
 use Rattle.gtp_values.specs.Apn.{IsApn}
 use Rattle.gtp_values.specs.Imsi.{IsImsi}
-use Rattle.gtp_values.specs.Plmn.{Network, IsNetwork}
+use Rattle.gtp_values.specs.Plmn.{IsNetwork}
 use Rattle.gtp_ie.specs.declared.fault.ReadFault.{ReadFault}
 use Rattle.gtp_ie.specs.declared.fault.ReadFault.TheVariants.{Short, Bad}
 use Rattle.gtp_ie.specs.Digits.{packed}
-use Rattle.gtp_ie.specs.Layout.{octet, number_in, bits}
-use Rattle.gtp_ie.specs.Value.{Value, OfImsi, OfCause, OfRecovery, OfApn, OfAmbr, OfEbi, OfPaa, OfQos, OfRat, OfPlmn, OfTft, OfFTeid, OfChargingId, OfPdnType, OfPti, OfSelection, cause_in, ambr_in, paa_in, qos_in, network_in, fteid_in, has_v4, has_v6, least}
+use Rattle.gtp_ie.specs.Value.{Value, OfImsi, OfCause, OfRecovery, OfApn, OfAmbr, OfEbi, OfPaa, OfQos, OfRat, OfPlmn, OfTft, OfFTeid, OfChargingId, OfPdnType, OfPti, OfSelection, cause_in, recovery_in, ambr_in, ebi_in, paa_in, qos_in, rat_in, network_in, fteid_in, charging_id_in, asked_pdn_type_in, pti_in, selection_in, has_v4, has_v6, least}
 
 -- TS 29.274 8.3: the digits in the halves of the octets are the whole body
 abbrev pub SpellsImsi : List ℕ → Value → Type 0
@@ -35,20 +34,20 @@ unfoldable pub Says : ℕ → List ℕ → Value → Type 0
 Says kind body v =
     cond (kind == 1) (SpellsImsi body v)
     (cond (kind == 2) (v ≡ OfCause (cause_in body))
-    (cond (kind == 3) (v ≡ OfRecovery (octet 5 body))
+    (cond (kind == 3) (v ≡ OfRecovery (recovery_in body))
     (cond (kind == 71) (SpellsApn body v)
     (cond (kind == 72) (v ≡ OfAmbr (ambr_in body))
-    (cond (kind == 73) (v ≡ OfEbi (bits 4 1 (octet 5 body)))
+    (cond (kind == 73) (v ≡ OfEbi (ebi_in body))
     (cond (kind == 79) (v ≡ OfPaa (paa_in body))
     (cond (kind == 80) (v ≡ OfQos (qos_in body))
-    (cond (kind == 82) (v ≡ OfRat (octet 5 body))
+    (cond (kind == 82) (v ≡ OfRat (rat_in body))
     (cond (kind == 83) (SpellsPlmn body v)
     (cond (kind == 84) (SpellsTft body v)
     (cond (kind == 87) (SpellsFTeid body v)
-    (cond (kind == 94) (v ≡ OfChargingId (number_in 4 5 body))
-    (cond (kind == 99) (v ≡ OfPdnType (bits 3 1 (octet 5 body)))
-    (cond (kind == 100) (v ≡ OfPti (octet 5 body))
-    (cond (kind == 128) (v ≡ OfSelection (bits 2 1 (octet 5 body)))
+    (cond (kind == 94) (v ≡ OfChargingId (charging_id_in body))
+    (cond (kind == 99) (v ≡ OfPdnType (asked_pdn_type_in body))
+    (cond (kind == 100) (v ≡ OfPti (pti_in body))
+    (cond (kind == 128) (v ≡ OfSelection (selection_in body))
     ⊥)))))))))))))))
 
 -- the body is below the least length of its type

@@ -1,5 +1,5 @@
 -- The values that elements have, what a body says, and the one body that is written for a value.
-use Rattle.std.specs.Prelude.{ℕ, ◌+◌, ◌*◌, ◌-◌, ◌^◌, ◌<◌, Bool, true, false, ◌&&◌, ◌||◌, List, [], ◌∷◌, ◌++◌, length, take, drop, Option, Some, None, is_some, option_map, Result, Ok, Err, nat_lt, nat_le, ◌==◌, if◌then◌else◌}
+use Rattle.std.specs.Prelude.{ℕ, ◌+◌, ◌*◌, ◌^◌, ◌<◌, Bool, true, false, ◌&&◌, ◌||◌, List, [], ◌∷◌, ◌++◌, length, take, Option, Some, None, is_some, Result, Ok, Err, nat_lt, nat_le, ◌==◌, if◌then◌else◌}
 use Rattle.byteorder.specs.Endian.{big_bytes}
 use Rattle.gtp_values.specs.declared.cause.Cause.{Cause}
 use Rattle.gtp_values.specs.declared.cause.Offending.{Offending}
@@ -46,9 +46,17 @@ abbrev pub cause_in : List ℕ → Cause
 cause_in body =
     record { value = octet 5 body; pce = is_set 3 (octet 6 body); bce = is_set 2 (octet 6 body); cs = is_set 1 (octet 6 body); offending = offending_in body }
 
+-- TS 29.274 8.5: the restart counter
+abbrev pub recovery_in : List ℕ → ℕ
+recovery_in body = octet 5 body
+
 -- TS 29.274 8.7
 abbrev pub ambr_in : List ℕ → Ambr
 ambr_in body = record { up = number_in 4 5 body; down = number_in 4 9 body }
+
+-- TS 29.274 8.8: the EPS bearer identity
+abbrev pub ebi_in : List ℕ → ℕ
+ebi_in body = bits 4 1 (octet 5 body)
 
 -- TS 29.274 8.14: the PDN type
 abbrev pub pdn_type_in : List ℕ → ℕ
@@ -70,6 +78,10 @@ rates_in n body = record { up = number_in 5 n body; down = number_in 5 (n + 5) b
 abbrev pub qos_in : List ℕ → Qos
 qos_in body =
     record { pci = is_set 7 (octet 5 body); pl = bits 6 3 (octet 5 body); pvi = is_set 1 (octet 5 body); qci = octet 6 body; mbr = rates_in 7 body; gbr = rates_in 17 body }
+
+-- TS 29.274 8.17: the radio access technology
+abbrev pub rat_in : List ℕ → ℕ
+rat_in body = octet 5 body
 
 -- TS 29.274 8.18: the third digit of the network code is 15 where the code has two
 abbrev pub third_digit : ℕ → List ℕ
@@ -103,6 +115,22 @@ fteid_in body =
       v4 = if has_v4 body then Some (take 4 (octets_from 10 body)) else None;
       v6 = if has_v6 body then Some (take 16 (octets_from (10 + room (has_v4 body) 4) body)) else None;
     }
+
+-- TS 29.274 8.29: the charging identifier
+abbrev pub charging_id_in : List ℕ → ℕ
+charging_id_in body = number_in 4 5 body
+
+-- TS 29.274 8.34: the PDN type that is asked for
+abbrev pub asked_pdn_type_in : List ℕ → ℕ
+asked_pdn_type_in body = bits 3 1 (octet 5 body)
+
+-- TS 29.274 8.35: the procedure transaction identity
+abbrev pub pti_in : List ℕ → ℕ
+pti_in body = octet 5 body
+
+-- TS 29.274 8.58: how the access point name was selected
+abbrev pub selection_in : List ℕ → ℕ
+selection_in body = bits 2 1 (octet 5 body)
 
 -- TS 29.274 8.14: the least length by the PDN type
 abbrev pub least_paa : ℕ → ℕ
@@ -139,20 +167,20 @@ abbrev pub said : ℕ → List ℕ → Option Value
 said kind body =
     if kind == 1 then only_if (are_imsi_digits (digits_in body)) (OfImsi (digits_in body))
     else (if kind == 2 then Some (OfCause (cause_in body))
-    else (if kind == 3 then Some (OfRecovery (octet 5 body))
+    else (if kind == 3 then Some (OfRecovery (recovery_in body))
     else (if kind == 71 then only_if (nat_le (length body) 100 && are_labels_from 0 body) (OfApn body)
     else (if kind == 72 then Some (OfAmbr (ambr_in body))
-    else (if kind == 73 then Some (OfEbi (bits 4 1 (octet 5 body)))
+    else (if kind == 73 then Some (OfEbi (ebi_in body))
     else (if kind == 79 then Some (OfPaa (paa_in body))
     else (if kind == 80 then Some (OfQos (qos_in body))
-    else (if kind == 82 then Some (OfRat (octet 5 body))
+    else (if kind == 82 then Some (OfRat (rat_in body))
     else (if kind == 83 then only_if (are_network_digits (network_in body)) (OfPlmn (network_in body))
     else (if kind == 84 then only_if (nat_le (length body) 255) (OfTft body)
     else (if kind == 87 then only_if (has_v4 body || has_v6 body) (OfFTeid (fteid_in body))
-    else (if kind == 94 then Some (OfChargingId (number_in 4 5 body))
-    else (if kind == 99 then Some (OfPdnType (bits 3 1 (octet 5 body)))
-    else (if kind == 100 then Some (OfPti (octet 5 body))
-    else (if kind == 128 then Some (OfSelection (bits 2 1 (octet 5 body)))
+    else (if kind == 94 then Some (OfChargingId (charging_id_in body))
+    else (if kind == 99 then Some (OfPdnType (asked_pdn_type_in body))
+    else (if kind == 100 then Some (OfPti (pti_in body))
+    else (if kind == 128 then Some (OfSelection (selection_in body))
     else None)))))))))))))))
 
 -- a value, or that there is none

@@ -11,7 +11,7 @@ use crate::view::ElementView;
 use std::marker::Model;
 
 impl<'a> ElementView<'a> {
-    /// The elements that the body holds as a group (TS 29.274 8.2.3). Takes no memory.
+    /// The elements that the body holds as a group (TS 29.274 6.1.2). Takes no memory.
     pub fn inner(&self) -> Result<Elements<'a>, IeFault>
         ensures walked { IsWalked result (elements_of (self.now.at + 4) self.now.body.now) }
         ensures elements { FindsElements (self.now.at + 4) self.now.body.now result }
@@ -66,7 +66,6 @@ impl<'a> Model for Elements<'a> {
 /// The elements of the octets: `Truncated` where they are not whole elements, at the first octet of
 /// the first one that isn't. Takes no memory.
 pub fn all_elements(octets: &[u8]) -> Result<Elements<'_>, IeFault>
-    requires { length octets.now < 2 ^ 64 }
     ensures walked { IsWalked result (elements_of 0 octets.now) }
     ensures elements { FindsElements 0 octets.now result }
 {

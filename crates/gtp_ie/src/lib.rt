@@ -3,6 +3,7 @@
 
 mod elements;
 mod fault;
+pub mod laws;
 mod value;
 mod view;
 mod writing;
@@ -12,6 +13,12 @@ pub use fault::{IeFault, ReadFault};
 pub use value::{ChargingId, EbiValue, IeValue, PdnType, Pti, Rat, Recovery, Selection};
 pub use view::ElementView;
 pub use writing::{append, close, open, put, put_value};
+
+/// What the signatures and contracts here name of the crate below.
+pub use gtp_values::{
+    Ambr, Apn, Below, Cause, Counter, FTeid, Imsi, Offending, OtherPdnType, Paa, Plmn, Qos, Rate,
+    Rates, Teid, Tft,
+};
 
 #[cfg(test)]
 mod tests;

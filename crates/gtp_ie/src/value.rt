@@ -1,9 +1,10 @@
 //! What elements say: the law of element values.
 
-ghost use Rattle.std.specs.Prelude.{◌≡◌, ◌↔◌, ℕ, ◌++◌, OnOk, OnErr, IfOk, IsOkAnd, IsErrOf};
-ghost use Rattle.gtp_ie.specs.Steps.{Gives};
+ghost use Rattle.std.specs.Prelude.{◌≡◌, ◌↔◌, ℕ, ◌++◌, Ok, OnOk, OnErr, IfOk, IsOkAnd, IsErrOf};
+ghost use Rattle.gtp_values.specs.Steps.{Gives};
 ghost use Rattle.gtp_ie.specs.Value.{Value, value_at, text_of};
 ghost use Rattle.gtp_ie.specs.Spelling.{Spells, IsShort, IsBad};
+ghost use Rattle.gtp_ie.specs.Free.{SpellsFreely};
 
 use crate::fault::ReadFault;
 use std::alloc::AllocError;
@@ -36,13 +37,20 @@ pub trait IeValue: Copy {
         ensures ok { OnOk result (out.new.items ≡ out.old.items ++ text_of (value self.now)) }
         ensures err { OnErr result (out.new.items ≡ out.old.items) }
         // What is written spells the value.
-        ensures again { Spells KIND (text_of (value self.now)) (value self.now) };
+        ensures again { Spells KIND (text_of (value self.now)) (value self.now) }
+        // So does each body that says the same: spare bits and octets behind the form are free.
+        ensures free { SpellsFreely KIND (value self.now) };
+
+    /// No two have one value: nothing of them is hidden from it.
+    ghost one_value: { (x y : Self) → value x ≡ value y → x ≡ y };
 
     /// The value that the body spells; `Short` exactly below the least length of its type, `Bad`
     /// exactly where the body is long enough and spells none.
     final fn read(body: &[u8]) -> Result<Self, ReadFault>
         ensures value { IfOk result (λ x. Spells KIND body.now (value x)) }
         ensures only { (v : Value) → Spells KIND body.now v → IsOkAnd result (λ x. value x ≡ v) }
+        // So what spells the value of one is read as that one.
+        ensures back { (x : Self) → Spells KIND body.now (value x) → result ≡ Ok x }
         ensures short { IsErrOf result ReadFault.Short ↔ IsShort KIND body.now }
         ensures bad { IsErrOf result ReadFault.Bad ↔ IsBad KIND body.now }
     {

@@ -2,6 +2,7 @@
 
 ghost use Rattle.std.specs.Prelude.{◌≡◌, ◌+◌, ◌-◌, ◌≤◌, ◌<◌, ◌↔◌, ◌⊎◌, [], ◌∷◌, ◌++◌, OnOk, OnErr, IfErr, IsErrOf, length};
 ghost use Rattle.gtp_ie.specs.Text.{element_text, closed};
+ghost use Rattle.gtp_ie.specs.Spelling.{Spells};
 ghost use Rattle.gtp_ie.specs.Value.{text_of};
 ghost use Rattle.gtp_ie.specs.Parts.{joined};
 ghost use Rattle.gtp_ie.specs.declared.fault.IeFault.TheVariants.{Memory, TooLong};
@@ -25,7 +26,7 @@ pub fn append(out: &mut Vec<u8>, parts: &[&[u8]]) -> Result<(), AllocError>
     Ok(())
 }
 
-/// Begins an element with spare bits 0 (TS 29.274 8.2.1). Its length is written by `close`.
+/// Begins an element with spare bits 0 (TS 29.274 8.2). Its length is written by `close`.
 pub fn open(out: &mut Vec<u8>, kind: u8, instance: u8) -> Result<(), AllocError>
     requires { instance < 16 }
     ensures ok { OnOk result (out.new.items ≡ out.old.items ++ kind ∷ 0 ∷ 0 ∷ instance ∷ []) }
@@ -50,6 +51,8 @@ pub fn close(out: &mut Vec<u8>, start: usize)
 pub fn put_value<T: IeValue>(out: &mut Vec<u8>, instance: u8, value: &T) -> Result<(), AllocError>
     requires { instance < 16 }
     ensures ok { OnOk result (out.new.items ≡ out.old.items ++ element_text T.KIND instance (text_of (T.value value.now))) }
+    // Its body spells the value.
+    ensures again { OnOk result (Spells T.KIND (text_of (T.value value.now)) (T.value value.now)) }
     ensures err { OnErr result (out.new.items ≡ out.old.items) }
 {
     let start = out.len();

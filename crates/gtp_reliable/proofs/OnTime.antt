@@ -3,8 +3,8 @@ use Rattle.std.proofs.Common.{◌≡◌, ℕ, zero, suc, ◌+◌, ◌*◌, ◌<�
 use Rattle.std.specs.Prelude.{nat_lt}
 use Rattle.std.proofs.lemmas.Bool.Decides.{nat_tests}
 use Rattle.gtp_values.specs.declared.address.Endpoint.{Endpoint}
-use Rattle.gtp_reliable.specs.Waiting.{Waiting, just_sent, after_tick}
-use Rattle.gtp_reliable.specs.Held.{HeldPair, just_kept}
+use Rattle.gtp_reliable.specs.Waiting.{Waiting, just_sent, after_tick, sent_again, given_up}
+use Rattle.gtp_reliable.specs.Held.{HeldPair, just_kept, forgotten}
 use Rattle.gtp_reliable.specs.Held as held
 use Rattle.gtp_reliable.specs.Ticks.{then_tick, after_ticks, held_after}
 
@@ -89,3 +89,29 @@ pub forgotten_on_time : (hold : ℕ) (source : Endpoint) (request answer : List 
 unfolding held_after
 forgotten_on_time zero source request answer h = absurd (omega arith)
 forgotten_on_time (suc k) source request answer h = ap (then_tick (held.after_tick (suc k))) (held_on_time (suc k) k source request answer (omega arith)) ∙ gone (suc k) source request answer k (omega arith)
+
+-- ---- what one tick tells
+
+pub sends_then : {P : Type 0} (t3 n3 : ℕ) (w : Waiting P) → w.waited + 1 ≡ t3 → w.resent < n3
+    → (sent_again t3 n3 w ≡ Some (record { seq = w.seq; to = w.to; octets = w.octets })) × (given_up t3 n3 w ≡ None)
+sends_then t3 n3 w last fewer =
+    let late : nat_lt (w.waited + 1) t3 ≡ false = grind (arith, nat_tests) in
+    let again : nat_lt w.resent n3 ≡ true = grind (arith, nat_tests) in (rw (late, again) refl, rw (late, again) refl)
+
+pub gives_up_then : {P : Type 0} (t3 n3 : ℕ) (w : Waiting P) → w.waited + 1 ≡ t3 → w.resent ≡ n3
+    → (sent_again t3 n3 w ≡ None) × (given_up t3 n3 w ≡ Some (w.seq, w.purpose))
+gives_up_then t3 n3 w last all =
+    let late : nat_lt (w.waited + 1) t3 ≡ false = grind (arith, nat_tests) in
+    let no_more : nat_lt w.resent n3 ≡ false = grind (arith, nat_tests) in (rw (late, no_more) refl, rw (late, no_more) refl)
+
+pub quiet_then : {P : Type 0} (t3 n3 : ℕ) (w : Waiting P) → w.waited + 1 < t3 → (sent_again t3 n3 w ≡ None) × (given_up t3 n3 w ≡ None)
+quiet_then t3 n3 w before =
+    let early : nat_lt (w.waited + 1) t3 ≡ true = grind (arith, nat_tests) in (rw early refl, rw early refl)
+
+pub forgets_then : (hold : ℕ) (p : HeldPair) → p.age + 1 ≡ hold → forgotten hold p ≡ Some (record { source = p.source; octets = p.request })
+forgets_then hold p last =
+    let late : nat_lt (p.age + 1) hold ≡ false = grind (arith, nat_tests) in rw late refl
+
+pub keeps_then : (hold : ℕ) (p : HeldPair) → p.age + 1 < hold → forgotten hold p ≡ None
+keeps_then hold p before =
+    let early : nat_lt (p.age + 1) hold ≡ true = grind (arith, nat_tests) in rw early refl

@@ -1,6 +1,6 @@
 //! Answers that are held for requests which come again.
 
-ghost use Rattle.std.specs.Prelude.{◌≡◌, ◌<◌, ◌≤◌, ◌↔◌, ◌⊎◌, ◌+◌, [], ◌∷◌, ◌++◌, ℕ, List, All, true, length, filter, map, IsOk, OnOk, OnErr, OnSome, IfOk, IfErr, IfSome, IfNone, IsSomeAnd, Err, is_some, unwrap_or};
+ghost use Rattle.std.specs.Prelude.{◌≡◌, ◌<◌, ◌≤◌, ◌↔◌, ◌⊎◌, ◌+◌, [], ◌∷◌, ◌++◌, ℕ, List, All, true, false, length, filter, map, IsOk, OnOk, OnErr, OnSome, IfOk, IfErr, IfSome, IfNone, IsSomeAnd, Err, is_some, unwrap_or};
 ghost use Rattle.std.specs.List.{filter_map};
 ghost use Rattle.gtp_reliable.specs.Held.{just_kept, after_tick, forgotten, IsHeld, HasAnswer, IsHold, IsReady, IsQuiet, forgets};
 ghost use Rattle.gtp_reliable.specs.Forgotten.{question_of};
@@ -121,6 +121,7 @@ impl Held {
         ensures room { OnOk result (self.new ≡ record self.old { has_room = true }) }
         ensures full { (result ≡ Err ReliableFault.HeldFull) ↔ (4096 ≤ length self.old.pairs) }
         ensures fault { IfErr result (λ f. (f ≡ ReliableFault.HeldFull) ⊎ (f ≡ ReliableFault.Memory)) }
+        ensures memory { result ≡ Err ReliableFault.Memory → self.old.has_room ≡ false }
         ensures err { OnErr result (self.new ≡ self.old) }
     {
         if self.pairs.len() >= MOST {

@@ -1,6 +1,6 @@
 //! Requests that wait for their answers.
 
-ghost use Rattle.std.specs.Prelude.{◌≡◌, ◌<◌, ◌≤◌, ◌↔◌, ◌⊎◌, [], ◌∷◌, ◌++◌, ◌+◌, ◌==◌, All, true, not, length, filter, map, IsOk, OnOk, OnErr, IfOk, IfErr, Err, option_map, is_some, unwrap_or};
+ghost use Rattle.std.specs.Prelude.{◌≡◌, ◌<◌, ◌≤◌, ◌↔◌, ◌⊎◌, [], ◌∷◌, ◌++◌, ◌+◌, ◌==◌, All, true, false, not, length, filter, map, IsOk, OnOk, OnErr, IfOk, IfErr, Err, option_map, is_some, unwrap_or};
 ghost use Rattle.std.specs.List.{filter_map};
 ghost use Rattle.gtp_reliable.specs.Waiting.{just_sent, after_tick, sent_again, given_up};
 ghost use Rattle.gtp_reliable.specs.Pending.{numbers, number_after, is_pending, IsNextFree, purpose_of, IsPrepared, AreLimits, AreRequests, SameTimes, IsQuiet, resends, given_ups};
@@ -201,6 +201,7 @@ impl<P: Copy> Pending<P> {
         ensures room { OnOk result (self.new ≡ record self.old { has_room = true }) }
         ensures full { (result ≡ Err ReliableFault.PendingFull) ↔ (256 ≤ length self.old.waiting) }
         ensures fault { IfErr result (λ f. (f ≡ ReliableFault.PendingFull) ⊎ (f ≡ ReliableFault.Memory)) }
+        ensures memory { result ≡ Err ReliableFault.Memory → self.old.has_room ≡ false }
         ensures err { OnErr result (self.new ≡ self.old) }
     {
         if self.waiting.len() >= MOST {

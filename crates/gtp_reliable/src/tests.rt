@@ -85,6 +85,31 @@ fn order_of_beginning(rt: HostRuntime) -> Result<(), Fail> {
 }
 
 #[test]
+fn several_in_one_tick(rt: HostRuntime) -> Result<(), Fail> {
+    let mut pending = Pending::new_at(rt.alloc(), 1, 1, Seq::new(8_388_606));
+    for purpose in [1, 2, 3, 4] {
+        begin(rt.alloc(), &mut pending, purpose)?;
+    }
+    pending.finish(Seq::new(8_388_607));
+    let due = pending.due()?;
+    assert!(rt; due.gave_up.is_empty());
+    assert_eq!(rt; due.resend.len(), 3);
+    for (again, number) in due.resend.iter().zip([8_388_606, 0, 1]) {
+        assert_eq!(rt; again.seq.number(), number);
+    }
+    pending.tick();
+    let due = pending.due()?;
+    assert!(rt; due.resend.is_empty());
+    let numbers = [Seq::new(8_388_606), Seq::new(0), Seq::new(1)];
+    assert!(rt;
+        due.gave_up.as_slice() == [(numbers[0], 1), (numbers[1], 3), (numbers[2], 4)].as_slice()
+    );
+    pending.tick();
+    assert!(rt; pending.matched(numbers[0]).is_none() && pending.matched(numbers[2]).is_none());
+    Ok(())
+}
+
+#[test]
 fn numbers(rt: HostRuntime) -> Result<(), Fail> {
     let mut pending = Pending::new_at(rt.alloc(), 3, 3, Seq::new(8_388_607));
     for number in [8_388_607, 0, 1] {
@@ -193,5 +218,18 @@ fn held_full(rt: HostRuntime) -> Result<(), Fail> {
     assert!(rt; held.prepare().err() == Some(ReliableFault::HeldFull));
     assert!(rt; held.lookup(place(1), &[15, 255]).is_some());
     assert!(rt; held.lookup(place(1), &[16, 0]).is_none());
+    Ok(())
+}
+
+#[test]
+fn faults_in_words(rt: HostRuntime) -> Result<(), Fail> {
+    let alloc = rt.alloc();
+    for (fault, words) in [
+        (ReliableFault::PendingFull, "256 requests are pending"),
+        (ReliableFault::HeldFull, "4096 answers are held"),
+        (ReliableFault::Memory, "no memory"),
+    ] {
+        assert_eq!(rt; fault.to_string(alloc)?.as_str(), words);
+    }
     Ok(())
 }

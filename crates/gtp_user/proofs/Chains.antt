@@ -5,11 +5,11 @@ use Rattle.std.proofs.lemmas.Bool.Decides.{nat_tests}
 use Rattle.std.proofs.lemmas.List.{length-take, length-append, take_at, append-nil}
 use Rattle.gtp_user.specs.declared.fault.UserFault.{UserFault}
 use Rattle.gtp_user.specs.declared.fault.UserFault.TheVariants as faults
-use Rattle.gtp_user.specs.Steps.{◌>>=◌}
-use Rattle.gtp_user.specs.Decides.{Decides, First_or_later}
+use Rattle.gtp_values.specs.Steps.{◌>>=◌}
+use Rattle.gtp_values.specs.Decides.{Decides, First_or_later}
 use Rattle.gtp_user.specs.Chain.{Extension, BeginsExtension, Leads, IsChain, ExtensionFails, ChainFails, WholeChainFails, first_kind, chain_text, AreExtensions}
 use Rattle.gtp_user.specs.Walk.{Front, front_at, Chained, with_front, walk, chain_at, headers_of, rest_of, with_no_rest, whole_at}
-use Rattle.gtp_user.proofs.Decided.{bind_at, bind_at_err, decide_bind, decide_map, decide_as, known_ok, known_err}
+use Rattle.gtp_values.proofs.Decided.{bind_at, bind_at_err, decide_bind, decide_map, decide_as, known_ok, known_err}
 
 -- the header that a front is
 abbrev header : ℕ → Front → Extension

@@ -3,7 +3,7 @@ use Rattle.std.proofs.Common.{◌≡◌, ℕ, zero, suc, ◌-◌, ◌<◌, ◌�
 use Rattle.std.specs.Prelude.{◌||◌}
 use Rattle.gtp_user.specs.declared.fault.UserFault.{UserFault}
 use Rattle.gtp_user.specs.declared.fault.UserFault.TheVariants as faults
-use Rattle.gtp_user.specs.Steps.{◌>>=◌}
+use Rattle.gtp_values.specs.Steps.{◌>>=◌}
 use Rattle.gtp_user.specs.Element.{Element, Recovery, TeidData, Peer, Types, Skipped, has_recovery, first_teid, first_peer, first_types}
 use Rattle.gtp_user.specs.Elements.{Found, found_in, or_else, and_found, elements_at, elements_in, element_at, go_on}
 use Rattle.gtp_user.specs.Gathered.{found_at}

@@ -6,7 +6,7 @@ use Rattle.std.proofs.lemmas.Bool.Decides.{nat_tests}
 use Rattle.std.proofs.lemmas.Bool.{cases_lt, eqb-true}
 use Rattle.gtp_user.specs.declared.fault.UserFault.{UserFault}
 use Rattle.gtp_user.specs.declared.fault.UserFault.TheVariants as faults
-use Rattle.gtp_user.specs.Decides.{Decides}
+use Rattle.gtp_values.specs.Decides.{Decides}
 use Rattle.gtp_user.specs.Headed.{Headed, where_set, header_at, after_flags}
 use Rattle.gtp_user.specs.Header.{Flags, bit, bits, Opens, HeadedPlain, HeadedByFlags, IsHeaded, HeaderFails}
 

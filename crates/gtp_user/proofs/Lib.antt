@@ -1,4 +1,3 @@
-pub mod Decided
 pub mod Appends
 pub mod Begun
 pub mod Gathers

@@ -5,8 +5,8 @@ use Rattle.std.proofs.lemmas.Bool.Decides.{nat_tests}
 use Rattle.gtp_values.specs.declared.address.Ip.{Ip}
 use Rattle.gtp_user.specs.declared.fault.UserFault.{UserFault}
 use Rattle.gtp_user.specs.declared.fault.UserFault.TheVariants as faults
-use Rattle.gtp_user.specs.Steps.{◌>>=◌}
-use Rattle.gtp_user.specs.Decides.{Decides, First_or_later}
+use Rattle.gtp_values.specs.Steps.{◌>>=◌}
+use Rattle.gtp_values.specs.Decides.{Decides, First_or_later}
 use Rattle.gtp_user.specs.Chain.{Extension, IsChain, ChainFails}
 use Rattle.gtp_user.specs.Walk.{Chained, chain_at}
 use Rattle.gtp_user.specs.Headed.{Headed, header_at}
@@ -17,7 +17,7 @@ use Rattle.gtp_user.specs.Gathered.{found_at}
 use Rattle.gtp_user.specs.Message.{Content, EchoRequest, EchoResponse, ErrorIndication, Notification, EndMarker, Packet, Other, Spoken, numbered}
 use Rattle.gtp_user.specs.Reading.{needed, echo_response, error_indication, notification, body_at, spoken, message_at}
 use Rattle.gtp_user.specs.Datagram.{Carries, Lacks, CarriesNone, IsUserMessage, FailsBehind, IsUserFault}
-use Rattle.gtp_user.proofs.Decided.{decide_bind, decide_map, decide_ok, decide_as, known_ok, known_err}
+use Rattle.gtp_values.proofs.Decided.{decide_bind, decide_map, decide_ok, decide_as, known_ok, known_err}
 use Rattle.gtp_user.proofs.Headers.{header_decided}
 use Rattle.gtp_user.proofs.Chains.{IsChained, chain_decided}
 use Rattle.gtp_user.proofs.Spanned.{elements_decided}

@@ -2,12 +2,12 @@
 use Rattle.std.proofs.Common.{◌≡◌, ℕ, zero, suc, ◌-◌, ◌<◌, ◌≤◌, List, [], ◌∷◌, length, Option, Some, None, Result, Ok, Err, refl, sym, ap, subst, ◌∙◌, arith}
 use Rattle.gtp_user.specs.declared.fault.UserFault.{UserFault}
 use Rattle.gtp_user.specs.declared.fault.UserFault.TheVariants as faults
-use Rattle.gtp_user.specs.Steps.{◌>>=◌}
-use Rattle.gtp_user.specs.Decides.{Decides}
+use Rattle.gtp_values.specs.Steps.{◌>>=◌}
+use Rattle.gtp_values.specs.Decides.{Decides}
 use Rattle.gtp_user.specs.Element.{Element, BeginsElement, Spans, AreElements, IsCut}
 use Rattle.gtp_user.specs.Elements.{element_at, go_on, elements_in, elements_at}
 use Rattle.gtp_user.proofs.Begun.{element_begins, begins_element, begins_shorter}
-use Rattle.gtp_user.proofs.Decided.{decide_map, decide_as, known_ok, known_err}
+use Rattle.gtp_values.proofs.Decided.{decide_map, decide_as, known_ok, known_err}
 
 abbrev whole_so_far : List Element → Result (List Element) UserFault
 whole_so_far es = Ok es

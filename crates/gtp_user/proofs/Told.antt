@@ -1,8 +1,8 @@
 -- What a caller of a reading is told.
 use Rattle.std.proofs.Common.{◌≡◌, Result, Ok, Err, sym, ap, ◌∙◌}
 use Rattle.std.specs.Prelude.{IfOk, IfErr, IsOkAnd}
-use Rattle.gtp_user.specs.Steps.{Gives}
-use Rattle.gtp_user.specs.Decides.{Decides}
+use Rattle.gtp_values.specs.Steps.{Gives}
+use Rattle.gtp_values.specs.Decides.{Decides}
 
 ok_same : {Y : Type 0} (E : Type 0) (x y : Y) → (let r : Result Y E = Ok x in r ≡ Ok y) → x ≡ y
 ok_same E x y h = cc

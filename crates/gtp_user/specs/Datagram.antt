@@ -2,7 +2,7 @@
 use Rattle.std.specs.Prelude.{◌≡◌, ◌≢◌, ℕ, true, false, List, length, Some, None, ◌⊎◌}
 use Rattle.gtp_user.specs.declared.fault.UserFault.{UserFault}
 use Rattle.gtp_user.specs.declared.fault.UserFault.TheVariants as faults
-use Rattle.gtp_user.specs.Decides.{First_or_later}
+use Rattle.gtp_values.specs.Decides.{First_or_later}
 use Rattle.gtp_user.specs.Chain.{Extension, IsChain, ChainFails}
 use Rattle.gtp_user.specs.Headed.{Headed}
 use Rattle.gtp_user.specs.Header.{IsHeaded, HeaderFails}

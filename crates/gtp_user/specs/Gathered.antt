@@ -5,7 +5,7 @@ use Rattle.gtp_user.specs.declared.fault.UserFault.{UserFault}
 use Rattle.gtp_user.specs.declared.element.Element.{Element as ElementView}
 use Rattle.gtp_user.specs.declared.element.Element.TheVariants as views
 use Rattle.gtp_user.specs.declared.element.Found.{Found as FoundView}
-use Rattle.gtp_user.specs.Steps.{◌>>=◌}
+use Rattle.gtp_values.specs.Steps.{◌>>=◌}
 use Rattle.gtp_user.specs.Element.{Element, Recovery, TeidData, Peer, Types, Skipped}
 use Rattle.gtp_user.specs.Elements.{Found, elements_at, found_in}
 

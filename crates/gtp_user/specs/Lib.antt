@@ -1,5 +1,3 @@
-pub mod Steps
-pub mod Decides
 pub mod Chain
 pub mod Walk
 pub mod Chained

@@ -2,7 +2,7 @@
 use Rattle.std.specs.Prelude.{ℕ, List, length, Option, Some, None, Result, Ok, Err, ◌==◌, if◌then◌else◌}
 use Rattle.gtp_user.specs.declared.fault.UserFault.{UserFault}
 use Rattle.gtp_user.specs.declared.fault.UserFault.TheVariants as faults
-use Rattle.gtp_user.specs.Steps.{◌>>=◌}
+use Rattle.gtp_values.specs.Steps.{◌>>=◌}
 use Rattle.gtp_user.specs.Walk.{Chained, chain_at}
 use Rattle.gtp_user.specs.Headed.{Headed, header_at}
 use Rattle.gtp_user.specs.Elements.{Found}

@@ -2,7 +2,7 @@
 use Rattle.std.specs.Prelude.{ℕ, zero, suc, ◌+◌, ◌-◌, ◌*◌, List, [], ◌∷◌, length, take, drop, slice_index, Option, Some, None, Result, Ok, Err, nat_lt, nat_le, ◌==◌, if◌then◌else◌}
 use Rattle.gtp_user.specs.declared.fault.UserFault.{UserFault}
 use Rattle.gtp_user.specs.declared.fault.UserFault.TheVariants as faults
-use Rattle.gtp_user.specs.Steps.{◌>>=◌}
+use Rattle.gtp_values.specs.Steps.{◌>>=◌}
 use Rattle.gtp_user.specs.Chain.{Extension}
 
 -- the content of the header at the front, the type of the next one, and the octets behind

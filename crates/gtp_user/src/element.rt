@@ -1,7 +1,7 @@
 //! Information elements of the user plane (TS 29.281 8).
 
 ghost use Rattle.std.specs.Prelude.{◌≡◌, ◌≤◌, ◌<◌, ◌∷◌, [], length, option_map};
-ghost use Rattle.gtp_user.specs.Steps.{Gives};
+ghost use Rattle.gtp_values.specs.Steps.{Gives};
 ghost use Rattle.gtp_user.specs.Elements.{split, split_body, address_of, peer_of, types_at, recovery_at, teid_at, skipped_of, element_at, and_found, found_in};
 ghost use Rattle.gtp_user.specs.Gathered.{parts_of, ElementIs, found_of, element_of, found_at};
 

@@ -3,7 +3,7 @@
 ghost use Rattle.std.specs.Prelude.{◌≡◌, ◌+◌, ◌≤◌, ◌<◌, [], List, length, IfOk, IfErr, IsOkAnd, Err};
 ghost use Rattle.std.specs.Iterator.{YieldsFirstBy, item_count};
 ghost use Rattle.gtp_user.specs.declared.fault.UserFault.{UserFault as AnyFault};
-ghost use Rattle.gtp_user.specs.Steps.{Gives};
+ghost use Rattle.gtp_values.specs.Steps.{Gives};
 ghost use Rattle.gtp_user.specs.Chain.{Extension, IsChain, WholeChainFails, AreExtensions, first_kind, chain_text};
 ghost use Rattle.gtp_user.specs.Walk.{front_at, chain_at, whole_at};
 ghost use Rattle.gtp_user.specs.Chained.{extension_of, front_of, chained_of};

@@ -1,7 +1,7 @@
 //! The octets before a chain of extension headers or a payload (TS 29.281 5.1).
 
 ghost use Rattle.std.specs.Prelude.{◌≡◌, ◌≤◌, ◌/◌, ◌%◌, ◌==◌, length, IfOk, option_map};
-ghost use Rattle.gtp_user.specs.Steps.{Gives};
+ghost use Rattle.gtp_values.specs.Steps.{Gives};
 ghost use Rattle.gtp_user.specs.Headed.{headed_of, header_at, after_flags};
 
 use crate::fault::UserFault;

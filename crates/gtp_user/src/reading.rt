@@ -2,7 +2,7 @@
 
 ghost use Rattle.std.specs.Prelude.{◌≡◌, ◌≤◌, length, IfOk, IfErr, IsOkAnd, Ok, Err};
 ghost use Rattle.gtp_user.specs.declared.fault.UserFault.{UserFault as AnyFault};
-ghost use Rattle.gtp_user.specs.Steps.{Gives};
+ghost use Rattle.gtp_values.specs.Steps.{Gives};
 ghost use Rattle.gtp_user.specs.Message.{Spoken, content_of, spoken_of};
 ghost use Rattle.gtp_user.specs.Reading.{body_at, message_at};
 ghost use Rattle.gtp_user.specs.Datagram.{IsUserMessage, IsUserFault};

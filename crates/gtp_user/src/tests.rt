@@ -372,3 +372,36 @@ fn made_chains(rt: HostRuntime) {
         );
     }
 }
+
+#[test]
+fn faults_in_words(rt: HostRuntime) -> Result<(), Fail> {
+    let alloc = rt.alloc();
+    for (fault, words) in [
+        (UserFault::Short { held: 7 }, "only 7 octets"),
+        (UserFault::Version { version: 2 }, "version 2"),
+        (UserFault::Protocol, "not of the protocol GTP"),
+        (
+            UserFault::Length { stated: 3, held: 2 },
+            "the length is stated as 3 and is 2",
+        ),
+        (
+            UserFault::ExtensionZero { at: 12 },
+            "the extension header at 12 has length 0",
+        ),
+        (
+            UserFault::ExtensionPast { at: 12 },
+            "the extension header at 12 is not whole",
+        ),
+        (
+            UserFault::ExtensionNeeded { kind: 192 },
+            "the extension header of type 192 is not understood",
+        ),
+        (UserFault::Missing { kind: 14 }, "the element 14 is missing"),
+        (UserFault::Element { at: 12 }, "there is no element at 12"),
+        (UserFault::Memory, "no memory"),
+        (UserFault::TooLong, "a message of more than 65535 octets"),
+    ] {
+        assert_eq!(rt; fault.to_string(alloc)?.as_str(), words);
+    }
+    Ok(())
+}

@@ -1,22 +1,22 @@
 -- What was written is read again.
-use Rattle.std.proofs.Common.{cond, eqb, map, length, ◌+◌, arith, ◌≡◌, ℕ, ◌<◌, Bool, true, false, ◌&&◌, List, [], ◌∷◌, ◌++◌, Option, Some, None, Ok, refl, sym, ap, subst, ◌∙◌}
+use Rattle.std.proofs.Common.{map, ◌+◌, ◌≡◌, ℕ, ◌<◌, Bool, true, false, ◌&&◌, List, [], ◌∷◌, ◌++◌, Ok, refl, sym, ap, subst, ◌∙◌}
 use Rattle.std.specs.Prelude.{not, ◌==◌}
 use Rattle.std.specs.List.{AllByRecursion, flat_map}
 use Rattle.std.proofs.lemmas.List.{append-nil}
 use Rattle.std.proofs.lemmas.Grind.{flat_map-append}
 use Rattle.gtp_ie.specs.Text.{element_text}
 use Rattle.gtp_ie.specs.Octets.{AreElements}
-use Rattle.gtp_ie.specs.Element.{Element, elements_of, first_of, all_of}
+use Rattle.gtp_ie.specs.Element.{Element, elements_of, all_of}
 use Rattle.gtp_ie.specs.Value.{Value, text_of}
 use Rattle.gtp_ie.specs.Spelling.{Spells}
 use Rattle.gtp_ie.proofs.Placed.{placed, IsPlain, element_octets, spans_placed, bodies, bodies-placed, first_from_bodies, none_from_bodies, HaveBodies, all_from_bodies}
 use Rattle.gtp_ie.proofs.Slots.{Slot, element_with, slot_elements, slots_elements, is_fresh, are_distinct, both, IsFound, all_found}
 use Rattle.gtp_v2.specs.Table.{Row, Mandatory, Conditional, Accepted, Optional, Line, Single, Grouped, Several, Field, Plain, Groups, State, start}
 use Rattle.gtp_v2.specs.Rows.{accepts, after, kind_of, instance_of, whole, lines_at}
-use Rattle.gtp_v2.specs.Grammar.{Says, SaysNothing, One, AtMostOne, RowIs, RowsAre, GroupIs, EachIs, GroupsAre, SomeGroups, OneIs, SeveralAre, LineIs, LinesAre}
+use Rattle.gtp_v2.specs.Grammar.{Says, One, AtMostOne, RowIs, RowsAre, GroupIs, EachIs, GroupsAre, OneIs, LineIs, LinesAre}
 use Rattle.gtp_v2.proofs.Decided.{whole_decided, lines_decided}
-use Rattle.gtp_ie.proofs.Decided.{bind_at}
-use Rattle.gtp_ie.specs.Steps.{◌>>=◌}
+use Rattle.gtp_values.proofs.Decided.{bind_at}
+use Rattle.gtp_values.specs.Steps.{◌>>=◌}
 use Rattle.gtp_v2.specs.Meets.{IsOf, Alone, AtMostAlone, RowMeets, RowsMeet, is_free, are_apart, GroupMeets, LineMeets, LinesMeet, row_of, lines_apart}
 use Rattle.gtp_v2.specs.Text.{value_text, rows_text, groups_text, several_text, line_text, lines_text}
 

@@ -1,14 +1,14 @@
 -- Reading a header decides its form.
-use Rattle.std.proofs.Common.{◌≡◌, ◌≢◌, ℕ, zero, suc, ◌+◌, ◌-◌, ◌*◌, ◌/◌, ◌%◌, ◌<◌, ◌≤◌, Bool, true, false, cond, eqb, List, [], ◌∷◌, length, Option, Some, None, Result, Ok, Err, ◌⊎◌, inl, inr, refl, sym, ap, subst, ◌∙◌, arith}
+use Rattle.std.proofs.Common.{◌≡◌, ◌≢◌, ℕ, ◌+◌, ◌-◌, ◌*◌, ◌/◌, ◌%◌, ◌<◌, ◌≤◌, Bool, true, false, cond, List, [], ◌∷◌, length, Some, None, Result, Ok, Err, ◌⊎◌, inl, inr, refl, sym, ap, subst, ◌∙◌, arith}
 use Rattle.std.specs.Prelude.{◌==◌, nat_le}
 use Rattle.byteorder.specs.Endian.{big_number}
 use Rattle.std.proofs.lemmas.Bool.Decides.{nat_tests}
 use Rattle.std.proofs.lemmas.Bool.{cases_lt, eqb-true}
-use Rattle.gtp_ie.specs.Decides.{Decides}
+use Rattle.gtp_values.specs.Decides.{Decides}
 use Rattle.gtp_v2.specs.declared.fault.V2Fault.{V2Fault}
 use Rattle.gtp_v2.specs.declared.fault.V2Fault.TheVariants as faults
 use Rattle.gtp_v2.specs.Headed.{Headed, header_at, after_teid, after_no_teid}
-use Rattle.gtp_v2.specs.Header.{Opens, HeadedPlain, HeadedByTeid, IsHeaded, HeaderFails}
+use Rattle.gtp_v2.specs.Header.{HeadedPlain, HeadedByTeid, IsHeaded, HeaderFails}
 
 -- the parts of what was read are those of the octets: each form is read as itself
 plain_is : (octets : List ℕ) (h : Headed) → HeadedPlain octets h → header_at octets ≡ Ok h

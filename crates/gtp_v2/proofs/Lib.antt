@@ -5,5 +5,7 @@ pub mod Again
 pub mod Told
 pub mod Fronts
 pub mod Encoded
+pub mod Marked
+pub mod MarksOf
 pub mod Headers
 pub mod Senders

@@ -2,7 +2,7 @@
 use Rattle.std.proofs.Common.{◌≡◌, List, [], ◌∷◌, ◌++◌, Result, Ok, Err, refl, sym, ap, ◌∙◌, append_assoc}
 use Rattle.std.proofs.lemmas.List.{append-nil}
 use Rattle.gtp_ie.specs.Element.{Element}
-use Rattle.gtp_ie.specs.Steps.{◌>>=◌}
+use Rattle.gtp_values.specs.Steps.{◌>>=◌}
 use Rattle.gtp_v2.specs.declared.fault.RowFault.{RowFault}
 use Rattle.gtp_v2.specs.Rows.{each_at}
 

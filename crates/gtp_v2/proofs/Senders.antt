@@ -1,5 +1,5 @@
 -- The sender's end for control messages.
-use Rattle.std.proofs.Common.{◌≡◌, ℕ, Bool, true, false, cond, List, Option, Some, None, Result, Ok, Err, refl, sym, ap, subst, ◌∙◌, arith}
+use Rattle.std.proofs.Common.{◌≡◌, ℕ, Bool, true, false, cond, List, Option, Some, None, Result, Ok, Err, refl, sym, ap, subst, arith}
 use Rattle.std.proofs.lemmas.Bool.Decides.{nat_tests}
 use Rattle.std.specs.Prelude.{option_map, ◌==◌}
 use Rattle.gtp_values.specs.TunnelEnd.{TunnelEnd}
@@ -9,7 +9,6 @@ use Rattle.gtp_ie.specs.Value.{Value, OfFTeid, fteid_in, value_at}
 use Rattle.gtp_ie.specs.Spelling.{Spells, Says as BodySays}
 use Rattle.gtp_ie.proofs.Spelled.{value_decided}
 use Rattle.gtp_v2.specs.Rows.{value_or_none, welcome, optional_at}
-use Rattle.gtp_v2.specs.Grammar.{Says, SaysNothing}
 use Rattle.gtp_v2.specs.Message.{end_in, sender_of}
 use Rattle.gtp_v2.specs.Datagram.{EndIs, SenderIs}
 

@@ -1,11 +1,11 @@
 -- Reading a datagram decides which message it is.
-use Rattle.std.proofs.Common.{◌≡◌, ℕ, Bool, true, false, cond, List, Option, Some, None, Result, Ok, Err, ◌⊎◌, inl, inr, refl, sym, ap, subst, ◌∙◌}
+use Rattle.std.proofs.Common.{◌≡◌, ℕ, Bool, true, false, cond, List, Option, Some, None, Result, Ok, Err, ◌⊎◌, inl, inr, refl, ap, subst, ◌∙◌}
 use Rattle.std.specs.Prelude.{is_some, IfOk, IfErr}
-use Rattle.gtp_ie.specs.Steps.{◌>>=◌}
-use Rattle.gtp_ie.specs.Decides.{Decides, First_or_later}
+use Rattle.gtp_values.specs.Steps.{◌>>=◌}
+use Rattle.gtp_values.specs.Decides.{Decides, First_or_later}
 use Rattle.gtp_ie.specs.Element.{Element, elements_of}
 use Rattle.gtp_ie.specs.Octets.{AreElements}
-use Rattle.gtp_ie.proofs.Decided.{decide_bind, decide_map, decide_as, known_ok, known_err}
+use Rattle.gtp_values.proofs.Decided.{decide_bind, decide_map, decide_as, known_ok, known_err}
 use Rattle.gtp_v2.specs.declared.fault.RowFault.{RowFault}
 use Rattle.gtp_v2.specs.declared.fault.V2Fault.{V2Fault}
 use Rattle.gtp_v2.specs.declared.fault.V2Fault.TheVariants as faults
@@ -20,6 +20,8 @@ use Rattle.gtp_v2.specs.Headed.{Headed, header_at}
 use Rattle.gtp_v2.specs.Header.{IsHeaded, HeaderFails}
 use Rattle.gtp_v2.proofs.Headers.{header_decided}
 use Rattle.gtp_v2.specs.Message.{Table, table_of, same_flag, head_of, with_head, sender_of, told, typed_at, by_table, content_at, Content, Fields, Raw, Spoken, spoken, message_at, FaultIs, MessageGives}
+use Rattle.gtp_v2.specs.Marks.{MeetsMarks}
+use Rattle.gtp_v2.proofs.MarksOf.{message_marked}
 use Rattle.gtp_v2.specs.Datagram.{FieldsAre, ListFails, FieldsFail, CarriesBy, FailsBy, IsMessage, IsFault}
 use Rattle.gtp_v2.proofs.Decided.{whole_decided, lines_decided}
 use Rattle.gtp_v2.proofs.Senders.{sender_is, sender_only}
@@ -94,6 +96,11 @@ message_decided octets =
 pub answers_ok : {X : Type 0} (view : X → Spoken) (r : Result X V2Fault) (octets : List ℕ) → MessageGives view r (message_at octets) → IfOk r (λ m. IsMessage octets (view m))
 answers_ok view (Ok x) octets h = (message_decided octets).ok (view x) h
 answers_ok view (Err f) octets h = tt
+
+-- and it meets the marks of its table
+pub answers_marked : {X : Type 0} (view : X → Spoken) (r : Result X V2Fault) (octets : List ℕ) → MessageGives view r (message_at octets) → IfOk r (λ m. MeetsMarks (view m))
+answers_marked view (Ok x) octets h = message_marked octets (view x) ((message_decided octets).ok (view x) h)
+answers_marked view (Err f) octets h = tt
 
 -- a fault is the first one, or want of memory
 pub answers_fault : {X : Type 0} (view : X → Spoken) (r : Result X V2Fault) (octets : List ℕ) → MessageGives view r (message_at octets) → IfErr r (λ f. (f ≡ faults.Memory) ⊎ IsFault octets f)

@@ -1,5 +1,5 @@
 -- The tables of bearer contexts, and which values the fields of the code's types are.
-use Rattle.std.specs.Prelude.{ℕ, List, [], ◌∷◌, option_map, option_to_list}
+use Rattle.std.specs.Prelude.{List, [], ◌∷◌, option_map, option_to_list}
 use Rattle.gtp_ie.specs.Value.{Value, OfCause, OfEbi, OfQos, OfTft, OfFTeid, OfChargingId}
 use Rattle.gtp_v2.specs.Table.{Row, Mandatory, Conditional, Accepted, Optional}
 use Rattle.gtp_v2.specs.declared.context.SessionRequestContext.{SessionRequestContext}

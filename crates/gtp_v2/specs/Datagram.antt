@@ -1,6 +1,6 @@
 -- The grammar of datagrams: which message one spells, and which fault is its first.
-use Rattle.std.specs.Prelude.{◌≡◌, ◌==◌, cond, ℕ, Bool, true, false, List, Option, Some, None, is_some, Ok, Err, ◌⊎◌}
-use Rattle.gtp_ie.specs.Decides.{First_or_later}
+use Rattle.std.specs.Prelude.{◌≡◌, ◌==◌, cond, ℕ, true, false, List, Option, Some, None, is_some, ◌⊎◌}
+use Rattle.gtp_values.specs.Decides.{First_or_later}
 use Rattle.gtp_ie.specs.Element.{Element}
 use Rattle.gtp_ie.specs.Octets.{AreElements, IsCut}
 use Rattle.gtp_ie.specs.declared.fault.IeFault.TheVariants.{Truncated}
@@ -9,7 +9,7 @@ use Rattle.gtp_values.specs.TunnelEnd.{TunnelEnd}
 use Rattle.gtp_v2.specs.declared.fault.RowFault.{RowFault}
 use Rattle.gtp_v2.specs.declared.fault.V2Fault.{V2Fault}
 use Rattle.gtp_v2.specs.declared.fault.V2Fault.TheVariants as faults
-use Rattle.gtp_v2.specs.Table.{Line, Field, start}
+use Rattle.gtp_v2.specs.Table.{Line, Field, start, has_list}
 use Rattle.gtp_v2.specs.Grammar.{Says, SaysNothing, LinesAre, LinesFail}
 use Rattle.gtp_v2.specs.Headed.{Headed}
 use Rattle.gtp_v2.specs.Header.{IsHeaded, HeaderFails}
@@ -55,3 +55,11 @@ IsMessage octets m = (h : Headed) × IsHeaded octets h × ((content : Content) �
 -- the first fault of the octets
 abbrev pub IsFault : List ℕ → V2Fault → Type 0
 IsFault octets = First_or_later (IsHeaded octets) (HeaderFails octets) (λ h. FailsBy (table_of h.kind) h)
+
+-- reading may take memory: behind a header of the right form and a whole list of elements, for a table with a list; and where octets are kept
+abbrev pub MayGrowBy : Option Table → Headed → Type 0
+MayGrowBy None h = Unit {0}
+MayGrowBy (Some table) h = (same_flag (is_some h.teid) table.has_teid ≡ true) × ((es : List Element) × AreElements h.at h.rest es) × (has_list table.lines ≡ true)
+
+abbrev pub MayGrow : List ℕ → Type 0
+MayGrow octets = (h : Headed) × IsHeaded octets h × MayGrowBy (table_of h.kind) h

@@ -1,8 +1,8 @@
 -- The one text of a message, and which messages have one.
-use Rattle.std.specs.Prelude.{◌≡◌, ℕ, ◌+◌, ◌*◌, ◌/◌, ◌%◌, ◌<◌, ◌^◌, Bool, true, List, [], ◌∷◌, ◌++◌, length, Option, Some, None, is_some, IfSome}
-use Rattle.gtp_v2.specs.Table.{Line, Field, start}
-use Rattle.gtp_v2.specs.Meets.{LinesMeet}
-use Rattle.gtp_v2.specs.Message.{Table, table_of, same_flag, Content, Fields, Raw, Spoken}
+use Rattle.std.specs.Prelude.{ℕ, ◌+◌, ◌*◌, ◌/◌, ◌%◌, ◌<◌, ◌≤◌, ◌^◌, List, [], ◌∷◌, length, Option, Some, None}
+use Rattle.gtp_v2.specs.Kinds.{ContentHasKinds}
+use Rattle.gtp_v2.specs.Marks.{MeetsMarks}
+use Rattle.gtp_v2.specs.Message.{Table, table_of, Content, Fields, Raw, Spoken}
 use Rattle.gtp_v2.specs.Text.{lines_text}
 
 -- the octets of what a message carries
@@ -47,15 +47,10 @@ HeaderMeets None seq (Some priority) = ⊥
 HeaderMeets (Some teid) seq None = (teid < 2 ^ 32) × (seq < 2 ^ 24)
 HeaderMeets (Some teid) seq (Some priority) = (teid < 2 ^ 32) × (seq < 2 ^ 24) × (priority < 16)
 
--- the fields meet the kind's table
-abbrev pub ContentMeets : Option Table → Option ℕ → Content → Type 0
-ContentMeets None teid (Raw octets) = Unit {0}
-ContentMeets None teid (Fields fields) = ⊥
-ContentMeets (Some table) teid (Raw octets) = ⊥
-ContentMeets (Some table) teid (Fields fields) = (same_flag (is_some teid) table.has_teid ≡ true) × LinesMeet start table.lines fields
-
--- a message that has a text
+-- a message whose text spells it: its numbers have room in the header, its values are of its table's types, what the table's
+-- marks ask is there, and the length of all but the first four octets stands in two
 pub record Meets (m : Spoken) : Type 0 where
   pub header : HeaderMeets m.teid m.seq m.priority
-  pub content : ContentMeets (table_of m.kind) m.teid m.content
-  pub short : 8 + length (carried m) < 65536
+  pub kinds : ContentHasKinds (table_of m.kind) m.content
+  pub marks : MeetsMarks m
+  pub short : length (text m) ≤ 65539

@@ -1,17 +1,16 @@
 -- The grammar of messages with a table: which values the rows have, and which fault is the first.
-use Rattle.std.specs.Prelude.{◌≡◌, ℕ, ◌+◌, ◌<◌, length, Bool, true, false, ◌&&◌, List, [], ◌∷◌, Option, Some, None, Ok, Err, ◌⊎◌}
+use Rattle.std.specs.Prelude.{◌≡◌, ℕ, ◌+◌, ◌<◌, length, Bool, true, false, ◌&&◌, List, [], ◌∷◌, Some, None}
 use Rattle.gtp_ie.specs.declared.fault.IeFault.TheVariants.{Truncated, ShortValue, BadValue}
-use Rattle.gtp_ie.specs.Decides.{First_and_others, First_or_later}
-use Rattle.gtp_ie.specs.Element.{Element, elements_of, first_of, all_of}
+use Rattle.gtp_values.specs.Decides.{First_and_others, First_or_later}
+use Rattle.gtp_ie.specs.Element.{Element, first_of, all_of}
 use Rattle.gtp_ie.specs.Value.{Value}
 use Rattle.gtp_ie.specs.Spelling.{Spells, IsShort, IsBad}
 use Rattle.gtp_v2.specs.declared.fault.RowFault.{RowFault}
 use Rattle.gtp_v2.specs.declared.fault.RowFault.TheVariants as faults
-use Rattle.gtp_v2.specs.Table.{Row, Mandatory, Conditional, Accepted, Optional, Line, Single, Grouped, Several, Field, Plain, Groups, State}
+use Rattle.gtp_v2.specs.Table.{Row, Mandatory, Conditional, Accepted, Optional, Line, Single, Grouped, Several, Field, Plain, Groups, State, accepts, after, need_of, kind_of, instance_of}
 use Rattle.gtp_ie.specs.Octets.{AreElements, IsCut}
 use Rattle.gtp_v2.specs.declared.fault.Need.{Need}
 use Rattle.gtp_v2.specs.declared.fault.Need.TheVariants as needs
-use Rattle.gtp_v2.specs.Rows.{accepts, after, need_of, kind_of, instance_of}
 
 -- the first element of a type and instance says v
 abbrev pub Says : ℕ → ℕ → List Element → Value → Type 0
@@ -99,11 +98,11 @@ pub data OneFails (kind instance : ℕ) (e : Element) (f : RowFault) : Type 0 wh
   short_one : IsShort kind e.body → f ≡ faults.Element (ShortValue kind instance e.at) → OneFails kind instance e f
   bad_one : IsBad kind e.body → f ≡ faults.Element (BadValue kind instance e.at) → OneFails kind instance e f
 
--- a row of groups may do without any
-abbrev pub IsEnough : Need → List (List (List Value)) → Type 0
-IsEnough needs.Free groups = Unit {0}
-IsEnough needs.Mandatory groups = 0 < length groups
-IsEnough needs.Conditional groups = 0 < length groups
+-- a row that is needed has a value or a group
+abbrev pub IsEnough : {X : Type 0} → Need → List X → Type 0
+IsEnough needs.Free row = Unit {0}
+IsEnough needs.Mandatory row = 0 < length row
+IsEnough needs.Conditional row = 0 < length row
 
 -- there is no group, and that is a fault
 abbrev pub NoGroup : Need → ℕ → ℕ → List (List (List Value)) → RowFault → Type 0

@@ -14,6 +14,8 @@ pub mod Message
 pub mod Body
 pub mod Grammar
 pub mod Meets
+pub mod Kinds
+pub mod Marks
 pub mod Datagram
 pub mod Fronts
 pub mod Encoding

@@ -1,5 +1,5 @@
 -- Which fields meet the marks of a table, so that they have a text.
-use Rattle.std.specs.Prelude.{◌≡◌, ◌==◌, not, map, ℕ, ◌<◌, Bool, true, false, ◌&&◌, List, [], ◌∷◌, length, Ok}
+use Rattle.std.specs.Prelude.{◌≡◌, ◌==◌, not, map, ℕ, ◌<◌, Bool, true, false, ◌&&◌, List, [], ◌∷◌, length}
 use Rattle.std.specs.List.{AllByRecursion}
 use Rattle.gtp_ie.specs.Value.{Value, text_of}
 use Rattle.gtp_ie.specs.Spelling.{Spells}

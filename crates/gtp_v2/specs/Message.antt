@@ -1,6 +1,6 @@
 -- What a datagram says, or its first fault.
 use Rattle.std.specs.Prelude.{◌≡◌, ℕ, Bool, List, Option, Some, None, option_map, is_some, not, Result, Ok, Err, true, false, ◌==◌, if◌then◌else◌}
-use Rattle.gtp_ie.specs.Steps.{◌>>=◌}
+use Rattle.gtp_values.specs.Steps.{◌>>=◌}
 use Rattle.gtp_ie.specs.Element.{Element, elements_of}
 use Rattle.gtp_ie.specs.Value.{Value, OfFTeid}
 use Rattle.gtp_values.specs.TunnelEnd.{TunnelEnd}

@@ -1,16 +1,16 @@
 -- The values that a list of elements gives the rows of a table, or the first fault.
-use Rattle.std.specs.Prelude.{length, ◌==◌, ℕ, ◌+◌, Bool, true, false, ◌&&◌, List, [], ◌∷◌, Option, Some, None, option_to_list, Result, Ok, Err, nat_le, nat_lt, if◌then◌else◌}
+use Rattle.std.specs.Prelude.{length, ◌==◌, ℕ, ◌+◌, Bool, true, false, ◌&&◌, List, [], ◌∷◌, Option, Some, None, option_to_list, Result, Ok, Err, if◌then◌else◌}
 use Rattle.gtp_ie.specs.declared.fault.ReadFault.{ReadFault}
 use Rattle.gtp_ie.specs.declared.fault.ReadFault.TheVariants.{Short, Bad}
 use Rattle.gtp_ie.specs.declared.fault.IeFault.TheVariants.{Truncated, ShortValue, BadValue}
-use Rattle.gtp_ie.specs.Steps.{◌>>=◌}
+use Rattle.gtp_values.specs.Steps.{◌>>=◌}
 use Rattle.gtp_ie.specs.Element.{Element, elements_of, first_of, all_of}
-use Rattle.gtp_ie.specs.Value.{Value, OfCause, value_at}
+use Rattle.gtp_ie.specs.Value.{Value, value_at}
 use Rattle.gtp_v2.specs.declared.fault.RowFault.{RowFault}
 use Rattle.gtp_v2.specs.declared.fault.RowFault.TheVariants as faults
 use Rattle.gtp_v2.specs.declared.fault.Need.{Need}
 use Rattle.gtp_v2.specs.declared.fault.Need.TheVariants as needs
-use Rattle.gtp_v2.specs.Needs.{need_where}
+pub use Rattle.gtp_v2.specs.Table.{accepts, need_of, kind_of, instance_of, field_accepts, is_silent, after}
 use Rattle.gtp_v2.specs.Table.{Row, Mandatory, Conditional, Accepted, Optional, Line, Single, Grouped, Several, Field, Plain, Groups, State, start}
 
 -- a reading, its fault named by the element's type, instance and place
@@ -58,11 +58,6 @@ row_at accepting (Conditional kind instance) es = needed_at true kind instance e
 row_at accepting (Accepted kind instance) es = needed_if_at accepting kind instance es >>= λ v. Ok (option_to_list v)
 row_at accepting (Optional kind instance) es = Ok (option_to_list (optional_at kind instance es))
 
--- a cause accepts from 16 to 63, and all else does
-abbrev pub accepts : List Value → Bool
-accepts (OfCause c ∷ values) = nat_le 16 c.value && nat_lt c.value 64
-accepts values = true
-
 -- the values of rows, the first fault before all others
 unfoldable pub rows_at : Bool → List Row → List Element → Result (List (List Value)) RowFault
 rows_at accepting [] es = Ok []
@@ -96,26 +91,6 @@ groups_at accepting rows es = each_at (group_at accepting rows) es
 abbrev pub values_at : ℕ → ℕ → List Element → Result (List Value) RowFault
 values_at kind instance es = each_at (one_at kind instance) es
 
--- who needs a row, where the causes accept or don't
-abbrev pub need_of : Bool → Row → Need
-need_of accepting (Mandatory kind instance) = needs.Mandatory
-need_of accepting (Conditional kind instance) = needs.Conditional
-need_of accepting (Accepted kind instance) = need_where accepting
-need_of accepting (Optional kind instance) = needs.Free
-
--- the first and the second number of a row
-abbrev pub kind_of : Row → ℕ
-kind_of (Mandatory kind instance) = kind
-kind_of (Conditional kind instance) = kind
-kind_of (Accepted kind instance) = kind
-kind_of (Optional kind instance) = kind
-
-abbrev pub instance_of : Row → ℕ
-instance_of (Mandatory kind instance) = instance
-instance_of (Conditional kind instance) = instance
-instance_of (Accepted kind instance) = instance
-instance_of (Optional kind instance) = instance
-
 -- no group, which is a fault where one is needed
 abbrev pub no_group : Need → ℕ → ℕ → Result (List (List (List Value))) RowFault
 no_group needs.Mandatory kind instance = Err (faults.Missing kind instance false)
@@ -145,22 +120,6 @@ line_at state (Single row) es = row_at state.accepting row es >>= λ values. Ok 
 line_at state (Grouped row rows) es =
     some_groups (need_of state.accepting row) (kind_of row) (instance_of row) state.accepting rows (all_of (kind_of row) (instance_of row) es) >>= λ groups. Ok (Groups groups)
 line_at state (Several kind instance missed) es = several_at state.silent kind instance missed es >>= λ values. Ok (Plain values)
-
--- what a field says of acceptance
-abbrev pub field_accepts : Field → Bool
-field_accepts (Plain values) = accepts values
-field_accepts (Groups groups) = true
-
--- a field without a value
-abbrev pub is_silent : Field → Bool
-is_silent (Plain []) = true
-is_silent (Plain (v ∷ values)) = false
-is_silent (Groups []) = true
-is_silent (Groups (group ∷ groups)) = false
-
--- what the lines say, with one more
-abbrev pub after : State → Field → State
-after state field = record { accepting = state.accepting && field_accepts field; silent = state.silent && is_silent field }
 
 -- the values of lines, the first fault before all others
 unfoldable pub lines_at : State → List Line → List Element → Result (List Field) RowFault

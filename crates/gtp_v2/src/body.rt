@@ -1,9 +1,11 @@
 //! What messages say.
 
-ghost use Rattle.std.specs.Prelude.{◌≡◌, ◌++◌, OnOk, IfOk};
+ghost use Rattle.std.specs.Prelude.{◌≡◌, ◌++◌, Err, OnOk, IfOk};
+ghost use Rattle.gtp_v2.specs.Datagram.{MayGrowBy};
 ghost use Rattle.gtp_v2.specs.Message.{table_of, MessageGives, content_at};
 ghost use Rattle.gtp_v2.specs.Body.{content_of, kind_of, HasFreeKind};
 ghost use Rattle.gtp_v2.specs.Encoding.{carried_by};
+ghost use Rattle.gtp_v2.specs.Kinds.{ContentHasKinds};
 ghost use Rattle.gtp_v2.specs.Headed.{headed_of};
 
 use crate::bearer::{
@@ -64,6 +66,7 @@ pub fn read_body(alloc: Global, header: &Header) -> Result<Body, V2Fault>
     ensures content { MessageGives content_of result (content_at (headed_of header.now)) }
     ensures kind { IfOk result (λ body. kind_of body ≡ header.now.kind) }
     ensures free { IfOk result HasFreeKind }
+    ensures memory { result ≡ Err V2Fault.Memory → MayGrowBy (table_of header.now.kind) (headed_of header.now) }
 {
     match header.kind {
         1 => {
@@ -121,6 +124,7 @@ pub fn read_body(alloc: Global, header: &Header) -> Result<Body, V2Fault>
 pub fn write_body(out: &mut Vec<u8>, body: &Body) -> Result<(), AllocError>
     requires { HasFreeKind body.now }
     ensures ok { OnOk result (out.new.items ≡ out.old.items ++ carried_by (table_of (kind_of body.now)) (content_of body.now)) }
+    ensures kinds { OnOk result (ContentHasKinds (table_of (kind_of body.now)) (content_of body.now)) }
 {
     match body {
         Body::EchoRequest(message) => message.write(out)?,

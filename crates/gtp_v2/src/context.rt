@@ -1,6 +1,6 @@
 //! Bearer contexts (TS 29.274 8.28), one type for each message that has them.
 
-ghost use Rattle.gtp_ie.specs.Steps.{Gives};
+ghost use Rattle.gtp_values.specs.Steps.{Gives};
 ghost use Rattle.gtp_v2.specs.Rows.{rows_at};
 ghost use Rattle.gtp_v2.specs.ContextTables.{session_request_context_rows, session_request_context_values, session_response_context_rows, session_response_context_values, bearer_request_context_rows, bearer_request_context_values, bearer_response_context_rows, bearer_response_context_values, removal_response_context_rows, removal_response_context_values};
 

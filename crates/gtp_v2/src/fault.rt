@@ -76,20 +76,25 @@ impl<T: Drop> From<AllocFailed<T>> for BodyFault {
     }
 }
 
-/// What is known of a message whose elements are at fault.
+/// What is known of a message whose elements are at fault: its header (TS 29.274 5.1).
 #[derive(Clone, Copy, Debug, PartialEq, Eq)]
 pub struct Head {
+    /// The message's type (TS 29.274 table 6.1-1).
     pub kind: u8,
+    /// The receiver's TEID, where the header has one.
     pub teid: Option<Teid>,
+    /// The sequence number.
     pub seq: Seq,
+    /// The message's priority, where the header tells one.
     pub priority: Option<Below<16>>,
     /// The sender's end for control messages, of a Create Session Request whose top list is whole
     /// and in which that element reads.
     pub sender: Option<FTeid>,
 }
 
-/// Why a datagram is no message: the first check that fails, or want of memory. `held` counts
-/// octets, `at` of an `IeFault` from the start of the datagram.
+/// Why a datagram is no message: the first check that fails, or want of memory (TS 29.274 7.7.2 to
+/// 7.7.8). `held` counts octets, `at` of an `IeFault` from the start of the datagram; `conditional`
+/// tells a conditional row from a mandatory one.
 #[derive(Debug, Drop, Error)]
 pub enum V2Fault {
     /// H1: the header is not whole.
@@ -97,10 +102,10 @@ pub enum V2Fault {
     Short {
         held: usize,
     },
-    /// H2.
+    /// H2: the version, which is told, is not 2.
     #[error("version {0}")]
     Version(u8),
-    /// H5.
+    /// H5: the flag P is set; a message with another behind it is not read.
     #[error("a second message is announced")]
     Piggyback,
     /// H3: `held` is without the first four octets.
@@ -114,7 +119,8 @@ pub enum V2Fault {
     FlagT {
         kind: u8,
     },
-    /// H6.
+    /// H6: the message has no element of a row that has to have one, which is mandatory or
+    /// conditional.
     #[error("the element {kind}/{instance} is missing")]
     Missing {
         kind: u8,
@@ -122,13 +128,13 @@ pub enum V2Fault {
         conditional: bool,
         head: Head,
     },
-    /// H7.
+    /// H7: a list of elements is not whole, or an element does not read.
     #[error("{fault}")]
     Element {
         fault: IeFault,
         head: Head,
     },
-    /// H8.
+    /// H8: a growth was refused.
     #[error("no memory")]
     Memory,
     /// H9: answered by `encode` alone.

@@ -4,11 +4,12 @@ ghost use Rattle.std.specs.Prelude.{◌≡◌, ◌++◌, List, map, OnOk};
 ghost use Rattle.gtp_v2.specs.declared.fault.RowFault.TheVariants.{Missing};
 ghost use Rattle.gtp_ie.specs.Element.{all_of};
 ghost use Rattle.gtp_ie.specs.View.{element_of};
-ghost use Rattle.gtp_ie.specs.Steps.{Gives};
+ghost use Rattle.gtp_values.specs.Steps.{Gives};
 ghost use Rattle.gtp_ie.specs.Value.{Value};
 ghost use Rattle.gtp_v2.specs.Table.{Row};
 ghost use Rattle.gtp_v2.specs.Rows.{rows_at, group_at, groups_at, some_groups};
 ghost use Rattle.gtp_v2.specs.Text.{rows_text};
+ghost use Rattle.gtp_v2.specs.Kinds.{RowsHaveKinds};
 ghost use Rattle.gtp_v2.specs.Outcome.{GivesOrMemory};
 
 use crate::fault::{BodyFault, Need, RowFault};
@@ -30,7 +31,9 @@ pub trait Context: Copy {
 
     /// Appends the elements of the rows.
     fn write(&self, out: &mut Vec<u8>) -> Result<(), AllocError>
-        ensures ok { OnOk result (out.new.items ≡ out.old.items ++ rows_text rows (values self.now)) };
+        ensures ok { OnOk result (out.new.items ≡ out.old.items ++ rows_text rows (values self.now)) }
+        // Each row has at most one value, of its type.
+        ensures kinds { OnOk result (RowsHaveKinds rows (values self.now)) };
 }
 
 /// The context that an element holds.

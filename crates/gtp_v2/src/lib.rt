@@ -34,5 +34,12 @@ pub use session::{
     CreateSessionRequest, CreateSessionResponse, DeleteSessionRequest, DeleteSessionResponse,
 };
 
+/// What the signatures and contracts here name of the crates below.
+pub use gtp_ie::{
+    Ambr, Apn, Below, Cause, ChargingId, Counter, EbiValue, FTeid, IeFault, Imsi, Offending,
+    OtherPdnType, Paa, PdnType, Plmn, Pti, Qos, Rat, Rate, Rates, Recovery, Selection, Teid, Tft,
+};
+pub use gtp_values::Seq;
+
 #[cfg(test)]
 mod tests;

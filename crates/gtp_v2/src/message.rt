@@ -1,11 +1,13 @@
 //! Messages.
 
-ghost use Rattle.std.specs.Prelude.{◌≡◌, [], ◌∷◌, ◌++◌, ◌⊎◌, OnOk, IfOk, IfErr};
-ghost use Rattle.gtp_v2.specs.Message.{MessageGives, Spoken, message_at};
-ghost use Rattle.gtp_v2.specs.Body.{kind_of, spoken_of, HasFreeKind, Encodes};
+ghost use Rattle.std.specs.Prelude.{◌≡◌, ◌<◌, ◌^◌, Err, [], ◌∷◌, ◌++◌, ◌⊎◌, ◌↔◌, OnOk, IfOk, IfErr};
+ghost use Rattle.gtp_v2.specs.Message.{MessageGives, Spoken, message_at, table_of};
+ghost use Rattle.gtp_v2.specs.Body.{content_of, kind_of, spoken_of, HasFreeKind, Encodes};
 ghost use Rattle.gtp_v2.specs.Places.{HasPlace};
-ghost use Rattle.gtp_v2.specs.Encoding.{open_header, three, four};
-ghost use Rattle.gtp_v2.specs.Datagram.{IsMessage, IsFault};
+ghost use Rattle.gtp_v2.specs.Encoding.{open_header, three, four, HeaderMeets};
+ghost use Rattle.gtp_v2.specs.Kinds.{ContentHasKinds};
+ghost use Rattle.gtp_v2.specs.Marks.{MeetsMarks};
+ghost use Rattle.gtp_v2.specs.Datagram.{IsMessage, IsFault, MayGrow};
 ghost use Rattle.gtp_v2.specs.declared.fault.V2Fault.{V2Fault as AnyFault};
 
 use crate::body::{Body, read_body, write_body};
@@ -18,10 +20,12 @@ use std::alloc::{AllocError, Global};
 /// A control message (TS 29.274 5.1).
 #[derive(Debug, Drop)]
 pub struct Message {
-    /// The receiver's TEID, where the header has one.
+    /// The receiver's TEID, where the header has one: an Echo Request, an Echo Response and a Version
+    /// Not Supported Indication have none, and the other types with a table have one.
     pub teid: Option<Teid>,
+    /// The sequence number, 0 to 16,777,215.
     pub seq: Seq,
-    /// The message's priority: only where the header has a TEID.
+    /// The message's priority, 0 the highest: only where the header has a TEID.
     pub priority: Option<Below<16>>,
     pub body: Body,
 }
@@ -36,6 +40,7 @@ pub struct Datagram {
 #[tactic(auto, unfolding(crate::specs::Message::message_at))]
 fn read_datagram(alloc: Global, octets: &[u8]) -> Result<Datagram, V2Fault>
     ensures spoken { MessageGives (λ d. spoken_of d.message) result (message_at octets.now) }
+    ensures memory { result ≡ Err V2Fault.Memory → MayGrow octets.now }
     ensures kind { IfOk result (λ d. HasFreeKind d.message.body) }
     ensures header { IfOk result (λ d. HasPlace d.message.teid d.message.priority) }
 {
@@ -63,10 +68,14 @@ pub fn decode(alloc: Global, octets: &[u8]) -> Result<Datagram, V2Fault>
     ensures fault { IfErr result (λ f. (f ≡ V2Fault.Memory) ⊎ IsFault octets.now f) }
     // The first fault is answered, unless memory runs out.
     ensures first { (f : AnyFault) → IsFault octets.now f → MessageGives (λ d. spoken_of d.message) result (Err f) }
+    // Memory is wanting only where a list is grown or octets are kept: behind the header, its form and
+    // the whole list of elements.
+    ensures memory { result ≡ Err V2Fault.Memory → MayGrow octets.now }
 
-    // What was decoded can be encoded.
+    // What was decoded can be encoded, and decoded again.
     ensures kind { IfOk result (λ d. HasFreeKind d.message.body) }
     ensures header { IfOk result (λ d. HasPlace d.message.teid d.message.priority) }
+    ensures marks { IfOk result (λ d. MeetsMarks (spoken_of d.message)) }
 {
     read_datagram(alloc, octets)
 }
@@ -81,6 +90,8 @@ fn write_long_header(
     last: u8,
 ) -> Result<(), AllocError>
     ensures ok { OnOk result (out.new.items ≡ out.old.items ++ flags ∷ kind ∷ 0 ∷ 0 ∷ four teid.0 (three seq (last ∷ []))) }
+    ensures teid { teid.0 < 2 ^ 32 }
+    ensures seq { seq < 2 ^ 24 }
 {
     let mut header = [flags, kind, 0, 0, 0, 0, 0, 0, 0, 0, 0, last];
     BigEndian::write_u32(&mut header[4..], teid.0);
@@ -92,6 +103,7 @@ fn write_long_header(
 /// Appends a header without a TEID, its length still 0.
 fn write_short_header(out: &mut Vec<u8>, kind: u8, seq: Seq) -> Result<(), AllocError>
     ensures ok { OnOk result (out.new.items ≡ out.old.items ++ 64 ∷ kind ∷ 0 ∷ 0 ∷ three seq (0 ∷ [])) }
+    ensures seq { seq < 2 ^ 24 }
 {
     let mut header = [64, kind, 0, 0, 0, 0, 0, 0];
     BigEndian::write_u24(&mut header[4..], seq.number());
@@ -103,6 +115,7 @@ fn write_short_header(out: &mut Vec<u8>, kind: u8, seq: Seq) -> Result<(), Alloc
 fn write_header(out: &mut Vec<u8>, message: &Message) -> Result<(), AllocError>
     requires { HasPlace message.now.teid message.now.priority }
     ensures ok { OnOk result (out.new.items ≡ out.old.items ++ open_header (kind_of message.now.body) (spoken_of message.now).teid message.now.seq message.now.priority) }
+    ensures range { HeaderMeets (spoken_of message.now).teid message.now.seq message.now.priority }
 {
     let kind = message.body.kind();
     let seq = message.seq;
@@ -115,14 +128,13 @@ fn write_header(out: &mut Vec<u8>, message: &Message) -> Result<(), AllocError>
     }
 }
 
-/// The one text of a message: its elements in the order of its table, all spare bits 0. `TooLong`
-/// exactly where its length passes the 65,535 octets that its header can state.
-pub fn encode(alloc: Global, message: &Message) -> Result<Vec<u8>, V2Fault>
-    // A priority stands in a header with a TEID alone.
+/// The one text of a message, whose numbers and values are of its header's and its table's types.
+fn write_message(alloc: Global, message: &Message) -> Result<Vec<u8>, V2Fault>
     requires header { HasPlace message.now.teid message.now.priority }
-    // A message of a type that has a table is not kept as octets.
     requires kind { HasFreeKind message.now.body }
-    ensures { Encodes (spoken_of message.now) result }
+    ensures written { Encodes (spoken_of message.now) result }
+    ensures range { HeaderMeets (spoken_of message.now).teid message.now.seq message.now.priority }
+    ensures kinds { OnOk result (ContentHasKinds (table_of (kind_of message.now.body)) (content_of message.now.body)) }
 {
     let mut out = Vec::new(alloc);
     if write_header(&mut out, message).is_err() || write_body(&mut out, &message.body).is_err() {
@@ -135,4 +147,18 @@ pub fn encode(alloc: Global, message: &Message) -> Result<Vec<u8>, V2Fault>
     out[2] = (size / 256) as u8;
     out[3] = (size % 256) as u8;
     Ok(out)
+}
+
+/// The one text of a message: its elements in the order of its table, all spare bits 0. `TooLong`
+/// exactly where its length passes the 65,535 octets that its header can state.
+pub fn encode(alloc: Global, message: &Message) -> Result<Vec<u8>, V2Fault>
+    // A priority stands in a header with a TEID alone.
+    requires header { HasPlace message.now.teid message.now.priority }
+    // A message of a type that has a table is not kept as octets.
+    requires kind { HasFreeKind message.now.body }
+    ensures written { Encodes (spoken_of message.now) result }
+    // It is read again where the message meets the marks of its table, and nowhere else.
+    ensures read_again { IfOk result (λ octets. MeetsMarks (spoken_of message.now) ↔ IsMessage octets.items (spoken_of message.now)) }
+{
+    write_message(alloc, message)
 }

@@ -1,7 +1,7 @@
 //! Reading what stands before a message's elements.
 
 ghost use Rattle.std.specs.Prelude.{IfOk};
-ghost use Rattle.gtp_ie.specs.Steps.{Gives};
+ghost use Rattle.gtp_values.specs.Steps.{Gives};
 ghost use Rattle.gtp_v2.specs.Places.{HasPlace};
 ghost use Rattle.gtp_v2.specs.Headed.{Headed, headed_of, header_at, after_teid, after_no_teid};
 

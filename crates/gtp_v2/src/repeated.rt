@@ -2,7 +2,7 @@
 
 ghost use Rattle.std.specs.Prelude.{map};
 ghost use Rattle.gtp_ie.specs.Element.{all_of};
-ghost use Rattle.gtp_ie.specs.Steps.{Gives};
+ghost use Rattle.gtp_values.specs.Steps.{Gives};
 ghost use Rattle.gtp_ie.specs.View.{element_of};
 ghost use Rattle.gtp_v2.specs.Rows.{one_at, values_at, several_at};
 ghost use Rattle.gtp_v2.specs.Outcome.{GivesOrMemory};

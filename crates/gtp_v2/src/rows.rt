@@ -1,7 +1,7 @@
 //! Rows of a message's table, one at a time.
 
 ghost use Rattle.std.specs.Prelude.{◌≡◌, true, false, option_map};
-ghost use Rattle.gtp_ie.specs.Steps.{Gives};
+ghost use Rattle.gtp_values.specs.Steps.{Gives};
 ghost use Rattle.gtp_v2.specs.Rows.{needed_at, optional_at, needed_if_at};
 
 use crate::fault::RowFault;

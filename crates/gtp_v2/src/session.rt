@@ -20,17 +20,27 @@ use std::alloc::{AllocError, Global};
 /// A request for a session with its default bearer (TS 29.274 7.2.1).
 #[derive(Debug, Drop)]
 pub struct CreateSessionRequest {
+    /// The subscriber.
     pub imsi: Imsi,
+    /// The radio access technology.
     pub rat: Rat,
+    /// The network in which the subscriber is.
     pub serving_network: Option<Plmn>,
     /// The serving gateway's end for control messages.
     pub control: FTeid,
+    /// The access point that is asked for.
     pub apn: Apn,
+    /// How it was selected.
     pub selection: Option<Selection>,
+    /// The kind of address that is asked for.
     pub pdn_type: PdnType,
+    /// An address that is asked for.
     pub paa: Option<Paa>,
+    /// The bit rates of all bearers without guaranteed ones, in kilobits a second.
     pub ambr: Option<Ambr>,
+    /// The bearers that are asked for: the default one, and at this interface no other.
     pub contexts: Listed<SessionRequestContext>,
+    /// The sender's restart counter.
     pub recovery: Option<Recovery>,
 }
 
@@ -91,6 +101,7 @@ impl Typed for CreateSessionRequest {
 /// The answer to a Create Session Request (TS 29.274 7.2.2).
 #[derive(Debug, Drop)]
 pub struct CreateSessionResponse {
+    /// Whether the request was accepted, and why not.
     pub cause: Cause,
     /// The packet gateway's end for control messages: there where the cause accepts.
     pub control: Option<FTeid>,

@@ -1,8 +1,7 @@
+ghost use Rattle.std.specs.Prelude.{◌<◌, ◌^◌};
 ghost use Rattle.gtp_v2.specs.Body.{HasFreeKind};
 
 use super::*;
-use gtp_ie::{EbiValue, Pti, Recovery};
-use gtp_values::{Below, Cause, Counter, Imsi, Offending, Seq, Teid};
 use std::alloc::Global;
 use std::test::Fail;
 
@@ -125,7 +124,6 @@ fn fields_are_read(rt: HostRuntime) -> Result<(), Fail> {
     Ok(())
 }
 
-/// A message with a TEID and a priority.
 /// Whether a body with a TEID of 7, a sequence number of 9 and a priority of 3 has these octets, and
 /// reads again with its priority.
 fn is_written(alloc: Global, body: Body, digits: &str) -> Result<bool, Fail>
@@ -208,6 +206,221 @@ fn messages_made_by_hand(rt: HostRuntime) -> Result<(), Fail> {
     Ok(())
 }
 
+/// Whether a message has these octets, and is found again in them.
+fn stands(
+    alloc: Global,
+    teid: Option<u32>,
+    seq: u32,
+    body: Body,
+    digits: &str,
+) -> Result<bool, Fail>
+    requires number { seq < 2 ^ 24 }
+    requires kind { HasFreeKind body }
+{
+    let message = Message {
+        teid: teid.map(Teid),
+        seq: Seq::new(seq),
+        priority: None,
+        body,
+    };
+    let octets = encode(alloc, &message)?;
+    let found = decode(alloc, &octets)?.message;
+    let again = encode(alloc, &found)?;
+    Ok(
+        octets == octets_of(alloc, digits)?
+            && found.teid == message.teid
+            && found.seq == message.seq
+            && found.body.kind() == message.body.kind()
+            && again == octets,
+    )
+}
+
+fn accepted() -> Cause {
+    Cause {
+        value: 16,
+        pce: false,
+        bce: false,
+        cs: false,
+        offending: None,
+    }
+}
+
+fn no_rates() -> Rates {
+    Rates {
+        up: Rate::new(0),
+        down: Rate::new(0),
+    }
+}
+
+/// Priority level 8 and class 9, no rates.
+fn plain_qos() -> Qos {
+    Qos {
+        pci: false,
+        pl: Below::new(8),
+        pvi: false,
+        qci: 9,
+        mbr: no_rates(),
+        gbr: no_rates(),
+    }
+}
+
+fn end(interface: u8, teid: u32, last: u8) -> Result<FTeid, Fail> {
+    Ok(FTeid::try_new(interface, Teid(teid), Some([10, 0, 0, last]), None)?)
+}
+
+#[test]
+fn echoes_made_by_hand(rt: HostRuntime) -> Result<(), Fail> {
+    let alloc = rt.alloc();
+    let recovery = Recovery(Counter(7));
+    let body = Body::EchoRequest(EchoRequest { recovery });
+    assert!(rt; stands(alloc, None, 1, body, "40010009000001000300010007")?);
+    let recovery = Recovery(Counter(255));
+    let body = Body::EchoResponse(EchoResponse { recovery });
+    assert!(rt; stands(alloc, None, 2, body, "400200090000020003000100ff")?);
+    let body = Body::VersionNotSupported(VersionNotSupported {});
+    assert!(rt; stands(alloc, None, 1, body, "4003000400000100")?);
+    Ok(())
+}
+
+#[test]
+fn sessions_made_by_hand(rt: HostRuntime) -> Result<(), Fail> {
+    let alloc = rt.alloc();
+    let ebi = EbiValue(Below::new(5));
+    let ambr = Some(Ambr {
+        up: 1000,
+        down: 1000,
+    });
+    let recovery = Some(Recovery(Counter(1)));
+    let context = SessionRequestContext {
+        ebi,
+        qos: plain_qos(),
+        user: end(4, 0x01000002, 1)?,
+    };
+    let body = Body::CreateSessionRequest(CreateSessionRequest {
+        imsi: Imsi::from_text("001010123456789")?,
+        rat: Rat(6),
+        serving_network: Some(Plmn::try_new(&[0, 0, 1], &[0, 1])?),
+        control: end(6, 0x01000001, 1)?,
+        apn: Apn::from_text("internet")?,
+        selection: Some(Selection(Below::new(0))),
+        pdn_type: PdnType(Below::new(1)),
+        paa: Some(Paa::V4([0; 4])),
+        ambr,
+        contexts: Listed::of(vec![in alloc; context]?),
+        recovery,
+    });
+    assert!(rt; stands(alloc, Some(0), 0, body, SESSION_REQUEST)?);
+    let context = SessionResponseContext {
+        ebi,
+        cause: accepted(),
+        user: Some(end(5, 0x01000002, 2)?),
+        qos: Some(plain_qos()),
+        charging_id: Some(ChargingId(0x01000002)),
+    };
+    let body = Body::CreateSessionResponse(CreateSessionResponse {
+        cause: accepted(),
+        control: Some(end(7, 0x01000001, 2)?),
+        paa: Some(Paa::V4([10, 1, 0, 1])),
+        ambr,
+        contexts: Listed::of(vec![in alloc; context]?),
+        recovery,
+    });
+    assert!(rt; stands(alloc, Some(0x01000001), 0, body, SESSION_RESPONSE)?);
+    Ok(())
+}
+
+#[test]
+fn bearers_made_by_hand(rt: HostRuntime) -> Result<(), Fail> {
+    let alloc = rt.alloc();
+    let context = BearerRequestContext {
+        ebi: EbiValue(Below::new(0)),
+        tft: Tft::try_new(&[0x21])?,
+        user: end(5, 0x01000003, 2)?,
+        qos: plain_qos(),
+        charging_id: Some(ChargingId(0x01000003)),
+    };
+    let body = Body::CreateBearerRequest(CreateBearerRequest {
+        pti: None,
+        linked_ebi: EbiValue(Below::new(5)),
+        contexts: Listed::of(vec![in alloc; context]?),
+    });
+    assert!(rt; stands(alloc, Some(0x01000001), 0, body, BEARER_REQUEST)?);
+    let context = BearerResponseContext {
+        ebi: EbiValue(Below::new(6)),
+        cause: accepted(),
+        serving_user: Some(end(4, 0x01000003, 1)?),
+        packet_user: Some(end(5, 0x01000003, 2)?),
+    };
+    let body = Body::CreateBearerResponse(CreateBearerResponse {
+        cause: accepted(),
+        contexts: Listed::of(vec![in alloc; context]?),
+        recovery: Some(Recovery(Counter(1))),
+    });
+    assert!(rt; stands(alloc, Some(0x01000001), 0, body, BEARER_RESPONSE)?);
+    Ok(())
+}
+
+/// The first of two counters is the message's, whatever stands around it.
+#[test]
+fn first_of_repeated(rt: HostRuntime) -> Result<(), Fail> {
+    let alloc = rt.alloc();
+    for digits in [
+        "4001000e0000010003000100070300010008",
+        "43010015000001ffc80003f06162630300010007030001f008",
+    ] {
+        let octets = octets_of(alloc, digits)?;
+        let datagram = decode(alloc, &octets)?;
+        let Body::EchoRequest(request) = &datagram.message.body else {
+            return Err("of another kind".into());
+        };
+        assert!(rt; request.recovery == Recovery(Counter(7)), "of {digits}");
+    }
+    Ok(())
+}
+
+/// What a fault tells of its message: the sender of a Create Session Request, and its header.
+#[test]
+fn heads_of_faults(rt: HostRuntime) -> Result<(), Fail> {
+    let alloc = rt.alloc();
+    let empty_name = concat!(
+        "4c20002a0000000700000930",
+        "0100080000010121436587f9",
+        "5200010006",
+        "5700090086010000010a000001",
+        "47000000"
+    );
+    let octets = octets_of(alloc, empty_name)?;
+    let Err(V2Fault::Element { fault, head }) = decode(alloc, &octets) else {
+        return Err("no fault of an element".into());
+    };
+    assert_eq!(rt;
+        fault,
+        IeFault::ShortValue {
+            kind: 71,
+            instance: 0,
+            at: 42
+        }
+    );
+    assert!(rt; head.kind == 32 && head.teid == Some(Teid(7)));
+    assert!(rt; head.seq == Seq::new(9) && head.priority == Some(Below::new(3)));
+    assert!(rt; head.sender == Some(end(6, 0x01000001, 1)?));
+    let octets = octets_of(alloc, "482500080100000100000500")?;
+    let Err(
+        V2Fault::Missing {
+            kind: 2,
+            instance: 0,
+            conditional: false,
+            head,
+        },
+    ) = decode(alloc, &octets)
+    else {
+        return Err("no fault of a missing cause".into());
+    };
+    assert!(rt; head.teid == Some(Teid(0x01000001)) && head.seq == Seq::new(5));
+    assert!(rt; head.priority.is_none() && head.sender.is_none());
+    Ok(())
+}
+
 #[test]
 fn lists_of_any_length(rt: HostRuntime) -> Result<(), Fail> {
     let alloc = rt.alloc();
@@ -237,6 +450,7 @@ fn texts_of_any_length(rt: HostRuntime) -> Result<(), Fail> {
         };
         match encode(alloc, &message) {
             Ok(octets) => assert_eq!(rt; (octets.len(), fits), (count + 8, true)),
+            Err(V2Fault::Memory) => return Err("no memory".into()),
             Err(fault) => assert!(rt; matches!(fault, V2Fault::TooLong) && !fits),
         }
     }
@@ -260,6 +474,51 @@ fn contexts_in_each_other(rt: HostRuntime) -> Result<(), Fail> {
             decode(alloc, &octets),
             Err(V2Fault::Missing { kind: 1, .. })
         )
+    );
+    Ok(())
+}
+
+/// Whether a fault is told in these words.
+fn is_told(alloc: Global, fault: &V2Fault, words: &str) -> Result<bool, Fail> {
+    Ok(fault.to_string(alloc)?.as_str() == words)
+}
+
+#[test]
+fn faults_in_words(rt: HostRuntime) -> Result<(), Fail> {
+    let alloc = rt.alloc();
+    assert!(rt; is_told(alloc, &V2Fault::Short { held: 3 }, "only 3 octets")?);
+    assert!(rt; is_told(alloc, &V2Fault::Version(1), "version 1")?);
+    assert!(rt; is_told(alloc, &V2Fault::Piggyback, "a second message is announced")?);
+    let fault = V2Fault::Length { stated: 9, held: 8 };
+    assert!(rt; is_told(alloc, &fault, "the length is stated as 9 and is 8")?);
+    let fault = V2Fault::FlagT { kind: 1 };
+    assert!(rt; is_told(alloc, &fault, "type 1 has the wrong form of header")?);
+    let head = Head {
+        kind: 32,
+        teid: None,
+        seq: Seq::new(1),
+        priority: None,
+        sender: None,
+    };
+    let fault = V2Fault::Missing {
+        kind: 71,
+        instance: 0,
+        conditional: false,
+        head,
+    };
+    assert!(rt; is_told(alloc, &fault, "the element 71/0 is missing")?);
+    let fault = V2Fault::Element {
+        fault: IeFault::Truncated { at: 128 },
+        head,
+    };
+    assert!(rt; is_told(alloc, &fault, "the element at 128 is not whole")?);
+    assert!(rt; is_told(alloc, &V2Fault::Memory, "no memory")?);
+    assert!(rt;
+        is_told(
+            alloc,
+            &V2Fault::TooLong,
+            "a message of more than 65535 octets"
+        )?
     );
     Ok(())
 }

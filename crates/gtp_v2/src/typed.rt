@@ -1,11 +1,13 @@
 //! Messages with a table.
 
-ghost use Rattle.std.specs.Prelude.{◌≡◌, ◌++◌, OnOk, Bool, ℕ, List, true};
-ghost use Rattle.gtp_v2.specs.Table.{Line, Field, start};
+ghost use Rattle.std.specs.Prelude.{◌≡◌, ◌++◌, Err, Some, OnOk, Bool, ℕ, List, true};
+ghost use Rattle.gtp_v2.specs.Table.{Line, Field, start, has_list};
 ghost use Rattle.gtp_v2.specs.Rows.{lines_at};
 ghost use Rattle.gtp_v2.specs.Headed.{headed_of};
 ghost use Rattle.gtp_v2.specs.Text.{lines_text};
+ghost use Rattle.gtp_v2.specs.Kinds.{LinesHaveKinds};
 ghost use Rattle.gtp_v2.specs.Outcome.{GivesOrMemory};
+ghost use Rattle.gtp_v2.specs.Datagram.{MayGrowBy};
 ghost use Rattle.gtp_v2.specs.Message.{head_of, sender_of, with_head as headed_fault, typed_at, MessageGives};
 
 use crate::fault::{BodyFault, Head, RowFault, V2Fault};
@@ -30,11 +32,15 @@ pub trait Typed: Drop {
 
     /// The message that the elements spell.
     fn read(alloc: Global, elements: &Elements) -> Result<Self, BodyFault>
-        ensures { GivesOrMemory fields result (lines_at start lines elements.now) };
+        ensures found { GivesOrMemory fields result (lines_at start lines elements.now) }
+        // Only a list is grown.
+        ensures memory { result ≡ Err BodyFault.Memory → has_list lines ≡ true };
 
     /// Appends the elements of the lines.
     fn write(&self, out: &mut Vec<u8>) -> Result<(), AllocError>
-        ensures ok { OnOk result (out.new.items ≡ out.old.items ++ lines_text lines (fields self.now)) };
+        ensures ok { OnOk result (out.new.items ≡ out.old.items ++ lines_text lines (fields self.now)) }
+        // The values are of the types of the table's rows.
+        ensures kinds { OnOk result (LinesHaveKinds lines (fields self.now)) };
 }
 
 /// What is known of a message whose elements are at fault.
@@ -84,7 +90,8 @@ fn with_head(head: Head, fault: RowFault) -> V2Fault
 /// The message behind a header.
 #[tactic(auto, unfolding(crate::specs::Message::typed_at))]
 pub fn read_typed<M: Typed>(alloc: Global, header: &Header) -> Result<M, V2Fault>
-    ensures { MessageGives M.fields result (typed_at M.HAS_TEID M.lines (headed_of header.now)) }
+    ensures found { MessageGives M.fields result (typed_at M.HAS_TEID M.lines (headed_of header.now)) }
+    ensures memory { result ≡ Err V2Fault.Memory → MayGrowBy (Some (record { has_teid = M.HAS_TEID; lines = M.lines })) (headed_of header.now) }
 {
     if header.teid.is_some() != M::HAS_TEID {
         return Err(V2Fault::FlagT { kind: header.kind });

@@ -1,8 +1,10 @@
 //! Writing the rows of a table.
 
-ghost use Rattle.std.specs.Prelude.{◌≡◌, ◌<◌, [], ◌∷◌, ◌++◌, OnOk, map, option_map, option_to_list};
+ghost use Rattle.std.specs.Prelude.{◌≡◌, ◌<◌, [], ◌∷◌, ◌++◌, OnOk, All, map, option_map, option_to_list};
 ghost use Rattle.gtp_v2.specs.Text.{value_text, rows_text, groups_text, several_text};
+ghost use Rattle.gtp_v2.specs.Kinds.{HasKind, AtMostOneOf, RowsHaveKinds};
 ghost use Rattle.gtp_ie.specs.Text.{element_text};
+ghost use Rattle.gtp_ie.specs.Value.{text_of};
 
 use crate::groups::Context;
 use gtp_ie::{IeValue, close, open, put_value};
@@ -13,8 +15,9 @@ use std::alloc::AllocError;
 pub fn put_row<T: IeValue>(out: &mut Vec<u8>, instance: u8, value: &T) -> Result<(), AllocError>
     requires { instance < 16 }
     ensures ok { OnOk result (out.new.items ≡ out.old.items ++ value_text T.KIND instance (T.value value.now ∷ [])) }
+    ensures kind { OnOk result (AtMostOneOf T.KIND (T.value value.now ∷ [])) }
 {
-    put_value(out, instance, value)
+    put_value::<T>(out, instance, value)
 }
 
 /// Appends the element of a value, where there is one.
@@ -26,6 +29,7 @@ pub fn put_option<T: IeValue>(
 ) -> Result<(), AllocError>
     requires { instance < 16 }
     ensures ok { OnOk result (out.new.items ≡ out.old.items ++ value_text T.KIND instance (option_to_list (option_map T.value value.now))) }
+    ensures kind { OnOk result (AtMostOneOf T.KIND (option_to_list (option_map T.value value.now))) }
 {
     if let Some(value) = value {
         put_value(out, instance, value)?;
@@ -36,6 +40,7 @@ pub fn put_option<T: IeValue>(
 /// Appends a bearer context.
 fn put_context<C: Context>(out: &mut Vec<u8>, context: &C) -> Result<(), AllocError>
     ensures ok { OnOk result (out.new.items ≡ out.old.items ++ element_text 93 0 (rows_text C.rows (C.values context.now))) }
+    ensures kinds { OnOk result (RowsHaveKinds C.rows (C.values context.now)) }
 {
     let start = out.len();
     open(out, 93, 0)?;
@@ -48,6 +53,7 @@ fn put_context<C: Context>(out: &mut Vec<u8>, context: &C) -> Result<(), AllocEr
 #[tactic(auto, unfolding(crate::specs::Text::groups_text))]
 pub fn put_contexts<C: Context>(out: &mut Vec<u8>, contexts: &[C]) -> Result<(), AllocError>
     ensures ok { OnOk result (out.new.items ≡ out.old.items ++ groups_text 93 0 C.rows (map C.values contexts.now)) }
+    ensures kinds { OnOk result (All (RowsHaveKinds C.rows) (map C.values contexts.now)) }
 {
     for context in contexts {
         put_context(out, context)?;
@@ -64,6 +70,7 @@ pub fn put_several<T: IeValue>(
 ) -> Result<(), AllocError>
     requires { instance < 16 }
     ensures ok { OnOk result (out.new.items ≡ out.old.items ++ several_text T.KIND instance (map T.value values.now)) }
+    ensures kinds { OnOk result (All (HasKind T.KIND) (map T.value values.now)) }
 {
     for value in values {
         put_value(out, instance, value)?;

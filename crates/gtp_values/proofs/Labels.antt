@@ -15,11 +15,11 @@ pub record Continues (left : ℕ) (octets : List ℕ) : Type 0 where
   pub each : AllByRecursion IsLabel labels
   pub text : octets ≡ part ++ labels_text labels
 
-record Both (a b : Bool) : Type 0 where
+pub record Both (a b : Bool) : Type 0 where
   pub left : a ≡ true
   pub right : b ≡ true
 
-both : (a b : Bool) → (a && b) ≡ true → Both a b
+pub both : (a b : Bool) → (a && b) ≡ true → Both a b
 both true b h = record { left = refl; right = h }
 both false b h = absurd cc
 

@@ -1,3 +1,6 @@
+pub mod Addresses
+pub mod NamesAsText
 pub mod Labels
 pub mod Fills
 pub mod Digits
+pub mod Decided

@@ -6,7 +6,7 @@ pub record HasImsiLength (digits : List ℕ) : Type 0 where
   pub least : 6 ≤ length digits
   pub most : length digits ≤ 15
 
--- a subscriber's digits
+-- a subscriber's digits: at most 15 (TS 23.003 2.2), and at least 6 (a choice of this product)
 pub record IsImsi (digits : List ℕ) : Type 0 where
   pub least : 6 ≤ length digits
   pub most : length digits ≤ 15

@@ -1,3 +1,4 @@
+pub mod Address
 pub mod Apn
 pub mod Cause
 pub mod Counter
@@ -7,3 +8,5 @@ pub mod Padded
 pub mod Paa
 pub mod Plmn
 pub mod TunnelEnd
+pub mod Steps
+pub mod Decides

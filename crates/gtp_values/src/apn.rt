@@ -1,11 +1,15 @@
 //! Access point names.
 
-ghost use Rattle.std.specs.Prelude.{◌≡◌, ◌<◌, ◌≤◌, ◌↔◌, length, IsTrue, IsOk, IfOk, IsErrOf};
-ghost use Rattle.gtp_values.specs.Apn.{IsApn, HasApnLength, AreLabels, are_labels_from, is_label_length as spec_is_label_length, is_label_octet as spec_is_label_octet};
+ghost use Rattle.std.specs.Prelude.{◌≡◌, ◌<◌, ◌≤◌, ◌↔◌, length, IsTrue, Some, IsOk, IfOk, IsErrOf};
+ghost use Rattle.gtp_values.specs.Apn.{IsApn, HasApnLength, AreLabels, HasApnTextLength, IsApnText, apn_text};
+ghost use Rattle.std.specs.Fmt.{WritesOnOk};
+ghost use Rattle.gtp_values.specs.Apn.{joined_from, are_labels_from, is_label_length as spec_is_label_length, is_label_octet as spec_is_label_octet, label_length as spec_label_length, octets_of_text as spec_octets_of_text};
 
 use crate::fault::ValueFault;
 use crate::octets::Octets;
+use std::fmt;
 use std::marker::Model;
+use std::str::FromStr;
 
 /// An access point name: labels, each behind an octet with its length, 1 to 100 octets in all
 /// (TS 29.274 8.6, TS 23.003 9.1). Contracts see the list of these octets.
@@ -53,12 +57,56 @@ impl Apn {
         })
     }
 
+    /// The name whose labels a text gives, joined by dots: `TooShort` for an empty text, `TooLong`
+    /// above 99 octets, `BadLabel` where they are no labels.
+    #[tactic(auto, using(crate::proofs::NamesAsText::text_has_length, crate::proofs::NamesAsText::name_of_text, crate::proofs::NamesAsText::says_its_name, crate::proofs::NamesAsText::same_text))]
+    pub fn from_text(text: &str) -> Result<Apn, ValueFault>
+        ensures ok { IsOk result ↔ IsApnText text.now }
+        ensures value { IfOk result (λ apn. apn_text apn ≡ text.now) }
+        ensures short { IsErrOf result ValueFault.TooShort ↔ (length text.now < 1) }
+        ensures long { IsErrOf result ValueFault.TooLong ↔ (99 < length text.now) }
+        ensures label { IsErrOf result ValueFault.BadLabel ↔ (HasApnTextLength text.now × ¬ IsApnText text.now) }
+    {
+        let text = text.as_bytes();
+        if text.is_empty() {
+            return Err(ValueFault::TooShort);
+        }
+        if text.len() > 99 {
+            return Err(ValueFault::TooLong);
+        }
+        Apn::try_new(octets_of_text(text).as_slice())
+    }
+
     /// The labels, each behind an octet with its length.
     pub fn octets(&self) -> &[u8]
         ensures value { result.now ≡ self.now }
         ensures range { IsApn self.now }
     {
         self.octets.as_slice()
+    }
+}
+
+/// The labels, joined by dots.
+impl fmt::Display for Apn {
+    ghost output = { λ apn. Some (apn_text apn) };
+
+    fn fmt<W: fmt::Write>(&self, f: &mut fmt::Formatter<W>) -> fmt::Result {
+        match self.octets() {
+            [] => Ok(()),
+            [first, rest @ ..] => write_labels(f, *first, rest),
+        }
+    }
+}
+
+impl FromStr for Apn {
+    type Err = ValueFault;
+
+    ghost use Rattle.gtp_values.specs.declared.fault.ValueFault.TheVariants as ValueFault;
+
+    ghost from_str_gives = { λ text result. (IsOk result ↔ IsApnText text) × IfOk result (λ apn. apn_text apn ≡ text) × (IsErrOf result ValueFault.TooShort ↔ (length text < 1)) × (IsErrOf result ValueFault.TooLong ↔ (99 < length text)) × (IsErrOf result ValueFault.BadLabel ↔ (HasApnTextLength text × ¬ IsApnText text)) };
+
+    fn from_str(text: &str) -> Result<Apn, ValueFault> {
+        Apn::from_text(text)
     }
 }
 
@@ -96,4 +144,52 @@ fn are_labels(octets: &[u8]) -> bool
         }
     }
     left == 0
+}
+
+/// Writes the octets of labels, of which so many of the present one are left, with a dot for the
+/// length of each later one.
+fn write_labels<W: fmt::Write>(f: &mut fmt::Formatter<W>, first: u8, octets: &[u8]) -> fmt::Result
+    requires labels { IsTrue (are_labels_from first octets.now) }
+    ensures written { WritesOnOk W.Write.write_str_gives f.old result (joined_from first octets.now) f.new }
+{
+    let mut to_come = first;
+    for octet in octets {
+        if to_come == 0 {
+            f.write_char('.')?;
+            to_come = *octet;
+        } else {
+            f.write_char(char::from(*octet))?;
+            to_come -= 1;
+        }
+    }
+    Ok(())
+}
+
+/// How many octets stand before the first dot.
+fn label_length(text: &[u8]) -> usize
+    ensures value { result ≡ spec_label_length text.now }
+    ensures most { result ≤ length text.now }
+{
+    text.iter()
+        .position(|octet| *octet == b'.')
+        .unwrap_or(text.len())
+}
+
+/// The octets of the labels of a text: the length of the first, and each dot replaced by that of
+/// the label behind it.
+fn octets_of_text(text: &[u8]) -> Octets<100>
+    requires room { length text.now < 100 }
+    ensures value { result ≡ spec_octets_of_text text.now }
+{
+    let mut octets = Octets::new();
+    octets.push(label_length(text) as u8);
+    for index in 0..text.len() {
+        let octet = text[index];
+        octets.push(if octet == b'.' {
+            label_length(&text[index + 1..]) as u8
+        } else {
+            octet
+        });
+    }
+    octets
 }

@@ -8,7 +8,8 @@ use crate::below::Below;
 /// Why a request was accepted or refused (TS 29.274 8.4).
 #[derive(Clone, Copy, Debug, PartialEq, Eq)]
 pub struct Cause {
-    /// The cause value: 16 to 63 accept.
+    /// The cause value (TS 29.274 table 8.4-1). That 16 to 63 accept, also those that the table keeps
+    /// for later, is a choice of this product.
     pub value: u8,
     /// PDN connection information element error.
     pub pce: bool,
@@ -20,10 +21,12 @@ pub struct Cause {
     pub offending: Option<Offending>,
 }
 
-/// The type and instance of an element at fault.
+/// The element at fault that a cause names (TS 29.274 8.4).
 #[derive(Clone, Copy, Debug, PartialEq, Eq)]
 pub struct Offending {
+    /// Its type.
     pub kind: u8,
+    /// Its instance.
     pub instance: Below<16>,
 }
 

@@ -7,7 +7,9 @@ ghost use Rattle.gtp_values.specs.Counter.{age_of};
 #[derive(Clone, Copy, Debug, PartialEq, Eq)]
 pub struct Counter(pub u8);
 
-/// How a counter stands to one that is known.
+/// How a counter stands to one that is known. The standard asks whether it is greater, and leaves
+/// open how one that turned over to 0 compares (TS 23.007 18): half the circle is a choice of this
+/// product.
 #[derive(Clone, Copy, Debug, PartialEq, Eq)]
 pub enum Age {
     /// The same counter.

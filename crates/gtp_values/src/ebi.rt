@@ -7,8 +7,8 @@ ghost use Rattle.gtp_values.specs.Ebi.{IsEbi};
 use crate::fault::ValueFault;
 use std::marker::Model;
 
-/// The EPS bearer identity of a bearer that stands: 5 to 15 (TS 29.274 8.8). Contracts see the
-/// number.
+/// The EPS bearer identity of a bearer that stands: 5 to 15 (TS 24.007 11.2.3.1.5; TS 29.274 8.8 has
+/// four bits for it). Contracts see the number.
 #[derive(Clone, Copy, Debug, PartialEq, Eq, PartialOrd, Ord)]
 pub struct Ebi {
     number: u8,

@@ -9,8 +9,9 @@ use std::fmt;
 use std::marker::Model;
 use std::str::FromStr;
 
-/// The international mobile subscriber identity: 6 to 15 decimal digits (TS 29.274 8.3, TS 23.003
-/// 2.2). Contracts see the list of the digits.
+/// The international mobile subscriber identity: at most 15 decimal digits (TS 29.274 8.3, TS 23.003
+/// 2.2), and at least 6, a choice of this product: three of the country, two of the network and one of
+/// the subscriber. Contracts see the list of the digits.
 #[derive(Clone, Copy, Debug, PartialEq, Eq)]
 pub struct Imsi {
     digits: Octets<15>,
@@ -103,7 +104,9 @@ impl fmt::Display for Imsi {
 impl FromStr for Imsi {
     type Err = ValueFault;
 
-    ghost from_str_gives = { λ text result. (IsOk result ↔ IsImsiText text) × IfOk result (λ imsi. imsi ≡ map value_of_digit text) };
+    ghost use Rattle.gtp_values.specs.declared.fault.ValueFault.TheVariants as ValueFault;
+
+    ghost from_str_gives = { λ text result. (IsOk result ↔ IsImsiText text) × IfOk result (λ imsi. imsi ≡ map value_of_digit text) × (IsErrOf result ValueFault.TooShort ↔ (length text < 6)) × (IsErrOf result ValueFault.TooLong ↔ (15 < length text)) × (IsErrOf result ValueFault.BadDigit ↔ (HasImsiLength text × ¬ All IsDigitCode text)) };
 
     fn from_str(text: &str) -> Result<Imsi, ValueFault> {
         Imsi::from_text(text)

@@ -11,6 +11,7 @@ mod fault;
 mod fteid;
 mod identifiers;
 mod imsi;
+pub mod laws;
 mod octets;
 mod paa;
 mod plmn;

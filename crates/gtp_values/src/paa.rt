@@ -14,11 +14,13 @@ pub enum Paa {
     V4([u8; 4]),
     /// PDN type 2: a prefix length and an address of IP version 6.
     V6 {
+        /// The length of the prefix in bits, as it was sent.
         prefix: u8,
         address: [u8; 16],
     },
     /// PDN type 3: both.
     V4V6 {
+        /// The length of the IPv6 prefix in bits, as it was sent.
         prefix: u8,
         v6: [u8; 16],
         v4: [u8; 4],
@@ -27,7 +29,8 @@ pub enum Paa {
     Other(OtherPdnType),
 }
 
-/// A PDN type that is none of IPv4, IPv6 and IPv4v6: 0 or 4 to 7. Contracts see the number.
+/// A PDN type that is none of IPv4, IPv6 and IPv4v6: 0 or 4 to 7 (TS 29.274 8.14). Contracts see the
+/// number.
 #[derive(Clone, Copy, Debug, PartialEq, Eq)]
 pub struct OtherPdnType {
     number: u8,

@@ -1,14 +1,14 @@
 //! Networks.
 
-ghost use Rattle.std.specs.Prelude.{◌≡◌, ◌↔◌, IsOk, IfOk};
-ghost use Rattle.gtp_values.specs.Plmn.{IsNetwork};
+ghost use Rattle.std.specs.Prelude.{◌≡◌, ◌<◌, ◌↔◌, All, IsOk, IfOk, IsErrOf};
+ghost use Rattle.gtp_values.specs.Plmn.{IsNetwork, IsShortNetwork, IsLongNetwork, HasNetworkLengths};
 
 use crate::fault::ValueFault;
 use crate::octets::Octets;
 use std::marker::Model;
 
-/// A public land mobile network: a country code (MCC) of three digits and a network code (MNC) of
-/// two or three (TS 29.274 8.18). Contracts see it as a `Network`.
+/// A public land mobile network: a mobile country code (MCC) of three digits and a mobile network
+/// code (MNC) of two or three (TS 29.274 8.18, TS 23.003 2.2). Contracts see it as a `Network`.
 #[derive(Clone, Copy, Debug, PartialEq, Eq)]
 pub struct Plmn {
     mcc: Octets<3>,
@@ -33,6 +33,9 @@ impl Plmn {
     pub fn try_new(mcc: &[u8], mnc: &[u8]) -> Result<Plmn, ValueFault>
         ensures ok { IsOk result ↔ IsNetwork (record { mcc = mcc.now; mnc = mnc.now }) }
         ensures value { IfOk result (λ plmn. plmn ≡ record { mcc = mcc.now; mnc = mnc.now }) }
+        ensures short { IsErrOf result ValueFault.TooShort ↔ IsShortNetwork mcc.now mnc.now }
+        ensures long { IsErrOf result ValueFault.TooLong ↔ (¬ IsShortNetwork mcc.now mnc.now × IsLongNetwork mcc.now mnc.now) }
+        ensures digit { IsErrOf result ValueFault.BadDigit ↔ (HasNetworkLengths mcc.now mnc.now × ¬ (All (λ digit. digit < 10) mcc.now × All (λ digit. digit < 10) mnc.now)) }
     {
         if mcc.len() < 3 || mnc.len() < 2 {
             return Err(ValueFault::TooShort);
@@ -49,7 +52,7 @@ impl Plmn {
         })
     }
 
-    /// The digits of the country code.
+    /// The digits of the mobile country code.
     pub fn mcc(&self) -> &[u8]
         ensures value { result.now ≡ self.now.mcc }
         ensures range { IsNetwork self.now }
@@ -57,7 +60,7 @@ impl Plmn {
         self.mcc.as_slice()
     }
 
-    /// The digits of the network code.
+    /// The digits of the mobile network code.
     pub fn mnc(&self) -> &[u8]
         ensures value { result.now ≡ self.now.mnc }
         ensures range { IsNetwork self.now }

@@ -11,20 +11,24 @@ use std::marker::Model;
 /// (TS 29.274 8.7).
 #[derive(Clone, Copy, Debug, PartialEq, Eq)]
 pub struct Ambr {
+    /// Towards the network, in kilobits a second.
     pub up: u32,
+    /// Towards the subscriber, in kilobits a second.
     pub down: u32,
 }
 
 /// The quality of service of a bearer (TS 29.274 8.15).
 #[derive(Clone, Copy, Debug, PartialEq, Eq)]
 pub struct Qos {
-    /// Pre-emption capability.
+    /// The bit of pre-emption capability: set where the bearer may take no resources from others
+    /// (TS 29.212 5.3.46).
     pub pci: bool,
-    /// Priority level.
+    /// The priority level: 1 is the highest, 15 the lowest (TS 29.212 5.3.45).
     pub pl: Below<16>,
-    /// Pre-emption vulnerability.
+    /// The bit of pre-emption vulnerability: set where none may be taken from the bearer
+    /// (TS 29.212 5.3.47).
     pub pvi: bool,
-    /// Quality class.
+    /// The QoS class identifier (TS 23.203 6.1.7).
     pub qci: u8,
     /// Maximum bit rates.
     pub mbr: Rates,
@@ -32,14 +36,17 @@ pub struct Qos {
     pub gbr: Rates,
 }
 
-/// A bit rate in either direction.
+/// The bit rates of a bearer in both directions (TS 29.274 8.15).
 #[derive(Clone, Copy, Debug, PartialEq, Eq)]
 pub struct Rates {
+    /// Towards the network.
     pub up: Rate,
+    /// Towards the subscriber.
     pub down: Rate,
 }
 
-/// A bit rate in kilobits a second, below 2^40. Contracts see the number.
+/// A bit rate in kilobits a second, below 2^40, since it has five octets (TS 29.274 8.15). Contracts
+/// see the number.
 #[derive(Clone, Copy, Debug, PartialEq, Eq)]
 pub struct Rate {
     number: u64,

@@ -82,18 +82,96 @@ fn access_points(rt: HostRuntime) {
 }
 
 #[test]
+fn access_points_as_texts(rt: HostRuntime) -> Result<(), Fail> {
+    let alloc = rt.alloc();
+    let operator = Apn::try_new(b"\x08internet\x06mnc012\x06mcc345\x04gprs")?;
+    for (text, octets) in [
+        ("internet", Apn::try_new(b"\x08internet")?),
+        ("internet.mnc012.mcc345.gprs", operator),
+        ("a.b", Apn::try_new(b"\x01a\x01b")?),
+    ] {
+        let apn: Apn = text.parse()?;
+        assert_eq!(rt; apn, octets);
+        assert_eq!(rt; octets.to_string(alloc)?.as_str(), text);
+    }
+    let long = "abcdefghijklmnopqrstuvwxyzabcdefghijklmnopqrstuvwxyzabcdefghijk";
+    let name = format!(in alloc; "{long}.{}", &long[..35])?;
+    assert_eq!(rt; name.len(), 99);
+    assert_eq!(rt; Apn::from_text(&name)?.octets().len(), 100);
+    let longer = format!(in alloc; "{name}x")?;
+    let labels = format!(in alloc; "{long}l.org")?;
+    for (text, fault) in [
+        ("", ValueFault::TooShort),
+        (longer.as_str(), ValueFault::TooLong),
+        (labels.as_str(), ValueFault::BadLabel),
+        (".", ValueFault::BadLabel),
+        ("internet.", ValueFault::BadLabel),
+        (".internet", ValueFault::BadLabel),
+        ("ims..org", ValueFault::BadLabel),
+        ("inter net", ValueFault::BadLabel),
+        ("caf\u{e9}", ValueFault::BadLabel),
+    ] {
+        assert_eq!(rt; Apn::from_text(text), Err(fault), "of {text}");
+    }
+    Ok(())
+}
+
+#[test]
+fn addresses_as_texts(rt: HostRuntime) -> Result<(), Fail> {
+    let alloc = rt.alloc();
+    let documentation = [0x20, 1, 0xd, 0xb8, 0, 0, 0, 0, 0, 0, 0, 0, 0, 0, 0, 1];
+    for (text, address) in [
+        ("10.0.0.1", Ip::V4([10, 0, 0, 1])),
+        ("0.0.0.0", Ip::V4([0; 4])),
+        ("255.255.255.255", Ip::V4([255; 4])),
+        ("20010db8000000000000000000000001", Ip::V6(documentation)),
+    ] {
+        let ip: Ip = text.parse()?;
+        assert_eq!(rt; ip, address);
+        assert_eq!(rt; address.to_string(alloc)?.as_str(), text);
+    }
+    assert_eq!(rt;
+        Ip::from_text("20010DB8000000000000000000000001"),
+        Ok(Ip::V6(documentation))
+    );
+    for (text, fault) in [
+        ("", ValueFault::TooShort),
+        ("10.0.0", ValueFault::TooShort),
+        ("200010db8000000000000000000000001", ValueFault::TooLong),
+        ("2001db8000000000000000000000001", ValueFault::BadDigit),
+        ("20010db800000000000000000000000g", ValueFault::BadDigit),
+        ("2001:db8::1", ValueFault::BadDigit),
+        ("10.0.0.256", ValueFault::BadDigit),
+        ("10.0.0.01", ValueFault::BadDigit),
+        ("10.0.0.1.1", ValueFault::BadDigit),
+        ("10.0.0.1 ", ValueFault::BadDigit),
+    ] {
+        assert_eq!(rt; Ip::from_text(text), Err(fault), "of {text}");
+    }
+    Ok(())
+}
+
+#[test]
 fn ranges(rt: HostRuntime) {
-    assert!(rt; Seq::try_new(16_777_215).is_ok() && Seq::try_new(16_777_216).is_err());
-    assert!(rt; Ebi::try_new(4).is_err() && Ebi::try_new(5).is_ok());
-    assert!(rt; Ebi::try_new(15).is_ok() && Ebi::try_new(16).is_err());
-    assert!(rt; Below::<16>::try_new(15).is_ok() && Below::<16>::try_new(16).is_err());
-    assert!(rt; Rate::try_new((1 << 40) - 1).is_ok() && Rate::try_new(1 << 40).is_err());
-    assert!(rt; OtherPdnType::try_new(0).is_ok() && OtherPdnType::try_new(3).is_err());
-    assert!(rt; OtherPdnType::try_new(7).is_ok() && OtherPdnType::try_new(8).is_err());
-    assert!(rt; Tft::try_new(&[0; 255]).is_ok() && Tft::try_new(&[0; 256]).is_err());
-    assert!(rt; FTeid::try_new(63, Teid(0), None, None).is_err());
-    assert!(rt; FTeid::try_new(63, Teid(0), Some([0; 4]), None).is_ok());
-    assert!(rt; FTeid::try_new(64, Teid(0), Some([0; 4]), None).is_err());
+    let outside = ValueFault::OutOfRange;
+    assert!(rt; Seq::try_new(16_777_215).is_ok());
+    assert_eq!(rt; Seq::try_new(16_777_216), Err(outside));
+    assert_eq!(rt; Ebi::try_new(4), Err(outside));
+    assert!(rt; Ebi::try_new(5).is_ok() && Ebi::try_new(15).is_ok());
+    assert_eq!(rt; Ebi::try_new(16), Err(outside));
+    assert!(rt; Below::<16>::try_new(15).is_ok());
+    assert_eq!(rt; Below::<16>::try_new(16), Err(outside));
+    assert!(rt; Rate::try_new((1 << 40) - 1).is_ok());
+    assert_eq!(rt; Rate::try_new(1 << 40), Err(outside));
+    assert!(rt; OtherPdnType::try_new(0).is_ok() && OtherPdnType::try_new(7).is_ok());
+    assert_eq!(rt; OtherPdnType::try_new(3), Err(outside));
+    assert_eq!(rt; OtherPdnType::try_new(8), Err(outside));
+    assert!(rt; Tft::try_new(&[0; 255]).is_ok());
+    assert_eq!(rt; Tft::try_new(&[0; 256]), Err(ValueFault::TooLong));
+    let v4 = Some([0; 4]);
+    assert!(rt; FTeid::try_new(63, Teid(0), v4, None).is_ok());
+    assert_eq!(rt; FTeid::try_new(63, Teid(0), None, None), Err(outside));
+    assert_eq!(rt; FTeid::try_new(64, Teid(0), v4, None), Err(outside));
     assert!(rt; Plmn::try_new(&[0, 0, 1], &[0, 1]).is_ok());
     assert!(rt; Plmn::try_new(&[0, 0, 1], &[0, 1, 2]).is_ok());
     assert_eq!(rt; Plmn::try_new(&[0, 0, 1], &[0]), Err(ValueFault::TooShort));
@@ -105,4 +183,28 @@ fn ranges(rt: HostRuntime) {
         Plmn::try_new(&[0, 0, 10], &[0, 1]),
         Err(ValueFault::BadDigit)
     );
+    assert_eq!(rt;
+        Plmn::try_new(&[0, 0, 1, 10], &[1]),
+        Err(ValueFault::TooShort)
+    );
+    assert_eq!(rt;
+        Plmn::try_new(&[0, 0, 1, 10], &[0, 1]),
+        Err(ValueFault::TooLong)
+    );
+}
+
+#[test]
+fn faults_in_words(rt: HostRuntime) -> Result<(), Fail> {
+    let alloc = rt.alloc();
+    for (fault, words) in [
+        (ValueFault::TooShort, "too short"),
+        (ValueFault::TooLong, "too long"),
+        (ValueFault::BadDigit, "a digit that is none"),
+        (ValueFault::BadLabel, "a label that is none"),
+        (ValueFault::OutOfRange, "out of range"),
+    ] {
+        assert_eq!(rt; fault.to_string(alloc)?.as_str(), words);
+    }
+    assert_eq!(rt; Memory.to_string(alloc)?.as_str(), "no memory");
+    Ok(())
 }

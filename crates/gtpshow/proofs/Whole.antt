@@ -1,12 +1,12 @@
 -- The elements of a message that a datagram spells.
-use Rattle.std.proofs.Common.{◌≡◌, ℕ, ◌+◌, ◌-◌, ◌≤◌, List, [], ◌∷◌, length, take, drop, Option, Some, None, ◌⊎◌, inl, inr, refl, sym, ap, subst, ◌∙◌, arith}
+use Rattle.std.proofs.Common.{◌≡◌, ℕ, ◌-◌, ◌≤◌, List, [], length, take, drop, Option, Some, None, inl, inr, refl, sym, ap, subst, ◌∙◌, arith}
 use Rattle.std.proofs.lemmas.List.{append-nil, take_at, length-drop}
 use Rattle.gtp_ie.specs.Element.{Element}
 use Rattle.gtp_ie.specs.Octets.{AreElements}
 use Rattle.gtp_v2.specs.Table.{Field}
 use Rattle.gtp_v2.specs.Headed.{Headed}
 use Rattle.gtp_v2.specs.Header.{IsHeaded}
-use Rattle.gtp_v2.specs.Message.{Table, table_of, Content, Fields, Raw, Spoken, spoken}
+use Rattle.gtp_v2.specs.Message.{Table, table_of, Fields, Spoken}
 use Rattle.gtp_v2.specs.Datagram.{CarriesBy, IsMessage}
 use Rattle.std.specs.Global.{Vec}
 use Rattle.gtp_v2.specs.declared.body.Body.{Body}

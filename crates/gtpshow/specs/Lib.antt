@@ -4,3 +4,4 @@ pub mod Control
 pub mod User
 pub mod Lines
 pub mod Status
+pub mod Words

@@ -2,14 +2,13 @@
 use Rattle.std.specs.Prelude.{◌≡◌, ℕ, Bool, true, false, List, [], ◌∷◌, ◌++◌, Option, Some, None, codes, decimal}
 use Rattle.std.specs.List.{flat_map}
 use Rattle.hex.specs.Hex.{encode_lower}
-use Rattle.gtp_values.specs.declared.address.Ip.{Ip}
-use Rattle.gtp_values.specs.declared.address.Ip.TheVariants as ips
 use Rattle.gtp_user.specs.declared.fault.UserFault.{UserFault}
 use Rattle.gtp_user.specs.declared.fault.UserFault.TheVariants as faults
 use Rattle.gtp_user.specs.Chain.{Extension}
 use Rattle.gtp_user.specs.Message.{Content, EchoRequest, EchoResponse, ErrorIndication, Notification, EndMarker, Packet, Other, Spoken}
 use Rattle.gtp_user.specs.Datagram.{IsUserMessage, IsUserFault}
-use Rattle.gtpshow.specs.Text.{octets_text, teid_text, v4_text}
+use Rattle.gtp_values.specs.Address.{ip_text}
+use Rattle.gtpshow.specs.Text.{octets_text, teid_text}
 use Rattle.gtpshow.specs.Values.{field_shown}
 
 -- the type of a message, by its number and its name
@@ -44,17 +43,13 @@ user_head_line m = user_title m.content ++ (target_shown m.content ++ (some_show
 abbrev pub extension_line : Extension → List ℕ
 extension_line e = codes "ext " ++ (encode_lower (e.kind ∷ []) ++ (codes " " ++ (octets_text e.content ++ codes "\n")))
 
-abbrev pub address_shown : Ip → List ℕ
-address_shown (ips.V4 address) = v4_text address
-address_shown (ips.V6 address) = encode_lower address
-
 -- a mark and octets
 abbrev pub octets_line : List ℕ → List ℕ → List ℕ
 octets_line mark octets = mark ++ (octets_text octets ++ codes "\n")
 
 -- what a message carries
 abbrev pub carried_shown : Content → List ℕ
-carried_shown (ErrorIndication teid peer) = codes "teid " ++ (teid_text teid ++ (codes "\npeer " ++ (address_shown peer ++ codes "\n")))
+carried_shown (ErrorIndication teid peer) = codes "teid " ++ (teid_text teid ++ (codes "\npeer " ++ (ip_text peer ++ codes "\n")))
 carried_shown (Notification types) = octets_line (codes "types ") types
 carried_shown (Packet teid payload) = octets_line (codes "payload ") payload
 carried_shown (Other kind teid octets) = octets_line (codes "octets ") octets

@@ -1,5 +1,5 @@
 -- What elements say, as text.
-use Rattle.std.specs.Prelude.{ℕ, ◌==◌, if◌then◌else◌, List, [], ◌∷◌, ◌++◌, Option, Some, None, Result, Ok, Err, codes, decimal}
+use Rattle.std.specs.Prelude.{ℕ, ◌==◌, if◌then◌else◌, List, [], ◌++◌, Option, Some, None, Result, Ok, Err, codes, decimal}
 use Rattle.hex.specs.Hex.{encode_lower}
 use Rattle.gtp_values.specs.declared.cause.Offending.{Offending}
 use Rattle.gtp_values.specs.declared.paa.Paa.{Paa}
@@ -8,7 +8,10 @@ use Rattle.gtp_values.specs.declared.qos.Qos.{Qos}
 use Rattle.gtp_values.specs.declared.qos.Rates.{Rates}
 use Rattle.gtp_ie.specs.declared.fault.ReadFault.{ReadFault}
 use Rattle.gtp_ie.specs.Value.{Value, OfImsi, OfCause, OfRecovery, OfApn, OfAmbr, OfEbi, OfPaa, OfQos, OfRat, OfPlmn, OfTft, OfFTeid, OfChargingId, OfPdnType, OfPti, OfSelection, bit, value_at}
-use Rattle.gtpshow.specs.Text.{octets_text, teid_text, v4_text, digits_text, apn_text}
+use Rattle.std.specs.Net.Text.{ipv4_text}
+use Rattle.gtp_values.specs.Apn.{apn_text}
+use Rattle.gtp_values.specs.Imsi.{digits_text}
+use Rattle.gtpshow.specs.Text.{octets_text, teid_text}
 
 -- a mark and a number
 abbrev pub field_shown : List ℕ → ℕ → List ℕ
@@ -20,9 +23,9 @@ offending_shown None = []
 offending_shown (Some o) = codes " offending " ++ (decimal o.kind ++ (codes " " ++ decimal o.instance))
 
 abbrev pub paa_shown : Paa → List ℕ
-paa_shown (paas.V4 v4) = codes "ipv4 " ++ v4_text v4
+paa_shown (paas.V4 v4) = codes "ipv4 " ++ ipv4_text v4
 paa_shown (paas.V6 prefix v6) = codes "ipv6 " ++ (decimal prefix ++ (codes " " ++ encode_lower v6))
-paa_shown (paas.V4V6 prefix v6 v4) = codes "ipv4v6 " ++ (decimal prefix ++ (codes " " ++ (encode_lower v6 ++ (codes " " ++ v4_text v4))))
+paa_shown (paas.V4V6 prefix v6 v4) = codes "ipv4v6 " ++ (decimal prefix ++ (codes " " ++ (encode_lower v6 ++ (codes " " ++ ipv4_text v4))))
 paa_shown (paas.Other pdn) = codes "other " ++ decimal pdn
 
 abbrev pub rates_shown : Rates → List ℕ
@@ -39,7 +42,7 @@ qos_shown q = class_shown q ++ (codes " mbr " ++ (rates_shown q.mbr ++ (codes " 
 -- the addresses of a tunnel end
 abbrev pub v4_shown : Option (List ℕ) → List ℕ
 v4_shown None = []
-v4_shown (Some v4) = codes " v4 " ++ v4_text v4
+v4_shown (Some v4) = codes " v4 " ++ ipv4_text v4
 
 abbrev pub v6_shown : Option (List ℕ) → List ℕ
 v6_shown None = []

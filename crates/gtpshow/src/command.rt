@@ -1,7 +1,9 @@
 //! The command line.
 
-ghost use Rattle.std.specs.Prelude.{◌≡◌};
-ghost use Rattle.gtpshow.specs.Status.{status_of};
+ghost use Rattle.std.specs.Prelude.{◌≡◌, IfOk, Some};
+ghost use Rattle.clap.specs.Words.{app_of};
+ghost use Rattle.gtpshow.specs.Status.{status_of, failure_text};
+ghost use Rattle.gtpshow.specs.Words.{program_words};
 
 use clap::{Arg, ArgAction, Command};
 use std::alloc::{AllocError, Global};
@@ -15,7 +17,9 @@ Example:
 Exit status: 0 shown, 1 a fault was shown, 2 bad words or hexadecimal, 3 no memory or a failed write";
 
 /// The words that the program takes.
-pub fn command<'a>(alloc: Global) -> Result<Command<'a>, AllocError> {
+pub fn command<'a>(alloc: Global) -> Result<Command<'a>, AllocError>
+    ensures { IfOk result (λ command. app_of command ≡ program_words) }
+{
     let octets = Arg::new(alloc, "octets")
         .value_name("HEX")
         .help("The octets of the datagram in hexadecimal")
@@ -56,6 +60,8 @@ impl Failure {
 }
 
 impl fmt::Display for Failure {
+    ghost output = { λ failure. Some (failure_text failure) };
+
     fn fmt<W: fmt::Write>(&self, f: &mut fmt::Formatter<W>) -> fmt::Result {
         match self {
             Failure::BadHex => write!(f, "bad hex"),

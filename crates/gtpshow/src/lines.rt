@@ -99,7 +99,7 @@ fn user_lines(alloc: Global, octets: &[u8]) -> Result<Shown, Memory>
 }
 
 /// The lines of a datagram: its message with each element in the order in which it came, or the one
-/// line of its first fault. `Memory` only where a growth was refused.
+/// line of its first fault. `Memory` where a growth was refused.
 pub fn decode_lines(alloc: Global, plane: Plane, octets: &[u8]) -> Result<Shown, Memory>
     ensures { IfOk result (λ shown. LinesOf plane octets.now shown.text.items shown.faulty) }
 {

@@ -11,6 +11,10 @@ mod text;
 mod user;
 mod values;
 
+ghost use Rattle.std.specs.Prelude.{◌≡◌, ◌≤◌, ◌⊎◌, IsErr, Err, IfOk};
+ghost use Rattle.hex.specs.Hex.{decode_of};
+ghost use Rattle.gtpshow.specs.Lines.{IsShown};
+
 use crate::command::{Failure, command};
 use crate::lines::decode_lines;
 use crate::plane::Plane;
@@ -22,8 +26,12 @@ use std::process::ExitCode;
 use std::rt::Env;
 use std::{env, io};
 
-/// Shows the datagram of these hexadecimal digits.
-fn show<R: Print + AllocGlobal>(rt: &R, plane: Plane, digits: &str) -> Result<bool, Failure> {
+/// Shows the datagram of these hexadecimal digits, and answers the exit status: 1 for a fault.
+fn show<R: Print + AllocGlobal>(rt: &R, plane: Plane, digits: &str) -> Result<u8, Failure>
+    ensures shown { IfOk result (λ status. IsShown plane digits.now status) }
+    ensures only { result ≡ Err Failure.BadHex → IsErr (decode_of digits.now) }
+    ensures bad { IsErr (decode_of digits.now) → (result ≡ Err Failure.BadHex) ⊎ (result ≡ Err Failure.Memory) }
+{
     let octets = match hex::decode(rt.alloc(), digits) {
         Ok(octets) => octets,
         Err(FromHexError::OutOfMemory) => return Err(Failure::Memory),
@@ -33,11 +41,13 @@ fn show<R: Print + AllocGlobal>(rt: &R, plane: Plane, digits: &str) -> Result<bo
     io::writer(rt)
         .write_all(&shown.text)
         .map_err(|_| Failure::Write)?;
-    Ok(shown.faulty)
+    Ok(if shown.faulty { 1 } else { 0 })
 }
 
 /// Does what the words ask for, and answers the exit status.
-fn run<R: Print + Eprint + Env + AllocGlobal>(rt: &R) -> Result<u8, Failure> {
+fn run<R: Print + Eprint + Env + AllocGlobal>(rt: &R) -> Result<u8, Failure>
+    ensures { IfOk result (λ status. status ≤ 2) }
+{
     let alloc: Global = rt.alloc();
     let words: Vec<String> = env::args(rt)
         .map_err(|_| Failure::Memory)?
@@ -61,8 +71,7 @@ fn run<R: Print + Eprint + Env + AllocGlobal>(rt: &R) -> Result<u8, Failure> {
     } else {
         Plane::Control
     };
-    let faulty = show(rt, plane, digits)?;
-    Ok(if faulty { 1 } else { 0 })
+    show(rt, plane, digits)
 }
 
 fn main(rt: HostRuntime) -> ExitCode {

@@ -3,14 +3,15 @@ use crate::plane::Plane;
 use std::alloc::Global;
 use std::test::Fail;
 
-/// A Create Session Request up to its access point name, that name, and what follows.
-const BEFORE_NAME: &str = concat!(
+/// A Create Session Request up to its sender's end, that end, its access point name, and what follows.
+const BEFORE_SENDER: &str = concat!(
     "0000000000000000",
     "0100080000010121436587f9",
     "5200010006",
-    "5300030000f110",
-    "5700090086010000010a000001"
+    "5300030000f110"
 );
+
+const SENDER: &str = "5700090086010000010a000001";
 
 const NAME: &str = "4700090008696e7465726e6574";
 
@@ -170,8 +171,15 @@ fn forms_of_elements(rt: HostRuntime) -> Result<(), Fail> {
 #[test]
 fn control_faults(rt: HostRuntime) -> Result<(), Fail> {
     let alloc = rt.alloc();
-    let without_name = format!(in alloc; "48200081{BEFORE_NAME}{AFTER_NAME}57000902{END}")?;
-    let cut_inside = format!(in alloc; "4820008e{BEFORE_NAME}{NAME}{AFTER_NAME}57000a02{END}")?;
+    let without_name = format!(in alloc;
+        "48200081{BEFORE_SENDER}{SENDER}{AFTER_NAME}57000902{END}"
+    )?;
+    let cut_inside = format!(in alloc;
+        "4820008e{BEFORE_SENDER}{SENDER}{NAME}{AFTER_NAME}57000a02{END}"
+    )?;
+    let without_address = format!(in alloc;
+        "4820008a{BEFORE_SENDER}570005000601000001{NAME}{AFTER_NAME}57000902{END}"
+    )?;
     let rows = [
         ("", "H1 held 0"),
         ("400100", "H1 held 3"),
@@ -211,6 +219,7 @@ fn control_faults(rt: HostRuntime) -> Result<(), Fail> {
         ),
         (without_name.as_str(), "H6 type 71 instance 0 mandatory"),
         (cut_inside.as_str(), "H7 I1 at 128"),
+        (without_address.as_str(), "H7 I3 type 87 instance 0 at 36"),
     ];
     for (digits, fault) in rows {
         let line = format!(in alloc; "fault {fault}\n")?;
@@ -269,7 +278,7 @@ fn marks_of_responses(rt: HostRuntime) -> Result<(), Fail> {
             Some("H6 type 93 instance 0 conditional"),
         ),
         ("4860000e0100000100000100020002004900", "", None),
-        // The first context at fault decides.
+        // A context at fault behind one that isn't.
         (
             "4860002c0100000100000100020002001000",
             context,
@@ -279,6 +288,129 @@ fn marks_of_responses(rt: HostRuntime) -> Result<(), Fail> {
     for (head, rest, fault) in rows {
         let digits = format!(in alloc; "{head}{rest}")?;
         assert!(rt; is_fault(alloc, digits.as_str(), fault)?, "of {digits}");
+    }
+    Ok(())
+}
+
+/// The Create Session Request and its answer, and the Create Bearer Request and its answer, each with
+/// its lines.
+#[test]
+fn whole_messages(rt: HostRuntime) -> Result<(), Fail> {
+    let alloc = rt.alloc();
+    let qos = "qos pci 0 pl 8 pvi 0 qci 9 mbr 0 0 gbr 0 0";
+    let none = "0000000000000000000000000000000000000000";
+    let request = format!(in alloc;
+        "4820008e{BEFORE_SENDER}{SENDER}{NAME}{AFTER_NAME}57000902{END}"
+    )?;
+    let request_lines = format!(in alloc;
+        "gtpv2 type 32 create-session-request teid 00000000 seq 0\nie 1 0 imsi 001010123456789\nie 82 0 rat 6\nie 83 0 serving-network 001 01\nie 87 0 fteid 6 01000001 v4 10.0.0.1\nie 71 0 apn internet\nie 128 0 selection 0\nie 99 0 pdn-type 1\nie 79 0 paa ipv4 0.0.0.0\nie 72 0 ambr 1000 1000\nie 93 0 bearer-context\n  ie 73 0 ebi 5\n  ie 80 0 {qos}\n  ie 87 2 fteid 4 01000002 v4 10.0.0.1\nie 3 0 recovery 1\n"
+    )?;
+    let answer = format!(in alloc;
+        "4821007301000001000000000200020010005700090187010000010a0000024f000500010a01000148000800000003e8000003e85d003a0049000100050200020010005700090285010000020a000002500016002009{none}5e000400010000020300010001"
+    )?;
+    let answer_lines = format!(in alloc;
+        "gtpv2 type 33 create-session-response teid 01000001 seq 0\nie 2 0 cause 16\nie 87 1 fteid 7 01000001 v4 10.0.0.2\nie 79 0 paa ipv4 10.1.0.1\nie 72 0 ambr 1000 1000\nie 93 0 bearer-context\n  ie 73 0 ebi 5\n  ie 2 0 cause 16\n  ie 87 2 fteid 5 01000002 v4 10.0.0.2\n  ie 80 0 {qos}\n  ie 94 0 charging-id 16777218\nie 3 0 recovery 1\n"
+    )?;
+    let wanted = format!(in alloc;
+        "485f004a010000010000000049000100055d0039004900010000{}5700090185010000030a000002500016002009{none}5e00040001000003",
+        "5400010021"
+    )?;
+    let wanted_lines = format!(in alloc;
+        "gtpv2 type 95 create-bearer-request teid 01000001 seq 0\nie 73 0 ebi 5\nie 93 0 bearer-context\n  ie 73 0 ebi 0\n  ie 84 0 tft 21\n  ie 87 1 fteid 5 01000003 v4 10.0.0.2\n  ie 80 0 {qos}\n  ie 94 0 charging-id 16777219\n"
+    )?;
+    let rows = [
+        (request.as_str(), request_lines.as_str()),
+        (answer.as_str(), answer_lines.as_str()),
+        (wanted.as_str(), wanted_lines.as_str()),
+        (
+            "4860003c01000001000000000200020010005d00250049000100060200020010005700090284010000030a0000015700090385010000030a0000020300010001",
+            "gtpv2 type 96 create-bearer-response teid 01000001 seq 0\nie 2 0 cause 16\nie 93 0 bearer-context\n  ie 73 0 ebi 6\n  ie 2 0 cause 16\n  ie 87 2 fteid 4 01000003 v4 10.0.0.1\n  ie 87 3 fteid 5 01000003 v4 10.0.0.2\nie 3 0 recovery 1\n",
+        ),
+        (
+            "4825001301000001000001000200020010000300010001",
+            "gtpv2 type 37 delete-session-response teid 01000001 seq 1\nie 2 0 cause 16\nie 3 0 recovery 1\n",
+        ),
+        (
+            "4864003101000001000005000200020011005d000b0049000100060200020010005d000b0049000100090200020040000300010001",
+            "gtpv2 type 100 delete-bearer-response teid 01000001 seq 5\nie 2 0 cause 17\nie 93 0 bearer-context\n  ie 73 0 ebi 6\n  ie 2 0 cause 16\nie 93 0 bearer-context\n  ie 73 0 ebi 9\n  ie 2 0 cause 64\nie 3 0 recovery 1\n",
+        ),
+    ];
+    for (digits, lines) in rows {
+        assert!(rt;
+            is_shown(alloc, Plane::Control, digits, lines, false)?,
+            "of {digits}"
+        );
+    }
+    Ok(())
+}
+
+/// Eighteen contexts in each other: one is opened, and what it holds is octets.
+#[test]
+fn contexts_in_each_other(rt: HostRuntime) -> Result<(), Fail> {
+    let alloc = rt.alloc();
+    let mut inner = format!(in alloc; "")?;
+    for depth in 0..16u8 {
+        inner = format!(in alloc; "5d00{:02x}00{inner}", 4 * depth)?;
+    }
+    let digits = format!(in alloc; "400100510000010003000100075d0044005d004000{inner}")?;
+    let lines = format!(in alloc;
+        "gtpv2 type 1 echo-request seq 1\nie 3 0 recovery 7\nie 93 0 bearer-context\n  ie 93 0 octets {inner}\n"
+    )?;
+    assert!(rt; is_shown(alloc, Plane::Control, &digits, &lines, false)?);
+    Ok(())
+}
+
+/// Rows that are missing: conditional ones, and groups of which there must be one.
+#[test]
+fn missing_rows(rt: HostRuntime) -> Result<(), Fail> {
+    let alloc = rt.alloc();
+    let start = "0000000000000000";
+    let imsi = "0100080000010121436587f9";
+    let network = "52000100065300030000f110";
+    let pdn_type = "6300010001";
+    let rates = "4f000500010000000048000800000003e8000003e8";
+    let qos = "5000160020090000000000000000000000000000000000000000";
+    let user = "5700090284010000020a000001";
+    let front = format!(in alloc; "{start}{imsi}{network}{SENDER}{NAME}8000010000")?;
+    let without_subscriber = format!(in alloc;
+        "48200082{start}{network}{SENDER}{NAME}8000010000{pdn_type}{rates}5d002c004900010005{qos}{user}0300010001"
+    )?;
+    let without_type = format!(in alloc;
+        "48200089{front}{rates}5d002c004900010005{qos}{user}0300010001"
+    )?;
+    let without_end = format!(in alloc;
+        "48200081{front}{pdn_type}{rates}5d001f004900010005{qos}0300010001"
+    )?;
+    let without_context = format!(in alloc; "4820005e{front}{pdn_type}{rates}0300010001")?;
+    let without_packet_end = format!(in alloc;
+        "485f003d010000010000000049000100055d002c0049000100005400010021{qos}5e00040001000003"
+    )?;
+    let rows = [
+        (without_subscriber.as_str(), "type 1 instance 0 conditional"),
+        (without_type.as_str(), "type 99 instance 0 conditional"),
+        (without_end.as_str(), "type 87 instance 2 conditional"),
+        (without_context.as_str(), "type 93 instance 0 mandatory"),
+        (
+            without_packet_end.as_str(),
+            "type 87 instance 1 conditional",
+        ),
+        (
+            "485f000d01000001000000004900010005",
+            "type 93 instance 0 mandatory",
+        ),
+        // Of two contexts at fault the first decides.
+        (
+            "4860002101000001000001000200020010005d0006000200020010005d0005004900010006",
+            "type 73 instance 0 mandatory",
+        ),
+        (
+            "4860002101000001000001000200020010005d00050049000100065d000600020002001000",
+            "type 2 instance 0 mandatory",
+        ),
+    ];
+    for (digits, row) in rows {
+        let fault = format!(in alloc; "H6 {row}")?;
+        assert!(rt; is_fault(alloc, digits, Some(&fault))?, "of {digits}");
     }
     Ok(())
 }

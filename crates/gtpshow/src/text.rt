@@ -1,13 +1,15 @@
 //! Pieces of text, appended to a buffer.
 
-ghost use Rattle.std.specs.Prelude.{◌≡◌, ◌<◌, ◌++◌, All, OnOk, decimal, map, take};
+ghost use Rattle.std.specs.Prelude.{◌≡◌, ◌<◌, ◌++◌, All, OnOk, IfSome, decimal, map, take};
 ghost use Rattle.hex.specs.Hex.{encode_lower};
-ghost use Rattle.gtpshow.specs.Text.{octets_text, teid_text, v4_text, digits_text, apn_text, joined_from};
+ghost use Rattle.gtp_values.specs.Imsi.{digits_text};
+ghost use Rattle.gtpshow.specs.Text.{octets_text, teid_text};
 
 use byteorder::{BigEndian, ByteOrder};
 use gtp_values::Teid;
 use itoa::Buffer;
 use std::alloc::AllocError;
+use std::fmt::Display;
 
 /// Appends a text.
 pub fn put(out: &mut Vec<u8>, text: &[u8]) -> Result<(), AllocError>
@@ -58,19 +60,12 @@ pub fn put_teid(out: &mut Vec<u8>, teid: Teid) -> Result<(), AllocError>
     put_hex(out, &octets)
 }
 
-/// Appends an address of version 4 in dotted decimal.
-#[tactic(auto, using(crate::proofs::Appends::appending))]
-pub fn put_v4(out: &mut Vec<u8>, address: &[u8; 4]) -> Result<(), AllocError>
-    ensures ok { OnOk result (out.new.items ≡ out.old.items ++ v4_text address.now) }
+/// Appends what a value displays.
+pub fn put_display<D: Display>(out: &mut Vec<u8>, value: &D) -> Result<(), AllocError>
+    ensures ok { OnOk result (IfSome (D.Display.output value.now) (λ text. out.new.items ≡ out.old.items ++ text)) }
 {
-    let [a, b, c, d] = *address;
-    put_number(out, u64::from(a))?;
-    put(out, b".")?;
-    put_number(out, u64::from(b))?;
-    put(out, b".")?;
-    put_number(out, u64::from(c))?;
-    put(out, b".")?;
-    put_number(out, u64::from(d))
+    let text = value.to_string(*out.allocator())?;
+    put(out, text.as_bytes())
 }
 
 /// Appends decimal digits.
@@ -82,32 +77,4 @@ pub fn put_digits(out: &mut Vec<u8>, digits: &[u8]) -> Result<(), AllocError>
         out.push(b'0' + *digit)?;
     }
     Ok(())
-}
-
-/// Appends the octets of labels, of which so many of the present one are left, with a dot for the
-/// length of each later one.
-fn put_labels(out: &mut Vec<u8>, first: u8, octets: &[u8]) -> Result<(), AllocError>
-    ensures ok { OnOk result (out.new.items ≡ out.old.items ++ joined_from first octets.now) }
-{
-    let mut left = first;
-    for octet in octets {
-        if left == 0 {
-            out.push(b'.')?;
-            left = *octet;
-        } else {
-            out.push(*octet)?;
-            left -= 1;
-        }
-    }
-    Ok(())
-}
-
-/// Appends the labels of an access point name, joined by dots.
-pub fn put_apn(out: &mut Vec<u8>, octets: &[u8]) -> Result<(), AllocError>
-    ensures ok { OnOk result (out.new.items ≡ out.old.items ++ apn_text octets.now) }
-{
-    match octets {
-        [] => Ok(()),
-        [first, rest @ ..] => put_labels(out, *first, rest),
-    }
 }

@@ -3,12 +3,11 @@
 ghost use Rattle.std.specs.Prelude.{◌≡◌, ◌++◌, [], OnOk};
 ghost use Rattle.std.specs.List.{flat_map};
 ghost use Rattle.gtp_user.specs.Message.{content_of, spoken_of};
-ghost use Rattle.gtpshow.specs.User.{named, user_title, target_shown, some_shown, user_head_line, extension_line, address_shown, octets_line, carried_shown, user_fault_shown, user_fault_line, user_lines};
+ghost use Rattle.gtpshow.specs.User.{named, user_title, target_shown, some_shown, user_head_line, extension_line, octets_line, carried_shown, user_fault_shown, user_fault_line, user_lines};
 
-use crate::text::{put, put_hex, put_octets, put_teid, put_v4};
+use crate::text::{put, put_display, put_hex, put_octets, put_teid};
 use crate::values::put_field;
 use gtp_user::{Extensions, UserBody, UserFault, UserMessage};
-use gtp_values::Ip;
 use std::alloc::AllocError;
 
 /// Appends the type of a message, by its number and its name.
@@ -96,16 +95,6 @@ fn put_extensions(out: &mut Vec<u8>, extensions: &Extensions) -> Result<(), Allo
     Ok(())
 }
 
-/// Appends an address.
-fn put_address(out: &mut Vec<u8>, address: &Ip) -> Result<(), AllocError>
-    ensures ok { OnOk result (out.new.items ≡ out.old.items ++ address_shown address.now) }
-{
-    match address {
-        Ip::V4(octets) => put_v4(out, octets),
-        Ip::V6(octets) => put_hex(out, octets),
-    }
-}
-
 /// Appends a mark and octets.
 #[tactic(auto, using(crate::proofs::Appends::appending))]
 fn put_octets_line(out: &mut Vec<u8>, mark: &[u8], octets: &[u8]) -> Result<(), AllocError>
@@ -126,7 +115,7 @@ fn put_carried(out: &mut Vec<u8>, body: &UserBody) -> Result<(), AllocError>
             put(out, b"teid ")?;
             put_teid(out, *teid)?;
             put(out, b"\npeer ")?;
-            put_address(out, peer)?;
+            put_display(out, peer)?;
             put(out, b"\n")
         }
         UserBody::Notification { types } => put_octets_line(out, b"types ", types),

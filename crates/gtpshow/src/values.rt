@@ -4,9 +4,9 @@ ghost use Rattle.std.specs.Prelude.{◌≡◌, ◌++◌, OnOk, codes};
 ghost use Rattle.gtp_ie.specs.Value.{value_at, bit as bit_of};
 ghost use Rattle.gtpshow.specs.Values.{shown, body_shown, raw_shown, offending_shown, paa_shown, rates_shown, v4_shown, v6_shown, field_shown, named_shown, class_shown};
 
-use crate::text::{put, put_apn, put_digits, put_hex, put_number, put_octets, put_teid, put_v4};
+use crate::text::{put, put_digits, put_display, put_hex, put_number, put_octets, put_teid};
 use gtp_ie::{ChargingId, EbiValue, IeValue, PdnType, Pti, Rat, Recovery, Selection};
-use gtp_values::{Ambr, Apn, Cause, FTeid, Imsi, Offending, Paa, Plmn, Qos, Rates, Tft};
+use gtp_values::{Ambr, Apn, Cause, FTeid, Imsi, Ip, Offending, Paa, Plmn, Qos, Rates, Tft};
 use std::alloc::AllocError;
 
 /// A value that is shown as text.
@@ -77,14 +77,14 @@ impl Show for Selection {
 impl Show for Imsi {
     #[tactic(auto, unfolding(crate::specs::Values::shown))]
     fn show(&self, out: &mut Vec<u8>) -> Result<(), AllocError> {
-        put_digits(out, self.digits())
+        put_display(out, self)
     }
 }
 
 impl Show for Apn {
     #[tactic(auto, unfolding(crate::specs::Values::shown))]
     fn show(&self, out: &mut Vec<u8>) -> Result<(), AllocError> {
-        put_apn(out, self.octets())
+        put_display(out, self)
     }
 }
 
@@ -129,7 +129,7 @@ impl Show for Paa {
         match self {
             Paa::V4(v4) => {
                 put(out, b"ipv4 ")?;
-                put_v4(out, v4)
+                put_display(out, &Ip::V4(*v4))
             }
             Paa::V6 { prefix, address } => {
                 put_field(out, b"ipv6 ", u64::from(*prefix))?;
@@ -141,7 +141,7 @@ impl Show for Paa {
                 put(out, b" ")?;
                 put_hex(out, v6)?;
                 put(out, b" ")?;
-                put_v4(out, v4)
+                put_display(out, &Ip::V4(*v4))
             }
             Paa::Other(other) => put_field(out, b"other ", u64::from(other.number())),
         }
@@ -204,7 +204,7 @@ fn put_some_v4(out: &mut Vec<u8>, address: &Option<[u8; 4]>) -> Result<(), Alloc
         return Ok(());
     };
     put(out, b" v4 ")?;
-    put_v4(out, address)
+    put_display(out, &Ip::V4(*address))
 }
 
 /// Appends an address of version 6, where there is one.

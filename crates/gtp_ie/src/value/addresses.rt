@@ -1,6 +1,7 @@
 //! Addresses, tunnel ends and networks as elements.
 
 ghost use Rattle.std.specs.Prelude.{◌≡◌, ◌≤◌, length, take, drop};
+ghost use Rattle.std.proofs.Common.{rules};
 ghost use Rattle.gtp_ie.specs.Value.{OfPaa, OfPlmn, OfFTeid, address_text};
 
 use crate::fault::ReadFault;
@@ -37,6 +38,8 @@ impl IeValue for FTeid {
 
     ghost value = { OfFTeid };
 
+    ghost one_value = { Prim.search rules };
+
     #[tactic(auto, unfolding(crate::specs::Value::value_at))]
     fn parse(body: &[u8]) -> Result<FTeid, ReadFault> {
         let [flags, ..] = body else {
@@ -63,7 +66,7 @@ impl IeValue for FTeid {
         FTeid::try_new(*flags % 64, teid, v4, v6).map_err(|_| ReadFault::Bad)
     }
 
-    #[tactic(auto, unfolding(crate::specs::Value::text_of), using(crate::proofs::AgainAddresses::fteid_again))]
+    #[tactic(auto, unfolding(crate::specs::Value::text_of), using(crate::proofs::AgainAddresses::fteid_again, crate::proofs::FreeKinds::text_free))]
     fn write(&self, out: &mut Vec<u8>) -> Result<(), AllocError> {
         let v4 = octets_of(self.v4());
         let v6 = octets_of(self.v6());
@@ -82,6 +85,8 @@ impl IeValue for Paa {
     ghost KIND = { 79 };
 
     ghost value = { OfPaa };
+
+    ghost one_value = { Prim.search rules };
 
     #[tactic(auto, unfolding(crate::specs::Value::value_at))]
     fn parse(body: &[u8]) -> Result<Paa, ReadFault> {
@@ -108,7 +113,7 @@ impl IeValue for Paa {
         }
     }
 
-    #[tactic(auto, unfolding(crate::specs::Value::text_of), using(crate::proofs::AgainAddresses::v4_again, crate::proofs::AgainAddresses::v6_again, crate::proofs::AgainAddresses::v4v6_again, crate::proofs::AgainAddresses::other_again))]
+    #[tactic(auto, unfolding(crate::specs::Value::text_of), using(crate::proofs::AgainAddresses::v4_again, crate::proofs::AgainAddresses::v6_again, crate::proofs::AgainAddresses::v4v6_again, crate::proofs::AgainAddresses::other_again, crate::proofs::FreeKinds::text_free))]
     fn write(&self, out: &mut Vec<u8>) -> Result<(), AllocError> {
         match self {
             Paa::V4(v4) => append(out, &[&[1], v4]),
@@ -126,7 +131,9 @@ impl IeValue for Plmn {
 
     ghost value = { OfPlmn };
 
-    #[tactic(auto, unfolding(crate::specs::Value::value_at), using(crate::proofs::Read::plmn_read, crate::proofs::Read::plmn_unread))]
+    ghost one_value = { Prim.search rules };
+
+    #[tactic(auto, unfolding(crate::specs::Value::value_at), using(crate::proofs::Read::plmn_unread))]
     fn parse(body: &[u8]) -> Result<Plmn, ReadFault> {
         let [first, second, third, ..] = body else {
             return Err(ReadFault::Short);
@@ -140,7 +147,7 @@ impl IeValue for Plmn {
         }
     }
 
-    #[tactic(auto, unfolding(crate::specs::Value::text_of), using(crate::proofs::AgainAddresses::plmn_again))]
+    #[tactic(auto, unfolding(crate::specs::Value::text_of), using(crate::proofs::AgainAddresses::plmn_again, crate::proofs::FreeKinds::text_free))]
     fn write(&self, out: &mut Vec<u8>) -> Result<(), AllocError> {
         let mcc = self.mcc();
         let mnc = self.mnc();

@@ -1,5 +1,6 @@
 //! Causes as elements.
 
+ghost use Rattle.std.proofs.Common.{rules};
 ghost use Rattle.gtp_ie.specs.Value.{OfCause};
 
 use crate::fault::ReadFault;
@@ -13,6 +14,8 @@ impl IeValue for Cause {
     ghost KIND = { 2 };
 
     ghost value = { OfCause };
+
+    ghost one_value = { Prim.search rules };
 
     #[tactic(auto, unfolding(crate::specs::Value::value_at))]
     fn parse(body: &[u8]) -> Result<Cause, ReadFault> {
@@ -37,7 +40,7 @@ impl IeValue for Cause {
         })
     }
 
-    #[tactic(auto, unfolding(crate::specs::Value::text_of), using(crate::proofs::Again::cause_again))]
+    #[tactic(auto, unfolding(crate::specs::Value::text_of), using(crate::proofs::Again::cause_again, crate::proofs::FreeKinds::text_free))]
     fn write(&self, out: &mut Vec<u8>) -> Result<(), AllocError> {
         let flags = 4 * u8::from(self.pce) + 2 * u8::from(self.bce) + u8::from(self.cs);
         match self.offending {

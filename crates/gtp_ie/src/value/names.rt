@@ -1,12 +1,14 @@
 //! Names of subscribers and access points, and templates: elements whose form is the whole body.
 
 ghost use Rattle.std.specs.Prelude.{◌≡◌, ◌≤◌, ◌+◌, ◌*◌, length};
+ghost use Rattle.std.proofs.Common.{rules};
 ghost use Rattle.gtp_ie.specs.Value.{OfImsi, OfApn, OfTft};
 ghost use Rattle.gtp_values.specs.Imsi.{IsImsi};
 ghost use Rattle.gtp_ie.specs.Digits.{digits_in, packed};
 
 use crate::fault::ReadFault;
 use crate::value::IeValue;
+use crate::writing::append;
 use gtp_values::{Apn, Imsi, Octets, Tft};
 use std::alloc::AllocError;
 
@@ -51,6 +53,8 @@ impl IeValue for Imsi {
 
     ghost value = { OfImsi };
 
+    ghost one_value = { Prim.search rules };
+
     #[tactic(auto, unfolding(crate::specs::Value::value_at), using(crate::proofs::Read::imsi_read, crate::proofs::Read::imsi_unread, crate::proofs::Read::imsi_long))]
     fn parse(body: &[u8]) -> Result<Imsi, ReadFault> {
         if body.len() < 3 {
@@ -65,7 +69,7 @@ impl IeValue for Imsi {
         }
     }
 
-    #[tactic(auto, unfolding(crate::specs::Value::text_of), using(crate::proofs::AgainNames::imsi_again))]
+    #[tactic(auto, unfolding(crate::specs::Value::text_of), using(crate::proofs::AgainNames::imsi_again, crate::proofs::FreeKinds::text_free))]
     fn write(&self, out: &mut Vec<u8>) -> Result<(), AllocError> {
         out.extend_from_slice(packed_octets(self.digits()).as_slice())?;
         Ok(())
@@ -79,6 +83,8 @@ impl IeValue for Apn {
 
     ghost value = { OfApn };
 
+    ghost one_value = { Prim.search rules };
+
     #[tactic(auto, unfolding(crate::specs::Value::value_at), using(crate::proofs::Read::apn_read, crate::proofs::Read::apn_unread))]
     fn parse(body: &[u8]) -> Result<Apn, ReadFault> {
         if body.is_empty() {
@@ -90,7 +96,7 @@ impl IeValue for Apn {
         }
     }
 
-    #[tactic(auto, unfolding(crate::specs::Value::text_of), using(crate::proofs::AgainNames::apn_again))]
+    #[tactic(auto, unfolding(crate::specs::Value::text_of), using(crate::proofs::AgainNames::apn_again, crate::proofs::FreeKinds::text_free))]
     fn write(&self, out: &mut Vec<u8>) -> Result<(), AllocError> {
         out.extend_from_slice(self.octets())?;
         Ok(())
@@ -104,14 +110,15 @@ impl IeValue for Tft {
 
     ghost value = { OfTft };
 
+    ghost one_value = { Prim.search rules };
+
     #[tactic(auto, unfolding(crate::specs::Value::value_at))]
     fn parse(body: &[u8]) -> Result<Tft, ReadFault> {
         Tft::try_new(body).map_err(|_| ReadFault::Bad)
     }
 
-    #[tactic(auto, unfolding(crate::specs::Value::text_of), using(crate::proofs::AgainNames::tft_again))]
+    #[tactic(auto, unfolding(crate::specs::Value::text_of), using(crate::proofs::AgainNames::tft_again, crate::proofs::FreeKinds::text_free))]
     fn write(&self, out: &mut Vec<u8>) -> Result<(), AllocError> {
-        out.extend_from_slice(self.octets())?;
-        Ok(())
+        append(out, &[self.octets()])
     }
 }

@@ -1,5 +1,6 @@
 //! Elements that say one number.
 
+ghost use Rattle.std.proofs.Common.{rules};
 ghost use Rattle.gtp_ie.specs.Value.{OfRecovery, OfEbi, OfRat, OfChargingId, OfPdnType, OfPti, OfSelection};
 
 use crate::fault::ReadFault;
@@ -19,6 +20,8 @@ impl IeValue for Recovery {
 
     ghost value = { λ recovery. OfRecovery recovery.0.0 };
 
+    ghost one_value = { Prim.search rules };
+
     #[tactic(auto, unfolding(crate::specs::Value::value_at))]
     fn parse(body: &[u8]) -> Result<Recovery, ReadFault> {
         match body {
@@ -27,7 +30,7 @@ impl IeValue for Recovery {
         }
     }
 
-    #[tactic(auto, unfolding(crate::specs::Value::text_of), using(crate::proofs::Again::recovery_again))]
+    #[tactic(auto, unfolding(crate::specs::Value::text_of), using(crate::proofs::Again::recovery_again, crate::proofs::FreeKinds::text_free))]
     fn write(&self, out: &mut Vec<u8>) -> Result<(), AllocError> {
         out.push(self.0.0)?;
         Ok(())
@@ -45,6 +48,8 @@ impl IeValue for EbiValue {
 
     ghost value = { λ ebi. OfEbi ebi.0 };
 
+    ghost one_value = { Prim.search rules };
+
     #[tactic(auto, unfolding(crate::specs::Value::value_at))]
     fn parse(body: &[u8]) -> Result<EbiValue, ReadFault> {
         match body {
@@ -53,7 +58,7 @@ impl IeValue for EbiValue {
         }
     }
 
-    #[tactic(auto, unfolding(crate::specs::Value::text_of), using(crate::proofs::Again::ebi_again))]
+    #[tactic(auto, unfolding(crate::specs::Value::text_of), using(crate::proofs::Again::ebi_again, crate::proofs::FreeKinds::text_free))]
     fn write(&self, out: &mut Vec<u8>) -> Result<(), AllocError> {
         out.push(self.0.number())?;
         Ok(())
@@ -71,6 +76,8 @@ impl IeValue for ChargingId {
 
     ghost value = { λ id. OfChargingId id.0 };
 
+    ghost one_value = { Prim.search rules };
+
     #[tactic(auto, unfolding(crate::specs::Value::value_at))]
     fn parse(body: &[u8]) -> Result<ChargingId, ReadFault> {
         if body.len() < 4 {
@@ -79,7 +86,7 @@ impl IeValue for ChargingId {
         Ok(ChargingId(BigEndian::read_u32(body)))
     }
 
-    #[tactic(auto, unfolding(crate::specs::Value::text_of), using(crate::proofs::Again::charging_id_again))]
+    #[tactic(auto, unfolding(crate::specs::Value::text_of), using(crate::proofs::Again::charging_id_again, crate::proofs::FreeKinds::text_free))]
     fn write(&self, out: &mut Vec<u8>) -> Result<(), AllocError> {
         let number = self.0;
         let mut octets = [0u8; 4];
@@ -100,6 +107,8 @@ impl IeValue for Rat {
 
     ghost value = { λ x. OfRat x.0 };
 
+    ghost one_value = { Prim.search rules };
+
     #[tactic(auto, unfolding(crate::specs::Value::value_at))]
     fn parse(body: &[u8]) -> Result<Rat, ReadFault> {
         match body {
@@ -108,7 +117,7 @@ impl IeValue for Rat {
         }
     }
 
-    #[tactic(auto, unfolding(crate::specs::Value::text_of), using(crate::proofs::Again::rat_again))]
+    #[tactic(auto, unfolding(crate::specs::Value::text_of), using(crate::proofs::Again::rat_again, crate::proofs::FreeKinds::text_free))]
     fn write(&self, out: &mut Vec<u8>) -> Result<(), AllocError> {
         out.push(self.0)?;
         Ok(())
@@ -126,6 +135,8 @@ impl IeValue for PdnType {
 
     ghost value = { λ x. OfPdnType x.0 };
 
+    ghost one_value = { Prim.search rules };
+
     #[tactic(auto, unfolding(crate::specs::Value::value_at))]
     fn parse(body: &[u8]) -> Result<PdnType, ReadFault> {
         match body {
@@ -134,7 +145,7 @@ impl IeValue for PdnType {
         }
     }
 
-    #[tactic(auto, unfolding(crate::specs::Value::text_of), using(crate::proofs::Again::pdn_type_again))]
+    #[tactic(auto, unfolding(crate::specs::Value::text_of), using(crate::proofs::Again::pdn_type_again, crate::proofs::FreeKinds::text_free))]
     fn write(&self, out: &mut Vec<u8>) -> Result<(), AllocError> {
         out.push(self.0.number())?;
         Ok(())
@@ -152,6 +163,8 @@ impl IeValue for Pti {
 
     ghost value = { λ x. OfPti x.0 };
 
+    ghost one_value = { Prim.search rules };
+
     #[tactic(auto, unfolding(crate::specs::Value::value_at))]
     fn parse(body: &[u8]) -> Result<Pti, ReadFault> {
         match body {
@@ -160,7 +173,7 @@ impl IeValue for Pti {
         }
     }
 
-    #[tactic(auto, unfolding(crate::specs::Value::text_of), using(crate::proofs::Again::pti_again))]
+    #[tactic(auto, unfolding(crate::specs::Value::text_of), using(crate::proofs::Again::pti_again, crate::proofs::FreeKinds::text_free))]
     fn write(&self, out: &mut Vec<u8>) -> Result<(), AllocError> {
         out.push(self.0)?;
         Ok(())
@@ -178,6 +191,8 @@ impl IeValue for Selection {
 
     ghost value = { λ x. OfSelection x.0 };
 
+    ghost one_value = { Prim.search rules };
+
     #[tactic(auto, unfolding(crate::specs::Value::value_at))]
     fn parse(body: &[u8]) -> Result<Selection, ReadFault> {
         match body {
@@ -186,7 +201,7 @@ impl IeValue for Selection {
         }
     }
 
-    #[tactic(auto, unfolding(crate::specs::Value::text_of), using(crate::proofs::Again::selection_again))]
+    #[tactic(auto, unfolding(crate::specs::Value::text_of), using(crate::proofs::Again::selection_again, crate::proofs::FreeKinds::text_free))]
     fn write(&self, out: &mut Vec<u8>) -> Result<(), AllocError> {
         out.push(self.0.number())?;
         Ok(())

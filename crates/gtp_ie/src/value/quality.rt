@@ -2,6 +2,7 @@
 
 ghost use Rattle.std.specs.Prelude.{◌≡◌, ◌≤◌, ◌+◌, length, drop};
 ghost use Rattle.byteorder.specs.Endian.{big_number};
+ghost use Rattle.std.proofs.Common.{rules};
 ghost use Rattle.gtp_ie.specs.Value.{OfAmbr, OfQos, AreRates, rates_text};
 
 use crate::fault::ReadFault;
@@ -18,6 +19,8 @@ impl IeValue for Ambr {
 
     ghost value = { OfAmbr };
 
+    ghost one_value = { Prim.search rules };
+
     #[tactic(auto, unfolding(crate::specs::Value::value_at))]
     fn parse(body: &[u8]) -> Result<Ambr, ReadFault> {
         if body.len() < 8 {
@@ -29,7 +32,7 @@ impl IeValue for Ambr {
         })
     }
 
-    #[tactic(auto, unfolding(crate::specs::Value::text_of), using(crate::proofs::Again::ambr_again))]
+    #[tactic(auto, unfolding(crate::specs::Value::text_of), using(crate::proofs::Again::ambr_again, crate::proofs::FreeKinds::text_free))]
     fn write(&self, out: &mut Vec<u8>) -> Result<(), AllocError> {
         let up = self.up;
         let down = self.down;
@@ -79,6 +82,8 @@ impl IeValue for Qos {
 
     ghost value = { OfQos };
 
+    ghost one_value = { Prim.search rules };
+
     #[tactic(auto, unfolding(crate::specs::Value::value_at))]
     fn parse(body: &[u8]) -> Result<Qos, ReadFault> {
         if body.len() < 22 {
@@ -95,7 +100,7 @@ impl IeValue for Qos {
         })
     }
 
-    #[tactic(auto, unfolding(crate::specs::Value::text_of), using(crate::proofs::Again::qos_again))]
+    #[tactic(auto, unfolding(crate::specs::Value::text_of), using(crate::proofs::Again::qos_again, crate::proofs::FreeKinds::text_free))]
     fn write(&self, out: &mut Vec<u8>) -> Result<(), AllocError> {
         let flags = 64 * u8::from(self.pci) + 4 * self.pl.number() + u8::from(self.pvi);
         append(

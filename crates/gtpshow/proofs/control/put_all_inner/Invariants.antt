@@ -1,4 +1,4 @@
-use Rattle.std.proofs.Common.{◌≡◌, ◌++◌, ◌∷◌, []}
+use Rattle.std.proofs.Common.{◌≡◌, ◌++◌}
 use Rattle.std.specs.List.{flat_map}
 use Rattle.gtpshow.specs.Control.{inner_line}
 use Rattle.gtpshow.proofs.control.put_all_inner.Given as goal

@@ -1,5 +1,5 @@
 use Rattle.std.proofs.Common.{◌≡◌, ◌++◌, take}
-use Rattle.gtpshow.specs.Text.{digits_text}
+use Rattle.gtp_values.specs.Imsi.{digits_text}
 use Rattle.gtpshow.proofs.text.put_digits.Given as goal
 
 abbrev pub invariant-loop-digit : goal.invariant-loop-digit

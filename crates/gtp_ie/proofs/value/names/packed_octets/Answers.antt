@@ -1,4 +1,3 @@
-use Rattle.std.proofs.Common.{◌≤◌, length, arith, sym}
 use Rattle.gtp_ie.proofs.Packing.{pack_step}
 use Rattle.gtp_ie.proofs.value.names.packed_octets.Goals as goal
 

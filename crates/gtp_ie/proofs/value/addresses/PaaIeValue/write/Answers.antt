@@ -1,4 +1,4 @@
-use Rattle.std.proofs.Common.{◌≡◌, length, rules, sym, subst}
+use Rattle.std.proofs.Common.{rules, subst}
 use Rattle.gtp_values.specs.Paa.{IsOtherPdnType}
 use Rattle.gtp_ie.proofs.AgainAddresses.{v4v6_again, other_again}
 use Rattle.gtp_ie.proofs.value.addresses.PaaIeValue.write.Goals as goal

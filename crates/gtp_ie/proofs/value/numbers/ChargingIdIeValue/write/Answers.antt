@@ -1,4 +1,4 @@
-use Rattle.std.proofs.Common.{◌<◌, ◌^◌, rules}
+use Rattle.std.proofs.Common.{rules}
 use Rattle.gtp_ie.proofs.Again.{charging_id_again}
 use Rattle.gtp_ie.proofs.value.numbers.ChargingIdIeValue.write.Goals as goal
 

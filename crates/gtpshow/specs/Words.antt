@@ -1,0 +1,24 @@
+-- The words that the program takes.
+use Rattle.std.specs.Prelude.{Some, true, [], codes}
+use Rattle.clap.specs.Words.{App, Rule, Shape, new_rule, new_app, with_rule, with_subcommand}
+use Rattle.clap.specs.declared.builder.action.ArgAction.TheVariants.{SetTrue}
+
+-- that the datagram is of the user plane
+abbrev pub user_flag : Rule
+user_flag = record (new_rule (codes "user")) { long = Some (codes "user"); action = Some SetTrue }
+
+-- the octets of the datagram
+abbrev pub octets_word : Rule
+octets_word = record (new_rule (codes "octets")) { value_names = 1; required = true }
+
+-- to show one datagram
+abbrev pub decode_words : App
+decode_words = with_rule (with_rule (new_app (codes "decode")) user_flag) octets_word
+
+-- the program's name, which stands before a subcommand
+abbrev pub gtpshow_word : Shape
+gtpshow_word = record (new_app (codes "gtpshow")).top { subcommand_required = true }
+
+-- all of them
+abbrev pub program_words : App
+program_words = with_subcommand (record { top = gtpshow_word; subs = [] }) decode_words.top
