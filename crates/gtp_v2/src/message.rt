@@ -150,7 +150,8 @@ fn write_message(alloc: Global, message: &Message) -> Result<Vec<u8>, V2Fault>
 }
 
 /// The one text of a message: its elements in the order of its table, all spare bits 0. `TooLong`
-/// exactly where its length passes the 65,535 octets that its header can state.
+/// where its length passes the 65,535 octets that its header can state, and nowhere else; `Memory`
+/// where a growth was refused, which may come first.
 pub fn encode(alloc: Global, message: &Message) -> Result<Vec<u8>, V2Fault>
     // A priority stands in a header with a TEID alone.
     requires header { HasPlace message.now.teid message.now.priority }
