@@ -206,6 +206,79 @@ fn figures_of_addresses(rt: HostRuntime) -> Result<(), Fail> {
     Ok(())
 }
 
+/// Lengths counted by hand in the figures of TS 29.274 8.3 to 8.58.
+#[test]
+fn lengths_of_bodies(rt: HostRuntime) -> Result<(), Fail> {
+    let digits = [0, 0, 1, 0, 1, 0, 1, 2, 3, 4, 5, 6, 7, 8, 9];
+    assert_eq!(rt; Imsi::try_new(&digits)?.body_length(), 8);
+    assert_eq!(rt; Imsi::try_new(&digits[..14])?.body_length(), 7);
+    let accepted = Cause {
+        value: 16,
+        pce: false,
+        bce: false,
+        cs: false,
+        offending: None,
+    };
+    assert_eq!(rt; accepted.body_length(), 2);
+    let missing = Offending {
+        kind: 71,
+        instance: Below::new(0),
+    };
+    let refused = Cause {
+        value: 70,
+        offending: Some(missing),
+        ..accepted
+    };
+    assert_eq!(rt; refused.body_length(), 6);
+    assert_eq!(rt; Recovery(Counter(7)).body_length(), 1);
+    assert_eq!(rt; Apn::try_new(b"\x08internet")?.body_length(), 9);
+    let ambr = Ambr {
+        up: 1000,
+        down: 2000,
+    };
+    assert_eq!(rt; ambr.body_length(), 8);
+    assert_eq!(rt; EbiValue(Below::new(5)).body_length(), 1);
+    let v4 = [10, 0, 0, 1];
+    let v6 = [0x20, 1, 0xd, 0xb8, 0, 0, 0, 0, 0, 0, 0, 0, 0, 0, 0, 1];
+    assert_eq!(rt; Paa::V4(v4).body_length(), 5);
+    let paa = Paa::V6 {
+        prefix: 64,
+        address: v6,
+    };
+    assert_eq!(rt; paa.body_length(), 18);
+    let paa = Paa::V4V6 { prefix: 64, v6, v4 };
+    assert_eq!(rt; paa.body_length(), 22);
+    assert_eq!(rt; Paa::Other(OtherPdnType::try_new(5)?).body_length(), 1);
+    let rates = Rates {
+        up: Rate::new(1000),
+        down: Rate::new(2000),
+    };
+    let qos = Qos {
+        pci: true,
+        pl: Below::new(8),
+        pvi: false,
+        qci: 9,
+        mbr: rates,
+        gbr: rates,
+    };
+    assert_eq!(rt; qos.body_length(), 22);
+    assert_eq!(rt; Rat(6).body_length(), 1);
+    assert_eq!(rt; Plmn::try_new(&[3, 1, 0], &[4, 1, 0])?.body_length(), 3);
+    assert_eq!(rt; Tft::try_new(&[0x21, 0x43, 0x65])?.body_length(), 3);
+    let teid = Teid(0x01000001);
+    assert_eq!(rt; FTeid::try_new(6, teid, Some(v4), None)?.body_length(), 9);
+    assert_eq!(rt; FTeid::try_new(7, teid, None, Some(v6))?.body_length(), 21);
+    assert_eq!(rt;
+        FTeid::try_new(7, teid, Some(v4), Some(v6))?.body_length(),
+        25
+    );
+    assert_eq!(rt; ChargingId(0x01000002).body_length(), 4);
+    assert_eq!(rt; PdnType(Below::new(3)).body_length(), 1);
+    assert_eq!(rt; Pti(254).body_length(), 1);
+    assert_eq!(rt; Selection(Below::new(2)).body_length(), 1);
+    Ok(())
+}
+
 #[test]
 fn numbers(rt: HostRuntime) -> Result<(), Fail> {
     let alloc = rt.alloc();

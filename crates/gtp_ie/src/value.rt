@@ -1,6 +1,6 @@
 //! What elements say: the law of element values.
 
-ghost use Rattle.std.specs.Prelude.{◌≡◌, ◌↔◌, ℕ, ◌++◌, Ok, OnOk, OnErr, IfOk, IsOkAnd, IsErrOf};
+ghost use Rattle.std.specs.Prelude.{◌≡◌, ◌↔◌, ℕ, ◌++◌, Ok, OnOk, OnErr, IfOk, IsOkAnd, IsErrOf, length};
 ghost use Rattle.gtp_values.specs.Steps.{Gives};
 ghost use Rattle.gtp_ie.specs.Value.{Value, value_at, text_of};
 ghost use Rattle.gtp_ie.specs.Spelling.{Spells, IsShort, IsBad};
@@ -40,6 +40,10 @@ pub trait IeValue: Copy {
         ensures again { Spells KIND (text_of (value self.now)) (value self.now) }
         // So does each body that says the same: spare bits and octets behind the form are free.
         ensures free { SpellsFreely KIND (value self.now) };
+
+    /// How many octets its body has: the Length of its element (TS 29.274 8.2.1).
+    fn body_length(&self) -> usize
+        ensures { result ≡ length (text_of (value self.now)) };
 
     /// No two have one value: nothing of them is hidden from it.
     ghost one_value: { (x y : Self) → value x ≡ value y → x ≡ y };

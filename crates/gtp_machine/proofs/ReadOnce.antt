@@ -12,16 +12,18 @@ use Rattle.gtp_ie.specs.Value.{Value, OfImsi, OfCause, OfRecovery, OfApn, OfAmbr
 use Rattle.gtp_v2.specs.declared.message.Message as decoded
 use Rattle.gtp_v2.specs.declared.body.Body.{Body}
 use Rattle.gtp_v2.specs.declared.body.Body.TheVariants as bodies
-use Rattle.gtp_v2.specs.declared.session.CreateSessionRequest as session_requests
-use Rattle.gtp_v2.specs.declared.bearer.CreateBearerRequest as bearer_requests
-use Rattle.gtp_v2.specs.declared.context.SessionRequestContext.{SessionRequestContext}
-use Rattle.gtp_v2.specs.declared.context.SessionResponseContext.{SessionResponseContext}
-use Rattle.gtp_v2.specs.declared.context.BearerRequestContext.{BearerRequestContext}
-use Rattle.gtp_v2.specs.declared.context.BearerResponseContext.{BearerResponseContext}
+use Rattle.gtp_v2.specs.declared.body.create_session_request.CreateSessionRequest as session_requests
+use Rattle.gtp_v2.specs.declared.body.create_bearer_request.CreateBearerRequest as bearer_requests
+use Rattle.gtp_v2.specs.declared.body.create_session_request.SessionRequestContext.{SessionRequestContext}
+use Rattle.gtp_v2.specs.declared.body.create_session_response.SessionResponseContext.{SessionResponseContext}
+use Rattle.gtp_v2.specs.declared.body.create_bearer_request.BearerRequestContext.{BearerRequestContext}
+use Rattle.gtp_v2.specs.declared.body.create_bearer_response.BearerResponseContext.{BearerResponseContext}
 use Rattle.gtp_v2.specs.Table.{Field, Plain, Groups}
-use Rattle.gtp_v2.specs.ContextTables.{session_request_context_values, session_response_context_values, bearer_request_context_values, bearer_response_context_values, removal_response_context_values}
-use Rattle.gtp_v2.specs.SessionTables.{create_session_request_fields}
-use Rattle.gtp_v2.specs.BearerTables.{create_bearer_request_fields}
+use Rattle.gtp_v2.specs.CreateSessionRequest.{create_session_request_fields, session_request_context_values}
+use Rattle.gtp_v2.specs.CreateSessionResponse.{session_response_context_values}
+use Rattle.gtp_v2.specs.CreateBearerRequest.{create_bearer_request_fields, bearer_request_context_values}
+use Rattle.gtp_v2.specs.CreateBearerResponse.{bearer_response_context_values}
+use Rattle.gtp_v2.specs.DeleteBearerResponse.{removal_response_context_values}
 use Rattle.gtp_v2.specs.Message.{Content, Fields, Raw, Spoken}
 use Rattle.gtp_v2.specs.Body.{kind_of, content_of, spoken_of}
 use Rattle.gtp_v2.proofs.Told as control
@@ -269,7 +271,6 @@ linked_read o = optional (λ e. OfEbi e.0) number_of (λ e. e.0) (λ e. refl) o
 body_read : (header number : ℕ) (body : Body) → body_message header number body ≡ content_message (kind_of body) header number (content_of body)
 body_read header number (bodies.EchoRequest m) = refl
 body_read header number (bodies.EchoResponse m) = refl
-body_read header number (bodies.VersionNotSupported m) = refl
 body_read header number (bodies.CreateSessionRequest q) = session_request_read header number q q.contexts
 body_read header number (bodies.CreateSessionResponse a) =
     λ i. Create_session_response (record {
@@ -289,7 +290,7 @@ body_read header number (bodies.CreateBearerResponse x) = λ i. Create_bearer_re
 body_read header number (bodies.DeleteBearerRequest d) = λ i. Delete_bearer_request (record { header = header; number = number; linked = linked_read d.linked_ebi i; identities = each_read (λ e. OfEbi e.0) (λ v. unwrap_or (number_of v) 0) (λ e. e.0) (λ e. refl) d.ebis i })
 body_read header number (bodies.DeleteBearerResponse d) =
     λ i. Delete_bearer_response (record { header = header; number = number; cause = d.cause; linked = linked_read d.linked_ebi i; contexts = each_read removal_response_context_values removed removed_bearer (λ c. refl) d.contexts i; recovery = recovered d.recovery i })
-body_read header number (bodies.Other kind octets) = refl
+body_read header number other = refl
 
 -- the message of what a datagram says
 abbrev said : Spoken → Message

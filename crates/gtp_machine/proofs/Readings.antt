@@ -2,14 +2,14 @@
 use Rattle.std.proofs.Common.{◌≡◌, ◌<◌, ℕ, true, Some, List, [], ◌∷◌, length, map, refl, sym, ◌∙◌, ap, subst, arith}
 use Rattle.gtp_ie.specs.Element.{Element}
 use Rattle.gtp_ie.specs.Value.{Value}
-use Rattle.gtp_v2.specs.Table.{Field, Plain, Groups, start}
+use Rattle.gtp_v2.specs.Table.{Field, Plain, Groups, Table, start}
 use Rattle.gtp_v2.specs.Grammar.{LinesAre}
-use Rattle.gtp_v2.specs.SessionTables.{create_session_request_lines, create_session_request_fields}
-use Rattle.gtp_v2.specs.BearerTables.{create_bearer_request_lines, create_bearer_request_fields}
+use Rattle.gtp_v2.specs.CreateSessionRequest.{create_session_request, create_session_request_fields, session_request_context_values}
+use Rattle.gtp_v2.specs.CreateBearerRequest.{create_bearer_request, create_bearer_request_fields, bearer_request_context_values}
+use Rattle.gtp_v2.specs.Tables.{table_of}
 use Rattle.gtp_v2.specs.Headed.{Headed}
-use Rattle.gtp_v2.specs.Message.{Content, Fields, Raw, Spoken, Table, table_of}
+use Rattle.gtp_v2.specs.Message.{Content, Fields, Raw, Spoken}
 use Rattle.gtp_v2.specs.Body.{kind_of, content_of, spoken_of}
-use Rattle.gtp_v2.specs.ContextTables.{session_request_context_values, bearer_request_context_values}
 use Rattle.gtp_v2.specs.Datagram.{IsMessage, CarriesBy}
 use Rattle.gtp_machine.specs.Reading.{body_message, session_request_of, bearer_request_of, header_in, KeepsSubscriber, KeepsSession}
 
@@ -37,14 +37,14 @@ typed_lines kind table octets m fields has of says is =
 
 pub keeps_subscriber : KeepsSubscriber
 keeps_subscriber octets m q is of =
-    let lines = typed_lines 32 (record { has_teid = true; lines = create_session_request_lines }) octets (spoken_of m) (create_session_request_fields q) (λ h content kind c. subst (λ k. CarriesBy (table_of k) h content) kind c) (ap kind_of of) (ap content_of of) is in
+    let lines = typed_lines 32 create_session_request octets (spoken_of m) (create_session_request_fields q) (λ h content kind c. subst (λ k. CarriesBy (table_of k) h content) kind c) (ap kind_of of) (ap content_of of) is in
     let line = lines.1.1.1.1.1.1.1.1.1.1.0 in
     let some = some_context session_request_context_values q.contexts line.0 line.2 line.1.1 in
     (_, ap (λ b. body_message (header_in m.teid) m.seq b) of ∙ ap (λ contexts. session_request_of (header_in m.teid) m.seq q contexts) some.2, refl, refl)
 
 pub keeps_session : KeepsSession
 keeps_session octets m q is of =
-    let lines = typed_lines 95 (record { has_teid = true; lines = create_bearer_request_lines }) octets (spoken_of m) (create_bearer_request_fields q) (λ h content kind c. subst (λ k. CarriesBy (table_of k) h content) kind c) (ap kind_of of) (ap content_of of) is in
+    let lines = typed_lines 95 create_bearer_request octets (spoken_of m) (create_bearer_request_fields q) (λ h content kind c. subst (λ k. CarriesBy (table_of k) h content) kind c) (ap kind_of of) (ap content_of of) is in
     let line = lines.1.1.1.0 in
     let some = some_context bearer_request_context_values q.contexts line.0 line.2 line.1.1 in
     (_, ap (λ b. body_message (header_in m.teid) m.seq b) of ∙ ap (λ contexts. bearer_request_of (header_in m.teid) m.seq q contexts) some.2, refl, refl)

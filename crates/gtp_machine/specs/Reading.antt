@@ -10,17 +10,17 @@ use Rattle.gtp_ie.specs.declared.value.numbers.ChargingId.{ChargingId}
 use Rattle.gtp_v2.specs.declared.message.Message as decoded
 use Rattle.gtp_v2.specs.declared.body.Body.{Body}
 use Rattle.gtp_v2.specs.declared.body.Body.TheVariants as bodies
-use Rattle.gtp_v2.specs.declared.session.CreateSessionRequest as session_requests
-use Rattle.gtp_v2.specs.declared.bearer.CreateBearerRequest as bearer_requests
-use Rattle.gtp_v2.specs.declared.context.SessionRequestContext.{SessionRequestContext}
-use Rattle.gtp_v2.specs.declared.context.SessionResponseContext.{SessionResponseContext}
-use Rattle.gtp_v2.specs.declared.context.BearerRequestContext.{BearerRequestContext}
-use Rattle.gtp_v2.specs.declared.context.BearerResponseContext.{BearerResponseContext}
-use Rattle.gtp_v2.specs.declared.context.RemovalResponseContext.{RemovalResponseContext}
+use Rattle.gtp_v2.specs.declared.body.create_session_request.CreateSessionRequest as session_requests
+use Rattle.gtp_v2.specs.declared.body.create_bearer_request.CreateBearerRequest as bearer_requests
+use Rattle.gtp_v2.specs.declared.body.create_session_request.SessionRequestContext.{SessionRequestContext}
+use Rattle.gtp_v2.specs.declared.body.create_session_response.SessionResponseContext.{SessionResponseContext}
+use Rattle.gtp_v2.specs.declared.body.create_bearer_request.BearerRequestContext.{BearerRequestContext}
+use Rattle.gtp_v2.specs.declared.body.create_bearer_response.BearerResponseContext.{BearerResponseContext}
+use Rattle.gtp_v2.specs.declared.body.delete_bearer_response.RemovalResponseContext.{RemovalResponseContext}
 use Rattle.gtp_v2.specs.declared.fault.Head.{Head}
 use Rattle.gtp_v2.specs.declared.fault.V2Fault.{V2Fault}
 use Rattle.gtp_v2.specs.declared.fault.V2Fault.TheVariants as faults
-use Rattle.gtp_v2.specs.Body.{spoken_of}
+use Rattle.gtp_v2.specs.Body.{kind_of, spoken_of}
 use Rattle.gtp_v2.specs.Datagram.{IsMessage, IsFault}
 use Rattle.gtp_user.specs.declared.message.UserBody.{UserBody}
 use Rattle.gtp_user.specs.declared.message.UserBody.TheVariants as user_bodies
@@ -113,11 +113,10 @@ bearer_request_of header number r (first ∷ further) =
       further = map wanted_bearer further;
     })
 
--- what a control message says, by its type (6.1), under the TEID and the sequence number of its header
+-- what a control message says, by its type (6.1), under the TEID and the sequence number of its header; a type that no gateway knows says no more
 abbrev pub body_message : ℕ → ℕ → Body → Message
 body_message header number (bodies.EchoRequest m) = Echo_request (record { number = number; recovery = m.recovery.0.0 })
 body_message header number (bodies.EchoResponse m) = Echo_response (record { number = number; recovery = m.recovery.0.0 })
-body_message header number (bodies.VersionNotSupported m) = Other_control 3
 body_message header number (bodies.CreateSessionRequest q) = session_request_of header number q q.contexts
 body_message header number (bodies.CreateSessionResponse a) = Create_session_response (record { header = header; number = number; cause = a.cause; control = a.control; address = option_map address_of a.paa; ambr = a.ambr; contexts = map created_bearer a.contexts; recovery = counter_in a.recovery })
 body_message header number (bodies.DeleteSessionRequest d) = Delete_session_request (record { header = header; number = number; linked = option_map (λ e. e.0) d.linked_ebi })
@@ -126,7 +125,7 @@ body_message header number (bodies.CreateBearerRequest r) = bearer_request_of he
 body_message header number (bodies.CreateBearerResponse x) = Create_bearer_response (record { header = header; number = number; cause = x.cause; contexts = map given_bearer x.contexts; recovery = counter_in x.recovery })
 body_message header number (bodies.DeleteBearerRequest d) = Delete_bearer_request (record { header = header; number = number; linked = option_map (λ e. e.0) d.linked_ebi; identities = map (λ e. e.0) d.ebis })
 body_message header number (bodies.DeleteBearerResponse d) = Delete_bearer_response (record { header = header; number = number; cause = d.cause; linked = option_map (λ e. e.0) d.linked_ebi; contexts = map removed_bearer d.contexts; recovery = counter_in d.recovery })
-body_message header number (bodies.Other kind octets) = Other_control kind
+body_message header number other = Other_control (kind_of other)
 
 -- a control message (5.1); its priority is not looked at
 abbrev pub control_message : decoded.Message → Message

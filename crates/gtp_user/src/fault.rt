@@ -43,7 +43,7 @@ pub enum UserFault {
     #[error("no memory")]
     Memory,
     /// U11: the length passes what two octets can state.
-    #[error("a message of more than 65535 octets")]
+    #[error("the length is above 65535")]
     TooLong,
 }
 

@@ -399,7 +399,7 @@ fn faults_in_words(rt: HostRuntime) -> Result<(), Fail> {
         (UserFault::Missing { kind: 14 }, "the element 14 is missing"),
         (UserFault::Element { at: 12 }, "there is no element at 12"),
         (UserFault::Memory, "no memory"),
-        (UserFault::TooLong, "a message of more than 65535 octets"),
+        (UserFault::TooLong, "the length is above 65535"),
     ] {
         assert_eq!(rt; fault.to_string(alloc)?.as_str(), words);
     }

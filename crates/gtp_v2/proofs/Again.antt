@@ -17,7 +17,8 @@ use Rattle.gtp_v2.specs.Grammar.{Says, One, AtMostOne, RowIs, RowsAre, GroupIs, 
 use Rattle.gtp_v2.proofs.Decided.{whole_decided, lines_decided}
 use Rattle.gtp_values.proofs.Decided.{bind_at}
 use Rattle.gtp_values.specs.Steps.{◌>>=◌}
-use Rattle.gtp_v2.specs.Meets.{IsOf, Alone, AtMostAlone, RowMeets, RowsMeet, is_free, are_apart, GroupMeets, LineMeets, LinesMeet, row_of, lines_apart}
+use Rattle.gtp_v2.specs.Apart.{is_free, are_apart, row_of, lines_apart}
+use Rattle.gtp_v2.proofs.Meets.{IsOf, Alone, AtMostAlone, RowMeets, RowsMeet, GroupMeets, LineMeets, LinesMeet}
 use Rattle.gtp_v2.specs.Text.{value_text, rows_text, groups_text, several_text, line_text, lines_text}
 
 -- the body of a row's value, where it has one

@@ -1,15 +1,17 @@
 -- The text of a message spells it, where its fields meet its table.
-use Rattle.std.proofs.Common.{◌≡◌, ℕ, ◌+◌, ◌*◌, ◌/◌, ◌%◌, ◌<◌, ◌≤◌, ◌^◌, Bool, true, false, cond, ltb, ◌&&◌, List, [], ◌∷◌, length, Option, Some, None, Ok, refl, sym, ap, ◌∙◌, arith, eq-eqb}
+use Rattle.std.proofs.Common.{◌≡◌, ◌⊎◌, inl, inr, ℕ, ◌+◌, ◌*◌, ◌/◌, ◌%◌, ◌<◌, ◌≤◌, ◌^◌, Bool, true, false, cond, ◌&&◌, List, [], ◌∷◌, length, Option, Some, None, Ok, refl, subst, arith, eq-eqb}
 use Rattle.std.specs.Prelude.{◌==◌, is_some}
 use Rattle.byteorder.specs.Endian.{big_number}
 use Rattle.gtp_values.proofs.Decided.{bind_ok}
 use Rattle.gtp_ie.specs.Element.{elements_of}
 use Rattle.gtp_ie.proofs.Slots.{both}
-use Rattle.gtp_v2.specs.Table.{Row, Line, Single, Grouped, Several, start}
-use Rattle.gtp_v2.specs.Rows.{instance_of, whole, lines_at}
-use Rattle.gtp_v2.specs.Meets.{LinesMeet, are_apart, lines_apart}
+use Rattle.gtp_v2.specs.Table.{start, Table}
+use Rattle.gtp_v2.specs.Rows.{whole, lines_at}
+use Rattle.gtp_v2.specs.Apart.{lines_apart, all_fit}
+use Rattle.gtp_v2.proofs.Meets.{LinesMeet}
 use Rattle.gtp_v2.specs.Headed.{Headed, header_at}
-use Rattle.gtp_v2.specs.Message.{Table, table_of, same_flag, Content, Fields, Raw, Spoken}
+use Rattle.gtp_v2.specs.Message.{same_flag, Content, Fields, Raw, Spoken}
+use Rattle.gtp_v2.specs.Tables.{tables, table_among, table_of}
 use Rattle.gtp_v2.specs.Text.{lines_text}
 use Rattle.gtp_v2.specs.Datagram.{CarriesBy, IsMessage}
 use Rattle.gtp_v2.specs.Encoding.{carried, carried_by, three, four, headed_text, text, HeaderMeets}
@@ -44,49 +46,29 @@ header_again kind (Some teid) seq (Some p) rest m lt =
     let same : (16 * p) / 16 ≡ p = omega arith in
     rw (size_again (8 + length rest) (four teid (three seq ((16 * p) ∷ rest))) (omega arith) (omega arith), four_again teid m.0, three_again seq m.1, same) refl
 
--- all instances are below 16
-abbrev pub all_small : List Row → Bool
-all_small [] = true
-all_small (row ∷ rows) = ltb (instance_of row) 16 && all_small rows
+-- whether the lines of tables have types and instances of their own, and fit
+abbrev all_pass : List Table → Bool
+all_pass [] = true
+all_pass (table ∷ others) = (lines_apart table.lines && all_fit table.lines) && all_pass others
 
--- so are a line's, and the rows of a group are apart
-abbrev pub fits : Line → Bool
-fits (Single row) = ltb (instance_of row) 16
-fits (Grouped row rows) = ltb (instance_of row) 16 && (all_small rows && are_apart rows)
-fits (Several kind instance missed) = ltb instance 16
+-- the first of two, or the second by a test
+either_of : (b : Bool) (first table : Table) (others : Option Table) → cond b (Some first) others ≡ Some table → (first ≡ table) ⊎ (others ≡ Some table)
+either_of true first table others h = inl cc
+either_of false first table others h = inr h
 
-abbrev pub all_fit : List Line → Bool
-all_fit [] = true
-all_fit (line ∷ lines) = fits line && all_fit lines
-
--- whether the lines of a table pass a test
-abbrev passes : Option Table → Bool
-passes None = true
-passes (Some table) = lines_apart table.lines && all_fit table.lines
-
-none_some : (table : Table) → ◌≡◌ {A = Option Table} None (Some table) → ⊥
-none_some table h = cc
-
--- a table that passes, whatever a test of its kind says
-passes_by : (b : Bool) (first others : Option Table) (table : Table) → passes first ≡ true → (others ≡ Some table → passes (Some table) ≡ true) → cond b first others ≡ Some table → passes (Some table) ≡ true
-passes_by true first others table here later h = sym (ap passes h) ∙ here
-passes_by false first others table here later h = later h
+-- a table among tables that pass
+one_passes : (kind : ℕ) (all : List Table) (table : Table) → all_pass all ≡ true → table_among kind all ≡ Some table → lines_apart table.lines && all_fit table.lines ≡ true
+one_passes kind [] table pass h = absurd cc
+one_passes kind (first ∷ others) table pass h =
+    let p = both (lines_apart first.lines && all_fit first.lines) (all_pass others) pass in
+    elim (either_of (kind == first.kind) first table (table_among kind others) h) [
+      | inl is ↦ subst (λ (t : Table). lines_apart t.lines && all_fit t.lines ≡ true) is p.left
+      | inr later ↦ one_passes kind others table p.right later
+    ]
 
 -- each table passes
-tables_pass : (kind : ℕ) (table : Table) → table_of kind ≡ Some table → passes (Some table) ≡ true
-tables_pass kind table =
-    passes_by (kind == 1) _ _ table refl
-    (passes_by (kind == 2) _ _ table refl
-    (passes_by (kind == 3) _ _ table refl
-    (passes_by (kind == 32) _ _ table refl
-    (passes_by (kind == 33) _ _ table refl
-    (passes_by (kind == 36) _ _ table refl
-    (passes_by (kind == 37) _ _ table refl
-    (passes_by (kind == 95) _ _ table refl
-    (passes_by (kind == 96) _ _ table refl
-    (passes_by (kind == 99) _ _ table refl
-    (passes_by (kind == 100) _ _ table refl
-    (λ h. absurd (none_some table h))))))))))))
+tables_pass : (kind : ℕ) (table : Table) → table_of kind ≡ Some table → lines_apart table.lines && all_fit table.lines ≡ true
+tables_pass kind table h = one_passes kind tables table refl h
 
 -- each table's lines have types and instances of their own
 tables_apart : (kind : ℕ) (table : Table) → table_of kind ≡ Some table → lines_apart table.lines ≡ true

@@ -1,6 +1,7 @@
 pub mod Loop
 pub mod Decided
 pub mod Appends
+pub mod Meets
 pub mod Again
 pub mod Told
 pub mod Fronts
@@ -9,3 +10,4 @@ pub mod Marked
 pub mod MarksOf
 pub mod Headers
 pub mod Senders
+pub mod Measured

@@ -3,20 +3,27 @@ use Rattle.std.proofs.Common.{◌≡◌, ℕ, ◌<◌, ◌≤◌, ltb, Bool, tru
 use Rattle.std.specs.List.{AllByRecursion}
 use Rattle.std.proofs.lemmas.Bool.{ltb-true}
 use Rattle.std.proofs.lemmas.List.Elements.{recursion_from_All}
+use Rattle.gtp_values.proofs.Decided.{bind_ok}
+use Rattle.gtp_ie.specs.Element.{Element, elements_of}
+use Rattle.gtp_ie.specs.Octets.{AreElements}
 use Rattle.gtp_ie.specs.Text.{element_text}
 use Rattle.gtp_ie.specs.Value.{Value, text_of}
 use Rattle.gtp_ie.proofs.Slots.{both}
-use Rattle.gtp_v2.specs.Table.{Row, Mandatory, Conditional, Accepted, Optional, Line, Single, Grouped, Several, Field, Plain, Groups, State, start}
-use Rattle.gtp_v2.specs.Rows.{accepts, after, need_of, kind_of, instance_of}
-use Rattle.gtp_v2.specs.Grammar.{IsEnough}
+use Rattle.gtp_v2.specs.Table.{Row, Mandatory, Conditional, Accepted, Optional, Line, Single, Grouped, Several, Field, Plain, Groups, State, start, Table}
+use Rattle.gtp_v2.specs.Rows.{accepts, after, need_of, kind_of, instance_of, whole, lines_at}
+use Rattle.gtp_v2.specs.Grammar.{IsEnough, LinesAre}
 use Rattle.gtp_v2.specs.Text.{value_text, rows_text, groups_text, several_text, line_text, lines_text}
-use Rattle.gtp_v2.specs.Meets.{IsOf, Alone, AtMostAlone, RowMeets, RowsMeet, GroupMeets, LineMeets, LinesMeet, are_apart}
+use Rattle.gtp_v2.specs.Apart.{are_apart, all_small, fits, lines_apart, all_fit, is_table}
+use Rattle.gtp_v2.proofs.Meets.{IsOf, Alone, AtMostAlone, RowMeets, RowsMeet, GroupMeets, LineMeets, LinesMeet}
 use Rattle.gtp_v2.specs.Kinds.{HasKind, AtMostOneOf, RowsHaveKinds, LineHasKind, LinesHaveKinds, ContentHasKinds}
 use Rattle.gtp_v2.specs.Marks.{RowsMarked, LineMarked, LinesMarked, ContentMarked}
-use Rattle.gtp_v2.specs.Message.{Table, table_of, Content, Fields, Raw, Spoken}
+use Rattle.gtp_v2.specs.Message.{Content, Fields, Raw, Spoken}
+use Rattle.gtp_v2.specs.Tables.{table_of}
 use Rattle.gtp_v2.specs.Datagram.{IsMessage}
 use Rattle.gtp_v2.specs.Encoding.{carried, carried_by, headed_text, text, Meets}
-use Rattle.gtp_v2.proofs.Encoded.{ContentMeets, all_small, fits, all_fit, tables_fit, text_again}
+use Rattle.gtp_v2.proofs.Decided.{whole_decided, lines_decided}
+use Rattle.gtp_v2.proofs.Again.{fields_again}
+use Rattle.gtp_v2.proofs.Encoded.{ContentMeets, tables_fit, text_again}
 
 -- ---- rows
 
@@ -88,6 +95,16 @@ lines_meet state (line ∷ lines) (field ∷ fields) marked have fit short =
     let f = both (fits line) (all_fit lines) fit in
     let long = length-append (line_text line field) (lines_text lines fields) in
     (line_meets state line field marked.0 have.0 f.left (omega arith), lines_meet (after state field) lines fields marked.1 have.1 f.right (omega arith))
+
+-- ---- any table
+
+-- the text of its lines spells them
+pub lines_again : (at : ℕ) (lines : List Line) (fields : List Field) → is_table lines ≡ true → LinesHaveKinds lines fields → LinesMarked start lines fields → length (lines_text lines fields) < 65536
+    → (es : List Element) × AreElements at (lines_text lines fields) es × LinesAre start lines es fields
+lines_again at lines fields table have marked short =
+    let p = both (lines_apart lines) (all_fit lines) table in
+    let b = bind_ok (whole (elements_of at (lines_text lines fields))) (λ es. lines_at start lines es) fields (fields_again at lines fields p.left (lines_meet start lines fields marked have p.right short)) in
+    (b.0, (whole_decided at (lines_text lines fields)).ok b.0 b.1, (lines_decided start lines b.0).ok fields b.2)
 
 -- ---- messages
 

@@ -4,12 +4,13 @@ use Rattle.std.specs.List.{AllByRecursion}
 use Rattle.std.proofs.lemmas.List.Elements.{All-from_recursion}
 use Rattle.gtp_ie.specs.Element.{Element, all_of}
 use Rattle.gtp_ie.specs.Value.{Value}
-use Rattle.gtp_v2.specs.Table.{Row, Mandatory, Conditional, Accepted, Optional, Line, Single, Grouped, Several, Field, State, start}
+use Rattle.gtp_v2.specs.Table.{Row, Mandatory, Conditional, Accepted, Optional, Line, Single, Grouped, Several, Field, State, start, Table}
 use Rattle.gtp_v2.specs.Rows.{accepts, after, need_of, kind_of, instance_of}
 use Rattle.gtp_v2.specs.Grammar.{One, RowIs, RowsAre, GroupsAre, IsEnough, LineIs, LinesAre}
 use Rattle.gtp_v2.specs.Marks.{RowsMarked, LineMarked, LinesMarked, ContentMarked, MeetsMarks}
 use Rattle.gtp_v2.specs.Headed.{Headed}
-use Rattle.gtp_v2.specs.Message.{Table, table_of, Content, Spoken}
+use Rattle.gtp_v2.specs.Message.{Content, Spoken}
+use Rattle.gtp_v2.specs.Tables.{table_of}
 use Rattle.gtp_v2.specs.Datagram.{CarriesBy, IsMessage}
 
 one_there : (kind instance : ℕ) (es : List Element) (values : List Value) → One kind instance es values → 0 < length values

@@ -1,6 +1,6 @@
 -- Reading a datagram decides which message it is.
 use Rattle.std.proofs.Common.{◌≡◌, ℕ, Bool, true, false, cond, List, Option, Some, None, Result, Ok, Err, ◌⊎◌, inl, inr, refl, ap, subst, ◌∙◌}
-use Rattle.std.specs.Prelude.{is_some, IfOk, IfErr}
+use Rattle.std.specs.Prelude.{is_some, IfOk, IfErr, IsOkAnd}
 use Rattle.gtp_values.specs.Steps.{◌>>=◌}
 use Rattle.gtp_values.specs.Decides.{Decides, First_or_later}
 use Rattle.gtp_ie.specs.Element.{Element, elements_of}
@@ -13,16 +13,17 @@ use Rattle.gtp_values.specs.TunnelEnd.{TunnelEnd}
 use Rattle.gtp_ie.specs.declared.fault.IeFault.TheVariants.{Truncated}
 use Rattle.gtp_v2.specs.declared.fault.RowFault.TheVariants as row_faults
 use Rattle.gtp_v2.specs.declared.fault.Head.{Head}
-use Rattle.gtp_v2.specs.Table.{Line, Field, start}
+use Rattle.gtp_v2.specs.Table.{Line, Field, start, Table}
 use Rattle.gtp_v2.specs.Rows.{whole, lines_at}
 use Rattle.gtp_v2.specs.Grammar.{IsCutShort, LinesAre, LinesFail}
 use Rattle.gtp_v2.specs.Headed.{Headed, header_at}
 use Rattle.gtp_v2.specs.Header.{IsHeaded, HeaderFails}
 use Rattle.gtp_v2.proofs.Headers.{header_decided}
-use Rattle.gtp_v2.specs.Message.{Table, table_of, same_flag, head_of, with_head, sender_of, told, typed_at, by_table, content_at, Content, Fields, Raw, Spoken, spoken, message_at, FaultIs, MessageGives}
+use Rattle.gtp_v2.specs.Message.{same_flag, head_of, with_head, sender_of, told, typed_at, by_table, content_at, Content, Fields, Raw, Spoken, spoken, message_at, FaultIs, MessageGives, MessageGrows}
+use Rattle.gtp_v2.specs.Tables.{table_of}
 use Rattle.gtp_v2.specs.Marks.{MeetsMarks}
 use Rattle.gtp_v2.proofs.MarksOf.{message_marked}
-use Rattle.gtp_v2.specs.Datagram.{FieldsAre, ListFails, FieldsFail, CarriesBy, FailsBy, IsMessage, IsFault}
+use Rattle.gtp_v2.specs.Datagram.{FieldsAre, ListFails, FieldsFail, CarriesBy, FailsBy, IsMessage, IsFault, MayGrow}
 use Rattle.gtp_v2.proofs.Decided.{whole_decided, lines_decided}
 use Rattle.gtp_v2.proofs.Senders.{sender_is, sender_only}
 
@@ -93,34 +94,61 @@ message_decided octets =
 -- ---- what a caller of decode is told
 
 -- what is answered is a message that the octets spell
-pub answers_ok : {X : Type 0} (view : X → Spoken) (r : Result X V2Fault) (octets : List ℕ) → MessageGives view r (message_at octets) → IfOk r (λ m. IsMessage octets (view m))
+pub answers_ok : {X : Type 0} (view : X → Spoken) (r : Result X V2Fault) (octets : List ℕ) → MessageGives MessageGrows view r (message_at octets) → IfOk r (λ m. IsMessage octets (view m))
 answers_ok view (Ok x) octets h = (message_decided octets).ok (view x) h
 answers_ok view (Err f) octets h = tt
 
 -- and it meets the marks of its table
-pub answers_marked : {X : Type 0} (view : X → Spoken) (r : Result X V2Fault) (octets : List ℕ) → MessageGives view r (message_at octets) → IfOk r (λ m. MeetsMarks (view m))
+pub answers_marked : {X : Type 0} (view : X → Spoken) (r : Result X V2Fault) (octets : List ℕ) → MessageGives MessageGrows view r (message_at octets) → IfOk r (λ m. MeetsMarks (view m))
 answers_marked view (Ok x) octets h = message_marked octets (view x) ((message_decided octets).ok (view x) h)
 answers_marked view (Err f) octets h = tt
 
+-- want of memory, for a message for which memory grows, or the fault that the octets have
+fault_told : (f : V2Fault) (octets : List ℕ) → FaultIs MessageGrows f (message_at octets) → ((f ≡ faults.Memory) × MayGrow octets) ⊎ (message_at octets ≡ Err f)
+fault_told faults.Memory octets h = by_reading (message_at octets) refl h where
+  by_reading : (r : Result Spoken V2Fault) → message_at octets ≡ r → IsOkAnd r MessageGrows → ((faults.Memory ≡ faults.Memory) × MayGrow octets) ⊎ (message_at octets ≡ Err faults.Memory)
+  by_reading (Ok m) e h = inl (refl, (m, (message_decided octets).ok m e, h))
+  by_reading (Err f) e h = absurd h
+fault_told (faults.Short n) octets h = inr h
+fault_told (faults.Version n) octets h = inr h
+fault_told faults.Piggyback octets h = inr h
+fault_told (faults.Length a b) octets h = inr h
+fault_told (faults.FlagT n) octets h = inr h
+fault_told faults.TooLong octets h = inr h
+fault_told (faults.Missing a b c d) octets h = inr h
+fault_told (faults.Element a b) octets h = inr h
+
 -- a fault is the first one, or want of memory
-pub answers_fault : {X : Type 0} (view : X → Spoken) (r : Result X V2Fault) (octets : List ℕ) → MessageGives view r (message_at octets) → IfErr r (λ f. (f ≡ faults.Memory) ⊎ IsFault octets f)
+pub answers_fault : {X : Type 0} (view : X → Spoken) (r : Result X V2Fault) (octets : List ℕ) → MessageGives MessageGrows view r (message_at octets) → IfErr r (λ f. (f ≡ faults.Memory) ⊎ IsFault octets f)
 answers_fault view (Ok x) octets h = tt
-answers_fault view (Err f) octets h = by_fault f h where
-  by_fault : (f : V2Fault) → FaultIs f (message_at octets) → (f ≡ faults.Memory) ⊎ IsFault octets f
-  by_fault faults.Memory h = inl refl
-  by_fault (faults.Short n) h = inr ((message_decided octets).err (faults.Short n) h)
-  by_fault (faults.Version n) h = inr ((message_decided octets).err (faults.Version n) h)
-  by_fault faults.Piggyback h = inr ((message_decided octets).err faults.Piggyback h)
-  by_fault (faults.Length a b) h = inr ((message_decided octets).err (faults.Length a b) h)
-  by_fault (faults.FlagT n) h = inr ((message_decided octets).err (faults.FlagT n) h)
-  by_fault faults.TooLong h = inr ((message_decided octets).err faults.TooLong h)
-  by_fault (faults.Missing a b c d) h = inr ((message_decided octets).err (faults.Missing a b c d) h)
-  by_fault (faults.Element a b) h = inr ((message_decided octets).err (faults.Element a b) h)
+answers_fault view (Err f) octets h = elim (fault_told f octets h) [ inl p ↦ inl p.0 | inr e ↦ inr ((message_decided octets).err f e) ]
+
+-- memory is wanting where it grows for a message
+pub answers_memory : {X : Type 0} (view : X → Spoken) (r : Result X V2Fault) (octets : List ℕ) → MessageGives MessageGrows view r (message_at octets) → r ≡ Err faults.Memory → MayGrow octets
+answers_memory view r octets h wanting = by_reading (message_at octets) refl (subst (λ (o : Result _ V2Fault). MessageGives MessageGrows view o (message_at octets)) wanting h) where
+  by_reading : (o : Result Spoken V2Fault) → message_at octets ≡ o → IsOkAnd o MessageGrows → MayGrow octets
+  by_reading (Ok m) e h = (m, (message_decided octets).ok m e, h)
+  by_reading (Err f) e h = absurd h
 
 -- what the octets spell is answered, unless memory runs out
-pub answers_only : {X : Type 0} (view : X → Spoken) (r : Result X V2Fault) (octets : List ℕ) → MessageGives view r (message_at octets) → (m : Spoken) → IsMessage octets m → MessageGives view r (Ok m)
-answers_only view r octets h m is = subst (MessageGives view r) ((message_decided octets).is m is) h
+pub answers_only : {X : Type 0} (view : X → Spoken) (r : Result X V2Fault) (octets : List ℕ) → MessageGives MessageGrows view r (message_at octets) → (m : Spoken) → IsMessage octets m → MessageGives MessageGrows view r (Ok m)
+answers_only view r octets h m is = subst (MessageGives MessageGrows view r) ((message_decided octets).is m is) h
 
--- and so is their first fault
-pub answers_first : {X : Type 0} (view : X → Spoken) (r : Result X V2Fault) (octets : List ℕ) → MessageGives view r (message_at octets) → (f : V2Fault) → IsFault octets f → MessageGives view r (Err f)
-answers_first view r octets h f is = subst (MessageGives view r) ((message_decided octets).fails f is) h
+-- and so is their first fault, whether or not there is memory
+first_fault : (g f : V2Fault) → FaultIs MessageGrows g (Err f) → g ≡ f
+first_fault faults.Memory f h = absurd h
+first_fault (faults.Short n) f h = cc
+first_fault (faults.Version n) f h = cc
+first_fault faults.Piggyback f h = cc
+first_fault (faults.Length a b) f h = cc
+first_fault (faults.FlagT n) f h = cc
+first_fault faults.TooLong f h = cc
+first_fault (faults.Missing a b c d) f h = cc
+first_fault (faults.Element a b) f h = cc
+
+fault_told_first : {X : Type 0} (view : X → Spoken) (r : Result X V2Fault) (f : V2Fault) → MessageGives MessageGrows view r (Err f) → r ≡ Err f
+fault_told_first view (Ok x) f h = absurd cc
+fault_told_first view (Err g) f h = ap (λ (e : V2Fault). Err e) (first_fault g f h)
+
+pub answers_first : {X : Type 0} (view : X → Spoken) (r : Result X V2Fault) (octets : List ℕ) → MessageGives MessageGrows view r (message_at octets) → (f : V2Fault) → IsFault octets f → r ≡ Err f
+answers_first view r octets h f is = fault_told_first view r f (subst (MessageGives MessageGrows view r) ((message_decided octets).fails f is) h)

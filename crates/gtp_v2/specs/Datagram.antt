@@ -9,11 +9,12 @@ use Rattle.gtp_values.specs.TunnelEnd.{TunnelEnd}
 use Rattle.gtp_v2.specs.declared.fault.RowFault.{RowFault}
 use Rattle.gtp_v2.specs.declared.fault.V2Fault.{V2Fault}
 use Rattle.gtp_v2.specs.declared.fault.V2Fault.TheVariants as faults
-use Rattle.gtp_v2.specs.Table.{Line, Field, start, has_list}
+use Rattle.gtp_v2.specs.Table.{Line, Field, start, Table}
 use Rattle.gtp_v2.specs.Grammar.{Says, SaysNothing, LinesAre, LinesFail}
 use Rattle.gtp_v2.specs.Headed.{Headed}
 use Rattle.gtp_v2.specs.Header.{IsHeaded, HeaderFails}
-use Rattle.gtp_v2.specs.Message.{Table, table_of, same_flag, head_of, with_head, Content, Fields, Raw, Spoken, spoken}
+use Rattle.gtp_v2.specs.Message.{same_flag, head_of, with_head, Content, Fields, Raw, Spoken, spoken, MessageGrows}
+use Rattle.gtp_v2.specs.Tables.{table_of}
 
 -- the octets after the header are elements that give the lines these fields
 abbrev pub FieldsAre : List Line → Headed → List Field → Type 0
@@ -56,10 +57,6 @@ IsMessage octets m = (h : Headed) × IsHeaded octets h × ((content : Content) �
 abbrev pub IsFault : List ℕ → V2Fault → Type 0
 IsFault octets = First_or_later (IsHeaded octets) (HeaderFails octets) (λ h. FailsBy (table_of h.kind) h)
 
--- reading may take memory: behind a header of the right form and a whole list of elements, for a table with a list; and where octets are kept
-abbrev pub MayGrowBy : Option Table → Headed → Type 0
-MayGrowBy None h = Unit {0}
-MayGrowBy (Some table) h = (same_flag (is_some h.teid) table.has_teid ≡ true) × ((es : List Element) × AreElements h.at h.rest es) × (has_list table.lines ≡ true)
-
+-- a message for which memory grows: a list in it has a member, or its octets are kept
 abbrev pub MayGrow : List ℕ → Type 0
-MayGrow octets = (h : Headed) × IsHeaded octets h × MayGrowBy (table_of h.kind) h
+MayGrow octets = (m : Spoken) × IsMessage octets m × MessageGrows m

@@ -2,7 +2,9 @@
 use Rattle.std.specs.Prelude.{ℕ, ◌+◌, ◌*◌, ◌/◌, ◌%◌, ◌<◌, ◌≤◌, ◌^◌, List, [], ◌∷◌, length, Option, Some, None}
 use Rattle.gtp_v2.specs.Kinds.{ContentHasKinds}
 use Rattle.gtp_v2.specs.Marks.{MeetsMarks}
-use Rattle.gtp_v2.specs.Message.{Table, table_of, Content, Fields, Raw, Spoken}
+use Rattle.gtp_v2.specs.Message.{Content, Fields, Raw, Spoken}
+use Rattle.gtp_v2.specs.Table.{Table}
+use Rattle.gtp_v2.specs.Tables.{table_of}
 use Rattle.gtp_v2.specs.Text.{lines_text}
 
 -- the octets of what a message carries

@@ -2,9 +2,9 @@
 use Rattle.std.specs.Prelude.{ℕ, List, [], ◌∷◌, Option, Some, None, All}
 use Rattle.gtp_ie.specs.Value.{Value, text_of}
 use Rattle.gtp_ie.specs.Spelling.{Spells}
-use Rattle.gtp_v2.specs.Table.{Row, Line, Single, Grouped, Several, Field, Plain, Groups}
+use Rattle.gtp_v2.specs.Table.{Row, Line, Single, Grouped, Several, Field, Plain, Groups, Table}
 use Rattle.gtp_v2.specs.Rows.{kind_of}
-use Rattle.gtp_v2.specs.Message.{Table, Content, Fields, Raw}
+use Rattle.gtp_v2.specs.Message.{Content, Fields, Raw}
 
 -- a value of a type of element: its text spells it
 abbrev pub HasKind : ℕ → Value → Type 0

@@ -1,5 +1,5 @@
 -- What a datagram says, or its first fault.
-use Rattle.std.specs.Prelude.{◌≡◌, ℕ, Bool, List, Option, Some, None, option_map, is_some, not, Result, Ok, Err, true, false, ◌==◌, if◌then◌else◌}
+use Rattle.std.specs.Prelude.{◌≡◌, ◌<◌, length, IsOkAnd, ℕ, Bool, List, Option, Some, None, option_map, is_some, not, Result, Ok, Err, true, false, ◌==◌, if◌then◌else◌}
 use Rattle.gtp_values.specs.Steps.{◌>>=◌}
 use Rattle.gtp_ie.specs.Element.{Element, elements_of}
 use Rattle.gtp_ie.specs.Value.{Value, OfFTeid}
@@ -9,12 +9,10 @@ use Rattle.gtp_v2.specs.declared.fault.RowFault.{RowFault}
 use Rattle.gtp_v2.specs.declared.fault.RowFault.TheVariants as row_faults
 use Rattle.gtp_v2.specs.declared.fault.V2Fault.{V2Fault}
 use Rattle.gtp_v2.specs.declared.fault.V2Fault.TheVariants as faults
-use Rattle.gtp_v2.specs.Table.{Line, Field, start}
+use Rattle.gtp_v2.specs.Table.{Line, Field, Table, start, grows}
 use Rattle.gtp_v2.specs.Rows.{whole, optional_at, lines_at}
 use Rattle.gtp_v2.specs.Headed.{Headed, header_at}
-use Rattle.gtp_v2.specs.EchoTables.{echo_lines, version_not_supported_lines}
-use Rattle.gtp_v2.specs.SessionTables.{create_session_request_lines, create_session_response_lines, delete_session_request_lines, delete_session_response_lines}
-use Rattle.gtp_v2.specs.BearerTables.{create_bearer_request_lines, create_bearer_response_lines, delete_bearer_request_lines, delete_bearer_response_lines}
+use Rattle.gtp_v2.specs.Tables.{table_of}
 
 -- what a fault in an element tells of the message
 abbrev pub head_of : Headed → Option TunnelEnd → Head
@@ -56,6 +54,11 @@ pub data Content : Type 0 where
   Fields : List Field → Content
   Raw : List ℕ → Content
 
+-- the octets, where they are kept
+abbrev pub raw_of : Content → Option (List ℕ)
+raw_of (Fields fields) = None
+raw_of (Raw octets) = Some octets
+
 -- a message, without how it is kept
 pub record Spoken : Type 0 where
   pub kind : ℕ
@@ -64,36 +67,24 @@ pub record Spoken : Type 0 where
   pub priority : Option ℕ
   pub content : Content
 
--- want of memory, or this fault
-abbrev pub FaultIs : {Y : Type 0} → V2Fault → Result Y V2Fault → Type 0
-FaultIs faults.Memory outcome = Unit {0}
-FaultIs fault outcome = outcome ≡ Err fault
+-- want of memory, where the outcome would be something for which memory grows; or the outcome is this fault
+abbrev pub FaultIs : {Y : Type 0} → (Y → Type 0) → V2Fault → Result Y V2Fault → Type 0
+FaultIs Grows faults.Memory outcome = IsOkAnd outcome Grows
+FaultIs Grows fault outcome = outcome ≡ Err fault
 
 -- the outcome of a call, its value seen by view, is this one, unless memory ran out
-abbrev pub MessageGives : {X Y : Type 0} → (X → Y) → Result X V2Fault → Result Y V2Fault → Type 0
-MessageGives view (Ok x) outcome = outcome ≡ Ok (view x)
-MessageGives view (Err fault) outcome = FaultIs fault outcome
+abbrev pub MessageGives : {X Y : Type 0} → (Y → Type 0) → (X → Y) → Result X V2Fault → Result Y V2Fault → Type 0
+MessageGives Grows view (Ok x) outcome = outcome ≡ Ok (view x)
+MessageGives Grows view (Err fault) outcome = FaultIs Grows fault outcome
 
--- a kind's form of header and its lines
-pub record Table : Type 0 where
-  pub has_teid : Bool
-  pub lines : List Line
+-- memory grows for a list that has a member, and for octets that are kept
+abbrev pub ContentGrows : Option Table → Content → Type 0
+ContentGrows (Some table) (Fields fields) = grows table.lines fields ≡ true
+ContentGrows None (Raw octets) = 0 < length octets
+ContentGrows table content = ⊥
 
--- the table of a kind that has one (TS 29.274 6.1)
-abbrev pub table_of : ℕ → Option Table
-table_of kind =
-    if kind == 1 then Some (record { has_teid = false; lines = echo_lines })
-    else (if kind == 2 then Some (record { has_teid = false; lines = echo_lines })
-    else (if kind == 3 then Some (record { has_teid = false; lines = version_not_supported_lines })
-    else (if kind == 32 then Some (record { has_teid = true; lines = create_session_request_lines })
-    else (if kind == 33 then Some (record { has_teid = true; lines = create_session_response_lines })
-    else (if kind == 36 then Some (record { has_teid = true; lines = delete_session_request_lines })
-    else (if kind == 37 then Some (record { has_teid = true; lines = delete_session_response_lines })
-    else (if kind == 95 then Some (record { has_teid = true; lines = create_bearer_request_lines })
-    else (if kind == 96 then Some (record { has_teid = true; lines = create_bearer_response_lines })
-    else (if kind == 99 then Some (record { has_teid = true; lines = delete_bearer_request_lines })
-    else (if kind == 100 then Some (record { has_teid = true; lines = delete_bearer_response_lines })
-    else None))))))))))
+abbrev pub MessageGrows : Spoken → Type 0
+MessageGrows m = ContentGrows (table_of m.kind) m.content
 
 -- what a message carries, by its kind's table
 abbrev pub by_table : Option Table → Headed → Result Content V2Fault

@@ -10,8 +10,7 @@ use Rattle.gtp_v2.specs.declared.fault.RowFault.{RowFault}
 use Rattle.gtp_v2.specs.declared.fault.RowFault.TheVariants as faults
 use Rattle.gtp_v2.specs.declared.fault.Need.{Need}
 use Rattle.gtp_v2.specs.declared.fault.Need.TheVariants as needs
-pub use Rattle.gtp_v2.specs.Table.{accepts, need_of, kind_of, instance_of, field_accepts, is_silent, after}
-use Rattle.gtp_v2.specs.Table.{Row, Mandatory, Conditional, Accepted, Optional, Line, Single, Grouped, Several, Field, Plain, Groups, State, start}
+pub use Rattle.gtp_v2.specs.Table.{accepts, need_of, kind_of, instance_of, field_accepts, is_silent, after, Row, Mandatory, Conditional, Accepted, Optional, Line, Single, Grouped, Several, Field, Plain, Groups, State, start}
 
 -- a reading, its fault named by the element's type, instance and place
 abbrev pub named : ℕ → ℕ → ℕ → Result Value ReadFault → Result Value RowFault
@@ -128,7 +127,3 @@ lines_at state (line ∷ lines) es = do
   field ← line_at state line es
   others ← lines_at (after state field) lines es
   Ok (field ∷ others)
-
--- the fields that octets at a place spell by a table
-abbrev pub fields_at : ℕ → List Line → List ℕ → Result (List Field) RowFault
-fields_at at lines octets = whole (elements_of at octets) >>= λ es. lines_at start lines es

@@ -1,5 +1,5 @@
 -- Tables of rows, and the values that rows have.
-use Rattle.std.specs.Prelude.{ℕ, Bool, true, false, ◌&&◌, List, [], ◌∷◌}
+use Rattle.std.specs.Prelude.{ℕ, Bool, true, false, ◌&&◌, ◌||◌, not, List, [], ◌∷◌}
 use Rattle.gtp_values.specs.Cause.{is_accepting_value}
 use Rattle.gtp_ie.specs.Value.{Value, OfCause}
 use Rattle.gtp_v2.specs.declared.fault.Need.{Need}
@@ -13,8 +13,9 @@ pub data Row : Type 0 where
   Accepted : ℕ → ℕ → Row
   Optional : ℕ → ℕ → Row
 
--- a line of a message's table: a row, a row of groups with the rows in each, or a row of any number of values, of which there
--- is one where nothing stands before it, or else the element of its type and another instance is missing
+-- a line of a message's table: a row; a row of groups, with the rows in each; or all values of a type and an instance. Of
+-- these there is at least one where the lines before have no value, and else the element of the type and the third number
+-- is missing
 pub data Line : Type 0 where
   Single : Row → Line
   Grouped : Row → List Row → Line
@@ -25,13 +26,6 @@ pub data Field : Type 0 where
   Plain : List Value → Field
   Groups : List (List (List Value)) → Field
 
--- some line has groups or several values, for which a list is grown
-abbrev pub has_list : List Line → Bool
-has_list [] = false
-has_list (Single row ∷ lines) = has_list lines
-has_list (Grouped row rows ∷ lines) = true
-has_list (Several kind instance missed ∷ lines) = true
-
 -- what the lines so far say: whether each cause accepts, and whether none has a value
 pub record State : Type 0 where
   pub accepting : Bool
@@ -41,7 +35,7 @@ pub record State : Type 0 where
 abbrev pub start : State
 start = record { accepting = true; silent = true }
 
--- a cause accepts from 16 to 63, and all else does
+-- a cause accepts from 16 to 63; what is no cause changes nothing
 abbrev pub accepts : List Value → Bool
 accepts (OfCause c ∷ values) = is_accepting_value c.value
 accepts values = true
@@ -57,6 +51,17 @@ is_silent (Plain []) = true
 is_silent (Plain (v ∷ values)) = false
 is_silent (Groups []) = true
 is_silent (Groups (group ∷ groups)) = false
+
+-- groups, or several values: a list is kept of them
+abbrev pub is_list : Line → Bool
+is_list (Single row) = false
+is_list (Grouped row rows) = true
+is_list (Several kind instance missed) = true
+
+-- some list has a member, for which it grows
+abbrev pub grows : List Line → List Field → Bool
+grows (line ∷ lines) (field ∷ fields) = (is_list line && not (is_silent field)) || grows lines fields
+grows lines fields = false
 
 -- what the lines say, with one more
 abbrev pub after : State → Field → State
@@ -81,3 +86,10 @@ instance_of (Mandatory kind instance) = instance
 instance_of (Conditional kind instance) = instance
 instance_of (Accepted kind instance) = instance
 instance_of (Optional kind instance) = instance
+
+-- a kind of message: its type, its name, whether its header has a TEID, and its lines
+pub record Table : Type 0 where
+  pub kind : ℕ
+  pub name : List ℕ
+  pub has_teid : Bool
+  pub lines : List Line

@@ -1,24 +1,43 @@
-//! What messages say.
+//! What messages say, and the list of their kinds.
 
-ghost use Rattle.std.specs.Prelude.{◌≡◌, ◌++◌, Err, OnOk, IfOk};
-ghost use Rattle.gtp_v2.specs.Datagram.{MayGrowBy};
-ghost use Rattle.gtp_v2.specs.Message.{table_of, MessageGives, content_at};
-ghost use Rattle.gtp_v2.specs.Body.{content_of, kind_of, HasFreeKind};
+ghost use Rattle.std.specs.Prelude.{◌≡◌, ◌↔◌, ◌++◌, length, true, ℕ, Option, None, is_some, option_map, OnOk, IfOk};
+ghost use Rattle.gtp_v2.specs.Tables.{table_of};
+ghost use Rattle.gtp_v2.specs.Message.{MessageGives, ContentGrows, content_at, raw_of};
+ghost use Rattle.gtp_v2.specs.Body.{content_of, kind_of, KindFits};
 ghost use Rattle.gtp_v2.specs.Encoding.{carried_by};
+ghost use Rattle.gtp_v2.specs.Room.{Leaves};
+ghost use Rattle.gtp_v2.specs.Marks.{ContentMarked};
 ghost use Rattle.gtp_v2.specs.Kinds.{ContentHasKinds};
 ghost use Rattle.gtp_v2.specs.Headed.{headed_of};
 
-use crate::bearer::{
-    CreateBearerRequest, CreateBearerResponse, DeleteBearerRequest, DeleteBearerResponse,
-};
-use crate::echo::{EchoRequest, EchoResponse, VersionNotSupported};
 use crate::fault::V2Fault;
 use crate::header::Header;
-use crate::session::{
-    CreateSessionRequest, CreateSessionResponse, DeleteSessionRequest, DeleteSessionResponse,
-};
 use crate::typed::{Typed, read_typed};
 use std::alloc::{AllocError, Global};
+
+mod create_bearer_request;
+mod create_bearer_response;
+mod create_session_request;
+mod create_session_response;
+mod delete_bearer_request;
+mod delete_bearer_response;
+mod delete_session_request;
+mod delete_session_response;
+mod echo_request;
+mod echo_response;
+mod version_not_supported;
+
+pub use create_bearer_request::{BearerRequestContext, CreateBearerRequest};
+pub use create_bearer_response::{BearerResponseContext, CreateBearerResponse};
+pub use create_session_request::{CreateSessionRequest, SessionRequestContext};
+pub use create_session_response::{CreateSessionResponse, SessionResponseContext};
+pub use delete_bearer_request::DeleteBearerRequest;
+pub use delete_bearer_response::{DeleteBearerResponse, RemovalResponseContext};
+pub use delete_session_request::DeleteSessionRequest;
+pub use delete_session_response::DeleteSessionResponse;
+pub use echo_request::EchoRequest;
+pub use echo_response::EchoResponse;
+pub use version_not_supported::VersionNotSupported;
 
 /// What a message says, by its type (TS 29.274 6.1).
 #[derive(Debug, Drop)]
@@ -38,107 +57,164 @@ pub enum Body {
     Other { kind: u8, octets: Vec<u8> },
 }
 
+/// Hands a macro what it is given, and then each kind of message with a table.
+macro_rules! with_kinds {
+    ($macro:ident, $($given:expr),+) => {
+        $macro!(
+            ($($given),+),
+            EchoRequest,
+            EchoResponse,
+            VersionNotSupported,
+            CreateSessionRequest,
+            CreateSessionResponse,
+            DeleteSessionRequest,
+            DeleteSessionResponse,
+            CreateBearerRequest,
+            CreateBearerResponse,
+            DeleteBearerRequest,
+            DeleteBearerResponse
+        )
+    };
+}
+
+/// The type of a body's message.
+macro_rules! kind_among {
+    (($body:expr), $($kind:ident),+) => {
+        match $body {
+            $(Body::$kind(_) => $kind::KIND,)+
+            Body::Other { kind, .. } => *kind,
+        }
+    };
+}
+
+/// The name of a type.
+macro_rules! name_among {
+    (($number:expr), $($kind:ident),+) => {{
+        $(if $number == $kind::KIND {
+            return Some($kind::name());
+        })+
+        None
+    }};
+}
+
+/// The body that stands behind a header, or the octets behind it.
+macro_rules! read_among {
+    (($alloc:expr, $header:expr), $($kind:ident),+) => {{
+        $(if $header.kind == $kind::KIND {
+            let message = read_typed::<$kind>($alloc, $header)?;
+            return Ok(Body::$kind(message));
+        })+
+        read_other($alloc, $header)
+    }};
+}
+
+/// What is left of a room behind what a body carries.
+macro_rules! room_among {
+    (($body:expr, $room:expr), $($kind:ident),+) => {
+        match $body {
+            $(Body::$kind(message) => message.room_behind($room),)+
+            Body::Other { octets, .. } => $room.checked_sub(octets.len()),
+        }
+    };
+}
+
+/// Whether a message with a TEID or without one has what its table asks.
+macro_rules! marks_among {
+    (($body:expr, $has_teid:expr), $($kind:ident),+) => {
+        match $body {
+            $(Body::$kind(message) => $has_teid == $kind::HAS_TEID && message.meets_marks(),)+
+            Body::Other { .. } => true,
+        }
+    };
+}
+
+/// Writes what a body carries.
+macro_rules! write_among {
+    (($body:expr, $out:expr), $($kind:ident),+) => {
+        match $body {
+            $(Body::$kind(message) => message.write($out)?,)+
+            Body::Other { octets, .. } => $out.extend_from_slice(octets)?,
+        }
+    };
+}
+
 impl Body {
     /// The type of the message.
     pub fn kind(&self) -> u8
         ensures { result ≡ kind_of self.now }
     {
+        with_kinds!(kind_among, self)
+    }
+
+    /// The octets of a message that is kept as octets; `None` of a message whose type has a table.
+    pub fn octets(&self) -> Option<&[u8]>
+        ensures { option_map (λ octets. octets.now) result ≡ raw_of (content_of self.now) }
+    {
         match self {
-            Body::EchoRequest(_) => 1,
-            Body::EchoResponse(_) => 2,
-            Body::VersionNotSupported(_) => 3,
-            Body::CreateSessionRequest(_) => 32,
-            Body::CreateSessionResponse(_) => 33,
-            Body::DeleteSessionRequest(_) => 36,
-            Body::DeleteSessionResponse(_) => 37,
-            Body::CreateBearerRequest(_) => 95,
-            Body::CreateBearerResponse(_) => 96,
-            Body::DeleteBearerRequest(_) => 99,
-            Body::DeleteBearerResponse(_) => 100,
-            Body::Other { kind, .. } => *kind,
+            Body::Other { octets, .. } => Some(octets.as_slice()),
+            _ => None,
         }
+    }
+}
+
+/// The name of a type of message that has a table (TS 29.274 table 6.1-1), in lower case and with
+/// hyphens: `create-session-request`.
+pub fn type_name(kind: u8) -> Option<&'static str>
+    ensures { option_map (λ name. name.now) result ≡ option_map (λ table. table.name) (table_of kind) }
+{
+    with_kinds!(name_among, kind)
+}
+
+/// A message of another type, as octets.
+#[tactic(auto, unfolding(crate::specs::Message::content_at))]
+fn read_other(alloc: Global, header: &Header) -> Result<Body, V2Fault>
+    requires { table_of header.now.kind ≡ None }
+    ensures content { MessageGives (ContentGrows (table_of header.now.kind)) content_of result (content_at (headed_of header.now)) }
+    ensures kind { IfOk result (λ body. kind_of body ≡ header.now.kind) }
+    ensures free { IfOk result KindFits }
+{
+    let kind = header.kind;
+    if header.rest.is_empty() {
+        let octets = Vec::new(alloc);
+        return Ok(Body::Other { kind, octets });
+    }
+    match Vec::from_slice(alloc, header.rest) {
+        Ok(octets) => Ok(Body::Other { kind, octets }),
+        Err(_) => Err(V2Fault::Memory),
     }
 }
 
 /// What a message says, behind its header.
 #[tactic(auto, unfolding(crate::specs::Message::content_at))]
 pub fn read_body(alloc: Global, header: &Header) -> Result<Body, V2Fault>
-    ensures content { MessageGives content_of result (content_at (headed_of header.now)) }
+    ensures content { MessageGives (ContentGrows (table_of header.now.kind)) content_of result (content_at (headed_of header.now)) }
     ensures kind { IfOk result (λ body. kind_of body ≡ header.now.kind) }
-    ensures free { IfOk result HasFreeKind }
-    ensures memory { result ≡ Err V2Fault.Memory → MayGrowBy (table_of header.now.kind) (headed_of header.now) }
+    ensures free { IfOk result KindFits }
 {
-    match header.kind {
-        1 => {
-            let message = read_typed::<EchoRequest>(alloc, header)?;
-            Ok(Body::EchoRequest(message))
-        }
-        2 => {
-            let message = read_typed::<EchoResponse>(alloc, header)?;
-            Ok(Body::EchoResponse(message))
-        }
-        3 => {
-            let message = read_typed::<VersionNotSupported>(alloc, header)?;
-            Ok(Body::VersionNotSupported(message))
-        }
-        32 => {
-            let message = read_typed::<CreateSessionRequest>(alloc, header)?;
-            Ok(Body::CreateSessionRequest(message))
-        }
-        33 => {
-            let message = read_typed::<CreateSessionResponse>(alloc, header)?;
-            Ok(Body::CreateSessionResponse(message))
-        }
-        36 => {
-            let message = read_typed::<DeleteSessionRequest>(alloc, header)?;
-            Ok(Body::DeleteSessionRequest(message))
-        }
-        37 => {
-            let message = read_typed::<DeleteSessionResponse>(alloc, header)?;
-            Ok(Body::DeleteSessionResponse(message))
-        }
-        95 => {
-            let message = read_typed::<CreateBearerRequest>(alloc, header)?;
-            Ok(Body::CreateBearerRequest(message))
-        }
-        96 => {
-            let message = read_typed::<CreateBearerResponse>(alloc, header)?;
-            Ok(Body::CreateBearerResponse(message))
-        }
-        99 => {
-            let message = read_typed::<DeleteBearerRequest>(alloc, header)?;
-            Ok(Body::DeleteBearerRequest(message))
-        }
-        100 => {
-            let message = read_typed::<DeleteBearerResponse>(alloc, header)?;
-            Ok(Body::DeleteBearerResponse(message))
-        }
-        kind => match Vec::from_slice(alloc, header.rest) {
-            Ok(octets) => Ok(Body::Other { kind, octets }),
-            Err(_) => Err(V2Fault::Memory),
-        },
-    }
+    with_kinds!(read_among, alloc, header)
+}
+
+/// What is left of a room behind what a message carries, `None` where it doesn't fit.
+pub fn room_behind(body: &Body, room: usize) -> Option<usize>
+    requires { KindFits body.now }
+    ensures { Leaves room (length (carried_by (table_of (kind_of body.now)) (content_of body.now))) result }
+{
+    with_kinds!(room_among, body, room)
+}
+
+/// Whether a TEID stands exactly where the kind has one, and what the marks of its table ask is there.
+pub fn meets_marks(body: &Body, has_teid: bool) -> bool
+    ensures { (teid : Option ℕ) → is_some teid ≡ has_teid → (result ≡ true) ↔ ContentMarked (table_of (kind_of body.now)) teid (content_of body.now) }
+{
+    with_kinds!(marks_among, body, has_teid)
 }
 
 /// Appends what a message carries.
 pub fn write_body(out: &mut Vec<u8>, body: &Body) -> Result<(), AllocError>
-    requires { HasFreeKind body.now }
+    requires { KindFits body.now }
     ensures ok { OnOk result (out.new.items ≡ out.old.items ++ carried_by (table_of (kind_of body.now)) (content_of body.now)) }
     ensures kinds { OnOk result (ContentHasKinds (table_of (kind_of body.now)) (content_of body.now)) }
 {
-    match body {
-        Body::EchoRequest(message) => message.write(out)?,
-        Body::EchoResponse(message) => message.write(out)?,
-        Body::VersionNotSupported(message) => message.write(out)?,
-        Body::CreateSessionRequest(message) => message.write(out)?,
-        Body::CreateSessionResponse(message) => message.write(out)?,
-        Body::DeleteSessionRequest(message) => message.write(out)?,
-        Body::DeleteSessionResponse(message) => message.write(out)?,
-        Body::CreateBearerRequest(message) => message.write(out)?,
-        Body::CreateBearerResponse(message) => message.write(out)?,
-        Body::DeleteBearerRequest(message) => message.write(out)?,
-        Body::DeleteBearerResponse(message) => message.write(out)?,
-        Body::Other { octets, .. } => out.extend_from_slice(octets)?,
-    }
+    with_kinds!(write_among, body, out);
     Ok(())
 }

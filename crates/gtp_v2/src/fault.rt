@@ -2,23 +2,20 @@
 
 ghost use Rattle.std.specs.Prelude.{◌≡◌};
 ghost use Rattle.gtp_v2.specs.Needs.{need_where};
-ghost use Rattle.gtp_v2.specs.declared.fault.BodyFault.TheVariants.{Memory, Row};
+ghost use Rattle.gtp_v2.specs.declared.fault.BodyFault.TheVariants.{Row};
 
 use gtp_ie::IeFault;
 use gtp_values::{Below, FTeid, Seq, Teid};
-use std::alloc::{AllocError, AllocFailed};
 use thiserror::Error;
 
 /// Why a row of a message's table has no value.
-#[derive(Debug, Drop, Error)]
+#[derive(Debug, Drop)]
 pub enum RowFault {
-    #[error("the element {kind}/{instance} is missing")]
     Missing {
         kind: u8,
         instance: u8,
         conditional: bool,
     },
-    #[error("{0}")]
     Element(IeFault),
 }
 
@@ -44,11 +41,9 @@ impl Need {
 }
 
 /// Why a message has no value.
-#[derive(Debug, Drop, Error)]
+#[derive(Debug, Drop)]
 pub enum BodyFault {
-    #[error("{0}")]
     Row(RowFault),
-    #[error("no memory")]
     Memory,
 }
 
@@ -57,22 +52,6 @@ impl From<RowFault> for BodyFault {
 
     fn from(fault: RowFault) -> BodyFault {
         BodyFault::Row(fault)
-    }
-}
-
-impl From<AllocError> for BodyFault {
-    ghost from_gives = { λ _ e. e ≡ Memory };
-
-    fn from(_e: AllocError) -> BodyFault {
-        BodyFault::Memory
-    }
-}
-
-impl<T: Drop> From<AllocFailed<T>> for BodyFault {
-    ghost from_gives = { λ _ e. e ≡ Memory };
-
-    fn from(_e: AllocFailed<T>) -> BodyFault {
-        BodyFault::Memory
     }
 }
 
@@ -138,6 +117,6 @@ pub enum V2Fault {
     #[error("no memory")]
     Memory,
     /// H9: answered by `encode` alone.
-    #[error("a message of more than 65535 octets")]
+    #[error("the length is above 65535")]
     TooLong,
 }

@@ -1,6 +1,6 @@
 //! Rows of groups.
 
-ghost use Rattle.std.specs.Prelude.{◌≡◌, ◌++◌, List, map, OnOk};
+ghost use Rattle.std.specs.Prelude.{◌≡◌, ◌↔◌, ◌++◌, true, List, map, length, OnOk};
 ghost use Rattle.gtp_v2.specs.declared.fault.RowFault.TheVariants.{Missing};
 ghost use Rattle.gtp_ie.specs.Element.{all_of};
 ghost use Rattle.gtp_ie.specs.View.{element_of};
@@ -9,13 +9,18 @@ ghost use Rattle.gtp_ie.specs.Value.{Value};
 ghost use Rattle.gtp_v2.specs.Table.{Row};
 ghost use Rattle.gtp_v2.specs.Rows.{rows_at, group_at, groups_at, some_groups};
 ghost use Rattle.gtp_v2.specs.Text.{rows_text};
+ghost use Rattle.gtp_v2.specs.Room.{Leaves};
 ghost use Rattle.gtp_v2.specs.Kinds.{RowsHaveKinds};
-ghost use Rattle.gtp_v2.specs.Outcome.{GivesOrMemory};
+ghost use Rattle.gtp_v2.specs.Marks.{RowsMarked};
+ghost use Rattle.gtp_v2.specs.Outcome.{GivesOrMemory, HasGroup};
 
 use crate::fault::{BodyFault, Need, RowFault};
 use crate::listed::Listed;
 use gtp_ie::{ElementView, Elements};
 use std::alloc::{AllocError, Global};
+
+/// The type of a bearer context's element (TS 29.274 8.28).
+pub const BEARER_CONTEXT: u8 = 93;
 
 /// A bearer context of one kind of message.
 pub trait Context: Copy {
@@ -34,6 +39,14 @@ pub trait Context: Copy {
         ensures ok { OnOk result (out.new.items ≡ out.old.items ++ rows_text rows (values self.now)) }
         // Each row has at most one value, of its type.
         ensures kinds { OnOk result (RowsHaveKinds rows (values self.now)) };
+
+    /// What is left of a room behind the elements of the rows, `None` where they don't fit.
+    fn room_behind(&self, room: usize) -> Option<usize>
+        ensures { Leaves room (length (rows_text rows (values self.now))) result };
+
+    /// Whether what the marks of its rows ask is there.
+    fn meets_marks(&self, accepting: bool) -> bool
+        ensures { (result ≡ true) ↔ RowsMarked accepting rows (values self.now) };
 }
 
 /// The context that an element holds.
@@ -53,17 +66,22 @@ fn all_contexts<C: Context>(
     accepting: bool,
     elements: &Elements,
 ) -> Result<Vec<C>, BodyFault>
-    ensures { GivesOrMemory (λ v. map C.values v.items) result (groups_at accepting C.rows (all_of 93 0 elements.now)) }
+    ensures { GivesOrMemory HasGroup (λ v. map C.values v.items) result (groups_at accepting C.rows (all_of 93 0 elements.now)) }
 {
     let mut contexts = Vec::new(alloc);
-    for view in elements.all(93, 0) {
+    let mut refused = false;
+    for view in elements.all(BEARER_CONTEXT, 0) {
         let context = context_in::<C>(accepting, &view)?;
-        contexts.push(context)?;
+        refused = refused || contexts.push(context).is_err();
+    }
+    // A context at fault comes before want of memory.
+    if refused {
+        return Err(BodyFault::Memory);
     }
     Ok(contexts)
 }
 
-/// The same, at least one where that is needed.
+/// The bearer contexts among the elements, at least one where that is needed.
 #[tactic(auto, unfolding(crate::specs::Rows::some_groups))]
 pub fn contexts<C: Context>(
     alloc: Global,
@@ -71,7 +89,7 @@ pub fn contexts<C: Context>(
     accepting: bool,
     elements: &Elements,
 ) -> Result<Listed<C>, BodyFault>
-    ensures { GivesOrMemory (λ list. map C.values list) result (some_groups need 93 0 accepting C.rows (all_of 93 0 elements.now)) }
+    ensures { GivesOrMemory HasGroup (λ list. map C.values list) result (some_groups need 93 0 accepting C.rows (all_of 93 0 elements.now)) }
 {
     let contexts = all_contexts::<C>(alloc, accepting, elements)?;
     if contexts.is_empty() {
@@ -89,7 +107,7 @@ fn missing(conditional: bool) -> RowFault
     ensures { result ≡ Missing 93 0 conditional }
 {
     RowFault::Missing {
-        kind: 93,
+        kind: BEARER_CONTEXT,
         instance: 0,
         conditional,
     }

@@ -1,38 +1,30 @@
 //! GTPv2-C messages (TS 29.274 clauses 5 to 8).
 #![tactic(auto)]
 
-mod bearer;
 mod body;
-mod context;
-mod echo;
 mod fault;
 mod groups;
 mod header;
 pub mod laws;
 mod listed;
+mod marks;
 mod message;
 mod reading;
 mod repeated;
+mod room;
 mod rows;
-mod session;
 mod typed;
 mod writing;
 
-pub use bearer::{
-    CreateBearerRequest, CreateBearerResponse, DeleteBearerRequest, DeleteBearerResponse,
+pub use body::{
+    BearerRequestContext, BearerResponseContext, Body, CreateBearerRequest, CreateBearerResponse,
+    CreateSessionRequest, CreateSessionResponse, DeleteBearerRequest, DeleteBearerResponse,
+    DeleteSessionRequest, DeleteSessionResponse, EchoRequest, EchoResponse, RemovalResponseContext,
+    SessionRequestContext, SessionResponseContext, VersionNotSupported, type_name,
 };
-pub use body::Body;
-pub use context::{
-    BearerRequestContext, BearerResponseContext, RemovalResponseContext, SessionRequestContext,
-    SessionResponseContext,
-};
-pub use echo::{EchoRequest, EchoResponse, VersionNotSupported};
 pub use fault::{Head, V2Fault};
 pub use listed::Listed;
 pub use message::{Datagram, Message, decode, encode};
-pub use session::{
-    CreateSessionRequest, CreateSessionResponse, DeleteSessionRequest, DeleteSessionResponse,
-};
 
 /// What the signatures and contracts here name of the crates below.
 pub use gtp_ie::{

@@ -1,8 +1,9 @@
 //! Messages.
 
-ghost use Rattle.std.specs.Prelude.{◌≡◌, ◌<◌, ◌^◌, Err, [], ◌∷◌, ◌++◌, ◌⊎◌, ◌↔◌, OnOk, IfOk, IfErr};
-ghost use Rattle.gtp_v2.specs.Message.{MessageGives, Spoken, message_at, table_of};
-ghost use Rattle.gtp_v2.specs.Body.{content_of, kind_of, spoken_of, HasFreeKind, Encodes};
+ghost use Rattle.std.specs.Prelude.{◌≡◌, ◌<◌, ◌^◌, Ok, Err, [], ◌∷◌, ◌++◌, ◌⊎◌, ◌↔◌, true, OnOk, IfOk, IfErr};
+ghost use Rattle.gtp_v2.specs.Message.{MessageGives, MessageGrows, Spoken, message_at};
+ghost use Rattle.gtp_v2.specs.Tables.{table_of};
+ghost use Rattle.gtp_v2.specs.Body.{content_of, kind_of, spoken_of, KindFits, Encodes};
 ghost use Rattle.gtp_v2.specs.Places.{HasPlace};
 ghost use Rattle.gtp_v2.specs.Encoding.{open_header, three, four, HeaderMeets};
 ghost use Rattle.gtp_v2.specs.Kinds.{ContentHasKinds};
@@ -10,7 +11,7 @@ ghost use Rattle.gtp_v2.specs.Marks.{MeetsMarks};
 ghost use Rattle.gtp_v2.specs.Datagram.{IsMessage, IsFault, MayGrow};
 ghost use Rattle.gtp_v2.specs.declared.fault.V2Fault.{V2Fault as AnyFault};
 
-use crate::body::{Body, read_body, write_body};
+use crate::body::{Body, meets_marks, read_body, room_behind, type_name, write_body};
 use crate::fault::V2Fault;
 use crate::reading::read_header;
 use byteorder::{BigEndian, ByteOrder};
@@ -30,6 +31,28 @@ pub struct Message {
     pub body: Body,
 }
 
+impl Message {
+    /// Whether `encode` takes it: a priority stands beside a TEID alone, and a message kept as octets is
+    /// of a type without a table.
+    pub fn is_encodable(&self) -> bool
+        ensures { (result ≡ true) ↔ (HasPlace self.now.teid self.now.priority × KindFits self.now.body) }
+    {
+        let is_free = match &self.body {
+            Body::Other { kind, .. } => type_name(*kind).is_none(),
+            _ => true,
+        };
+        (self.teid.is_some() || self.priority.is_none()) && is_free
+    }
+
+    /// Whether its text is read as this message: it has a TEID exactly where its type has one, and what
+    /// the marks of its table ask is there. Each message that `decode` answers has it.
+    pub fn meets_marks(&self) -> bool
+        ensures { (result ≡ true) ↔ MeetsMarks (spoken_of self.now) }
+    {
+        meets_marks(&self.body, self.teid.is_some())
+    }
+}
+
 /// What a datagram holds: one message.
 #[derive(Debug, Drop)]
 pub struct Datagram {
@@ -39,9 +62,8 @@ pub struct Datagram {
 /// The message that a datagram spells, by one reading.
 #[tactic(auto, unfolding(crate::specs::Message::message_at))]
 fn read_datagram(alloc: Global, octets: &[u8]) -> Result<Datagram, V2Fault>
-    ensures spoken { MessageGives (λ d. spoken_of d.message) result (message_at octets.now) }
-    ensures memory { result ≡ Err V2Fault.Memory → MayGrow octets.now }
-    ensures kind { IfOk result (λ d. HasFreeKind d.message.body) }
+    ensures spoken { MessageGives MessageGrows (λ d. spoken_of d.message) result (message_at octets.now) }
+    ensures kind { IfOk result (λ d. KindFits d.message.body) }
     ensures header { IfOk result (λ d. HasPlace d.message.teid d.message.priority) }
 {
     let header = match read_header(octets) {
@@ -63,17 +85,16 @@ pub fn decode(alloc: Global, octets: &[u8]) -> Result<Datagram, V2Fault>
     // What is answered is spelled so.
     ensures found { IfOk result (λ d. IsMessage octets.now (spoken_of d.message)) }
     // What is spelled so is answered, unless memory runs out.
-    ensures only { (m : Spoken) → IsMessage octets.now m → MessageGives (λ d. spoken_of d.message) result (Ok m) }
+    ensures only { (m : Spoken) → IsMessage octets.now m → MessageGives MessageGrows (λ d. spoken_of d.message) result (Ok m) }
+    // The first fault is answered, whether or not there is memory.
+    ensures first { (f : AnyFault) → IsFault octets.now f → result ≡ Err f }
     // A fault is the first one.
     ensures fault { IfErr result (λ f. (f ≡ V2Fault.Memory) ⊎ IsFault octets.now f) }
-    // The first fault is answered, unless memory runs out.
-    ensures first { (f : AnyFault) → IsFault octets.now f → MessageGives (λ d. spoken_of d.message) result (Err f) }
-    // Memory is wanting only where a list is grown or octets are kept: behind the header, its form and
-    // the whole list of elements.
+    // Memory is wanting only for a message, and one in which a list has a member or octets are kept.
     ensures memory { result ≡ Err V2Fault.Memory → MayGrow octets.now }
 
-    // What was decoded can be encoded, and decoded again.
-    ensures kind { IfOk result (λ d. HasFreeKind d.message.body) }
+    // What was decoded meets the conditions of `encode` and the marks of its table.
+    ensures kind { IfOk result (λ d. KindFits d.message.body) }
     ensures header { IfOk result (λ d. HasPlace d.message.teid d.message.priority) }
     ensures marks { IfOk result (λ d. MeetsMarks (spoken_of d.message)) }
 {
@@ -128,21 +149,31 @@ fn write_header(out: &mut Vec<u8>, message: &Message) -> Result<(), AllocError>
     }
 }
 
+/// The most octets that a header can state behind its first four (TS 29.274 5.5).
+const LONGEST: usize = 65535;
+
 /// The one text of a message, whose numbers and values are of its header's and its table's types.
 fn write_message(alloc: Global, message: &Message) -> Result<Vec<u8>, V2Fault>
     requires header { HasPlace message.now.teid message.now.priority }
-    requires kind { HasFreeKind message.now.body }
+    requires kind { KindFits message.now.body }
     ensures written { Encodes (spoken_of message.now) result }
-    ensures range { HeaderMeets (spoken_of message.now).teid message.now.seq message.now.priority }
+    ensures range { OnOk result (HeaderMeets (spoken_of message.now).teid message.now.seq message.now.priority) }
     ensures kinds { OnOk result (ContentHasKinds (table_of (kind_of message.now.body)) (content_of message.now.body)) }
 {
-    let mut out = Vec::new(alloc);
+    let room = if message.teid.is_some() {
+        LONGEST - 8
+    } else {
+        LONGEST - 4
+    };
+    let Some(left) = room_behind(&message.body, room) else {
+        return Err(V2Fault::TooLong);
+    };
+    let size = LONGEST - left;
+    let Ok(mut out) = Vec::with_capacity(alloc, 4 + size) else {
+        return Err(V2Fault::Memory);
+    };
     if write_header(&mut out, message).is_err() || write_body(&mut out, &message.body).is_err() {
         return Err(V2Fault::Memory);
-    }
-    let size = out.len() - 4;
-    if size > 65535 {
-        return Err(V2Fault::TooLong);
     }
     out[2] = (size / 256) as u8;
     out[3] = (size % 256) as u8;
@@ -151,12 +182,12 @@ fn write_message(alloc: Global, message: &Message) -> Result<Vec<u8>, V2Fault>
 
 /// The one text of a message: its elements in the order of its table, all spare bits 0. `TooLong`
 /// where its length passes the 65,535 octets that its header can state, and nowhere else; `Memory`
-/// where a growth was refused, which may come first.
+/// where the one growth was refused.
 pub fn encode(alloc: Global, message: &Message) -> Result<Vec<u8>, V2Fault>
     // A priority stands in a header with a TEID alone.
     requires header { HasPlace message.now.teid message.now.priority }
     // A message of a type that has a table is not kept as octets.
-    requires kind { HasFreeKind message.now.body }
+    requires kind { KindFits message.now.body }
     ensures written { Encodes (spoken_of message.now) result }
     // It is read again where the message meets the marks of its table, and nowhere else.
     ensures read_again { IfOk result (λ octets. MeetsMarks (spoken_of message.now) ↔ IsMessage octets.items (spoken_of message.now)) }

@@ -5,7 +5,7 @@ ghost use Rattle.gtp_ie.specs.Element.{all_of};
 ghost use Rattle.gtp_values.specs.Steps.{Gives};
 ghost use Rattle.gtp_ie.specs.View.{element_of};
 ghost use Rattle.gtp_v2.specs.Rows.{one_at, values_at, several_at};
-ghost use Rattle.gtp_v2.specs.Outcome.{GivesOrMemory};
+ghost use Rattle.gtp_v2.specs.Outcome.{GivesOrMemory, HasValue};
 
 use crate::fault::{BodyFault, RowFault};
 use crate::listed::Listed;
@@ -38,17 +38,23 @@ fn all_values<T: IeValue>(
     elements: &Elements,
     instance: u8,
 ) -> Result<Vec<T>, BodyFault>
-    ensures { GivesOrMemory (λ v. map T.value v.items) result (values_at T.KIND instance (all_of T.KIND instance elements.now)) }
+    ensures { GivesOrMemory HasValue (λ v. map T.value v.items) result (values_at T.KIND instance (all_of T.KIND instance elements.now)) }
 {
     let mut values = Vec::new(alloc);
+    let mut refused = false;
     for view in elements.all(T::KIND, instance) {
         let value = value_in::<T>(instance, &view)?;
-        values.push(value)?;
+        refused = refused || values.push(value).is_err();
+    }
+    // An element at fault comes before want of memory.
+    if refused {
+        return Err(BodyFault::Memory);
     }
     Ok(values)
 }
 
-/// The same; where they are needed and there is none, the element of another instance is missing.
+/// The values of the elements of the value's type and an instance; where one is needed and there is
+/// none, it is the element of the instance `missed` that is missing.
 #[tactic(auto, unfolding(crate::specs::Rows::several_at))]
 pub fn several<T: IeValue>(
     alloc: Global,
@@ -57,7 +63,7 @@ pub fn several<T: IeValue>(
     instance: u8,
     missed: u8,
 ) -> Result<Listed<T>, BodyFault>
-    ensures { GivesOrMemory (λ list. map T.value list) result (several_at needed T.KIND instance missed elements.now) }
+    ensures { GivesOrMemory HasValue (λ list. map T.value list) result (several_at needed T.KIND instance missed elements.now) }
 {
     let values = all_values::<T>(alloc, elements, instance)?;
     if needed && values.is_empty() {

@@ -27,21 +27,22 @@ pub fn needed<T: IeValue>(
     value_in(instance, &view)
 }
 
-/// The same, of a row that each message needs.
+/// The value of the first element of the value's type and an instance, of a mandatory row.
 pub fn mandatory<T: IeValue>(elements: &Elements, instance: u8) -> Result<T, RowFault>
     ensures { Gives T.value result (needed_at false T.KIND instance elements.now) }
 {
     needed(false, elements, instance)
 }
 
-/// The same, of a row that each message needs by a condition.
+/// The value of the first element of the value's type and an instance, of a conditional row.
 pub fn conditional<T: IeValue>(elements: &Elements, instance: u8) -> Result<T, RowFault>
     ensures { Gives T.value result (needed_at true T.KIND instance elements.now) }
 {
     needed(true, elements, instance)
 }
 
-/// The same, where no message needs it. An element that doesn't read counts as absent.
+/// The value of the first element of the value's type and an instance, of an optional row: an element
+/// that doesn't read counts as absent.
 #[tactic(auto, unfolding(crate::specs::Rows::optional_at))]
 pub fn optional<T: IeValue>(elements: &Elements, instance: u8) -> Option<T>
     ensures { option_map T.value result ≡ optional_at T.KIND instance elements.now }
@@ -50,7 +51,7 @@ pub fn optional<T: IeValue>(elements: &Elements, instance: u8) -> Option<T>
     T::parse(view.body).ok()
 }
 
-/// The same, where some messages need it.
+/// The value of the first element of the value's type and an instance, of a row that some messages need.
 #[tactic(auto, unfolding(crate::specs::Rows::needed_if_at))]
 pub fn needed_if<T: IeValue>(
     is_needed: bool,

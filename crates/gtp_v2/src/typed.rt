@@ -1,15 +1,17 @@
 //! Messages with a table.
 
-ghost use Rattle.std.specs.Prelude.{◌≡◌, ◌++◌, Err, Some, OnOk, Bool, ℕ, List, true};
-ghost use Rattle.gtp_v2.specs.Table.{Line, Field, start, has_list};
+ghost use Rattle.std.specs.Prelude.{◌≡◌, ◌↔◌, ◌++◌, OnOk, Bool, ℕ, List, true, length};
+ghost use Rattle.gtp_v2.specs.Table.{Line, Field, start, grows};
 ghost use Rattle.gtp_v2.specs.Rows.{lines_at};
 ghost use Rattle.gtp_v2.specs.Headed.{headed_of};
 ghost use Rattle.gtp_v2.specs.Text.{lines_text};
+ghost use Rattle.gtp_v2.specs.Room.{Leaves};
 ghost use Rattle.gtp_v2.specs.Kinds.{LinesHaveKinds};
+ghost use Rattle.gtp_v2.specs.Marks.{LinesMarked};
 ghost use Rattle.gtp_v2.specs.Outcome.{GivesOrMemory};
-ghost use Rattle.gtp_v2.specs.Datagram.{MayGrowBy};
 ghost use Rattle.gtp_v2.specs.Message.{head_of, sender_of, with_head as headed_fault, typed_at, MessageGives};
 
+use crate::body::CreateSessionRequest;
 use crate::fault::{BodyFault, Head, RowFault, V2Fault};
 use crate::header::Header;
 use crate::rows::optional;
@@ -19,10 +21,18 @@ use std::alloc::{AllocError, Global};
 
 /// A kind of message that has a table of rows.
 pub trait Typed: Drop {
+    /// Its type (TS 29.274 table 6.1-1).
+    const KIND: u8;
+
+    ghost KIND: { ℕ };
+
     /// Whether its header has a TEID.
     const HAS_TEID: bool;
 
     ghost HAS_TEID: { Bool };
+
+    /// The name of its type, in lower case and with hyphens.
+    ghost named: { List ℕ };
 
     /// The lines of its table.
     ghost lines: { List Line };
@@ -30,17 +40,27 @@ pub trait Typed: Drop {
     /// The values of the lines.
     ghost fields: { Self → List Field };
 
+    /// The name of its type (TS 29.274 table 6.1-1), in lower case and with hyphens.
+    fn name() -> &'static str
+        ensures { result.now ≡ named };
+
     /// The message that the elements spell.
     fn read(alloc: Global, elements: &Elements) -> Result<Self, BodyFault>
-        ensures found { GivesOrMemory fields result (lines_at start lines elements.now) }
-        // Only a list is grown.
-        ensures memory { result ≡ Err BodyFault.Memory → has_list lines ≡ true };
+        ensures { GivesOrMemory (λ all. grows lines all ≡ true) fields result (lines_at start lines elements.now) };
 
     /// Appends the elements of the lines.
     fn write(&self, out: &mut Vec<u8>) -> Result<(), AllocError>
         ensures ok { OnOk result (out.new.items ≡ out.old.items ++ lines_text lines (fields self.now)) }
         // The values are of the types of the table's rows.
         ensures kinds { OnOk result (LinesHaveKinds lines (fields self.now)) };
+
+    /// What is left of a room behind the elements of the lines, `None` where they don't fit.
+    fn room_behind(&self, room: usize) -> Option<usize>
+        ensures { Leaves room (length (lines_text lines (fields self.now))) result };
+
+    /// Whether what the marks of the table ask is there.
+    fn meets_marks(&self) -> bool
+        ensures { (result ≡ true) ↔ LinesMarked start lines (fields self.now) };
 }
 
 /// What is known of a message whose elements are at fault.
@@ -61,7 +81,7 @@ fn head(header: &Header, sender: Option<FTeid>) -> Head
 fn sender(kind: u8, elements: &Elements) -> Option<FTeid>
     ensures { result ≡ sender_of kind elements.now }
 {
-    if kind == 32 {
+    if kind == CreateSessionRequest::KIND {
         optional::<FTeid>(elements, 0)
     } else {
         None
@@ -90,8 +110,7 @@ fn with_head(head: Head, fault: RowFault) -> V2Fault
 /// The message behind a header.
 #[tactic(auto, unfolding(crate::specs::Message::typed_at))]
 pub fn read_typed<M: Typed>(alloc: Global, header: &Header) -> Result<M, V2Fault>
-    ensures found { MessageGives M.fields result (typed_at M.HAS_TEID M.lines (headed_of header.now)) }
-    ensures memory { result ≡ Err V2Fault.Memory → MayGrowBy (Some (record { has_teid = M.HAS_TEID; lines = M.lines })) (headed_of header.now) }
+    ensures { MessageGives (λ all. grows M.lines all ≡ true) M.fields result (typed_at M.HAS_TEID M.lines (headed_of header.now)) }
 {
     if header.teid.is_some() != M::HAS_TEID {
         return Err(V2Fault::FlagT { kind: header.kind });

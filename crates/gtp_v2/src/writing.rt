@@ -6,7 +6,7 @@ ghost use Rattle.gtp_v2.specs.Kinds.{HasKind, AtMostOneOf, RowsHaveKinds};
 ghost use Rattle.gtp_ie.specs.Text.{element_text};
 ghost use Rattle.gtp_ie.specs.Value.{text_of};
 
-use crate::groups::Context;
+use crate::groups::{BEARER_CONTEXT, Context};
 use gtp_ie::{IeValue, close, open, put_value};
 use std::alloc::AllocError;
 
@@ -43,7 +43,7 @@ fn put_context<C: Context>(out: &mut Vec<u8>, context: &C) -> Result<(), AllocEr
     ensures kinds { OnOk result (RowsHaveKinds C.rows (C.values context.now)) }
 {
     let start = out.len();
-    open(out, 93, 0)?;
+    open(out, BEARER_CONTEXT, 0)?;
     context.write(out)?;
     close(out, start);
     Ok(())

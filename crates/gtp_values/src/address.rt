@@ -58,15 +58,16 @@ impl fmt::Display for Ip {
     ghost output = { λ ip. Some (ip_text ip) };
 
     fn fmt<W: fmt::Write>(&self, f: &mut fmt::Formatter<W>) -> fmt::Result {
-        match self {
-            Ip::V4(octets) => f.write(Ipv4Addr::from(*octets)),
+        let ip = *self;
+        match ip {
+            Ip::V4(octets) => f.write(Ipv4Addr::from(octets)),
             Ip::V6(octets) => {
                 let mut digits = [0u8; 32];
-                let Ok(()) = hex::encode_to_slice(*octets, &mut digits) else {
-                    return Err(fmt::Error);
+                let Ok(()) = hex::encode_to_slice(octets, &mut digits) else {
+                    unreachable!();
                 };
                 let Ok(text) = str::from_utf8(&digits) else {
-                    return Err(fmt::Error);
+                    unreachable!();
                 };
                 f.write_str(text)
             }

@@ -3,15 +3,12 @@ use Rattle.std.proofs.Common.{◌≡◌, ℕ, ◌-◌, ◌≤◌, List, [], leng
 use Rattle.std.proofs.lemmas.List.{append-nil, take_at, length-drop}
 use Rattle.gtp_ie.specs.Element.{Element}
 use Rattle.gtp_ie.specs.Octets.{AreElements}
-use Rattle.gtp_v2.specs.Table.{Field}
+use Rattle.gtp_v2.specs.Table.{Field, Table}
+use Rattle.gtp_v2.specs.Tables.{table_of}
 use Rattle.gtp_v2.specs.Headed.{Headed}
 use Rattle.gtp_v2.specs.Header.{IsHeaded}
-use Rattle.gtp_v2.specs.Message.{Table, table_of, Fields, Spoken}
+use Rattle.gtp_v2.specs.Message.{Content, Fields, Raw, raw_of, Spoken}
 use Rattle.gtp_v2.specs.Datagram.{CarriesBy, IsMessage}
-use Rattle.std.specs.Global.{Vec}
-use Rattle.gtp_v2.specs.declared.body.Body.{Body}
-use Rattle.gtp_v2.specs.declared.body.Body.TheVariants as bodies
-use Rattle.gtp_v2.specs.Body.{content_of}
 use Rattle.gtpshow.specs.Control.{place_of}
 
 -- where the octets behind a header stand
@@ -52,20 +49,10 @@ elements_in octets m fields (h, headed, (content, carries, e)) has =
     let found = by_table (table_of h.kind) h fields (subst (CarriesBy (table_of h.kind) h) typed carries) in
     (found.0, subst (λ (n : ℕ). AreElements n (drop n octets) found.0) (sym same) (subst (λ (xs : List ℕ). AreElements h.at xs found.0) (sym b.rest) found.1))
 
--- a message of a type with a table has fields
-pub typed_fields : (b : Body) → ((kind : ℕ) (octets : Vec ℕ) → b ≡ bodies.Other kind octets → ⊥) → (fields : List Field) × (content_of b ≡ Fields fields)
-typed_fields (bodies.EchoRequest m) h = (_, refl)
-typed_fields (bodies.EchoResponse m) h = (_, refl)
-typed_fields (bodies.VersionNotSupported m) h = (_, refl)
-typed_fields (bodies.CreateSessionRequest m) h = (_, refl)
-typed_fields (bodies.CreateSessionResponse m) h = (_, refl)
-typed_fields (bodies.DeleteSessionRequest m) h = (_, refl)
-typed_fields (bodies.DeleteSessionResponse m) h = (_, refl)
-typed_fields (bodies.CreateBearerRequest m) h = (_, refl)
-typed_fields (bodies.CreateBearerResponse m) h = (_, refl)
-typed_fields (bodies.DeleteBearerRequest m) h = (_, refl)
-typed_fields (bodies.DeleteBearerResponse m) h = (_, refl)
-typed_fields (bodies.Other kind octets) h = absurd (h kind octets refl)
+-- what keeps no octets has fields
+pub fields_of : (content : Content) → raw_of content ≡ None → (fields : List Field) × (content ≡ Fields fields)
+fields_of (Fields fields) none = (fields, refl)
+fields_of (Raw octets) none = absurd cc
 
 -- the same octets as the end of a slice
 pub slice_elements : (octets : List ℕ) (n place : ℕ) (es : List Element) → place ≡ n → AreElements n (drop n octets) es → AreElements place (take (length octets - place) (drop place octets)) es

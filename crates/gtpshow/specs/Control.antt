@@ -7,6 +7,8 @@ use Rattle.gtp_ie.specs.Element.{Element, elements_of}
 use Rattle.gtp_ie.specs.Octets.{AreElements}
 use Rattle.gtp_v2.specs.declared.fault.V2Fault.{V2Fault}
 use Rattle.gtp_v2.specs.declared.fault.V2Fault.TheVariants as faults
+use Rattle.gtp_v2.specs.Table.{Table}
+use Rattle.gtp_v2.specs.Tables.{table_of}
 use Rattle.gtp_v2.specs.Message.{Content, Fields, Raw, Spoken}
 use Rattle.gtp_v2.specs.Datagram.{IsMessage, IsFault}
 use Rattle.gtpshow.specs.Text.{octets_text, teid_text}
@@ -29,21 +31,13 @@ group_shown e (Err at) = raw_shown e.body ++ codes "\n"
 abbrev pub element_lines : Element → List ℕ
 element_lines e = element_head e ++ (if e.kind == 93 then group_shown e (elements_of (e.at + 4) e.body) else (body_shown e.kind e.body ++ codes "\n"))
 
--- the name of a type of message
+-- the name of a type of message: that of its table, where it has one
+abbrev pub name_shown : Option Table → List ℕ
+name_shown None = codes "other"
+name_shown (Some table) = table.name
+
 abbrev pub message_name : ℕ → List ℕ
-message_name kind =
-    if kind == 1 then codes "echo-request"
-    else (if kind == 2 then codes "echo-response"
-    else (if kind == 3 then codes "version-not-supported"
-    else (if kind == 32 then codes "create-session-request"
-    else (if kind == 33 then codes "create-session-response"
-    else (if kind == 36 then codes "delete-session-request"
-    else (if kind == 37 then codes "delete-session-response"
-    else (if kind == 95 then codes "create-bearer-request"
-    else (if kind == 96 then codes "create-bearer-response"
-    else (if kind == 99 then codes "delete-bearer-request"
-    else (if kind == 100 then codes "delete-bearer-response"
-    else codes "other"))))))))))
+message_name kind = name_shown (table_of kind)
 
 abbrev pub teid_shown : Option ℕ → List ℕ
 teid_shown None = []

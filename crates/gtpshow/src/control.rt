@@ -10,7 +10,7 @@ ghost use Rattle.gtpshow.specs.Control.{element_head, inner_line, element_lines,
 use crate::text::{put, put_teid};
 use crate::values::{put_body, put_field, put_raw};
 use gtp_ie::{ElementView, Elements, IeFault};
-use gtp_v2::{Message, V2Fault};
+use gtp_v2::{Message, V2Fault, type_name};
 use gtp_values::{Below, Teid};
 use std::alloc::AllocError;
 
@@ -87,23 +87,10 @@ pub fn put_elements(out: &mut Vec<u8>, elements: &Elements) -> Result<(), AllocE
 }
 
 /// The name of a type of message.
-fn message_name(kind: u8) -> &'static [u8]
+fn message_name(kind: u8) -> &'static str
     ensures { result.now ≡ spec_message_name kind }
 {
-    match kind {
-        1 => b"echo-request",
-        2 => b"echo-response",
-        3 => b"version-not-supported",
-        32 => b"create-session-request",
-        33 => b"create-session-response",
-        36 => b"delete-session-request",
-        37 => b"delete-session-response",
-        95 => b"create-bearer-request",
-        96 => b"create-bearer-response",
-        99 => b"delete-bearer-request",
-        100 => b"delete-bearer-response",
-        _ => b"other",
-    }
+    type_name(kind).unwrap_or("other")
 }
 
 /// Appends a TEID, where there is one.
@@ -135,7 +122,7 @@ fn put_title(out: &mut Vec<u8>, kind: u8) -> Result<(), AllocError>
 {
     put_field(out, b"gtpv2 type ", u64::from(kind))?;
     put(out, b" ")?;
-    put(out, message_name(kind))
+    put(out, message_name(kind).as_bytes())
 }
 
 /// Appends the first line of a message.

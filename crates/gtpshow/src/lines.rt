@@ -13,7 +13,7 @@ use crate::text::put;
 use crate::user::{put_user_fault_line, put_user_message};
 use crate::values::put_raw;
 use gtp_ie::elements_at;
-use gtp_v2::{Body, Message, V2Fault, decode};
+use gtp_v2::{Message, V2Fault, decode};
 use gtp_values::{Memory, Teid};
 use std::alloc::{AllocError, Global};
 
@@ -40,11 +40,7 @@ fn put_message(out: &mut Vec<u8>, octets: &[u8], message: &Message) -> Result<()
     ensures ok { OnOk result (HasLines out.old.items octets.now (spoken_of message.now) out.new.items) }
 {
     put_head(out, message)?;
-    if let Body::Other {
-        octets: carried,
-        ..
-    } = &message.body
-    {
+    if let Some(carried) = message.body.octets() {
         put_raw(out, carried)?;
         put(out, b"\n")?;
         return Ok(());

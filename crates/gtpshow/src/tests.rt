@@ -344,7 +344,8 @@ fn whole_messages(rt: HostRuntime) -> Result<(), Fail> {
     Ok(())
 }
 
-/// Eighteen contexts in each other: one is opened, and what it holds is octets.
+/// Eighteen contexts in each other: the message's own is shown by its elements, and the one in it as
+/// octets.
 #[test]
 fn contexts_in_each_other(rt: HostRuntime) -> Result<(), Fail> {
     let alloc = rt.alloc();
@@ -352,9 +353,11 @@ fn contexts_in_each_other(rt: HostRuntime) -> Result<(), Fail> {
     for depth in 0..16u8 {
         inner = format!(in alloc; "5d00{:02x}00{inner}", 4 * depth)?;
     }
-    let digits = format!(in alloc; "400100510000010003000100075d0044005d004000{inner}")?;
+    let digits = format!(in alloc;
+        "4860006101000001000001000200020049005d004f0049000100060200020049005d004000{inner}"
+    )?;
     let lines = format!(in alloc;
-        "gtpv2 type 1 echo-request seq 1\nie 3 0 recovery 7\nie 93 0 bearer-context\n  ie 93 0 octets {inner}\n"
+        "gtpv2 type 96 create-bearer-response teid 01000001 seq 1\nie 2 0 cause 73\nie 93 0 bearer-context\n  ie 73 0 ebi 6\n  ie 2 0 cause 73\n  ie 93 0 octets {inner}\n"
     )?;
     assert!(rt; is_shown(alloc, Plane::Control, &digits, &lines, false)?);
     Ok(())

@@ -23,7 +23,8 @@ fn first<const N: usize>(octets: &[u8]) -> [u8; N]
 
 /// The octets of an address, or none.
 fn octets_of<const N: usize>(address: &Option<[u8; N]>) -> &[u8]
-    ensures { result.now ≡ address_text address.now }
+    ensures value { result.now ≡ address_text address.now }
+    ensures most { length result.now ≤ N }
 {
     match address {
         Some(octets) => octets,
@@ -77,6 +78,11 @@ impl IeValue for FTeid {
         BigEndian::write_u32(&mut teid, self.teid().0);
         append(out, &[&[flags], &teid, v4, v6])
     }
+
+    #[tactic(auto, unfolding(crate::specs::Value::text_of))]
+    fn body_length(&self) -> usize {
+        5 + octets_of(self.v4()).len() + octets_of(self.v6()).len()
+    }
 }
 
 impl IeValue for Paa {
@@ -122,6 +128,17 @@ impl IeValue for Paa {
             Paa::Other(other) => append(out, &[&[other.number()]]),
         }
     }
+
+    #[tactic(auto, unfolding(crate::specs::Value::text_of))]
+    fn body_length(&self) -> usize {
+        let paa = *self;
+        match paa {
+            Paa::V4(v4) => 1 + v4.len(),
+            Paa::V6 { address, .. } => 2 + address.len(),
+            Paa::V4V6 { v6, v4, .. } => 2 + v6.len() + v4.len(),
+            Paa::Other(_) => 1,
+        }
+    }
 }
 
 impl IeValue for Plmn {
@@ -158,5 +175,10 @@ impl IeValue for Plmn {
             16 * mnc[1] + mnc[0],
         ])?;
         Ok(())
+    }
+
+    #[tactic(auto, unfolding(crate::specs::Value::text_of))]
+    fn body_length(&self) -> usize {
+        3
     }
 }

@@ -52,4 +52,9 @@ impl IeValue for Cause {
         }
         Ok(())
     }
+
+    #[tactic(auto, unfolding(crate::specs::Value::text_of))]
+    fn body_length(&self) -> usize {
+        if self.offending.is_some() { 6 } else { 2 }
+    }
 }

@@ -74,6 +74,11 @@ impl IeValue for Imsi {
         out.extend_from_slice(packed_octets(self.digits()).as_slice())?;
         Ok(())
     }
+
+    #[tactic(auto, unfolding(crate::specs::Value::text_of))]
+    fn body_length(&self) -> usize {
+        self.digits().len().div_ceil(2)
+    }
 }
 
 impl IeValue for Apn {
@@ -101,6 +106,11 @@ impl IeValue for Apn {
         out.extend_from_slice(self.octets())?;
         Ok(())
     }
+
+    #[tactic(auto, unfolding(crate::specs::Value::text_of))]
+    fn body_length(&self) -> usize {
+        self.octets().len()
+    }
 }
 
 impl IeValue for Tft {
@@ -120,5 +130,10 @@ impl IeValue for Tft {
     #[tactic(auto, unfolding(crate::specs::Value::text_of), using(crate::proofs::AgainNames::tft_again, crate::proofs::FreeKinds::text_free))]
     fn write(&self, out: &mut Vec<u8>) -> Result<(), AllocError> {
         append(out, &[self.octets()])
+    }
+
+    #[tactic(auto, unfolding(crate::specs::Value::text_of))]
+    fn body_length(&self) -> usize {
+        self.octets().len()
     }
 }

@@ -35,6 +35,11 @@ impl IeValue for Recovery {
         out.push(self.0.0)?;
         Ok(())
     }
+
+    #[tactic(auto, unfolding(crate::specs::Value::text_of))]
+    fn body_length(&self) -> usize {
+        1
+    }
 }
 
 /// An EPS bearer identity as an element has it, 0 to 15: 0 where none is given yet (TS 29.274 8.8).
@@ -62,6 +67,11 @@ impl IeValue for EbiValue {
     fn write(&self, out: &mut Vec<u8>) -> Result<(), AllocError> {
         out.push(self.0.number())?;
         Ok(())
+    }
+
+    #[tactic(auto, unfolding(crate::specs::Value::text_of))]
+    fn body_length(&self) -> usize {
+        1
     }
 }
 
@@ -94,6 +104,11 @@ impl IeValue for ChargingId {
         out.extend_from_slice(&octets)?;
         Ok(())
     }
+
+    #[tactic(auto, unfolding(crate::specs::Value::text_of))]
+    fn body_length(&self) -> usize {
+        4
+    }
 }
 
 /// The radio access technology, by its number: 6 is E-UTRAN (TS 29.274 8.17).
@@ -121,6 +136,11 @@ impl IeValue for Rat {
     fn write(&self, out: &mut Vec<u8>) -> Result<(), AllocError> {
         out.push(self.0)?;
         Ok(())
+    }
+
+    #[tactic(auto, unfolding(crate::specs::Value::text_of))]
+    fn body_length(&self) -> usize {
+        1
     }
 }
 
@@ -150,6 +170,11 @@ impl IeValue for PdnType {
         out.push(self.0.number())?;
         Ok(())
     }
+
+    #[tactic(auto, unfolding(crate::specs::Value::text_of))]
+    fn body_length(&self) -> usize {
+        1
+    }
 }
 
 /// The procedure transaction identity (TS 29.274 8.35).
@@ -178,6 +203,11 @@ impl IeValue for Pti {
         out.push(self.0)?;
         Ok(())
     }
+
+    #[tactic(auto, unfolding(crate::specs::Value::text_of))]
+    fn body_length(&self) -> usize {
+        1
+    }
 }
 
 /// How the access point name was selected, by its number (TS 29.274 8.58).
@@ -205,5 +235,10 @@ impl IeValue for Selection {
     fn write(&self, out: &mut Vec<u8>) -> Result<(), AllocError> {
         out.push(self.0.number())?;
         Ok(())
+    }
+
+    #[tactic(auto, unfolding(crate::specs::Value::text_of))]
+    fn body_length(&self) -> usize {
+        1
     }
 }

@@ -42,6 +42,11 @@ impl IeValue for Ambr {
         out.extend_from_slice(&octets)?;
         Ok(())
     }
+
+    #[tactic(auto, unfolding(crate::specs::Value::text_of))]
+    fn body_length(&self) -> usize {
+        8
+    }
 }
 
 /// A bit rate in five octets.
@@ -111,5 +116,10 @@ impl IeValue for Qos {
                 &octets_of(&self.gbr),
             ],
         )
+    }
+
+    #[tactic(auto, unfolding(crate::specs::Value::text_of))]
+    fn body_length(&self) -> usize {
+        22
     }
 }

@@ -1,7 +1,7 @@
 use Rattle.gtp_v2.specs.declared.message.Datagram.{Datagram}
 use Rattle.gtp_v2.specs.Body.{spoken_of}
 use Rattle.gtp_v2.specs.Message.{Spoken}
-use Rattle.gtp_v2.proofs.Told.{answers_ok, answers_fault, answers_only, answers_first, answers_marked}
+use Rattle.gtp_v2.proofs.Told.{answers_ok, answers_fault, answers_only, answers_first, answers_memory, answers_marked}
 use Rattle.gtp_v2.proofs.message.decode.Goals as goal
 
 -- what a datagram says
@@ -22,3 +22,6 @@ returns-clause-first c = answers_first said c.read_datagram.result c.args.octets
 
 pub returns-clause-marks : goal.returns-clause-marks
 returns-clause-marks c = answers_marked said c.read_datagram.result c.args.octets.now c.read_datagram.ensures.spoken
+
+pub returns-clause-memory : goal.returns-clause-memory
+returns-clause-memory c = answers_memory said c.read_datagram.result c.args.octets.now c.read_datagram.ensures.spoken

@@ -1,0 +1,47 @@
+-- Create Session Response (TS 29.274 7.2.2).
+use Rattle.std.specs.Prelude.{List, [], ◌∷◌, map, option_map, option_to_list, true, codes}
+use Rattle.gtp_ie.specs.Value.{Value, OfAmbr, OfCause, OfChargingId, OfEbi, OfFTeid, OfPaa, OfQos, OfRecovery}
+use Rattle.gtp_v2.specs.Table.{Row, Mandatory, Accepted, Optional, Single, Grouped, Field, Plain, Groups, Table}
+use Rattle.gtp_v2.specs.declared.body.create_session_response.CreateSessionResponse.{CreateSessionResponse}
+use Rattle.gtp_v2.specs.declared.body.create_session_response.SessionResponseContext.{SessionResponseContext}
+
+-- the rows of a bearer context in it (table 7.2.2-2)
+abbrev pub session_response_context_rows : List Row
+session_response_context_rows = Mandatory 73 0 ∷ Mandatory 2 0 ∷ Accepted 87 2 ∷ Optional 80 0 ∷ Optional 94 0 ∷ []
+
+abbrev pub session_response_context_values : SessionResponseContext → List (List Value)
+session_response_context_values c =
+    (OfEbi c.ebi.0 ∷ [])
+    ∷ (OfCause c.cause ∷ [])
+    ∷ option_to_list (option_map OfFTeid c.user)
+    ∷ option_to_list (option_map OfQos c.qos)
+    ∷ option_to_list (option_map (λ id. OfChargingId id.0) c.charging_id)
+    ∷ []
+
+-- its table
+abbrev pub create_session_response : Table
+create_session_response =
+    record {
+      kind = 33;
+      name = codes "create-session-response";
+      has_teid = true;
+      lines =
+          Single (Mandatory 2 0)
+          ∷ Single (Accepted 87 1)
+          ∷ Single (Accepted 79 0)
+          ∷ Single (Optional 72 0)
+          ∷ Grouped (Accepted 93 0) session_response_context_rows
+          ∷ Single (Optional 3 0)
+          ∷ [];
+    }
+
+-- which values its fields are
+abbrev pub create_session_response_fields : CreateSessionResponse → List Field
+create_session_response_fields m =
+    Plain (OfCause m.cause ∷ [])
+    ∷ Plain (option_to_list (option_map OfFTeid m.control))
+    ∷ Plain (option_to_list (option_map OfPaa m.paa))
+    ∷ Plain (option_to_list (option_map OfAmbr m.ambr))
+    ∷ Groups (map session_response_context_values m.contexts)
+    ∷ Plain (option_to_list (option_map (λ x. OfRecovery x.0.0) m.recovery))
+    ∷ []

@@ -1,0 +1,33 @@
+-- Delete Bearer Response (TS 29.274 7.2.10.2).
+use Rattle.std.specs.Prelude.{List, [], ◌∷◌, map, option_map, option_to_list, true, codes}
+use Rattle.gtp_ie.specs.Value.{Value, OfCause, OfEbi, OfRecovery}
+use Rattle.gtp_v2.specs.Table.{Row, Mandatory, Optional, Single, Grouped, Field, Plain, Groups, Table}
+use Rattle.gtp_v2.specs.declared.body.delete_bearer_response.DeleteBearerResponse.{DeleteBearerResponse}
+use Rattle.gtp_v2.specs.declared.body.delete_bearer_response.RemovalResponseContext.{RemovalResponseContext}
+
+-- the rows of a bearer context in it (table 7.2.10.2-2)
+abbrev pub removal_response_context_rows : List Row
+removal_response_context_rows = Mandatory 73 0 ∷ Mandatory 2 0 ∷ []
+
+abbrev pub removal_response_context_values : RemovalResponseContext → List (List Value)
+removal_response_context_values c = (OfEbi c.ebi.0 ∷ []) ∷ (OfCause c.cause ∷ []) ∷ []
+
+-- its table
+abbrev pub delete_bearer_response : Table
+delete_bearer_response =
+    record {
+      kind = 100;
+      name = codes "delete-bearer-response";
+      has_teid = true;
+      lines =
+          Single (Mandatory 2 0) ∷ Single (Optional 73 0) ∷ Grouped (Optional 93 0) removal_response_context_rows ∷ Single (Optional 3 0) ∷ [];
+    }
+
+-- which values its fields are
+abbrev pub delete_bearer_response_fields : DeleteBearerResponse → List Field
+delete_bearer_response_fields m =
+    Plain (OfCause m.cause ∷ [])
+    ∷ Plain (option_to_list (option_map (λ x. OfEbi x.0) m.linked_ebi))
+    ∷ Groups (map removal_response_context_values m.contexts)
+    ∷ Plain (option_to_list (option_map (λ x. OfRecovery x.0.0) m.recovery))
+    ∷ []

@@ -1,0 +1,20 @@
+-- Echo Response (TS 29.274 7.1.2).
+use Rattle.std.specs.Prelude.{List, [], ◌∷◌, false, codes}
+use Rattle.gtp_ie.specs.Value.{OfRecovery}
+use Rattle.gtp_v2.specs.Table.{Mandatory, Single, Field, Plain, Table}
+use Rattle.gtp_v2.specs.declared.body.echo_response.EchoResponse.{EchoResponse}
+
+-- its table
+abbrev pub echo_response : Table
+echo_response =
+    record {
+      kind = 2;
+      name = codes "echo-response";
+      has_teid = false;
+      lines =
+          Single (Mandatory 3 0) ∷ [];
+    }
+
+-- which values its fields are
+abbrev pub echo_response_fields : EchoResponse → List Field
+echo_response_fields m = Plain (OfRecovery m.recovery.0.0 ∷ []) ∷ []

@@ -1,0 +1,137 @@
+//! Create Bearer Request (TS 29.274 7.2.3).
+
+ghost use Rattle.std.specs.Prelude.{true};
+ghost use Rattle.gtp_values.specs.Steps.{Gives};
+ghost use Rattle.gtp_v2.specs.Table.{start};
+ghost use Rattle.gtp_v2.specs.Rows.{lines_at, rows_at};
+ghost use Rattle.gtp_v2.specs.Outcome.{GivesOrMemory};
+ghost use Rattle.gtp_v2.specs.CreateBearerRequest.{create_bearer_request, create_bearer_request_fields, bearer_request_context_rows, bearer_request_context_values};
+
+use crate::fault::{BodyFault, Need, RowFault};
+use crate::groups::{Context, contexts};
+use crate::listed::Listed;
+use crate::marks::contexts_meet;
+use crate::room::{behind_contexts, behind_option, behind_row};
+use crate::rows::{conditional, mandatory, optional};
+use crate::typed::Typed;
+use crate::writing::{put_contexts, put_option, put_row};
+use gtp_ie::{ChargingId, EbiValue, Elements, Pti};
+use gtp_values::{FTeid, Qos, Tft};
+use std::alloc::{AllocError, Global};
+
+/// A request for dedicated bearers (TS 29.274 7.2.3).
+#[derive(Debug, Drop)]
+pub struct CreateBearerRequest {
+    pub pti: Option<Pti>,
+    /// The identity of the session's default bearer.
+    pub linked_ebi: EbiValue,
+    pub contexts: Listed<BearerRequestContext>,
+}
+
+impl Typed for CreateBearerRequest {
+    const KIND: u8 = 95;
+
+    ghost KIND = { 95 };
+
+    const HAS_TEID: bool = true;
+
+    ghost HAS_TEID = { true };
+
+    ghost named = { create_bearer_request.name };
+
+    ghost lines = { create_bearer_request.lines };
+
+    ghost fields = { create_bearer_request_fields };
+
+    fn name() -> &'static str {
+        "create-bearer-request"
+    }
+
+    #[tactic(auto, unfolding(crate::specs::Rows::lines_at))]
+    fn read(alloc: Global, elements: &Elements) -> Result<CreateBearerRequest, BodyFault> {
+        let pti = optional::<Pti>(elements, 0);
+        let linked_ebi = mandatory::<EbiValue>(elements, 0)?;
+        let contexts = contexts::<BearerRequestContext>(alloc, Need::Mandatory, true, elements)?;
+        Ok(CreateBearerRequest {
+            pti,
+            linked_ebi,
+            contexts,
+        })
+    }
+
+    #[tactic(auto, using(crate::proofs::Appends::appending))]
+    fn write(&self, out: &mut Vec<u8>) -> Result<(), AllocError> {
+        put_option(out, 0, &self.pti)?;
+        put_row(out, 0, &self.linked_ebi)?;
+        put_contexts(out, self.contexts.as_slice())?;
+        Ok(())
+    }
+
+    #[tactic(auto, using(crate::proofs::Measured::measuring))]
+    fn room_behind(&self, room: usize) -> Option<usize> {
+        let room = behind_option(room, &self.pti)?;
+        let room = behind_row(room, &self.linked_ebi)?;
+        behind_contexts(room, self.contexts.as_slice())
+    }
+
+    fn meets_marks(&self) -> bool {
+        contexts_meet(Need::Mandatory, true, self.contexts.as_slice())
+    }
+}
+
+/// A bearer that a Create Bearer Request asks for (TS 29.274 7.2.3).
+#[derive(Clone, Copy, Debug, PartialEq, Eq)]
+pub struct BearerRequestContext {
+    /// 0: the serving gateway gives the identity.
+    pub ebi: EbiValue,
+    pub tft: Tft,
+    /// The packet gateway's end for user packets.
+    pub user: FTeid,
+    pub qos: Qos,
+    pub charging_id: Option<ChargingId>,
+}
+
+impl Context for BearerRequestContext {
+    ghost rows = { bearer_request_context_rows };
+
+    ghost values = { bearer_request_context_values };
+
+    #[tactic(auto, unfolding(crate::specs::Rows::rows_at))]
+    fn read(_accepting: bool, elements: &Elements) -> Result<BearerRequestContext, RowFault> {
+        let ebi = mandatory::<EbiValue>(elements, 0)?;
+        let tft = mandatory::<Tft>(elements, 0)?;
+        let user = conditional::<FTeid>(elements, 1)?;
+        let qos = mandatory::<Qos>(elements, 0)?;
+        let charging_id = optional::<ChargingId>(elements, 0);
+        Ok(BearerRequestContext {
+            ebi,
+            tft,
+            user,
+            qos,
+            charging_id,
+        })
+    }
+
+    #[tactic(auto, using(crate::proofs::Appends::appending))]
+    fn write(&self, out: &mut Vec<u8>) -> Result<(), AllocError> {
+        put_row(out, 0, &self.ebi)?;
+        put_row(out, 0, &self.tft)?;
+        put_row(out, 1, &self.user)?;
+        put_row(out, 0, &self.qos)?;
+        put_option(out, 0, &self.charging_id)?;
+        Ok(())
+    }
+
+    #[tactic(auto, using(crate::proofs::Measured::measuring))]
+    fn room_behind(&self, room: usize) -> Option<usize> {
+        let room = behind_row(room, &self.ebi)?;
+        let room = behind_row(room, &self.tft)?;
+        let room = behind_row(room, &self.user)?;
+        let room = behind_row(room, &self.qos)?;
+        behind_option(room, &self.charging_id)
+    }
+
+    fn meets_marks(&self, _accepting: bool) -> bool {
+        true
+    }
+}

@@ -1,0 +1,137 @@
+//! Create Bearer Response (TS 29.274 7.2.4).
+
+ghost use Rattle.std.specs.Prelude.{true};
+ghost use Rattle.gtp_values.specs.Steps.{Gives};
+ghost use Rattle.gtp_v2.specs.Table.{start};
+ghost use Rattle.gtp_v2.specs.Rows.{lines_at, rows_at};
+ghost use Rattle.gtp_v2.specs.Outcome.{GivesOrMemory};
+ghost use Rattle.gtp_v2.specs.CreateBearerResponse.{create_bearer_response, create_bearer_response_fields, bearer_response_context_rows, bearer_response_context_values};
+
+use crate::fault::{BodyFault, Need, RowFault};
+use crate::groups::{Context, contexts};
+use crate::listed::Listed;
+use crate::marks::contexts_meet;
+use crate::room::{behind_contexts, behind_option, behind_row};
+use crate::rows::{mandatory, needed_if, optional};
+use crate::typed::Typed;
+use crate::writing::{put_contexts, put_option, put_row};
+use gtp_ie::{EbiValue, Elements, Recovery};
+use gtp_values::{Cause, FTeid};
+use std::alloc::{AllocError, Global};
+
+/// The answer to a Create Bearer Request (TS 29.274 7.2.4).
+#[derive(Debug, Drop)]
+pub struct CreateBearerResponse {
+    pub cause: Cause,
+    pub contexts: Listed<BearerResponseContext>,
+    pub recovery: Option<Recovery>,
+}
+
+impl Typed for CreateBearerResponse {
+    const KIND: u8 = 96;
+
+    ghost KIND = { 96 };
+
+    const HAS_TEID: bool = true;
+
+    ghost HAS_TEID = { true };
+
+    ghost named = { create_bearer_response.name };
+
+    ghost lines = { create_bearer_response.lines };
+
+    ghost fields = { create_bearer_response_fields };
+
+    fn name() -> &'static str {
+        "create-bearer-response"
+    }
+
+    #[tactic(auto, unfolding(crate::specs::Rows::lines_at))]
+    fn read(alloc: Global, elements: &Elements) -> Result<CreateBearerResponse, BodyFault> {
+        let cause = mandatory::<Cause>(elements, 0)?;
+        let accepting = cause.is_accepting();
+        let need = Need::where_accepting(accepting);
+        let contexts = contexts::<BearerResponseContext>(alloc, need, accepting, elements)?;
+        let recovery = optional::<Recovery>(elements, 0);
+        Ok(CreateBearerResponse {
+            cause,
+            contexts,
+            recovery,
+        })
+    }
+
+    #[tactic(auto, using(crate::proofs::Appends::appending))]
+    fn write(&self, out: &mut Vec<u8>) -> Result<(), AllocError> {
+        put_row(out, 0, &self.cause)?;
+        put_contexts(out, self.contexts.as_slice())?;
+        put_option(out, 0, &self.recovery)?;
+        Ok(())
+    }
+
+    #[tactic(auto, using(crate::proofs::Measured::measuring))]
+    fn room_behind(&self, room: usize) -> Option<usize> {
+        let room = behind_row(room, &self.cause)?;
+        let room = behind_contexts(room, self.contexts.as_slice())?;
+        behind_option(room, &self.recovery)
+    }
+
+    fn meets_marks(&self) -> bool {
+        let accepting = self.cause.is_accepting();
+        let need = Need::where_accepting(accepting);
+        contexts_meet(need, accepting, self.contexts.as_slice())
+    }
+}
+
+/// A bearer in a Create Bearer Response (TS 29.274 7.2.4). Its ends are there where both causes
+/// accept.
+#[derive(Clone, Copy, Debug, PartialEq, Eq)]
+pub struct BearerResponseContext {
+    pub ebi: EbiValue,
+    pub cause: Cause,
+    pub serving_user: Option<FTeid>,
+    /// The end that the request gave, as it came.
+    pub packet_user: Option<FTeid>,
+}
+
+impl Context for BearerResponseContext {
+    ghost rows = { bearer_response_context_rows };
+
+    ghost values = { bearer_response_context_values };
+
+    #[tactic(auto, unfolding(crate::specs::Rows::rows_at))]
+    fn read(accepting: bool, elements: &Elements) -> Result<BearerResponseContext, RowFault> {
+        let ebi = mandatory::<EbiValue>(elements, 0)?;
+        let cause = mandatory::<Cause>(elements, 0)?;
+        let accepting = accepting && cause.is_accepting();
+        let serving_user = needed_if::<FTeid>(accepting, elements, 2)?;
+        let packet_user = needed_if::<FTeid>(accepting, elements, 3)?;
+        Ok(BearerResponseContext {
+            ebi,
+            cause,
+            serving_user,
+            packet_user,
+        })
+    }
+
+    #[tactic(auto, using(crate::proofs::Appends::appending))]
+    fn write(&self, out: &mut Vec<u8>) -> Result<(), AllocError> {
+        put_row(out, 0, &self.ebi)?;
+        put_row(out, 0, &self.cause)?;
+        put_option(out, 2, &self.serving_user)?;
+        put_option(out, 3, &self.packet_user)?;
+        Ok(())
+    }
+
+    #[tactic(auto, using(crate::proofs::Measured::measuring))]
+    fn room_behind(&self, room: usize) -> Option<usize> {
+        let room = behind_row(room, &self.ebi)?;
+        let room = behind_row(room, &self.cause)?;
+        let room = behind_option(room, &self.serving_user)?;
+        behind_option(room, &self.packet_user)
+    }
+
+    fn meets_marks(&self, accepting: bool) -> bool {
+        !(accepting && self.cause.is_accepting())
+            || (self.serving_user.is_some() && self.packet_user.is_some())
+    }
+}

@@ -1,0 +1,172 @@
+//! Create Session Request (TS 29.274 7.2.1).
+
+ghost use Rattle.std.specs.Prelude.{true};
+ghost use Rattle.gtp_values.specs.Steps.{Gives};
+ghost use Rattle.gtp_v2.specs.Table.{start};
+ghost use Rattle.gtp_v2.specs.Rows.{lines_at, rows_at};
+ghost use Rattle.gtp_v2.specs.Outcome.{GivesOrMemory};
+ghost use Rattle.gtp_v2.specs.CreateSessionRequest.{create_session_request, create_session_request_fields, session_request_context_rows, session_request_context_values};
+
+use crate::fault::{BodyFault, Need, RowFault};
+use crate::groups::{Context, contexts};
+use crate::listed::Listed;
+use crate::marks::contexts_meet;
+use crate::room::{behind_contexts, behind_option, behind_row};
+use crate::rows::{conditional, mandatory, optional};
+use crate::typed::Typed;
+use crate::writing::{put_contexts, put_option, put_row};
+use gtp_ie::{EbiValue, Elements, PdnType, Rat, Recovery, Selection};
+use gtp_values::{Ambr, Apn, FTeid, Imsi, Paa, Plmn, Qos};
+use std::alloc::{AllocError, Global};
+
+/// A request for a session with its default bearer (TS 29.274 7.2.1).
+#[derive(Debug, Drop)]
+pub struct CreateSessionRequest {
+    /// The subscriber.
+    pub imsi: Imsi,
+    /// The radio access technology.
+    pub rat: Rat,
+    /// The network in which the subscriber is.
+    pub serving_network: Option<Plmn>,
+    /// The serving gateway's end for control messages.
+    pub control: FTeid,
+    /// The access point that is asked for.
+    pub apn: Apn,
+    /// How it was selected.
+    pub selection: Option<Selection>,
+    /// The kind of address that is asked for.
+    pub pdn_type: PdnType,
+    /// An address that is asked for.
+    pub paa: Option<Paa>,
+    /// The bit rates of all bearers without guaranteed ones, in kilobits a second.
+    pub ambr: Option<Ambr>,
+    /// The bearers that are asked for: the default one, and at this interface no other.
+    pub contexts: Listed<SessionRequestContext>,
+    /// The sender's restart counter.
+    pub recovery: Option<Recovery>,
+}
+
+impl Typed for CreateSessionRequest {
+    const KIND: u8 = 32;
+
+    ghost KIND = { 32 };
+
+    const HAS_TEID: bool = true;
+
+    ghost HAS_TEID = { true };
+
+    ghost named = { create_session_request.name };
+
+    ghost lines = { create_session_request.lines };
+
+    ghost fields = { create_session_request_fields };
+
+    fn name() -> &'static str {
+        "create-session-request"
+    }
+
+    #[tactic(auto, unfolding(crate::specs::Rows::lines_at))]
+    fn read(alloc: Global, elements: &Elements) -> Result<CreateSessionRequest, BodyFault> {
+        let imsi = conditional::<Imsi>(elements, 0)?;
+        let rat = mandatory::<Rat>(elements, 0)?;
+        let serving_network = optional::<Plmn>(elements, 0);
+        let control = mandatory::<FTeid>(elements, 0)?;
+        let apn = mandatory::<Apn>(elements, 0)?;
+        let selection = optional::<Selection>(elements, 0);
+        let pdn_type = conditional::<PdnType>(elements, 0)?;
+        let paa = optional::<Paa>(elements, 0);
+        let ambr = optional::<Ambr>(elements, 0);
+        let contexts = contexts::<SessionRequestContext>(alloc, Need::Mandatory, true, elements)?;
+        let recovery = optional::<Recovery>(elements, 0);
+        Ok(CreateSessionRequest {
+            imsi,
+            rat,
+            serving_network,
+            control,
+            apn,
+            selection,
+            pdn_type,
+            paa,
+            ambr,
+            contexts,
+            recovery,
+        })
+    }
+
+    #[tactic(auto, using(crate::proofs::Appends::appending))]
+    fn write(&self, out: &mut Vec<u8>) -> Result<(), AllocError> {
+        put_row(out, 0, &self.imsi)?;
+        put_row(out, 0, &self.rat)?;
+        put_option(out, 0, &self.serving_network)?;
+        put_row(out, 0, &self.control)?;
+        put_row(out, 0, &self.apn)?;
+        put_option(out, 0, &self.selection)?;
+        put_row(out, 0, &self.pdn_type)?;
+        put_option(out, 0, &self.paa)?;
+        put_option(out, 0, &self.ambr)?;
+        put_contexts(out, self.contexts.as_slice())?;
+        put_option(out, 0, &self.recovery)?;
+        Ok(())
+    }
+
+    #[tactic(auto, using(crate::proofs::Measured::measuring))]
+    fn room_behind(&self, room: usize) -> Option<usize> {
+        let room = behind_row(room, &self.imsi)?;
+        let room = behind_row(room, &self.rat)?;
+        let room = behind_option(room, &self.serving_network)?;
+        let room = behind_row(room, &self.control)?;
+        let room = behind_row(room, &self.apn)?;
+        let room = behind_option(room, &self.selection)?;
+        let room = behind_row(room, &self.pdn_type)?;
+        let room = behind_option(room, &self.paa)?;
+        let room = behind_option(room, &self.ambr)?;
+        let room = behind_contexts(room, self.contexts.as_slice())?;
+        behind_option(room, &self.recovery)
+    }
+
+    fn meets_marks(&self) -> bool {
+        contexts_meet(Need::Mandatory, true, self.contexts.as_slice())
+    }
+}
+
+/// A bearer that a Create Session Request asks for (TS 29.274 7.2.1).
+#[derive(Clone, Copy, Debug, PartialEq, Eq)]
+pub struct SessionRequestContext {
+    pub ebi: EbiValue,
+    pub qos: Qos,
+    /// The serving gateway's end for user packets.
+    pub user: FTeid,
+}
+
+impl Context for SessionRequestContext {
+    ghost rows = { session_request_context_rows };
+
+    ghost values = { session_request_context_values };
+
+    #[tactic(auto, unfolding(crate::specs::Rows::rows_at))]
+    fn read(_accepting: bool, elements: &Elements) -> Result<SessionRequestContext, RowFault> {
+        let ebi = mandatory::<EbiValue>(elements, 0)?;
+        let qos = mandatory::<Qos>(elements, 0)?;
+        let user = conditional::<FTeid>(elements, 2)?;
+        Ok(SessionRequestContext { ebi, qos, user })
+    }
+
+    #[tactic(auto, using(crate::proofs::Appends::appending))]
+    fn write(&self, out: &mut Vec<u8>) -> Result<(), AllocError> {
+        put_row(out, 0, &self.ebi)?;
+        put_row(out, 0, &self.qos)?;
+        put_row(out, 2, &self.user)?;
+        Ok(())
+    }
+
+    #[tactic(auto, using(crate::proofs::Measured::measuring))]
+    fn room_behind(&self, room: usize) -> Option<usize> {
+        let room = behind_row(room, &self.ebi)?;
+        let room = behind_row(room, &self.qos)?;
+        behind_row(room, &self.user)
+    }
+
+    fn meets_marks(&self, _accepting: bool) -> bool {
+        true
+    }
+}

@@ -1,0 +1,159 @@
+//! Create Session Response (TS 29.274 7.2.2).
+
+ghost use Rattle.std.specs.Prelude.{true};
+ghost use Rattle.gtp_values.specs.Steps.{Gives};
+ghost use Rattle.gtp_v2.specs.Table.{start};
+ghost use Rattle.gtp_v2.specs.Rows.{lines_at, rows_at};
+ghost use Rattle.gtp_v2.specs.Outcome.{GivesOrMemory};
+ghost use Rattle.gtp_v2.specs.CreateSessionResponse.{create_session_response, create_session_response_fields, session_response_context_rows, session_response_context_values};
+
+use crate::fault::{BodyFault, Need, RowFault};
+use crate::groups::{Context, contexts};
+use crate::listed::Listed;
+use crate::marks::contexts_meet;
+use crate::room::{behind_contexts, behind_option, behind_row};
+use crate::rows::{mandatory, needed_if, optional};
+use crate::typed::Typed;
+use crate::writing::{put_contexts, put_option, put_row};
+use gtp_ie::{ChargingId, EbiValue, Elements, Recovery};
+use gtp_values::{Ambr, Cause, FTeid, Paa, Qos};
+use std::alloc::{AllocError, Global};
+
+/// The answer to a Create Session Request (TS 29.274 7.2.2).
+#[derive(Debug, Drop)]
+pub struct CreateSessionResponse {
+    /// Whether the request was accepted, and why not.
+    pub cause: Cause,
+    /// The packet gateway's end for control messages: there where the cause accepts.
+    pub control: Option<FTeid>,
+    /// The subscriber's address: there where the cause accepts.
+    pub paa: Option<Paa>,
+    pub ambr: Option<Ambr>,
+    pub contexts: Listed<SessionResponseContext>,
+    pub recovery: Option<Recovery>,
+}
+
+impl Typed for CreateSessionResponse {
+    const KIND: u8 = 33;
+
+    ghost KIND = { 33 };
+
+    const HAS_TEID: bool = true;
+
+    ghost HAS_TEID = { true };
+
+    ghost named = { create_session_response.name };
+
+    ghost lines = { create_session_response.lines };
+
+    ghost fields = { create_session_response_fields };
+
+    fn name() -> &'static str {
+        "create-session-response"
+    }
+
+    #[tactic(auto, unfolding(crate::specs::Rows::lines_at))]
+    fn read(alloc: Global, elements: &Elements) -> Result<CreateSessionResponse, BodyFault> {
+        let cause = mandatory::<Cause>(elements, 0)?;
+        let accepting = cause.is_accepting();
+        let control = needed_if::<FTeid>(accepting, elements, 1)?;
+        let paa = needed_if::<Paa>(accepting, elements, 0)?;
+        let ambr = optional::<Ambr>(elements, 0);
+        let need = Need::where_accepting(accepting);
+        let contexts = contexts::<SessionResponseContext>(alloc, need, accepting, elements)?;
+        let recovery = optional::<Recovery>(elements, 0);
+        Ok(CreateSessionResponse {
+            cause,
+            control,
+            paa,
+            ambr,
+            contexts,
+            recovery,
+        })
+    }
+
+    #[tactic(auto, using(crate::proofs::Appends::appending))]
+    fn write(&self, out: &mut Vec<u8>) -> Result<(), AllocError> {
+        put_row(out, 0, &self.cause)?;
+        put_option(out, 1, &self.control)?;
+        put_option(out, 0, &self.paa)?;
+        put_option(out, 0, &self.ambr)?;
+        put_contexts(out, self.contexts.as_slice())?;
+        put_option(out, 0, &self.recovery)?;
+        Ok(())
+    }
+
+    #[tactic(auto, using(crate::proofs::Measured::measuring))]
+    fn room_behind(&self, room: usize) -> Option<usize> {
+        let room = behind_row(room, &self.cause)?;
+        let room = behind_option(room, &self.control)?;
+        let room = behind_option(room, &self.paa)?;
+        let room = behind_option(room, &self.ambr)?;
+        let room = behind_contexts(room, self.contexts.as_slice())?;
+        behind_option(room, &self.recovery)
+    }
+
+    fn meets_marks(&self) -> bool {
+        let accepting = self.cause.is_accepting();
+        let need = Need::where_accepting(accepting);
+        (!accepting || (self.control.is_some() && self.paa.is_some()))
+            && contexts_meet(need, accepting, self.contexts.as_slice())
+    }
+}
+
+/// A bearer in a Create Session Response (TS 29.274 7.2.2).
+#[derive(Clone, Copy, Debug, PartialEq, Eq)]
+pub struct SessionResponseContext {
+    pub ebi: EbiValue,
+    pub cause: Cause,
+    /// The packet gateway's end for user packets: there where both causes accept.
+    pub user: Option<FTeid>,
+    pub qos: Option<Qos>,
+    pub charging_id: Option<ChargingId>,
+}
+
+impl Context for SessionResponseContext {
+    ghost rows = { session_response_context_rows };
+
+    ghost values = { session_response_context_values };
+
+    #[tactic(auto, unfolding(crate::specs::Rows::rows_at))]
+    fn read(accepting: bool, elements: &Elements) -> Result<SessionResponseContext, RowFault> {
+        let ebi = mandatory::<EbiValue>(elements, 0)?;
+        let cause = mandatory::<Cause>(elements, 0)?;
+        let accepting = accepting && cause.is_accepting();
+        let user = needed_if::<FTeid>(accepting, elements, 2)?;
+        let qos = optional::<Qos>(elements, 0);
+        let charging_id = optional::<ChargingId>(elements, 0);
+        Ok(SessionResponseContext {
+            ebi,
+            cause,
+            user,
+            qos,
+            charging_id,
+        })
+    }
+
+    #[tactic(auto, using(crate::proofs::Appends::appending))]
+    fn write(&self, out: &mut Vec<u8>) -> Result<(), AllocError> {
+        put_row(out, 0, &self.ebi)?;
+        put_row(out, 0, &self.cause)?;
+        put_option(out, 2, &self.user)?;
+        put_option(out, 0, &self.qos)?;
+        put_option(out, 0, &self.charging_id)?;
+        Ok(())
+    }
+
+    #[tactic(auto, using(crate::proofs::Measured::measuring))]
+    fn room_behind(&self, room: usize) -> Option<usize> {
+        let room = behind_row(room, &self.ebi)?;
+        let room = behind_row(room, &self.cause)?;
+        let room = behind_option(room, &self.user)?;
+        let room = behind_option(room, &self.qos)?;
+        behind_option(room, &self.charging_id)
+    }
+
+    fn meets_marks(&self, accepting: bool) -> bool {
+        !(accepting && self.cause.is_accepting()) || self.user.is_some()
+    }
+}

@@ -1,0 +1,70 @@
+//! Delete Bearer Request (TS 29.274 7.2.9.2).
+
+ghost use Rattle.std.specs.Prelude.{true};
+ghost use Rattle.gtp_v2.specs.Table.{start};
+ghost use Rattle.gtp_v2.specs.Rows.{lines_at};
+ghost use Rattle.gtp_v2.specs.Outcome.{GivesOrMemory};
+ghost use Rattle.gtp_v2.specs.DeleteBearerRequest.{delete_bearer_request, delete_bearer_request_fields};
+
+use crate::fault::BodyFault;
+use crate::listed::Listed;
+use crate::repeated::several;
+use crate::room::{behind_option, behind_several};
+use crate::rows::optional;
+use crate::typed::Typed;
+use crate::writing::{put_option, put_several};
+use gtp_ie::{EbiValue, Elements};
+use std::alloc::{AllocError, Global};
+
+/// A request to end a session or some of its dedicated bearers (TS 29.274 7.2.9.2).
+#[derive(Debug, Drop)]
+pub struct DeleteBearerRequest {
+    /// The identity of the session's default bearer, where the session is to end.
+    pub linked_ebi: Option<EbiValue>,
+    /// The identities of the bearers that are to end.
+    pub ebis: Listed<EbiValue>,
+}
+
+impl Typed for DeleteBearerRequest {
+    const KIND: u8 = 99;
+
+    ghost KIND = { 99 };
+
+    const HAS_TEID: bool = true;
+
+    ghost HAS_TEID = { true };
+
+    ghost named = { delete_bearer_request.name };
+
+    ghost lines = { delete_bearer_request.lines };
+
+    ghost fields = { delete_bearer_request_fields };
+
+    fn name() -> &'static str {
+        "delete-bearer-request"
+    }
+
+    #[tactic(auto, unfolding(crate::specs::Rows::lines_at))]
+    fn read(alloc: Global, elements: &Elements) -> Result<DeleteBearerRequest, BodyFault> {
+        let linked_ebi = optional::<EbiValue>(elements, 0);
+        let ebis = several::<EbiValue>(alloc, linked_ebi.is_none(), elements, 1, 0)?;
+        Ok(DeleteBearerRequest { linked_ebi, ebis })
+    }
+
+    #[tactic(auto, using(crate::proofs::Appends::appending))]
+    fn write(&self, out: &mut Vec<u8>) -> Result<(), AllocError> {
+        put_option(out, 0, &self.linked_ebi)?;
+        put_several(out, 1, self.ebis.as_slice())?;
+        Ok(())
+    }
+
+    #[tactic(auto, using(crate::proofs::Measured::measuring))]
+    fn room_behind(&self, room: usize) -> Option<usize> {
+        let room = behind_option(room, &self.linked_ebi)?;
+        behind_several(room, self.ebis.as_slice())
+    }
+
+    fn meets_marks(&self) -> bool {
+        self.linked_ebi.is_some() || !self.ebis.as_slice().is_empty()
+    }
+}

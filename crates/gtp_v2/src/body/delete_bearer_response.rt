@@ -1,0 +1,123 @@
+//! Delete Bearer Response (TS 29.274 7.2.10.2).
+
+ghost use Rattle.std.specs.Prelude.{true};
+ghost use Rattle.gtp_values.specs.Steps.{Gives};
+ghost use Rattle.gtp_v2.specs.Table.{start};
+ghost use Rattle.gtp_v2.specs.Rows.{lines_at, rows_at};
+ghost use Rattle.gtp_v2.specs.Outcome.{GivesOrMemory};
+ghost use Rattle.gtp_v2.specs.DeleteBearerResponse.{delete_bearer_response, delete_bearer_response_fields, removal_response_context_rows, removal_response_context_values};
+
+use crate::fault::{BodyFault, Need, RowFault};
+use crate::groups::{Context, contexts};
+use crate::listed::Listed;
+use crate::marks::contexts_meet;
+use crate::room::{behind_contexts, behind_option, behind_row};
+use crate::rows::{mandatory, optional};
+use crate::typed::Typed;
+use crate::writing::{put_contexts, put_option, put_row};
+use gtp_ie::{EbiValue, Elements, Recovery};
+use gtp_values::Cause;
+use std::alloc::{AllocError, Global};
+
+/// The answer to a Delete Bearer Request (TS 29.274 7.2.10.2).
+#[derive(Debug, Drop)]
+pub struct DeleteBearerResponse {
+    pub cause: Cause,
+    pub linked_ebi: Option<EbiValue>,
+    pub contexts: Listed<RemovalResponseContext>,
+    pub recovery: Option<Recovery>,
+}
+
+impl Typed for DeleteBearerResponse {
+    const KIND: u8 = 100;
+
+    ghost KIND = { 100 };
+
+    const HAS_TEID: bool = true;
+
+    ghost HAS_TEID = { true };
+
+    ghost named = { delete_bearer_response.name };
+
+    ghost lines = { delete_bearer_response.lines };
+
+    ghost fields = { delete_bearer_response_fields };
+
+    fn name() -> &'static str {
+        "delete-bearer-response"
+    }
+
+    #[tactic(auto, unfolding(crate::specs::Rows::lines_at))]
+    fn read(alloc: Global, elements: &Elements) -> Result<DeleteBearerResponse, BodyFault> {
+        let cause = mandatory::<Cause>(elements, 0)?;
+        let accepting = cause.is_accepting();
+        let linked_ebi = optional::<EbiValue>(elements, 0);
+        let contexts = contexts::<RemovalResponseContext>(alloc, Need::Free, accepting, elements)?;
+        let recovery = optional::<Recovery>(elements, 0);
+        Ok(DeleteBearerResponse {
+            cause,
+            linked_ebi,
+            contexts,
+            recovery,
+        })
+    }
+
+    #[tactic(auto, using(crate::proofs::Appends::appending))]
+    fn write(&self, out: &mut Vec<u8>) -> Result<(), AllocError> {
+        put_row(out, 0, &self.cause)?;
+        put_option(out, 0, &self.linked_ebi)?;
+        put_contexts(out, self.contexts.as_slice())?;
+        put_option(out, 0, &self.recovery)?;
+        Ok(())
+    }
+
+    #[tactic(auto, using(crate::proofs::Measured::measuring))]
+    fn room_behind(&self, room: usize) -> Option<usize> {
+        let room = behind_row(room, &self.cause)?;
+        let room = behind_option(room, &self.linked_ebi)?;
+        let room = behind_contexts(room, self.contexts.as_slice())?;
+        behind_option(room, &self.recovery)
+    }
+
+    fn meets_marks(&self) -> bool {
+        let accepting = self.cause.is_accepting();
+        contexts_meet(Need::Free, accepting, self.contexts.as_slice())
+    }
+}
+
+/// A bearer in a Delete Bearer Response (TS 29.274 7.2.10.2).
+#[derive(Clone, Copy, Debug, PartialEq, Eq)]
+pub struct RemovalResponseContext {
+    pub ebi: EbiValue,
+    pub cause: Cause,
+}
+
+impl Context for RemovalResponseContext {
+    ghost rows = { removal_response_context_rows };
+
+    ghost values = { removal_response_context_values };
+
+    #[tactic(auto, unfolding(crate::specs::Rows::rows_at))]
+    fn read(_accepting: bool, elements: &Elements) -> Result<RemovalResponseContext, RowFault> {
+        let ebi = mandatory::<EbiValue>(elements, 0)?;
+        let cause = mandatory::<Cause>(elements, 0)?;
+        Ok(RemovalResponseContext { ebi, cause })
+    }
+
+    #[tactic(auto, using(crate::proofs::Appends::appending))]
+    fn write(&self, out: &mut Vec<u8>) -> Result<(), AllocError> {
+        put_row(out, 0, &self.ebi)?;
+        put_row(out, 0, &self.cause)?;
+        Ok(())
+    }
+
+    #[tactic(auto, using(crate::proofs::Measured::measuring))]
+    fn room_behind(&self, room: usize) -> Option<usize> {
+        let room = behind_row(room, &self.ebi)?;
+        behind_row(room, &self.cause)
+    }
+
+    fn meets_marks(&self, _accepting: bool) -> bool {
+        true
+    }
+}

@@ -1,0 +1,63 @@
+//! Delete Session Request (TS 29.274 7.2.9.1).
+
+ghost use Rattle.std.specs.Prelude.{true};
+ghost use Rattle.gtp_v2.specs.Table.{start};
+ghost use Rattle.gtp_v2.specs.Rows.{lines_at};
+ghost use Rattle.gtp_v2.specs.Outcome.{GivesOrMemory};
+ghost use Rattle.gtp_v2.specs.DeleteSessionRequest.{delete_session_request, delete_session_request_fields};
+
+use crate::fault::BodyFault;
+use crate::room::behind_option;
+use crate::rows::optional;
+use crate::typed::Typed;
+use crate::writing::put_option;
+use gtp_ie::{EbiValue, Elements};
+use std::alloc::{AllocError, Global};
+
+/// A request to end a session (TS 29.274 7.2.9.1).
+#[derive(Clone, Copy, Debug, PartialEq, Eq)]
+pub struct DeleteSessionRequest {
+    /// The identity of the session's default bearer.
+    pub linked_ebi: Option<EbiValue>,
+}
+
+impl Typed for DeleteSessionRequest {
+    const KIND: u8 = 36;
+
+    ghost KIND = { 36 };
+
+    const HAS_TEID: bool = true;
+
+    ghost HAS_TEID = { true };
+
+    ghost named = { delete_session_request.name };
+
+    ghost lines = { delete_session_request.lines };
+
+    ghost fields = { delete_session_request_fields };
+
+    fn name() -> &'static str {
+        "delete-session-request"
+    }
+
+    #[tactic(auto, unfolding(crate::specs::Rows::lines_at))]
+    fn read(_alloc: Global, elements: &Elements) -> Result<DeleteSessionRequest, BodyFault> {
+        let linked_ebi = optional::<EbiValue>(elements, 0);
+        Ok(DeleteSessionRequest { linked_ebi })
+    }
+
+    #[tactic(auto, using(crate::proofs::Appends::appending))]
+    fn write(&self, out: &mut Vec<u8>) -> Result<(), AllocError> {
+        put_option(out, 0, &self.linked_ebi)?;
+        Ok(())
+    }
+
+    #[tactic(auto, using(crate::proofs::Measured::measuring))]
+    fn room_behind(&self, room: usize) -> Option<usize> {
+        behind_option(room, &self.linked_ebi)
+    }
+
+    fn meets_marks(&self) -> bool {
+        true
+    }
+}

@@ -1,0 +1,67 @@
+//! Delete Session Response (TS 29.274 7.2.10.1).
+
+ghost use Rattle.std.specs.Prelude.{true};
+ghost use Rattle.gtp_v2.specs.Table.{start};
+ghost use Rattle.gtp_v2.specs.Rows.{lines_at};
+ghost use Rattle.gtp_v2.specs.Outcome.{GivesOrMemory};
+ghost use Rattle.gtp_v2.specs.DeleteSessionResponse.{delete_session_response, delete_session_response_fields};
+
+use crate::fault::BodyFault;
+use crate::room::{behind_option, behind_row};
+use crate::rows::{mandatory, optional};
+use crate::typed::Typed;
+use crate::writing::{put_option, put_row};
+use gtp_ie::{Elements, Recovery};
+use gtp_values::Cause;
+use std::alloc::{AllocError, Global};
+
+/// The answer to a Delete Session Request (TS 29.274 7.2.10.1).
+#[derive(Clone, Copy, Debug, PartialEq, Eq)]
+pub struct DeleteSessionResponse {
+    pub cause: Cause,
+    pub recovery: Option<Recovery>,
+}
+
+impl Typed for DeleteSessionResponse {
+    const KIND: u8 = 37;
+
+    ghost KIND = { 37 };
+
+    const HAS_TEID: bool = true;
+
+    ghost HAS_TEID = { true };
+
+    ghost named = { delete_session_response.name };
+
+    ghost lines = { delete_session_response.lines };
+
+    ghost fields = { delete_session_response_fields };
+
+    fn name() -> &'static str {
+        "delete-session-response"
+    }
+
+    #[tactic(auto, unfolding(crate::specs::Rows::lines_at))]
+    fn read(_alloc: Global, elements: &Elements) -> Result<DeleteSessionResponse, BodyFault> {
+        let cause = mandatory::<Cause>(elements, 0)?;
+        let recovery = optional::<Recovery>(elements, 0);
+        Ok(DeleteSessionResponse { cause, recovery })
+    }
+
+    #[tactic(auto, using(crate::proofs::Appends::appending))]
+    fn write(&self, out: &mut Vec<u8>) -> Result<(), AllocError> {
+        put_row(out, 0, &self.cause)?;
+        put_option(out, 0, &self.recovery)?;
+        Ok(())
+    }
+
+    #[tactic(auto, using(crate::proofs::Measured::measuring))]
+    fn room_behind(&self, room: usize) -> Option<usize> {
+        let room = behind_row(room, &self.cause)?;
+        behind_option(room, &self.recovery)
+    }
+
+    fn meets_marks(&self) -> bool {
+        true
+    }
+}

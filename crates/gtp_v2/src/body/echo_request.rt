@@ -1,0 +1,62 @@
+//! Echo Request (TS 29.274 7.1.1).
+
+ghost use Rattle.std.specs.Prelude.{false};
+ghost use Rattle.gtp_v2.specs.Table.{start};
+ghost use Rattle.gtp_v2.specs.Rows.{lines_at};
+ghost use Rattle.gtp_v2.specs.Outcome.{GivesOrMemory};
+ghost use Rattle.gtp_v2.specs.EchoRequest.{echo_request, echo_request_fields};
+
+use crate::fault::BodyFault;
+use crate::room::behind_row;
+use crate::rows::mandatory;
+use crate::typed::Typed;
+use crate::writing::put_row;
+use gtp_ie::{Elements, Recovery};
+use std::alloc::{AllocError, Global};
+
+/// A question whether the peer is alive (TS 29.274 7.1.1).
+#[derive(Clone, Copy, Debug, PartialEq, Eq)]
+pub struct EchoRequest {
+    pub recovery: Recovery,
+}
+
+impl Typed for EchoRequest {
+    const KIND: u8 = 1;
+
+    ghost KIND = { 1 };
+
+    const HAS_TEID: bool = false;
+
+    ghost HAS_TEID = { false };
+
+    ghost named = { echo_request.name };
+
+    ghost lines = { echo_request.lines };
+
+    ghost fields = { echo_request_fields };
+
+    fn name() -> &'static str {
+        "echo-request"
+    }
+
+    #[tactic(auto, unfolding(crate::specs::Rows::lines_at))]
+    fn read(_alloc: Global, elements: &Elements) -> Result<EchoRequest, BodyFault> {
+        let recovery = mandatory::<Recovery>(elements, 0)?;
+        Ok(EchoRequest { recovery })
+    }
+
+    #[tactic(auto, using(crate::proofs::Appends::appending))]
+    fn write(&self, out: &mut Vec<u8>) -> Result<(), AllocError> {
+        put_row(out, 0, &self.recovery)?;
+        Ok(())
+    }
+
+    #[tactic(auto, using(crate::proofs::Measured::measuring))]
+    fn room_behind(&self, room: usize) -> Option<usize> {
+        behind_row(room, &self.recovery)
+    }
+
+    fn meets_marks(&self) -> bool {
+        true
+    }
+}

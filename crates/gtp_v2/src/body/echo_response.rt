@@ -1,0 +1,62 @@
+//! Echo Response (TS 29.274 7.1.2).
+
+ghost use Rattle.std.specs.Prelude.{false};
+ghost use Rattle.gtp_v2.specs.Table.{start};
+ghost use Rattle.gtp_v2.specs.Rows.{lines_at};
+ghost use Rattle.gtp_v2.specs.Outcome.{GivesOrMemory};
+ghost use Rattle.gtp_v2.specs.EchoResponse.{echo_response, echo_response_fields};
+
+use crate::fault::BodyFault;
+use crate::room::behind_row;
+use crate::rows::mandatory;
+use crate::typed::Typed;
+use crate::writing::put_row;
+use gtp_ie::{Elements, Recovery};
+use std::alloc::{AllocError, Global};
+
+/// The answer that the peer is alive (TS 29.274 7.1.2).
+#[derive(Clone, Copy, Debug, PartialEq, Eq)]
+pub struct EchoResponse {
+    pub recovery: Recovery,
+}
+
+impl Typed for EchoResponse {
+    const KIND: u8 = 2;
+
+    ghost KIND = { 2 };
+
+    const HAS_TEID: bool = false;
+
+    ghost HAS_TEID = { false };
+
+    ghost named = { echo_response.name };
+
+    ghost lines = { echo_response.lines };
+
+    ghost fields = { echo_response_fields };
+
+    fn name() -> &'static str {
+        "echo-response"
+    }
+
+    #[tactic(auto, unfolding(crate::specs::Rows::lines_at))]
+    fn read(_alloc: Global, elements: &Elements) -> Result<EchoResponse, BodyFault> {
+        let recovery = mandatory::<Recovery>(elements, 0)?;
+        Ok(EchoResponse { recovery })
+    }
+
+    #[tactic(auto, using(crate::proofs::Appends::appending))]
+    fn write(&self, out: &mut Vec<u8>) -> Result<(), AllocError> {
+        put_row(out, 0, &self.recovery)?;
+        Ok(())
+    }
+
+    #[tactic(auto, using(crate::proofs::Measured::measuring))]
+    fn room_behind(&self, room: usize) -> Option<usize> {
+        behind_row(room, &self.recovery)
+    }
+
+    fn meets_marks(&self) -> bool {
+        true
+    }
+}

@@ -1,0 +1,55 @@
+//! Version Not Supported Indication (TS 29.274 7.1.3).
+
+ghost use Rattle.std.specs.Prelude.{false};
+ghost use Rattle.gtp_v2.specs.Table.{start};
+ghost use Rattle.gtp_v2.specs.Rows.{lines_at};
+ghost use Rattle.gtp_v2.specs.Outcome.{GivesOrMemory};
+ghost use Rattle.gtp_v2.specs.VersionNotSupported.{version_not_supported, version_not_supported_fields};
+
+use crate::fault::BodyFault;
+use crate::typed::Typed;
+use gtp_ie::Elements;
+use std::alloc::{AllocError, Global};
+
+/// That the peer speaks version 2 alone (TS 29.274 7.1.3).
+#[derive(Clone, Copy, Debug, PartialEq, Eq)]
+pub struct VersionNotSupported {}
+
+impl Typed for VersionNotSupported {
+    const KIND: u8 = 3;
+
+    ghost KIND = { 3 };
+
+    const HAS_TEID: bool = false;
+
+    ghost HAS_TEID = { false };
+
+    ghost named = { version_not_supported.name };
+
+    ghost lines = { version_not_supported.lines };
+
+    ghost fields = { version_not_supported_fields };
+
+    fn name() -> &'static str {
+        "version-not-supported"
+    }
+
+    #[tactic(auto, unfolding(crate::specs::Rows::lines_at))]
+    fn read(_alloc: Global, _elements: &Elements) -> Result<VersionNotSupported, BodyFault> {
+        Ok(VersionNotSupported {})
+    }
+
+    #[tactic(auto, using(crate::proofs::Appends::appending))]
+    fn write(&self, _out: &mut Vec<u8>) -> Result<(), AllocError> {
+        Ok(())
+    }
+
+    #[tactic(auto, using(crate::proofs::Measured::measuring))]
+    fn room_behind(&self, room: usize) -> Option<usize> {
+        Some(room)
+    }
+
+    fn meets_marks(&self) -> bool {
+        true
+    }
+}
