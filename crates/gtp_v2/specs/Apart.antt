@@ -21,7 +21,7 @@ row_of (Several kind instance missed) = Optional kind instance
 abbrev pub lines_apart : List Line → Bool
 lines_apart lines = are_apart (map row_of lines)
 
--- all instances are below 16
+-- all instances are below 16: they have four bits (TS 29.274 8.2.1)
 abbrev pub all_small : List Row → Bool
 all_small [] = true
 all_small (row ∷ rows) = nat_lt (instance_of row) 16 && all_small rows
@@ -36,6 +36,6 @@ abbrev pub all_fit : List Line → Bool
 all_fit [] = true
 all_fit (line ∷ lines) = fits line && all_fit lines
 
--- a table: each line, and each row of a group, has a type and an instance of its own
+-- a table: each line, and each row of a group, has a type and an instance of its own, of four bits
 abbrev pub is_table : List Line → Bool
 is_table lines = lines_apart lines && all_fit lines

@@ -80,7 +80,8 @@ fn read_datagram(alloc: Global, octets: &[u8]) -> Result<Datagram, V2Fault>
     Ok(Datagram { message })
 }
 
-/// The message that a datagram spells, or its first fault.
+/// The message that a datagram spells, or its first fault; `Memory` where a growth was refused, and then
+/// the datagram has no fault.
 pub fn decode(alloc: Global, octets: &[u8]) -> Result<Datagram, V2Fault>
     // What is answered is spelled so.
     ensures found { IfOk result (λ d. IsMessage octets.now (spoken_of d.message)) }
