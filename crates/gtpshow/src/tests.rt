@@ -401,6 +401,11 @@ fn missing_rows(rt: HostRuntime) -> Result<(), Fail> {
             "485f000d01000001000000004900010005",
             "type 93 instance 0 mandatory",
         ),
+        // A context in a row that is optional.
+        (
+            "4864001801000001000001000200020049005d000600020002004900",
+            "type 73 instance 0 mandatory",
+        ),
         // Of two contexts at fault the first decides.
         (
             "4860002101000001000001000200020010005d0006000200020010005d0005004900010006",
