@@ -1,4 +1,4 @@
--- Create Bearer Request (TS 29.274 7.2.3).
+-- Create Bearer Request (TS 29.274 7.2.3). Written by scripts/messages from messages/create_bearer_request.md.
 use Rattle.std.specs.Prelude.{List, [], ◌∷◌, map, option_map, option_to_list, true, codes}
 use Rattle.gtp_ie.specs.Value.{Value, OfChargingId, OfEbi, OfFTeid, OfPti, OfQos, OfTft}
 use Rattle.gtp_v2.specs.Table.{Row, Mandatory, Conditional, Optional, Single, Grouped, Field, Plain, Groups, Table}
@@ -7,7 +7,13 @@ use Rattle.gtp_v2.specs.declared.body.create_bearer_request.BearerRequestContext
 
 -- the rows of a bearer context in it (table 7.2.3-2)
 abbrev pub bearer_request_context_rows : List Row
-bearer_request_context_rows = Mandatory 73 0 ∷ Mandatory 84 0 ∷ Conditional 87 1 ∷ Mandatory 80 0 ∷ Optional 94 0 ∷ []
+bearer_request_context_rows =
+    Mandatory 73 0
+    ∷ Mandatory 84 0
+    ∷ Conditional 87 1
+    ∷ Mandatory 80 0
+    ∷ Optional 94 0
+    ∷ []
 
 abbrev pub bearer_request_context_values : BearerRequestContext → List (List Value)
 bearer_request_context_values c =
@@ -15,7 +21,7 @@ bearer_request_context_values c =
     ∷ (OfTft c.tft ∷ [])
     ∷ (OfFTeid c.user ∷ [])
     ∷ (OfQos c.qos ∷ [])
-    ∷ option_to_list (option_map (λ id. OfChargingId id.0) c.charging_id)
+    ∷ option_to_list (option_map (λ x. OfChargingId x.0) c.charging_id)
     ∷ []
 
 -- its table
@@ -26,10 +32,16 @@ create_bearer_request =
       name = codes "create-bearer-request";
       has_teid = true;
       lines =
-          Single (Optional 100 0) ∷ Single (Mandatory 73 0) ∷ Grouped (Mandatory 93 0) bearer_request_context_rows ∷ [];
+          Single (Optional 100 0)
+          ∷ Single (Mandatory 73 0)
+          ∷ Grouped (Mandatory 93 0) bearer_request_context_rows
+          ∷ [];
     }
 
 -- which values its fields are
 abbrev pub create_bearer_request_fields : CreateBearerRequest → List Field
 create_bearer_request_fields m =
-    Plain (option_to_list (option_map (λ x. OfPti x.0) m.pti)) ∷ Plain (OfEbi m.linked_ebi.0 ∷ []) ∷ Groups (map bearer_request_context_values m.contexts) ∷ []
+    Plain (option_to_list (option_map (λ x. OfPti x.0) m.pti))
+    ∷ Plain (OfEbi m.linked_ebi.0 ∷ [])
+    ∷ Groups (map bearer_request_context_values m.contexts)
+    ∷ []

@@ -1,4 +1,4 @@
--- Create Bearer Response (TS 29.274 7.2.4).
+-- Create Bearer Response (TS 29.274 7.2.4). Written by scripts/messages from messages/create_bearer_response.md.
 use Rattle.std.specs.Prelude.{List, [], ◌∷◌, map, option_map, option_to_list, true, codes}
 use Rattle.gtp_ie.specs.Value.{Value, OfCause, OfEbi, OfFTeid, OfRecovery}
 use Rattle.gtp_v2.specs.Table.{Row, Mandatory, Accepted, Optional, Single, Grouped, Field, Plain, Groups, Table}
@@ -7,11 +7,20 @@ use Rattle.gtp_v2.specs.declared.body.create_bearer_response.BearerResponseConte
 
 -- the rows of a bearer context in it (table 7.2.4-2)
 abbrev pub bearer_response_context_rows : List Row
-bearer_response_context_rows = Mandatory 73 0 ∷ Mandatory 2 0 ∷ Accepted 87 2 ∷ Accepted 87 3 ∷ []
+bearer_response_context_rows =
+    Mandatory 73 0
+    ∷ Mandatory 2 0
+    ∷ Accepted 87 2
+    ∷ Accepted 87 3
+    ∷ []
 
 abbrev pub bearer_response_context_values : BearerResponseContext → List (List Value)
 bearer_response_context_values c =
-    (OfEbi c.ebi.0 ∷ []) ∷ (OfCause c.cause ∷ []) ∷ option_to_list (option_map OfFTeid c.serving_user) ∷ option_to_list (option_map OfFTeid c.packet_user) ∷ []
+    (OfEbi c.ebi.0 ∷ [])
+    ∷ (OfCause c.cause ∷ [])
+    ∷ option_to_list (option_map OfFTeid c.serving_user)
+    ∷ option_to_list (option_map OfFTeid c.packet_user)
+    ∷ []
 
 -- its table
 abbrev pub create_bearer_response : Table
@@ -21,10 +30,16 @@ create_bearer_response =
       name = codes "create-bearer-response";
       has_teid = true;
       lines =
-          Single (Mandatory 2 0) ∷ Grouped (Accepted 93 0) bearer_response_context_rows ∷ Single (Optional 3 0) ∷ [];
+          Single (Mandatory 2 0)
+          ∷ Grouped (Accepted 93 0) bearer_response_context_rows
+          ∷ Single (Optional 3 0)
+          ∷ [];
     }
 
 -- which values its fields are
 abbrev pub create_bearer_response_fields : CreateBearerResponse → List Field
 create_bearer_response_fields m =
-    Plain (OfCause m.cause ∷ []) ∷ Groups (map bearer_response_context_values m.contexts) ∷ Plain (option_to_list (option_map (λ x. OfRecovery x.0.0) m.recovery)) ∷ []
+    Plain (OfCause m.cause ∷ [])
+    ∷ Groups (map bearer_response_context_values m.contexts)
+    ∷ Plain (option_to_list (option_map (λ x. OfRecovery x.0.0) m.recovery))
+    ∷ []

@@ -1,4 +1,4 @@
--- Create Session Request (TS 29.274 7.2.1).
+-- Create Session Request (TS 29.274 7.2.1). Written by scripts/messages from messages/create_session_request.md.
 use Rattle.std.specs.Prelude.{List, [], ◌∷◌, map, option_map, option_to_list, true, codes}
 use Rattle.gtp_ie.specs.Value.{Value, OfAmbr, OfApn, OfEbi, OfFTeid, OfImsi, OfPaa, OfPdnType, OfPlmn, OfQos, OfRat, OfRecovery, OfSelection}
 use Rattle.gtp_v2.specs.Table.{Row, Mandatory, Conditional, Optional, Single, Grouped, Field, Plain, Groups, Table}
@@ -7,10 +7,18 @@ use Rattle.gtp_v2.specs.declared.body.create_session_request.SessionRequestConte
 
 -- the rows of a bearer context in it (table 7.2.1-2)
 abbrev pub session_request_context_rows : List Row
-session_request_context_rows = Mandatory 73 0 ∷ Mandatory 80 0 ∷ Conditional 87 2 ∷ []
+session_request_context_rows =
+    Mandatory 73 0
+    ∷ Mandatory 80 0
+    ∷ Conditional 87 2
+    ∷ []
 
 abbrev pub session_request_context_values : SessionRequestContext → List (List Value)
-session_request_context_values c = (OfEbi c.ebi.0 ∷ []) ∷ (OfQos c.qos ∷ []) ∷ (OfFTeid c.user ∷ []) ∷ []
+session_request_context_values c =
+    (OfEbi c.ebi.0 ∷ [])
+    ∷ (OfQos c.qos ∷ [])
+    ∷ (OfFTeid c.user ∷ [])
+    ∷ []
 
 -- its table
 abbrev pub create_session_request : Table

@@ -1,4 +1,4 @@
--- Create Session Response (TS 29.274 7.2.2).
+-- Create Session Response (TS 29.274 7.2.2). Written by scripts/messages from messages/create_session_response.md.
 use Rattle.std.specs.Prelude.{List, [], ◌∷◌, map, option_map, option_to_list, true, codes}
 use Rattle.gtp_ie.specs.Value.{Value, OfAmbr, OfCause, OfChargingId, OfEbi, OfFTeid, OfPaa, OfQos, OfRecovery}
 use Rattle.gtp_v2.specs.Table.{Row, Mandatory, Accepted, Optional, Single, Grouped, Field, Plain, Groups, Table}
@@ -7,7 +7,13 @@ use Rattle.gtp_v2.specs.declared.body.create_session_response.SessionResponseCon
 
 -- the rows of a bearer context in it (table 7.2.2-2)
 abbrev pub session_response_context_rows : List Row
-session_response_context_rows = Mandatory 73 0 ∷ Mandatory 2 0 ∷ Accepted 87 2 ∷ Optional 80 0 ∷ Optional 94 0 ∷ []
+session_response_context_rows =
+    Mandatory 73 0
+    ∷ Mandatory 2 0
+    ∷ Accepted 87 2
+    ∷ Optional 80 0
+    ∷ Optional 94 0
+    ∷ []
 
 abbrev pub session_response_context_values : SessionResponseContext → List (List Value)
 session_response_context_values c =
@@ -15,7 +21,7 @@ session_response_context_values c =
     ∷ (OfCause c.cause ∷ [])
     ∷ option_to_list (option_map OfFTeid c.user)
     ∷ option_to_list (option_map OfQos c.qos)
-    ∷ option_to_list (option_map (λ id. OfChargingId id.0) c.charging_id)
+    ∷ option_to_list (option_map (λ x. OfChargingId x.0) c.charging_id)
     ∷ []
 
 -- its table

@@ -1,4 +1,4 @@
--- Delete Bearer Request (TS 29.274 7.2.9.2).
+-- Delete Bearer Request (TS 29.274 7.2.9.2). Written by scripts/messages from messages/delete_bearer_request.md.
 use Rattle.std.specs.Prelude.{List, [], ◌∷◌, map, option_map, option_to_list, true, codes}
 use Rattle.gtp_ie.specs.Value.{OfEbi}
 use Rattle.gtp_v2.specs.Table.{Optional, Single, Several, Field, Plain, Table}
@@ -12,9 +12,14 @@ delete_bearer_request =
       name = codes "delete-bearer-request";
       has_teid = true;
       lines =
-          Single (Optional 73 0) ∷ Several 73 1 0 ∷ [];
+          Single (Optional 73 0)
+          ∷ Several 73 1 0
+          ∷ [];
     }
 
 -- which values its fields are
 abbrev pub delete_bearer_request_fields : DeleteBearerRequest → List Field
-delete_bearer_request_fields m = Plain (option_to_list (option_map (λ x. OfEbi x.0) m.linked_ebi)) ∷ Plain (map (λ x. OfEbi x.0) m.ebis) ∷ []
+delete_bearer_request_fields m =
+    Plain (option_to_list (option_map (λ x. OfEbi x.0) m.linked_ebi))
+    ∷ Plain (map (λ x. OfEbi x.0) m.ebis)
+    ∷ []

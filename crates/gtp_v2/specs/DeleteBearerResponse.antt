@@ -1,4 +1,4 @@
--- Delete Bearer Response (TS 29.274 7.2.10.2).
+-- Delete Bearer Response (TS 29.274 7.2.10.2). Written by scripts/messages from messages/delete_bearer_response.md.
 use Rattle.std.specs.Prelude.{List, [], ◌∷◌, map, option_map, option_to_list, true, codes}
 use Rattle.gtp_ie.specs.Value.{Value, OfCause, OfEbi, OfRecovery}
 use Rattle.gtp_v2.specs.Table.{Row, Mandatory, Optional, Single, Grouped, Field, Plain, Groups, Table}
@@ -7,10 +7,16 @@ use Rattle.gtp_v2.specs.declared.body.delete_bearer_response.RemovalResponseCont
 
 -- the rows of a bearer context in it (table 7.2.10.2-2)
 abbrev pub removal_response_context_rows : List Row
-removal_response_context_rows = Mandatory 73 0 ∷ Mandatory 2 0 ∷ []
+removal_response_context_rows =
+    Mandatory 73 0
+    ∷ Mandatory 2 0
+    ∷ []
 
 abbrev pub removal_response_context_values : RemovalResponseContext → List (List Value)
-removal_response_context_values c = (OfEbi c.ebi.0 ∷ []) ∷ (OfCause c.cause ∷ []) ∷ []
+removal_response_context_values c =
+    (OfEbi c.ebi.0 ∷ [])
+    ∷ (OfCause c.cause ∷ [])
+    ∷ []
 
 -- its table
 abbrev pub delete_bearer_response : Table
@@ -20,7 +26,11 @@ delete_bearer_response =
       name = codes "delete-bearer-response";
       has_teid = true;
       lines =
-          Single (Mandatory 2 0) ∷ Single (Optional 73 0) ∷ Grouped (Optional 93 0) removal_response_context_rows ∷ Single (Optional 3 0) ∷ [];
+          Single (Mandatory 2 0)
+          ∷ Single (Optional 73 0)
+          ∷ Grouped (Optional 93 0) removal_response_context_rows
+          ∷ Single (Optional 3 0)
+          ∷ [];
     }
 
 -- which values its fields are

@@ -1,4 +1,4 @@
--- Delete Session Request (TS 29.274 7.2.9.1).
+-- Delete Session Request (TS 29.274 7.2.9.1). Written by scripts/messages from messages/delete_session_request.md.
 use Rattle.std.specs.Prelude.{List, [], ◌∷◌, option_map, option_to_list, true, codes}
 use Rattle.gtp_ie.specs.Value.{OfEbi}
 use Rattle.gtp_v2.specs.Table.{Optional, Single, Field, Plain, Table}
@@ -12,9 +12,12 @@ delete_session_request =
       name = codes "delete-session-request";
       has_teid = true;
       lines =
-          Single (Optional 73 0) ∷ [];
+          Single (Optional 73 0)
+          ∷ [];
     }
 
 -- which values its fields are
 abbrev pub delete_session_request_fields : DeleteSessionRequest → List Field
-delete_session_request_fields m = Plain (option_to_list (option_map (λ x. OfEbi x.0) m.linked_ebi)) ∷ []
+delete_session_request_fields m =
+    Plain (option_to_list (option_map (λ x. OfEbi x.0) m.linked_ebi))
+    ∷ []

@@ -1,4 +1,4 @@
--- Delete Session Response (TS 29.274 7.2.10.1).
+-- Delete Session Response (TS 29.274 7.2.10.1). Written by scripts/messages from messages/delete_session_response.md.
 use Rattle.std.specs.Prelude.{List, [], ◌∷◌, option_map, option_to_list, true, codes}
 use Rattle.gtp_ie.specs.Value.{OfCause, OfRecovery}
 use Rattle.gtp_v2.specs.Table.{Mandatory, Optional, Single, Field, Plain, Table}
@@ -12,9 +12,14 @@ delete_session_response =
       name = codes "delete-session-response";
       has_teid = true;
       lines =
-          Single (Mandatory 2 0) ∷ Single (Optional 3 0) ∷ [];
+          Single (Mandatory 2 0)
+          ∷ Single (Optional 3 0)
+          ∷ [];
     }
 
 -- which values its fields are
 abbrev pub delete_session_response_fields : DeleteSessionResponse → List Field
-delete_session_response_fields m = Plain (OfCause m.cause ∷ []) ∷ Plain (option_to_list (option_map (λ x. OfRecovery x.0.0) m.recovery)) ∷ []
+delete_session_response_fields m =
+    Plain (OfCause m.cause ∷ [])
+    ∷ Plain (option_to_list (option_map (λ x. OfRecovery x.0.0) m.recovery))
+    ∷ []

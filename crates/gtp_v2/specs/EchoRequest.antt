@@ -1,4 +1,4 @@
--- Echo Request (TS 29.274 7.1.1).
+-- Echo Request (TS 29.274 7.1.1). Written by scripts/messages from messages/echo_request.md.
 use Rattle.std.specs.Prelude.{List, [], ◌∷◌, false, codes}
 use Rattle.gtp_ie.specs.Value.{OfRecovery}
 use Rattle.gtp_v2.specs.Table.{Mandatory, Single, Field, Plain, Table}
@@ -12,9 +12,12 @@ echo_request =
       name = codes "echo-request";
       has_teid = false;
       lines =
-          Single (Mandatory 3 0) ∷ [];
+          Single (Mandatory 3 0)
+          ∷ [];
     }
 
 -- which values its fields are
 abbrev pub echo_request_fields : EchoRequest → List Field
-echo_request_fields m = Plain (OfRecovery m.recovery.0.0 ∷ []) ∷ []
+echo_request_fields m =
+    Plain (OfRecovery m.recovery.0.0 ∷ [])
+    ∷ []

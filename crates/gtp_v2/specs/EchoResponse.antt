@@ -1,4 +1,4 @@
--- Echo Response (TS 29.274 7.1.2).
+-- Echo Response (TS 29.274 7.1.2). Written by scripts/messages from messages/echo_response.md.
 use Rattle.std.specs.Prelude.{List, [], ◌∷◌, false, codes}
 use Rattle.gtp_ie.specs.Value.{OfRecovery}
 use Rattle.gtp_v2.specs.Table.{Mandatory, Single, Field, Plain, Table}
@@ -12,9 +12,12 @@ echo_response =
       name = codes "echo-response";
       has_teid = false;
       lines =
-          Single (Mandatory 3 0) ∷ [];
+          Single (Mandatory 3 0)
+          ∷ [];
     }
 
 -- which values its fields are
 abbrev pub echo_response_fields : EchoResponse → List Field
-echo_response_fields m = Plain (OfRecovery m.recovery.0.0 ∷ []) ∷ []
+echo_response_fields m =
+    Plain (OfRecovery m.recovery.0.0 ∷ [])
+    ∷ []

@@ -1,4 +1,4 @@
--- Version Not Supported Indication (TS 29.274 7.1.3).
+-- Version Not Supported Indication (TS 29.274 7.1.3). Written by scripts/messages from messages/version_not_supported.md.
 use Rattle.std.specs.Prelude.{List, [], false, codes}
 use Rattle.gtp_v2.specs.Table.{Field, Table}
 use Rattle.gtp_v2.specs.declared.body.version_not_supported.VersionNotSupported.{VersionNotSupported}
@@ -16,4 +16,5 @@ version_not_supported =
 
 -- which values its fields are
 abbrev pub version_not_supported_fields : VersionNotSupported → List Field
-version_not_supported_fields m = []
+version_not_supported_fields m =
+    []

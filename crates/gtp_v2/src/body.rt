@@ -40,7 +40,7 @@ pub use echo_response::EchoResponse;
 pub use version_not_supported::VersionNotSupported;
 
 /// What a message says, by its type (TS 29.274 6.1).
-#[derive(Debug, Drop)]
+#[derive(Debug, Drop, PartialEq, Eq)]
 pub enum Body {
     EchoRequest(EchoRequest),
     EchoResponse(EchoResponse),

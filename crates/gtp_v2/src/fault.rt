@@ -74,7 +74,7 @@ pub struct Head {
 /// Why a datagram is no message: the first check that fails, or want of memory (TS 29.274 7.7.2 to
 /// 7.7.8). `held` counts octets, `at` of an `IeFault` from the start of the datagram; `conditional`
 /// tells a conditional row from a mandatory one.
-#[derive(Debug, Drop, Error)]
+#[derive(Clone, Copy, Debug, PartialEq, Eq, Error)]
 pub enum V2Fault {
     /// H1: the header is not whole.
     #[error("only {held} octets")]

@@ -19,10 +19,10 @@ use gtp_values::{Below, Seq, Teid};
 use std::alloc::{AllocError, Global};
 
 /// A control message (TS 29.274 5.1).
-#[derive(Debug, Drop)]
+#[derive(Debug, Drop, PartialEq, Eq)]
 pub struct Message {
-    /// The receiver's TEID, where the header has one: an Echo Request, an Echo Response and a Version
-    /// Not Supported Indication have none, and the other types with a table have one.
+    /// The receiver's TEID, where the header has one: a type with a table has one or has none, as its
+    /// table says (TS 29.274 5.5.1).
     pub teid: Option<Teid>,
     /// The sequence number, 0 to 16,777,215.
     pub seq: Seq,
@@ -54,7 +54,7 @@ impl Message {
 }
 
 /// What a datagram holds: one message.
-#[derive(Debug, Drop)]
+#[derive(Debug, Drop, PartialEq, Eq)]
 pub struct Datagram {
     pub message: Message,
 }

@@ -1,4 +1,6 @@
 //! Create Bearer Request (TS 29.274 7.2.3).
+//!
+//! Written by scripts/messages from messages/create_bearer_request.md.
 
 ghost use Rattle.std.specs.Prelude.{true};
 ghost use Rattle.gtp_values.specs.Steps.{Gives};
@@ -20,11 +22,13 @@ use gtp_values::{FTeid, Qos, Tft};
 use std::alloc::{AllocError, Global};
 
 /// A request for dedicated bearers (TS 29.274 7.2.3).
-#[derive(Debug, Drop)]
+#[derive(Debug, Drop, PartialEq, Eq)]
 pub struct CreateBearerRequest {
+    /// The procedure that the subscriber began, where one did.
     pub pti: Option<Pti>,
     /// The identity of the session's default bearer.
     pub linked_ebi: EbiValue,
+    /// The bearers that are asked for.
     pub contexts: Listed<BearerRequestContext>,
 }
 
@@ -79,15 +83,18 @@ impl Typed for CreateBearerRequest {
     }
 }
 
-/// A bearer that a Create Bearer Request asks for (TS 29.274 7.2.3).
+/// A bearer that a Create Bearer Request asks for (TS 29.274 table 7.2.3-2).
 #[derive(Clone, Copy, Debug, PartialEq, Eq)]
 pub struct BearerRequestContext {
-    /// 0: the serving gateway gives the identity.
+    /// 0: the answer gives the identity.
     pub ebi: EbiValue,
+    /// Which packets go on the bearer.
     pub tft: Tft,
     /// The packet gateway's end for user packets.
     pub user: FTeid,
+    /// What the bearer is to carry, and how.
     pub qos: Qos,
+    /// The number under which the bearer is charged.
     pub charging_id: Option<ChargingId>,
 }
 

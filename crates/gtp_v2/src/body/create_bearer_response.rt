@@ -1,4 +1,6 @@
 //! Create Bearer Response (TS 29.274 7.2.4).
+//!
+//! Written by scripts/messages from messages/create_bearer_response.md.
 
 ghost use Rattle.std.specs.Prelude.{true};
 ghost use Rattle.gtp_values.specs.Steps.{Gives};
@@ -20,10 +22,13 @@ use gtp_values::{Cause, FTeid};
 use std::alloc::{AllocError, Global};
 
 /// The answer to a Create Bearer Request (TS 29.274 7.2.4).
-#[derive(Debug, Drop)]
+#[derive(Debug, Drop, PartialEq, Eq)]
 pub struct CreateBearerResponse {
+    /// Whether the request was accepted, and why not.
     pub cause: Cause,
+    /// The bearers that were asked for.
     pub contexts: Listed<BearerResponseContext>,
+    /// The sender's restart counter.
     pub recovery: Option<Recovery>,
 }
 
@@ -82,12 +87,15 @@ impl Typed for CreateBearerResponse {
     }
 }
 
-/// A bearer in a Create Bearer Response (TS 29.274 7.2.4). Its ends are there where both causes
-/// accept.
+/// A bearer in a Create Bearer Response (TS 29.274 table 7.2.4-2). Its ends are there where both
+/// causes accept.
 #[derive(Clone, Copy, Debug, PartialEq, Eq)]
 pub struct BearerResponseContext {
+    /// The identity that the bearer was given.
     pub ebi: EbiValue,
+    /// Whether the bearer was accepted, and why not.
     pub cause: Cause,
+    /// The serving gateway's end for user packets.
     pub serving_user: Option<FTeid>,
     /// The end that the request gave, as it came.
     pub packet_user: Option<FTeid>,

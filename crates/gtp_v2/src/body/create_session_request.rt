@@ -1,4 +1,6 @@
 //! Create Session Request (TS 29.274 7.2.1).
+//!
+//! Written by scripts/messages from messages/create_session_request.md.
 
 ghost use Rattle.std.specs.Prelude.{true};
 ghost use Rattle.gtp_values.specs.Steps.{Gives};
@@ -20,7 +22,7 @@ use gtp_values::{Ambr, Apn, FTeid, Imsi, Paa, Plmn, Qos};
 use std::alloc::{AllocError, Global};
 
 /// A request for a session with its default bearer (TS 29.274 7.2.1).
-#[derive(Debug, Drop)]
+#[derive(Debug, Drop, PartialEq, Eq)]
 pub struct CreateSessionRequest {
     /// The subscriber.
     pub imsi: Imsi,
@@ -32,13 +34,14 @@ pub struct CreateSessionRequest {
     pub control: FTeid,
     /// The access point that is asked for.
     pub apn: Apn,
-    /// How it was selected.
+    /// How the access point was selected.
     pub selection: Option<Selection>,
     /// The kind of address that is asked for.
     pub pdn_type: PdnType,
     /// An address that is asked for.
     pub paa: Option<Paa>,
-    /// The bit rates of all bearers without guaranteed ones, in kilobits a second.
+    /// The most that the bearers of this access point without guaranteed rates may carry together, in
+    /// kilobits a second.
     pub ambr: Option<Ambr>,
     /// The bearers that are asked for: the default one, and at this interface no other.
     pub contexts: Listed<SessionRequestContext>,
@@ -129,10 +132,12 @@ impl Typed for CreateSessionRequest {
     }
 }
 
-/// A bearer that a Create Session Request asks for (TS 29.274 7.2.1).
+/// A bearer that a Create Session Request asks for (TS 29.274 table 7.2.1-2).
 #[derive(Clone, Copy, Debug, PartialEq, Eq)]
 pub struct SessionRequestContext {
+    /// The identity of the bearer.
     pub ebi: EbiValue,
+    /// What the bearer is to carry, and how.
     pub qos: Qos,
     /// The serving gateway's end for user packets.
     pub user: FTeid,

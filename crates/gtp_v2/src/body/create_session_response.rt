@@ -1,4 +1,6 @@
 //! Create Session Response (TS 29.274 7.2.2).
+//!
+//! Written by scripts/messages from messages/create_session_response.md.
 
 ghost use Rattle.std.specs.Prelude.{true};
 ghost use Rattle.gtp_values.specs.Steps.{Gives};
@@ -20,7 +22,7 @@ use gtp_values::{Ambr, Cause, FTeid, Paa, Qos};
 use std::alloc::{AllocError, Global};
 
 /// The answer to a Create Session Request (TS 29.274 7.2.2).
-#[derive(Debug, Drop)]
+#[derive(Debug, Drop, PartialEq, Eq)]
 pub struct CreateSessionResponse {
     /// Whether the request was accepted, and why not.
     pub cause: Cause,
@@ -28,8 +30,12 @@ pub struct CreateSessionResponse {
     pub control: Option<FTeid>,
     /// The subscriber's address: there where the cause accepts.
     pub paa: Option<Paa>,
+    /// The most that the bearers of this access point without guaranteed rates may carry together, in
+    /// kilobits a second.
     pub ambr: Option<Ambr>,
+    /// The bearers that were asked for.
     pub contexts: Listed<SessionResponseContext>,
+    /// The sender's restart counter.
     pub recovery: Option<Recovery>,
 }
 
@@ -101,14 +107,18 @@ impl Typed for CreateSessionResponse {
     }
 }
 
-/// A bearer in a Create Session Response (TS 29.274 7.2.2).
+/// A bearer in a Create Session Response (TS 29.274 table 7.2.2-2).
 #[derive(Clone, Copy, Debug, PartialEq, Eq)]
 pub struct SessionResponseContext {
+    /// The identity of the bearer.
     pub ebi: EbiValue,
+    /// Whether the bearer was accepted, and why not.
     pub cause: Cause,
     /// The packet gateway's end for user packets: there where both causes accept.
     pub user: Option<FTeid>,
+    /// What the bearer is to carry, and how: there where it was changed.
     pub qos: Option<Qos>,
+    /// The number under which the bearer is charged.
     pub charging_id: Option<ChargingId>,
 }
 

@@ -1,4 +1,6 @@
 //! Delete Bearer Request (TS 29.274 7.2.9.2).
+//!
+//! Written by scripts/messages from messages/delete_bearer_request.md.
 
 ghost use Rattle.std.specs.Prelude.{true};
 ghost use Rattle.gtp_v2.specs.Table.{start};
@@ -17,7 +19,7 @@ use gtp_ie::{EbiValue, Elements};
 use std::alloc::{AllocError, Global};
 
 /// A request to end a session or some of its dedicated bearers (TS 29.274 7.2.9.2).
-#[derive(Debug, Drop)]
+#[derive(Debug, Drop, PartialEq, Eq)]
 pub struct DeleteBearerRequest {
     /// The identity of the session's default bearer, where the session is to end.
     pub linked_ebi: Option<EbiValue>,

@@ -1,4 +1,6 @@
 //! Delete Bearer Response (TS 29.274 7.2.10.2).
+//!
+//! Written by scripts/messages from messages/delete_bearer_response.md.
 
 ghost use Rattle.std.specs.Prelude.{true};
 ghost use Rattle.gtp_values.specs.Steps.{Gives};
@@ -20,11 +22,15 @@ use gtp_values::Cause;
 use std::alloc::{AllocError, Global};
 
 /// The answer to a Delete Bearer Request (TS 29.274 7.2.10.2).
-#[derive(Debug, Drop)]
+#[derive(Debug, Drop, PartialEq, Eq)]
 pub struct DeleteBearerResponse {
+    /// Whether the request was accepted, and why not.
     pub cause: Cause,
+    /// The identity of the session's default bearer, where the session ended.
     pub linked_ebi: Option<EbiValue>,
+    /// The bearers that were to end.
     pub contexts: Listed<RemovalResponseContext>,
+    /// The sender's restart counter.
     pub recovery: Option<Recovery>,
 }
 
@@ -85,10 +91,12 @@ impl Typed for DeleteBearerResponse {
     }
 }
 
-/// A bearer in a Delete Bearer Response (TS 29.274 7.2.10.2).
+/// A bearer in a Delete Bearer Response (TS 29.274 table 7.2.10.2-2).
 #[derive(Clone, Copy, Debug, PartialEq, Eq)]
 pub struct RemovalResponseContext {
+    /// The identity of the bearer.
     pub ebi: EbiValue,
+    /// Whether the bearer ended, and why not.
     pub cause: Cause,
 }
 

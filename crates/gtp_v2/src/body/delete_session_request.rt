@@ -1,4 +1,6 @@
 //! Delete Session Request (TS 29.274 7.2.9.1).
+//!
+//! Written by scripts/messages from messages/delete_session_request.md.
 
 ghost use Rattle.std.specs.Prelude.{true};
 ghost use Rattle.gtp_v2.specs.Table.{start};

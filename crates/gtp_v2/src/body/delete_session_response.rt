@@ -1,4 +1,6 @@
 //! Delete Session Response (TS 29.274 7.2.10.1).
+//!
+//! Written by scripts/messages from messages/delete_session_response.md.
 
 ghost use Rattle.std.specs.Prelude.{true};
 ghost use Rattle.gtp_v2.specs.Table.{start};
@@ -18,7 +20,9 @@ use std::alloc::{AllocError, Global};
 /// The answer to a Delete Session Request (TS 29.274 7.2.10.1).
 #[derive(Clone, Copy, Debug, PartialEq, Eq)]
 pub struct DeleteSessionResponse {
+    /// Whether the session ended, and why not.
     pub cause: Cause,
+    /// The sender's restart counter.
     pub recovery: Option<Recovery>,
 }
 

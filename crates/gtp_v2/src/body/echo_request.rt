@@ -1,4 +1,6 @@
 //! Echo Request (TS 29.274 7.1.1).
+//!
+//! Written by scripts/messages from messages/echo_request.md.
 
 ghost use Rattle.std.specs.Prelude.{false};
 ghost use Rattle.gtp_v2.specs.Table.{start};
@@ -17,6 +19,7 @@ use std::alloc::{AllocError, Global};
 /// A question whether the peer is alive (TS 29.274 7.1.1).
 #[derive(Clone, Copy, Debug, PartialEq, Eq)]
 pub struct EchoRequest {
+    /// The sender's restart counter.
     pub recovery: Recovery,
 }
 

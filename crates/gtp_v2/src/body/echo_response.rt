@@ -1,4 +1,6 @@
 //! Echo Response (TS 29.274 7.1.2).
+//!
+//! Written by scripts/messages from messages/echo_response.md.
 
 ghost use Rattle.std.specs.Prelude.{false};
 ghost use Rattle.gtp_v2.specs.Table.{start};
@@ -17,6 +19,7 @@ use std::alloc::{AllocError, Global};
 /// The answer that the peer is alive (TS 29.274 7.1.2).
 #[derive(Clone, Copy, Debug, PartialEq, Eq)]
 pub struct EchoResponse {
+    /// The sender's restart counter.
     pub recovery: Recovery,
 }
 

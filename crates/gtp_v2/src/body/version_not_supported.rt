@@ -1,4 +1,6 @@
 //! Version Not Supported Indication (TS 29.274 7.1.3).
+//!
+//! Written by scripts/messages from messages/version_not_supported.md.
 
 ghost use Rattle.std.specs.Prelude.{false};
 ghost use Rattle.gtp_v2.specs.Table.{start};
@@ -11,7 +13,7 @@ use crate::typed::Typed;
 use gtp_ie::Elements;
 use std::alloc::{AllocError, Global};
 
-/// That the peer speaks version 2 alone (TS 29.274 7.1.3).
+/// That the sender supports no version above 2 (TS 29.274 7.1.3).
 #[derive(Clone, Copy, Debug, PartialEq, Eq)]
 pub struct VersionNotSupported {}
 
