@@ -41,7 +41,7 @@ pub trait IeValue: Copy {
         // So does each body that says the same: spare bits and octets behind the form are free.
         ensures free { SpellsFreely KIND (value self.now) };
 
-    /// How many octets its body has: the Length of its element (TS 29.274 8.2.1).
+    /// How many octets its body has: the Length of its element (TS 29.274 8.2).
     fn body_length(&self) -> usize
         ensures { result ≡ length (text_of (value self.now)) };
 

@@ -43,8 +43,9 @@ pub fn close(out: &mut Vec<u8>, start: usize)
     ensures { out.new.items ≡ closed start (length out.old.items - (start + 4)) out.old.items }
 {
     let size = out.len() - (start + 4);
-    out[start + 1] = (size / 256 % 256) as u8;
-    out[start + 2] = (size % 256) as u8;
+    let [high, low] = ((size % 65_536) as u16).to_be_bytes();
+    out[start + 1] = high;
+    out[start + 2] = low;
 }
 
 /// Appends the element of a value. After want of memory the vector is as before.
@@ -79,8 +80,6 @@ pub fn put(out: &mut Vec<u8>, kind: u8, instance: u8, body: &[u8]) -> Result<(),
         return Err(IeFault::TooLong);
     };
     let [high, low] = len.to_be_bytes();
-    match append(out, &[&[kind, high, low, instance], body]) {
-        Ok(()) => Ok(()),
-        Err(_) => Err(IeFault::Memory),
-    }
+    append(out, &[&[kind, high, low, instance], body])?;
+    Ok(())
 }

@@ -1,5 +1,5 @@
 -- What requests read as.
-use Rattle.std.proofs.Common.{◌≡◌, ◌<◌, ℕ, true, Some, List, [], ◌∷◌, length, map, refl, sym, ◌∙◌, ap, subst, arith}
+use Rattle.std.proofs.Common.{◌≡◌, ◌<◌, ℕ, Some, List, [], ◌∷◌, length, map, refl, sym, ◌∙◌, ap, subst, arith}
 use Rattle.gtp_ie.specs.Element.{Element}
 use Rattle.gtp_ie.specs.Value.{Value}
 use Rattle.gtp_v2.specs.Table.{Field, Plain, Groups, Table, start}

@@ -1,5 +1,5 @@
 -- What a change of a table or a list leaves of what holds of each entry.
-use Rattle.std.proofs.Common.{◌≡◌, ◌≢◌, ◌⊎◌, inl, inr, ⊎_elim, ℕ, Bool, true, false, cond, List, [], ◌∷◌, ◌++◌, map, not, eqb, Option, Some, None, refl, sym, ◌∙◌, ap, subst, arith}
+use Rattle.std.proofs.Common.{◌≡◌, ◌≢◌, ◌⊎◌, inl, inr, ⊎_elim, ℕ, Bool, true, false, cond, List, [], ◌∷◌, ◌++◌, map, Option, Some, None, refl, sym, ◌∙◌, ap, subst, arith}
 use Rattle.std.specs.FinMap.{get, insert, remove, get-retain_keys, get-entries, get-from_entries, entries, find, empty, gets, nat_cmp-IsAntisymmetric}
 use Rattle.std.proofs.lemmas.Bool.Decides.{nat_tests}
 use Rattle.std.specs.Ordering.{nat_cmp, eq_by_cmp}
@@ -35,9 +35,6 @@ Each-insert P table key x here each q y e = elim (found-insert table key x q y e
 pub Each-remove : {X : Type 0} (P : ℕ → X → Type 0) (table : Table X) (key : ℕ) → Each P table → Each P (remove table key)
 Each-remove P table key each q y e = each q y (found-remove table key q y e).1
 
-pub Each-kept : {X : Type 0} (P : ℕ → X → Type 0) (test : ℕ → X → Bool) (table : Table X) → Each P table → Each P (kept test table)
-Each-kept P test table each q y e = each q y (found-kept test table q y e).1
-
 pub Each-empty : {X : Type 0} (P : ℕ → X → Type 0) → Each P empty
 Each-empty P q y e = absurd (found-empty q y e)
 
@@ -63,9 +60,6 @@ get-insert_same table key x = grind (arith, gets, nat_tests)
 
 pub get-insert_other : {X : Type 0} (table : Table X) (key : ℕ) (x : X) (q : ℕ) → q ≢ key → get (insert table key x) q ≡ get table q
 get-insert_other table key x q other = grind (arith, gets, nat_tests)
-
-pub get-remove_other : {X : Type 0} (table : Table X) (key q : ℕ) → q ≢ key → get (remove table key) q ≡ get table q
-get-remove_other table key q other = grind (arith, gets, nat_tests)
 
 -- an entry that passes is kept
 pub get-kept : {X : Type 0} (test : ℕ → X → Bool) (table : Table X) (q : ℕ) (y : X) → get table q ≡ Some y → test q y ≡ true → get (kept test table) q ≡ Some y
@@ -105,10 +99,3 @@ found-changed {X = X} f table q y e = was (get table q) refl (sym (get-changed f
     was : (o : Option X) → get table q ≡ o → changed_at f o ≡ Some y → WasChanged f table q y
     was None is h = absurd (cc h)
     was (Some x) is h = record { before = x; stood = is; is = cc }
-
-pub not-true : (b : Bool) → not b ≡ true → b ≡ false
-not-true true e = sym e
-not-true false e = refl
-
-pub not_eq : (a b : ℕ) → not (eqb a b) ≡ true → a ≢ b
-not_eq a b e same = grind (arith, nat_tests)

@@ -1,4 +1,4 @@
-// Two gateways as a machine, and what holds of each run.
+//! Two gateways as a machine, and what holds of each run.
 #![tactic(auto)]
 
 pub mod laws;

@@ -12,7 +12,8 @@ use Rattle.gtp_user.specs.Header.{Flags, bits, Opens, IsHeaded}
 use Rattle.gtp_user.specs.Element.{Recovery, TeidData, Peer, Types, SpellsAddress}
 use Rattle.gtp_user.specs.Message.{Content, EchoRequest, EchoResponse, ErrorIndication, Notification, EndMarker, Packet, Other, Spoken, numbered}
 use Rattle.gtp_user.specs.Datagram.{Carries, IsUserMessage}
-use Rattle.gtp_user.specs.Text.{two, four, kind_of, teid_of, HasAddressSize, address_text, content_text, options_text, text, IsWritableBy, IsInRange, Meets}
+use Rattle.gtp_values.specs.Numbers.{two, four}
+use Rattle.gtp_user.specs.Text.{kind_of, teid_of, HasAddressSize, address_text, content_text, options_text, text, IsEncodableBy, IsInRange, Meets}
 use Rattle.gtp_user.proofs.Chains.{text_chained}
 
 -- ---- the header
@@ -75,7 +76,7 @@ address_again : (address : Ip) → HasAddressSize address → SpellsAddress (add
 address_again (addresses.V4 octets) size = (ap (λ (n : ℕ). 0 ∷ n ∷ octets) size ∙ ap (λ (xs : List ℕ). 0 ∷ 4 ∷ xs) (sym (append-nil octets)), size)
 address_again (addresses.V6 octets) size = (ap (λ (n : ℕ). 0 ∷ n ∷ octets) size ∙ ap (λ (xs : List ℕ). 0 ∷ 16 ∷ xs) (sym (append-nil octets)), size)
 
-carries_again : (content : Content) (seq : Option ℕ) → IsWritableBy content seq → IsInRange content → Carries (kind_of content) (teid_of content) (content_text content) content
+carries_again : (content : Content) (seq : Option ℕ) → IsEncodableBy content seq → IsInRange content → Carries (kind_of content) (teid_of content) (content_text content) content
 unfolding content_text
 carries_again EchoRequest seq w r = refl
 carries_again EchoResponse seq w r = (refl, (Recovery ∷ [], ([], (0, refl), refl), refl))
@@ -97,7 +98,7 @@ some_number : (seq : Option ℕ) → IsSome seq → seq ≡ Some (unwrap_or seq 
 some_number (Some n) h = refl
 some_number None h = absurd cc
 
-numbered_again : (content : Content) (seq : Option ℕ) → IsWritableBy content seq → seq ≡ numbered content seq
+numbered_again : (content : Content) (seq : Option ℕ) → IsEncodableBy content seq → seq ≡ numbered content seq
 numbered_again EchoRequest seq w = some_number seq w
 numbered_again EchoResponse seq w = some_number seq w
 numbered_again (ErrorIndication teid peer) seq w = some_number seq w
@@ -114,7 +115,7 @@ text_again m meets =
     let first = first_kind m.ext in (
       headed (kind_of m.content) (teid_of m.content) m.seq m.npdu (first_kind m.ext) (chain_text m.ext ++ content_text m.content),
       header_again (first_kind m.ext == 0) (kind_of m.content) (teid_of m.content) m.seq m.npdu (first_kind m.ext) (chain_text m.ext ++ content_text m.content) refl meets.teid meets.seq meets.short,
-      (content_text m.content, text_chained m.ext (content_text m.content) meets.ext, carries_again m.content m.seq meets.writable meets.range, numbered_again m.content m.seq meets.writable, refl),
+      (content_text m.content, text_chained m.ext (content_text m.content) meets.ext, carries_again m.content m.seq meets.encodable meets.range, numbered_again m.content m.seq meets.encodable, refl),
     )
 
 -- what was written, where it is the text

@@ -35,7 +35,7 @@ content_of (bodies.Other kind teid octets) = Other kind teid.0 octets.now
 abbrev pub spoken_of : UserMessage → Spoken
 spoken_of m = record { seq = m.seq; npdu = m.npdu; ext = m.ext; content = content_of m.body }
 
--- the sequence number of a message whose header has this one: the messages of a path always have one, 0 where their flag S is not set
+-- the sequence number of a message whose header has this one: an echo, an Error Indication and a notification always have one, 0 where their flag S is not set
 abbrev pub numbered : Content → Option ℕ → Option ℕ
 numbered EchoRequest seq = Some (unwrap_or seq 0)
 numbered EchoResponse seq = Some (unwrap_or seq 0)

@@ -1,18 +1,12 @@
 -- The one text of a message, and which messages have one.
-use Rattle.std.specs.Prelude.{◌≡◌, ℕ, ◌+◌, ◌/◌, ◌%◌, ◌<◌, ◌^◌, not, List, [], ◌∷◌, ◌++◌, length, Option, is_some, unwrap_or, IsSome, IfSome, ◌==◌, if◌then◌else◌}
+use Rattle.std.specs.Prelude.{◌≡◌, ℕ, ◌+◌, ◌<◌, ◌^◌, not, List, [], ◌∷◌, ◌++◌, length, Option, is_some, unwrap_or, IsSome, IfSome, ◌==◌, if◌then◌else◌}
 use Rattle.gtp_values.specs.declared.address.Ip.{Ip}
 use Rattle.gtp_values.specs.declared.address.Ip.TheVariants as addresses
+use Rattle.gtp_values.specs.Numbers.{two, four}
 use Rattle.gtp_user.specs.Chain.{AreExtensions, first_kind, chain_text}
 use Rattle.gtp_user.specs.Header.{Flags, bits}
 use Rattle.gtp_user.specs.Message.{Content, EchoRequest, EchoResponse, ErrorIndication, Notification, EndMarker, Packet, Other, Spoken}
 use Rattle.gtp_user.specs.Datagram.{IsOtherKind}
-
--- a number in two octets and in four, and then the rest
-abbrev pub two : ℕ → List ℕ → List ℕ
-two n rest = ((n / 256) % 256) ∷ (n % 256) ∷ rest
-
-abbrev pub four : ℕ → List ℕ → List ℕ
-four n rest = ((n / 16777216) % 256) ∷ ((n / 65536) % 256) ∷ ((n / 256) % 256) ∷ (n % 256) ∷ rest
 
 abbrev pub kind_of : Content → ℕ
 kind_of EchoRequest = 1
@@ -23,7 +17,7 @@ kind_of (EndMarker teid) = 254
 kind_of (Packet teid payload) = 255
 kind_of (Other kind teid octets) = kind
 
--- the TEID in the header: 0 in the messages of a path
+-- the TEID in the header: 0 in the messages that always have a sequence number
 abbrev pub teid_of : Content → ℕ
 teid_of EchoRequest = 0
 teid_of EchoResponse = 0
@@ -81,18 +75,18 @@ abbrev pub HasShortList : Content → Type 0
 HasShortList (Notification types) = length types < 256
 HasShortList content = Unit {0}
 
--- a message that can be written: one of a path has a sequence number, a list of types has a length of one octet, and another type has no form of its own
-abbrev pub IsWritableBy : Content → Option ℕ → Type 0
-IsWritableBy EchoRequest seq = IsSome seq
-IsWritableBy EchoResponse seq = IsSome seq
-IsWritableBy (ErrorIndication teid peer) seq = IsSome seq
-IsWritableBy (Notification types) seq = IsSome seq × (length types < 256)
-IsWritableBy (EndMarker teid) seq = Unit {0}
-IsWritableBy (Packet teid payload) seq = Unit {0}
-IsWritableBy (Other kind teid octets) seq = IsOtherKind kind
+-- a message that can be written: an echo, an Error Indication and a notification have a sequence number, a list of types has a length of one octet, and another type has no form of its own
+abbrev pub IsEncodableBy : Content → Option ℕ → Type 0
+IsEncodableBy EchoRequest seq = IsSome seq
+IsEncodableBy EchoResponse seq = IsSome seq
+IsEncodableBy (ErrorIndication teid peer) seq = IsSome seq
+IsEncodableBy (Notification types) seq = IsSome seq × (length types < 256)
+IsEncodableBy (EndMarker teid) seq = Unit {0}
+IsEncodableBy (Packet teid payload) seq = Unit {0}
+IsEncodableBy (Other kind teid octets) seq = IsOtherKind kind
 
-abbrev pub IsWritable : Spoken → Type 0
-IsWritable m = IsWritableBy m.content m.seq
+abbrev pub IsEncodable : Spoken → Type 0
+IsEncodable m = IsEncodableBy m.content m.seq
 
 -- ---- what reads again
 
@@ -103,7 +97,7 @@ IsInRange content = Unit {0}
 
 -- a message whose text spells it
 pub record Meets (m : Spoken) : Type 0 where
-  pub writable : IsWritable m
+  pub encodable : IsEncodable m
   pub seq : IfSome m.seq (λ n. n < 2 ^ 16)
   pub ext : AreExtensions m.ext
   pub teid : teid_of m.content < 2 ^ 32

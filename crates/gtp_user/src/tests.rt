@@ -30,14 +30,14 @@ fn reads_and_writes(
     assert_eq!(rt; message.npdu, npdu, "N-PDU number of {octets:?}");
     assert_eq!(rt; count(message.ext.iter()), headers, "headers of {octets:?}");
     assert!(rt; message.body == body, "body of {octets:?}");
-    assert!(rt; message.is_writable());
+    assert!(rt; message.is_encodable());
     let written = encode(alloc, &message)?;
     assert!(rt; written.as_slice() == octets, "text of {octets:?}");
     Ok(())
 }
 
 #[test]
-fn paths(rt: HostRuntime) -> Result<(), Fail> {
+fn numbered_messages(rt: HostRuntime) -> Result<(), Fail> {
     let alloc = rt.alloc();
     let response = b"\x32\x02\x00\x06\x00\x00\x00\x00\x00\x05\x00\x00\x0e\x00";
     reads_and_writes(
@@ -297,7 +297,7 @@ fn chains(rt: HostRuntime) -> Result<(), Fail> {
             return Err("no packet".into());
         };
         assert_eq!(rt; read.len(), usize::from(payload));
-        assert!(rt; message.is_writable());
+        assert!(rt; message.is_encodable());
         let written = encode(rt.alloc(), &message)?;
         assert!(rt;
             headers == 0 || written == octets,
@@ -338,7 +338,7 @@ fn lengths(rt: HostRuntime) -> Result<(), Fail> {
         ext: Extensions::none(),
         body: UserBody::Notification { types: &types },
     };
-    assert!(rt; !message.is_writable());
+    assert!(rt; !message.is_encodable());
     Ok(())
 }
 

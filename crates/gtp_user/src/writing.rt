@@ -2,7 +2,7 @@
 
 ghost use Rattle.std.specs.Prelude.{◌≡◌, ◌+◌, ◌-◌, ◌^◌, ◌<◌, ◌≤◌, ◌++◌, ◌↔◌, ◌⊎◌, ◌∷◌, min, length, IsTrue, IfSome, OnOk, IfOk, IfErr, Err};
 ghost use Rattle.gtp_user.specs.Message.{spoken_of, content_of};
-ghost use Rattle.gtp_user.specs.Text.{content_text, octets_of, HasAddressSize, options_text, opening_text, behind_text, text, flags_of, kind_of, teid_of, HasShortList, IsInRange, IsWritable};
+ghost use Rattle.gtp_user.specs.Text.{content_text, octets_of, HasAddressSize, options_text, opening_text, behind_text, text, flags_of, kind_of, teid_of, HasShortList, IsInRange, IsEncodable};
 ghost use Rattle.gtp_user.specs.Header.{bits};
 ghost use Rattle.gtp_user.specs.Datagram.{IsUserMessage};
 
@@ -42,7 +42,7 @@ impl UserBody<'_> {
         }
     }
 
-    /// The TEID in the header, 0 in the messages of a path.
+    /// The TEID in the header, 0 in the messages that always have a sequence number (TS 29.281 5.1).
     fn header_teid(&self) -> u32
         ensures teid { result ≡ teid_of (content_of self.now) }
         ensures small { result < 2 ^ 32 }
@@ -75,10 +75,11 @@ impl UserBody<'_> {
 }
 
 impl UserMessage<'_> {
-    /// Whether the message can be written: a message of a path has a sequence number, a notification
-    /// has at most 255 types, and `Other` has a type without a form of its own.
-    pub fn is_writable(&self) -> bool
-        ensures { IsTrue result ↔ IsWritable (spoken_of self.now) }
+    /// Whether `encode` takes it: an echo, an Error Indication and a notification have a sequence number
+    /// (TS 29.281 5.1), a notification has at most 255 types, and `Other` has a type without a form of
+    /// its own.
+    pub fn is_encodable(&self) -> bool
+        ensures { IsTrue result ↔ IsEncodable (spoken_of self.now) }
     {
         match self.body {
             UserBody::EchoRequest | UserBody::EchoResponse | UserBody::ErrorIndication { .. } =>
@@ -180,11 +181,11 @@ fn write_body(out: &mut Vec<u8>, body: &UserBody) -> Result<(), AllocError>
     }
 }
 
-/// The one text of a message that can be written (`is_writable`). `TooLong` where its length passes
+/// The one text of a message that can be written (`is_encodable`). `TooLong` where its length passes
 /// what two octets can state, before any memory is taken; else only memory can be wanting.
 #[tactic(auto, using(crate::proofs::Appends::appending))]
 pub fn encode(alloc: Global, message: &UserMessage) -> Result<Vec<u8>, UserFault>
-    requires { IsWritable (spoken_of message.now) }
+    requires { IsEncodable (spoken_of message.now) }
     ensures written { IfOk result (λ octets. octets.items ≡ text (spoken_of message.now)) }
     // What was written is read again.
     ensures read_again { IfOk result (λ octets. IsUserMessage octets.items (spoken_of message.now)) }

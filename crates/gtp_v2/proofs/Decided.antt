@@ -150,10 +150,10 @@ some_enough need kind instance groups some is_enough none =
     (known_ok groups (λ all. (all ≡ groups) × IsEnough need groups) (NoGroup need kind instance groups) (refl, is_enough) (λ all h. h.0) none)
 
 enough_decided : (need : Need) (kind instance : ℕ) (groups : List (List (List Value))) → Decides (enough need kind instance groups) (λ all. (all ≡ groups) × IsEnough need groups) (NoGroup need kind instance groups)
-enough_decided needs.Free kind instance [] = known_ok [] (λ all. (all ≡ []) × Unit {0}) (λ f. ⊥) (refl, tt) (λ all h. h.0) (λ f h. h)
+enough_decided needs.Optional kind instance [] = known_ok [] (λ all. (all ≡ []) × Unit {0}) (λ f. ⊥) (refl, tt) (λ all h. h.0) (λ f h. h)
 enough_decided needs.Mandatory kind instance [] = known_err (faults.Missing kind instance false) (λ all. (all ≡ []) × (0 < 0)) (λ f. ([] ≡ []) × (f ≡ faults.Missing kind instance false)) (refl, refl) (λ all h. omega (arith, h.1)) (λ f h. h.1)
 enough_decided needs.Conditional kind instance [] = known_err (faults.Missing kind instance true) (λ all. (all ≡ []) × (0 < 0)) (λ f. ([] ≡ []) × (f ≡ faults.Missing kind instance true)) (refl, refl) (λ all h. omega (arith, h.1)) (λ f h. h.1)
-enough_decided needs.Free kind instance (g ∷ gs) = some_enough needs.Free kind instance (g ∷ gs) (omega arith) tt (λ f h. h)
+enough_decided needs.Optional kind instance (g ∷ gs) = some_enough needs.Optional kind instance (g ∷ gs) (omega arith) tt (λ f h. h)
 enough_decided needs.Mandatory kind instance (g ∷ gs) = some_enough needs.Mandatory kind instance (g ∷ gs) (omega arith) (omega arith) (λ f h. omega (arith, ap length h.0))
 enough_decided needs.Conditional kind instance (g ∷ gs) = some_enough needs.Conditional kind instance (g ∷ gs) (omega arith) (omega arith) (λ f h. omega (arith, ap length h.0))
 

@@ -10,11 +10,12 @@ use Rattle.gtp_v2.specs.Rows.{whole, lines_at}
 use Rattle.gtp_v2.specs.Apart.{lines_apart, all_fit}
 use Rattle.gtp_v2.proofs.Meets.{LinesMeet}
 use Rattle.gtp_v2.specs.Headed.{Headed, header_at}
-use Rattle.gtp_v2.specs.Message.{same_flag, Content, Fields, Raw, Spoken}
+use Rattle.gtp_v2.specs.Message.{Content, Fields, Raw, Spoken}
 use Rattle.gtp_v2.specs.Tables.{tables, table_among, table_of}
 use Rattle.gtp_v2.specs.Text.{lines_text}
 use Rattle.gtp_v2.specs.Datagram.{CarriesBy, IsMessage}
-use Rattle.gtp_v2.specs.Encoding.{carried, carried_by, three, four, headed_text, text, HeaderMeets}
+use Rattle.gtp_values.specs.Numbers.{three, four}
+use Rattle.gtp_v2.specs.Encoding.{carried, carried_by, headed_text, text, HeaderMeets}
 use Rattle.gtp_v2.proofs.Decided.{whole_decided, lines_decided}
 use Rattle.gtp_v2.proofs.Headers.{header_decided}
 use Rattle.gtp_v2.proofs.Again.{fields_again}
@@ -82,7 +83,7 @@ abbrev pub ContentMeets : Option Table → Option ℕ → Content → Type 0
 ContentMeets None teid (Raw octets) = Unit {0}
 ContentMeets None teid (Fields fields) = ⊥
 ContentMeets (Some table) teid (Raw octets) = ⊥
-ContentMeets (Some table) teid (Fields fields) = (same_flag (is_some teid) table.has_teid ≡ true) × LinesMeet start table.lines fields
+ContentMeets (Some table) teid (Fields fields) = (is_some teid ≡ table.has_teid) × LinesMeet start table.lines fields
 
 content_again : (table : Option Table) (kind : ℕ) (teid : Option ℕ) (seq : ℕ) (priority : Option ℕ) (content : Content) → ((t : Table) → table ≡ Some t → lines_apart t.lines ≡ true) → ContentMeets table teid content
     → CarriesBy table (headed_by kind teid seq priority (carried_by table content) (place_of teid)) content

@@ -1,5 +1,6 @@
 -- The text of a message spells it, where its values are of its table's types and what the marks ask is there.
 use Rattle.std.proofs.Common.{◌≡◌, ℕ, ◌<◌, ◌≤◌, ltb, Bool, true, false, ◌&&◌, List, [], ◌∷◌, length, Option, Some, None, refl, arith, length-append}
+use Rattle.std.specs.Prelude.{is_some}
 use Rattle.std.specs.List.{AllByRecursion}
 use Rattle.std.proofs.lemmas.Bool.{ltb-true}
 use Rattle.std.proofs.lemmas.List.Elements.{recursion_from_All}
@@ -108,7 +109,7 @@ lines_again at lines fields table have marked short =
 
 -- ---- messages
 
-content_meets : (table : Option Table) (teid : Option ℕ) (content : Content) → ((t : Table) → table ≡ Some t → all_fit t.lines ≡ true) → ContentMarked table teid content → ContentHasKinds table content → length (carried_by table content) < 65536
+content_meets : (table : Option Table) (teid : Option ℕ) (content : Content) → ((t : Table) → table ≡ Some t → all_fit t.lines ≡ true) → ContentMarked table (is_some teid) content → ContentHasKinds table content → length (carried_by table content) < 65536
     → ContentMeets table teid content
 content_meets None teid (Raw octets) fit marked have short = tt
 content_meets None teid (Fields fields) fit marked have short = absurd have

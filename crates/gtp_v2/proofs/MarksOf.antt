@@ -1,5 +1,6 @@
 -- What was read meets the marks of its table.
 use Rattle.std.proofs.Common.{ℕ, ◌<◌, Bool, true, false, ◌&&◌, List, [], ◌∷◌, length, Option, Some, None, sym, subst, arith}
+use Rattle.std.specs.Prelude.{is_some}
 use Rattle.std.specs.List.{AllByRecursion}
 use Rattle.std.proofs.lemmas.List.Elements.{All-from_recursion}
 use Rattle.gtp_ie.specs.Element.{Element, all_of}
@@ -47,9 +48,9 @@ lines_marked state [] es fields are = tt
 lines_marked state (line ∷ lines) es [] are = tt
 lines_marked state (line ∷ lines) es (field ∷ fields) are = (line_marked state line es field are.0, lines_marked (after state field) lines es fields are.1)
 
-content_marked : (table : Option Table) (h : Headed) (content : Content) → CarriesBy table h content → ContentMarked table h.teid content
+content_marked : (table : Option Table) (h : Headed) (content : Content) → CarriesBy table h content → ContentMarked table (is_some h.teid) content
 content_marked None h content carries = tt
-content_marked (Some table) h content carries = subst (ContentMarked (Some table) h.teid) (sym carries.3) (carries.0, lines_marked start table.lines carries.2.0 carries.1 carries.2.2)
+content_marked (Some table) h content carries = subst (ContentMarked (Some table) (is_some h.teid)) (sym carries.3) (carries.0, lines_marked start table.lines carries.2.0 carries.1 carries.2.2)
 
 pub message_marked : (octets : List ℕ) (m : Spoken) → IsMessage octets m → MeetsMarks m
 message_marked octets m is = subst MeetsMarks (sym is.2.2) (content_marked (table_of is.0.kind) is.0 is.2.0 is.2.1)

@@ -1,6 +1,5 @@
 -- The sender's end for control messages.
-use Rattle.std.proofs.Common.{◌≡◌, ℕ, Bool, true, false, cond, List, Option, Some, None, Result, Ok, Err, refl, sym, ap, subst, arith}
-use Rattle.std.proofs.lemmas.Bool.Decides.{nat_tests}
+use Rattle.std.proofs.Common.{◌≡◌, ℕ, Bool, true, false, cond, List, Option, Some, None, Result, Ok, Err, refl, sym, ap, subst}
 use Rattle.std.specs.Prelude.{option_map, ◌==◌}
 use Rattle.gtp_values.specs.TunnelEnd.{TunnelEnd}
 use Rattle.gtp_ie.specs.declared.fault.ReadFault.{ReadFault}
@@ -56,11 +55,3 @@ sender_only kind es sender is = by_kind (kind == 32) is where
   by_kind : (b : Bool) → cond b (EndIs es sender) (sender ≡ None) → sender ≡ cond b (end_in (welcome 87 (first_of 87 0 es))) None
   by_kind true h = one_end es sender (end_in (welcome 87 (first_of 87 0 es))) h (end_is es (first_of 87 0 es) refl)
   by_kind false h = h
-
-pub sender_asked : (kind : ℕ) (es : List Element) → kind ≡ 32 → sender_of kind es ≡ end_in (optional_at 87 0 es)
-unfolding sender_of
-sender_asked kind es h = rw h refl
-
-pub sender_untold : (kind : ℕ) (es : List Element) → (kind ≡ 32 → ⊥) → sender_of kind es ≡ None
-unfolding sender_of
-sender_untold kind es h = let other : (kind == 32) ≡ false = grind (arith, nat_tests) in rw other refl

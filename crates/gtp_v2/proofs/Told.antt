@@ -1,6 +1,7 @@
 -- Reading a datagram decides which message it is.
 use Rattle.std.proofs.Common.{◌≡◌, ℕ, Bool, true, false, cond, List, Option, Some, None, Result, Ok, Err, ◌⊎◌, inl, inr, refl, ap, subst, ◌∙◌}
-use Rattle.std.specs.Prelude.{is_some, IfOk, IfErr, IsOkAnd}
+use Rattle.std.specs.Prelude.{◌≢◌, is_some, IfOk, IfErr, IsOkAnd}
+use Rattle.std.specs.Bool.{beq}
 use Rattle.gtp_values.specs.Steps.{◌>>=◌}
 use Rattle.gtp_values.specs.Decides.{Decides, First_or_later}
 use Rattle.gtp_ie.specs.Element.{Element, elements_of}
@@ -19,7 +20,7 @@ use Rattle.gtp_v2.specs.Grammar.{IsCutShort, LinesAre, LinesFail}
 use Rattle.gtp_v2.specs.Headed.{Headed, header_at}
 use Rattle.gtp_v2.specs.Header.{IsHeaded, HeaderFails}
 use Rattle.gtp_v2.proofs.Headers.{header_decided}
-use Rattle.gtp_v2.specs.Message.{same_flag, head_of, with_head, sender_of, told, typed_at, by_table, content_at, Content, Fields, Raw, Spoken, spoken, message_at, FaultIs, MessageGives, MessageGrows}
+use Rattle.gtp_v2.specs.Message.{head_of, with_head, sender_of, told, typed_at, by_table, content_at, Content, Fields, Raw, Spoken, spoken, message_at, FaultIs, MessageGives, MessageGrows}
 use Rattle.gtp_v2.specs.Tables.{table_of}
 use Rattle.gtp_v2.specs.Marks.{MeetsMarks}
 use Rattle.gtp_v2.proofs.MarksOf.{message_marked}
@@ -70,19 +71,31 @@ fields_decided lines h es =
     (λ f q. (q.0, q.1, q.2.2 ∙ ap (λ (sender : Option TunnelEnd). with_head (head_of h sender) q.0) (sender_only h.kind es q.2.0 q.2.1)))
     (told_decided head (lines_at start lines es) (LinesAre start lines es) (LinesFail start lines es) (lines_decided start lines es))
 
+same : (a b : Bool) → beq a b ≡ true → a ≡ b
+same true true h = refl
+same true false h = absurd cc
+same false true h = absurd cc
+same false false h = refl
+
+other : (a b : Bool) → beq a b ≡ false → a ≢ b
+other true true h is = absurd cc
+other true false h is = cc
+other false true h is = cc
+other false false h is = absurd cc
+
 content_decided : (table : Option Table) (h : Headed) → Decides (by_table table h) (CarriesBy table h) (FailsBy table h)
 unfolding typed_at
 content_decided None h = known_ok (Raw h.rest) (CarriesBy None h) (FailsBy None h) refl (λ c p. p) (λ f q. q)
-content_decided (Some table) h = by_flag (same_flag (is_some h.teid) table.has_teid) refl where
-  by_flag : (b : Bool) → same_flag (is_some h.teid) table.has_teid ≡ b
+content_decided (Some table) h = by_flag (beq (is_some h.teid) table.has_teid) refl where
+  by_flag : (b : Bool) → beq (is_some h.teid) table.has_teid ≡ b
       → Decides (cond b (told (head_of h None) (whole (elements_of h.at h.rest)) >>= λ es. told (head_of h (sender_of h.kind es)) (lines_at start table.lines es)) (Err (faults.FlagT h.kind)) >>= λ fields. Ok (Fields fields)) (CarriesBy (Some table) h) (FailsBy (Some table) h)
   by_flag true s =
       decide_as (told (head_of h None) (whole (elements_of h.at h.rest)) >>= (λ es. told (head_of h (sender_of h.kind es)) (lines_at start table.lines es)) >>= λ fields. Ok (Fields fields)) (λ c. (fields : List Field) × FieldsAre table.lines h fields × (c ≡ Fields fields)) (CarriesBy (Some table) h)
       (First_or_later (AreElements h.at h.rest) (ListFails h) (FieldsFail table.lines h)) (FailsBy (Some table) h)
-      (λ c p. (s, p.0, p.1, p.2)) (λ c p. (p.1, p.2, p.3)) (λ f p. inr (s, p)) (λ f q. elim q [ inl p ↦ cc | inr p ↦ p.1 ])
+      (λ c p. (same _ _ s, p.0, p.1, p.2)) (λ c p. (p.1, p.2, p.3)) (λ f p. inr (same _ _ s, p)) (λ f q. elim q [ inl p ↦ absurd (p.0 (same _ _ s)) | inr p ↦ p.1 ])
       (decide_map (told (head_of h None) (whole (elements_of h.at h.rest)) >>= λ es. told (head_of h (sender_of h.kind es)) (lines_at start table.lines es)) (λ fields. Fields fields) (FieldsAre table.lines h) (First_or_later (AreElements h.at h.rest) (ListFails h) (FieldsFail table.lines h))
       (decide_bind (told (head_of h None) (whole (elements_of h.at h.rest))) (λ es. told (head_of h (sender_of h.kind es)) (lines_at start table.lines es)) (AreElements h.at h.rest) (ListFails h) (λ es. LinesAre start table.lines es) (λ es. FieldsFail table.lines h es) (list_decided h) (λ es. fields_decided table.lines h es)))
-  by_flag false s = known_err (faults.FlagT h.kind) (CarriesBy (Some table) h) (FailsBy (Some table) h) (inl (s, refl)) (λ c p. cc) (λ f q. elim q [ inl p ↦ p.1 | inr p ↦ cc ])
+  by_flag false s = known_err (faults.FlagT h.kind) (CarriesBy (Some table) h) (FailsBy (Some table) h) (inl (other _ _ s, refl)) (λ c p. absurd (other _ _ s p.0)) (λ f q. elim q [ inl p ↦ p.1 | inr p ↦ absurd (other _ _ s p.0) ])
 
 pub message_decided : (octets : List ℕ) → Decides (message_at octets) (IsMessage octets) (IsFault octets)
 unfolding message_at content_at
@@ -130,9 +143,24 @@ answers_memory view r octets h wanting = by_reading (message_at octets) refl (su
   by_reading (Ok m) e h = (m, (message_decided octets).ok m e, h)
   by_reading (Err f) e h = absurd h
 
+only_memory : (f : V2Fault) (m : Spoken) → FaultIs MessageGrows f (Ok m) → (f ≡ faults.Memory) × MessageGrows m
+only_memory faults.Memory m h = (refl, h)
+only_memory (faults.Short n) m h = absurd cc
+only_memory (faults.Version n) m h = absurd cc
+only_memory faults.Piggyback m h = absurd cc
+only_memory (faults.Length a b) m h = absurd cc
+only_memory (faults.FlagT n) m h = absurd cc
+only_memory faults.TooLong m h = absurd cc
+only_memory (faults.Missing a b c d) m h = absurd cc
+only_memory (faults.Element a b) m h = absurd cc
+
+told_only : {X : Type 0} (view : X → Spoken) (r : Result X V2Fault) (m : Spoken) → MessageGives MessageGrows view r (Ok m) → IsOkAnd r (λ d. view d ≡ m) ⊎ ((r ≡ Err faults.Memory) × MessageGrows m)
+told_only view (Ok x) m h = inl cc
+told_only view (Err f) m h = let wanting = only_memory f m h in inr (ap (λ (e : V2Fault). Err e) wanting.0, wanting.1)
+
 -- what the octets spell is answered, unless memory runs out
-pub answers_only : {X : Type 0} (view : X → Spoken) (r : Result X V2Fault) (octets : List ℕ) → MessageGives MessageGrows view r (message_at octets) → (m : Spoken) → IsMessage octets m → MessageGives MessageGrows view r (Ok m)
-answers_only view r octets h m is = subst (MessageGives MessageGrows view r) ((message_decided octets).is m is) h
+pub answers_only : {X : Type 0} (view : X → Spoken) (r : Result X V2Fault) (octets : List ℕ) → MessageGives MessageGrows view r (message_at octets) → (m : Spoken) → IsMessage octets m → IsOkAnd r (λ d. view d ≡ m) ⊎ ((r ≡ Err faults.Memory) × MessageGrows m)
+answers_only view r octets h m is = told_only view r m (subst (MessageGives MessageGrows view r) ((message_decided octets).is m is) h)
 
 -- and so is their first fault, whether or not there is memory
 first_fault : (g f : V2Fault) → FaultIs MessageGrows g (Err f) → g ≡ f

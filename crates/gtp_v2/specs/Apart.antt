@@ -21,7 +21,7 @@ row_of (Several kind instance missed) = Optional kind instance
 abbrev pub lines_apart : List Line → Bool
 lines_apart lines = are_apart (map row_of lines)
 
--- all instances are below 16: they have four bits (TS 29.274 8.2.1)
+-- all instances are below 16: they have four bits (TS 29.274 8.2)
 abbrev pub all_small : List Row → Bool
 all_small [] = true
 all_small (row ∷ rows) = nat_lt (instance_of row) 16 && all_small rows

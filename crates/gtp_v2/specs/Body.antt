@@ -1,12 +1,8 @@
 -- What the code's messages say.
-use Rattle.std.specs.Prelude.{◌≡◌, ◌≤◌, ◌<◌, length, ℕ, List, None, option_map, Result, Ok, Err}
-use Rattle.std.specs.Global.{Vec}
+use Rattle.std.specs.Prelude.{◌≡◌, ℕ, List, None, option_map}
 use Rattle.gtp_v2.specs.declared.body.Body.{Body}
 use Rattle.gtp_v2.specs.declared.body.Body.TheVariants as bodies
 use Rattle.gtp_v2.specs.declared.message.Message.{Message}
-use Rattle.gtp_v2.specs.declared.fault.V2Fault.{V2Fault}
-use Rattle.gtp_v2.specs.declared.fault.V2Fault.TheVariants as faults
-use Rattle.gtp_v2.specs.Encoding.{text}
 use Rattle.gtp_v2.specs.EchoRequest.{echo_request, echo_request_fields}
 use Rattle.gtp_v2.specs.EchoResponse.{echo_response, echo_response_fields}
 use Rattle.gtp_v2.specs.VersionNotSupported.{version_not_supported, version_not_supported_fields}
@@ -58,9 +54,3 @@ spoken_of m = record { kind = kind_of m.body; teid = option_map (λ t. t.0) m.te
 abbrev pub KindFits : Body → Type 0
 KindFits (bodies.Other kind octets) = table_of kind ≡ None
 KindFits body = Unit {0}
-
--- the text; too long exactly where it has more octets than a header can state; or want of memory
-abbrev pub Encodes : Spoken → Result (Vec ℕ) V2Fault → Type 0
-Encodes m (Ok v) = (v.items ≡ text m) × (length (text m) ≤ 65539)
-Encodes m (Err faults.TooLong) = 65539 < length (text m)
-Encodes m (Err fault) = (fault ≡ faults.Memory) × (length (text m) ≤ 65539)

@@ -8,11 +8,11 @@ use Rattle.gtp_v2.specs.declared.body.create_bearer_request.BearerRequestContext
 -- the rows of a bearer context in it (table 7.2.3-2)
 abbrev pub bearer_request_context_rows : List Row
 bearer_request_context_rows =
-    Mandatory 73 0
-    ∷ Mandatory 84 0
-    ∷ Conditional 87 1
-    ∷ Mandatory 80 0
-    ∷ Optional 94 0
+    Mandatory 73 0  -- EPS Bearer ID
+    ∷ Mandatory 84 0  -- Bearer TFT
+    ∷ Conditional 87 1  -- F-TEID
+    ∷ Mandatory 80 0  -- Bearer QoS
+    ∷ Optional 94 0  -- Charging ID
     ∷ []
 
 abbrev pub bearer_request_context_values : BearerRequestContext → List (List Value)
@@ -32,9 +32,9 @@ create_bearer_request =
       name = codes "create-bearer-request";
       has_teid = true;
       lines =
-          Single (Optional 100 0)
-          ∷ Single (Mandatory 73 0)
-          ∷ Grouped (Mandatory 93 0) bearer_request_context_rows
+          Single (Optional 100 0)  -- PTI
+          ∷ Single (Mandatory 73 0)  -- EPS Bearer ID
+          ∷ Grouped (Mandatory 93 0) bearer_request_context_rows  -- Bearer Context
           ∷ [];
     }
 

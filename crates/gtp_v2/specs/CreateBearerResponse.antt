@@ -8,10 +8,10 @@ use Rattle.gtp_v2.specs.declared.body.create_bearer_response.BearerResponseConte
 -- the rows of a bearer context in it (table 7.2.4-2)
 abbrev pub bearer_response_context_rows : List Row
 bearer_response_context_rows =
-    Mandatory 73 0
-    ∷ Mandatory 2 0
-    ∷ Accepted 87 2
-    ∷ Accepted 87 3
+    Mandatory 73 0  -- EPS Bearer ID
+    ∷ Mandatory 2 0  -- Cause
+    ∷ Accepted 87 2  -- F-TEID
+    ∷ Accepted 87 3  -- F-TEID
     ∷ []
 
 abbrev pub bearer_response_context_values : BearerResponseContext → List (List Value)
@@ -30,9 +30,9 @@ create_bearer_response =
       name = codes "create-bearer-response";
       has_teid = true;
       lines =
-          Single (Mandatory 2 0)
-          ∷ Grouped (Accepted 93 0) bearer_response_context_rows
-          ∷ Single (Optional 3 0)
+          Single (Mandatory 2 0)  -- Cause
+          ∷ Grouped (Accepted 93 0) bearer_response_context_rows  -- Bearer Context
+          ∷ Single (Optional 3 0)  -- Recovery
           ∷ [];
     }
 

@@ -8,9 +8,9 @@ use Rattle.gtp_v2.specs.declared.body.create_session_request.SessionRequestConte
 -- the rows of a bearer context in it (table 7.2.1-2)
 abbrev pub session_request_context_rows : List Row
 session_request_context_rows =
-    Mandatory 73 0
-    ∷ Mandatory 80 0
-    ∷ Conditional 87 2
+    Mandatory 73 0  -- EPS Bearer ID
+    ∷ Mandatory 80 0  -- Bearer QoS
+    ∷ Conditional 87 2  -- F-TEID
     ∷ []
 
 abbrev pub session_request_context_values : SessionRequestContext → List (List Value)
@@ -28,17 +28,17 @@ create_session_request =
       name = codes "create-session-request";
       has_teid = true;
       lines =
-          Single (Conditional 1 0)
-          ∷ Single (Mandatory 82 0)
-          ∷ Single (Optional 83 0)
-          ∷ Single (Mandatory 87 0)
-          ∷ Single (Mandatory 71 0)
-          ∷ Single (Optional 128 0)
-          ∷ Single (Conditional 99 0)
-          ∷ Single (Optional 79 0)
-          ∷ Single (Optional 72 0)
-          ∷ Grouped (Mandatory 93 0) session_request_context_rows
-          ∷ Single (Optional 3 0)
+          Single (Conditional 1 0)  -- IMSI
+          ∷ Single (Mandatory 82 0)  -- RAT Type
+          ∷ Single (Optional 83 0)  -- Serving Network
+          ∷ Single (Mandatory 87 0)  -- F-TEID
+          ∷ Single (Mandatory 71 0)  -- APN
+          ∷ Single (Optional 128 0)  -- Selection Mode
+          ∷ Single (Conditional 99 0)  -- PDN Type
+          ∷ Single (Optional 79 0)  -- PAA
+          ∷ Single (Optional 72 0)  -- AMBR
+          ∷ Grouped (Mandatory 93 0) session_request_context_rows  -- Bearer Context
+          ∷ Single (Optional 3 0)  -- Recovery
           ∷ [];
     }
 

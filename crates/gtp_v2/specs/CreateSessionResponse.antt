@@ -8,11 +8,11 @@ use Rattle.gtp_v2.specs.declared.body.create_session_response.SessionResponseCon
 -- the rows of a bearer context in it (table 7.2.2-2)
 abbrev pub session_response_context_rows : List Row
 session_response_context_rows =
-    Mandatory 73 0
-    ∷ Mandatory 2 0
-    ∷ Accepted 87 2
-    ∷ Optional 80 0
-    ∷ Optional 94 0
+    Mandatory 73 0  -- EPS Bearer ID
+    ∷ Mandatory 2 0  -- Cause
+    ∷ Accepted 87 2  -- F-TEID
+    ∷ Optional 80 0  -- Bearer QoS
+    ∷ Optional 94 0  -- Charging ID
     ∷ []
 
 abbrev pub session_response_context_values : SessionResponseContext → List (List Value)
@@ -32,12 +32,12 @@ create_session_response =
       name = codes "create-session-response";
       has_teid = true;
       lines =
-          Single (Mandatory 2 0)
-          ∷ Single (Accepted 87 1)
-          ∷ Single (Accepted 79 0)
-          ∷ Single (Optional 72 0)
-          ∷ Grouped (Accepted 93 0) session_response_context_rows
-          ∷ Single (Optional 3 0)
+          Single (Mandatory 2 0)  -- Cause
+          ∷ Single (Accepted 87 1)  -- F-TEID
+          ∷ Single (Accepted 79 0)  -- PAA
+          ∷ Single (Optional 72 0)  -- AMBR
+          ∷ Grouped (Accepted 93 0) session_response_context_rows  -- Bearer Context
+          ∷ Single (Optional 3 0)  -- Recovery
           ∷ [];
     }
 

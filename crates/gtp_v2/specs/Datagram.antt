@@ -1,5 +1,5 @@
 -- The grammar of datagrams: which message one spells, and which fault is its first.
-use Rattle.std.specs.Prelude.{◌≡◌, ◌==◌, cond, ℕ, true, false, List, Option, Some, None, is_some, ◌⊎◌}
+use Rattle.std.specs.Prelude.{◌≡◌, ◌≢◌, ◌==◌, cond, ℕ, List, Option, Some, None, is_some, ◌⊎◌}
 use Rattle.gtp_values.specs.Decides.{First_or_later}
 use Rattle.gtp_ie.specs.Element.{Element}
 use Rattle.gtp_ie.specs.Octets.{AreElements, IsCut}
@@ -13,7 +13,8 @@ use Rattle.gtp_v2.specs.Table.{Line, Field, start, Table}
 use Rattle.gtp_v2.specs.Grammar.{Says, SaysNothing, LinesAre, LinesFail}
 use Rattle.gtp_v2.specs.Headed.{Headed}
 use Rattle.gtp_v2.specs.Header.{IsHeaded, HeaderFails}
-use Rattle.gtp_v2.specs.Message.{same_flag, head_of, with_head, Content, Fields, Raw, Spoken, spoken, MessageGrows}
+use Rattle.gtp_v2.specs.Message.{head_of, with_head, Content, Fields, Raw, Spoken, spoken, MessageGrows}
+use Rattle.gtp_v2.specs.CreateSessionRequest.{create_session_request}
 use Rattle.gtp_v2.specs.Tables.{table_of}
 
 -- the octets after the header are elements that give the lines these fields
@@ -27,7 +28,7 @@ EndIs es (Some e) = Says 87 0 es (OfFTeid e)
 
 -- a Create Session Request tells its sender's end, and no other message does
 abbrev pub SenderIs : ℕ → List Element → Option TunnelEnd → Type 0
-SenderIs kind es sender = cond (kind == 32) (EndIs es sender) (sender ≡ None)
+SenderIs kind es sender = cond (kind == create_session_request.kind) (EndIs es sender) (sender ≡ None)
 
 -- the list of elements is cut short, and no sender is told
 abbrev pub ListFails : Headed → V2Fault → Type 0
@@ -40,14 +41,14 @@ FieldsFail lines h es f = (g : RowFault) × LinesFail start lines es g × ((send
 -- what a message carries
 abbrev pub CarriesBy : Option Table → Headed → Content → Type 0
 CarriesBy None h content = content ≡ Raw h.rest
-CarriesBy (Some table) h content = (same_flag (is_some h.teid) table.has_teid ≡ true) × (fields : List Field) × FieldsAre table.lines h fields × (content ≡ Fields fields)
+CarriesBy (Some table) h content = (is_some h.teid ≡ table.has_teid) × (fields : List Field) × FieldsAre table.lines h fields × (content ≡ Fields fields)
 
 -- why it carries nothing: the wrong form of header, then its list of elements, and then its lines
 abbrev pub FailsBy : Option Table → Headed → V2Fault → Type 0
 FailsBy None h f = ⊥
 FailsBy (Some table) h f =
-    ((same_flag (is_some h.teid) table.has_teid ≡ false) × (f ≡ faults.FlagT h.kind))
-    ⊎ ((same_flag (is_some h.teid) table.has_teid ≡ true) × First_or_later (AreElements h.at h.rest) (ListFails h) (FieldsFail table.lines h) f)
+    ((is_some h.teid ≢ table.has_teid) × (f ≡ faults.FlagT h.kind))
+    ⊎ ((is_some h.teid ≡ table.has_teid) × First_or_later (AreElements h.at h.rest) (ListFails h) (FieldsFail table.lines h) f)
 
 -- the octets spell the message
 abbrev pub IsMessage : List ℕ → Spoken → Type 0

@@ -12,8 +12,8 @@ delete_bearer_request =
       name = codes "delete-bearer-request";
       has_teid = true;
       lines =
-          Single (Optional 73 0)
-          ∷ Several 73 1 0
+          Single (Optional 73 0)  -- EPS Bearer ID
+          ∷ Several 73 1 0  -- EPS Bearer ID; told as missing at instance 0
           ∷ [];
     }
 

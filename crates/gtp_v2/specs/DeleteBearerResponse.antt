@@ -8,8 +8,8 @@ use Rattle.gtp_v2.specs.declared.body.delete_bearer_response.RemovalResponseCont
 -- the rows of a bearer context in it (table 7.2.10.2-2)
 abbrev pub removal_response_context_rows : List Row
 removal_response_context_rows =
-    Mandatory 73 0
-    ∷ Mandatory 2 0
+    Mandatory 73 0  -- EPS Bearer ID
+    ∷ Mandatory 2 0  -- Cause
     ∷ []
 
 abbrev pub removal_response_context_values : RemovalResponseContext → List (List Value)
@@ -26,10 +26,10 @@ delete_bearer_response =
       name = codes "delete-bearer-response";
       has_teid = true;
       lines =
-          Single (Mandatory 2 0)
-          ∷ Single (Optional 73 0)
-          ∷ Grouped (Optional 93 0) removal_response_context_rows
-          ∷ Single (Optional 3 0)
+          Single (Mandatory 2 0)  -- Cause
+          ∷ Single (Optional 73 0)  -- EPS Bearer ID
+          ∷ Grouped (Optional 93 0) removal_response_context_rows  -- Bearer Context
+          ∷ Single (Optional 3 0)  -- Recovery
           ∷ [];
     }
 

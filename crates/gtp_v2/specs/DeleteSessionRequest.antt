@@ -12,7 +12,7 @@ delete_session_request =
       name = codes "delete-session-request";
       has_teid = true;
       lines =
-          Single (Optional 73 0)
+          Single (Optional 73 0)  -- EPS Bearer ID
           ∷ [];
     }
 

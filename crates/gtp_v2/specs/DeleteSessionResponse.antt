@@ -12,8 +12,8 @@ delete_session_response =
       name = codes "delete-session-response";
       has_teid = true;
       lines =
-          Single (Mandatory 2 0)
-          ∷ Single (Optional 3 0)
+          Single (Mandatory 2 0)  -- Cause
+          ∷ Single (Optional 3 0)  -- Recovery
           ∷ [];
     }
 

@@ -12,7 +12,7 @@ echo_request =
       name = codes "echo-request";
       has_teid = false;
       lines =
-          Single (Mandatory 3 0)
+          Single (Mandatory 3 0)  -- Recovery
           ∷ [];
     }
 

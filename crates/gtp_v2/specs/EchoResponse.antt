@@ -12,7 +12,7 @@ echo_response =
       name = codes "echo-response";
       has_teid = false;
       lines =
-          Single (Mandatory 3 0)
+          Single (Mandatory 3 0)  -- Recovery
           ∷ [];
     }
 

@@ -1,9 +1,11 @@
 -- The one text of a message, and which messages have one.
-use Rattle.std.specs.Prelude.{ℕ, ◌+◌, ◌*◌, ◌/◌, ◌%◌, ◌<◌, ◌≤◌, ◌^◌, List, [], ◌∷◌, length, Option, Some, None}
-use Rattle.gtp_v2.specs.Kinds.{ContentHasKinds}
-use Rattle.gtp_v2.specs.Marks.{MeetsMarks}
+use Rattle.std.specs.Prelude.{◌≡◌, ℕ, true, ◌+◌, ◌*◌, ◌<◌, ◌≤◌, ◌^◌, List, [], ◌∷◌, length, Option, Some, None}
+use Rattle.gtp_values.specs.Numbers.{two, three, four}
+use Rattle.gtp_v2.specs.Apart.{is_table}
+use Rattle.gtp_v2.specs.Kinds.{ContentHasKinds, LinesHaveKinds}
+use Rattle.gtp_v2.specs.Marks.{LinesMarked, MeetsMarks}
 use Rattle.gtp_v2.specs.Message.{Content, Fields, Raw, Spoken}
-use Rattle.gtp_v2.specs.Table.{Table}
+use Rattle.gtp_v2.specs.Table.{Line, Field, start, Table}
 use Rattle.gtp_v2.specs.Tables.{table_of}
 use Rattle.gtp_v2.specs.Text.{lines_text}
 
@@ -16,16 +18,6 @@ carried_by None (Raw octets) = octets
 
 abbrev pub carried : Spoken → List ℕ
 carried m = carried_by (table_of m.kind) m.content
-
--- a number in two, three and four octets
-abbrev pub two : ℕ → List ℕ → List ℕ
-two n rest = ((n / 256) % 256) ∷ (n % 256) ∷ rest
-
-abbrev pub three : ℕ → List ℕ → List ℕ
-three n rest = ((n / 65536) % 256) ∷ ((n / 256) % 256) ∷ (n % 256) ∷ rest
-
-abbrev pub four : ℕ → List ℕ → List ℕ
-four n rest = ((n / 16777216) % 256) ∷ ((n / 65536) % 256) ∷ ((n / 256) % 256) ∷ (n % 256) ∷ rest
 
 -- the header, and what the message carries: spare bits 0
 abbrev pub headed_text : ℕ → Option ℕ → ℕ → Option ℕ → List ℕ → List ℕ
@@ -49,10 +41,18 @@ HeaderMeets None seq (Some priority) = ⊥
 HeaderMeets (Some teid) seq None = (teid < 2 ^ 32) × (seq < 2 ^ 24)
 HeaderMeets (Some teid) seq (Some priority) = (teid < 2 ^ 32) × (seq < 2 ^ 24) × (priority < 16)
 
+-- fields whose text gives them back: each row of the table can be found again, their values are of its rows' types, what its marks ask is there,
+-- and two octets state the length of the text
+pub record FieldsMeet (lines : List Line) (fields : List Field) : Type 0 where
+  pub table : is_table lines ≡ true
+  pub kinds : LinesHaveKinds lines fields
+  pub marks : LinesMarked start lines fields
+  pub short : length (lines_text lines fields) < 65536
+
 -- a message whose text spells it: its numbers have room in the header, its values are of its table's types, what the table's
 -- marks ask is there, and the length of all but the first four octets stands in two
 pub record Meets (m : Spoken) : Type 0 where
   pub header : HeaderMeets m.teid m.seq m.priority
   pub kinds : ContentHasKinds (table_of m.kind) m.content
   pub marks : MeetsMarks m
-  pub short : length (text m) ≤ 65539
+  pub short : length (text m) ≤ 65535 + 4

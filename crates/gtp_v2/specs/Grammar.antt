@@ -100,13 +100,13 @@ pub data OneFails (kind instance : ℕ) (e : Element) (f : RowFault) : Type 0 wh
 
 -- a row that is needed has a value or a group
 abbrev pub IsEnough : {X : Type 0} → Need → List X → Type 0
-IsEnough needs.Free row = Unit {0}
+IsEnough needs.Optional row = Unit {0}
 IsEnough needs.Mandatory row = 0 < length row
 IsEnough needs.Conditional row = 0 < length row
 
 -- there is no group, and that is a fault
 abbrev pub NoGroup : Need → ℕ → ℕ → List (List (List Value)) → RowFault → Type 0
-NoGroup needs.Free kind instance groups f = ⊥
+NoGroup needs.Optional kind instance groups f = ⊥
 NoGroup needs.Mandatory kind instance groups f = (groups ≡ []) × (f ≡ faults.Missing kind instance false)
 NoGroup needs.Conditional kind instance groups f = (groups ≡ []) × (f ≡ faults.Missing kind instance true)
 

@@ -1,10 +1,10 @@
 -- Which messages meet the marks of their table (TS 29.274 6.1.1): what is needed is there.
-use Rattle.std.specs.Prelude.{◌≡◌, ◌<◌, Bool, true, ◌&&◌, List, ◌∷◌, length, Option, Some, is_some, All, ℕ}
+use Rattle.std.specs.Prelude.{◌≡◌, ◌<◌, Bool, true, ◌&&◌, List, ◌∷◌, length, Option, Some, is_some, All}
 use Rattle.gtp_ie.specs.Value.{Value}
 use Rattle.gtp_v2.specs.Table.{Row, Line, Single, Grouped, Several, Field, Plain, Groups, State, start, Table}
 use Rattle.gtp_v2.specs.Rows.{accepts, after, need_of}
 use Rattle.gtp_v2.specs.Grammar.{IsEnough}
-use Rattle.gtp_v2.specs.Message.{same_flag, Content, Fields, Spoken}
+use Rattle.gtp_v2.specs.Message.{Content, Fields, Spoken}
 use Rattle.gtp_v2.specs.Tables.{table_of}
 
 -- the rows of a group, each by the causes before it
@@ -24,10 +24,10 @@ LinesMarked state (line ∷ lines) (field ∷ fields) = LineMarked state line fi
 LinesMarked state lines fields = Unit {0}
 
 -- a TEID stands exactly where the kind has one, and what is needed is there
-abbrev pub ContentMarked : Option Table → Option ℕ → Content → Type 0
-ContentMarked (Some table) teid (Fields fields) = (same_flag (is_some teid) table.has_teid ≡ true) × LinesMarked start table.lines fields
-ContentMarked table teid content = Unit {0}
+abbrev pub ContentMarked : Option Table → Bool → Content → Type 0
+ContentMarked (Some table) has_teid (Fields fields) = (has_teid ≡ table.has_teid) × LinesMarked start table.lines fields
+ContentMarked table has_teid content = Unit {0}
 
 -- a message that meets the marks of its kind's table, where it has one
 abbrev pub MeetsMarks : Spoken → Type 0
-MeetsMarks m = ContentMarked (table_of m.kind) m.teid m.content
+MeetsMarks m = ContentMarked (table_of m.kind) (is_some m.teid) m.content

@@ -1,5 +1,6 @@
 -- What a datagram says, or its first fault.
-use Rattle.std.specs.Prelude.{◌≡◌, ◌<◌, length, IsOkAnd, ℕ, Bool, List, Option, Some, None, option_map, is_some, not, Result, Ok, Err, true, false, ◌==◌, if◌then◌else◌}
+use Rattle.std.specs.Prelude.{◌≡◌, ◌<◌, length, IsOkAnd, ℕ, Bool, List, Option, Some, None, option_map, is_some, Result, Ok, Err, true, ◌==◌, if◌then◌else◌}
+use Rattle.std.specs.Bool.{beq}
 use Rattle.gtp_values.specs.Steps.{◌>>=◌}
 use Rattle.gtp_ie.specs.Element.{Element, elements_of}
 use Rattle.gtp_ie.specs.Value.{Value, OfFTeid}
@@ -12,6 +13,7 @@ use Rattle.gtp_v2.specs.declared.fault.V2Fault.TheVariants as faults
 use Rattle.gtp_v2.specs.Table.{Line, Field, Table, start, grows}
 use Rattle.gtp_v2.specs.Rows.{whole, optional_at, lines_at}
 use Rattle.gtp_v2.specs.Headed.{Headed, header_at}
+use Rattle.gtp_v2.specs.CreateSessionRequest.{create_session_request}
 use Rattle.gtp_v2.specs.Tables.{table_of}
 
 -- what a fault in an element tells of the message
@@ -35,17 +37,12 @@ end_in _ = None
 
 -- the sender's end for control messages, which a Create Session Request gives
 unfoldable pub sender_of : ℕ → List Element → Option TunnelEnd
-sender_of kind es = if kind == 32 then end_in (optional_at 87 0 es) else None
-
--- both or neither
-abbrev pub same_flag : Bool → Bool → Bool
-same_flag true b = b
-same_flag false b = not b
+sender_of kind es = if kind == create_session_request.kind then end_in (optional_at 87 0 es) else None
 
 -- the fields of a message with a table
 unfoldable pub typed_at : Bool → List Line → Headed → Result (List Field) V2Fault
 typed_at has_teid lines h =
-    if same_flag (is_some h.teid) has_teid
+    if beq (is_some h.teid) has_teid
     then (told (head_of h None) (whole (elements_of h.at h.rest)) >>= λ es. told (head_of h (sender_of h.kind es)) (lines_at start lines es))
     else Err (faults.FlagT h.kind)
 

@@ -94,7 +94,7 @@ values_at kind instance es = each_at (one_at kind instance) es
 abbrev pub no_group : Need → ℕ → ℕ → Result (List (List (List Value))) RowFault
 no_group needs.Mandatory kind instance = Err (faults.Missing kind instance false)
 no_group needs.Conditional kind instance = Err (faults.Missing kind instance true)
-no_group needs.Free kind instance = Ok []
+no_group needs.Optional kind instance = Ok []
 
 -- the groups among these elements, at least one where that is needed
 unfoldable pub some_groups : Need → ℕ → ℕ → Bool → List Row → List Element → Result (List (List (List Value))) RowFault

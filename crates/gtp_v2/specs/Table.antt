@@ -72,7 +72,7 @@ abbrev pub need_of : Bool → Row → Need
 need_of accepting (Mandatory kind instance) = needs.Mandatory
 need_of accepting (Conditional kind instance) = needs.Conditional
 need_of accepting (Accepted kind instance) = need_where accepting
-need_of accepting (Optional kind instance) = needs.Free
+need_of accepting (Optional kind instance) = needs.Optional
 
 -- the first and the second number of a row
 abbrev pub kind_of : Row → ℕ

@@ -1,6 +1,6 @@
 //! What messages say, and the list of their kinds.
 
-ghost use Rattle.std.specs.Prelude.{◌≡◌, ◌↔◌, ◌++◌, length, true, ℕ, Option, None, is_some, option_map, OnOk, IfOk};
+ghost use Rattle.std.specs.Prelude.{◌≡◌, ◌↔◌, ◌++◌, length, IsTrue, ℕ, Option, None, is_some, option_map, OnOk, IfOk};
 ghost use Rattle.gtp_v2.specs.Tables.{table_of};
 ghost use Rattle.gtp_v2.specs.Message.{MessageGives, ContentGrows, content_at, raw_of};
 ghost use Rattle.gtp_v2.specs.Body.{content_of, kind_of, KindFits};
@@ -171,17 +171,16 @@ fn read_other(alloc: Global, header: &Header) -> Result<Body, V2Fault>
     requires { table_of header.now.kind ≡ None }
     ensures content { MessageGives (ContentGrows (table_of header.now.kind)) content_of result (content_at (headed_of header.now)) }
     ensures kind { IfOk result (λ body. kind_of body ≡ header.now.kind) }
-    ensures free { IfOk result KindFits }
+    ensures fits { IfOk result KindFits }
 {
     let kind = header.kind;
-    if header.rest.is_empty() {
-        let octets = Vec::new(alloc);
-        return Ok(Body::Other { kind, octets });
-    }
-    match Vec::from_slice(alloc, header.rest) {
-        Ok(octets) => Ok(Body::Other { kind, octets }),
-        Err(_) => Err(V2Fault::Memory),
-    }
+    // No octets want no memory, and so no answer may be that it was wanting.
+    let octets = if header.rest.is_empty() {
+        Vec::new(alloc)
+    } else {
+        Vec::from_slice(alloc, header.rest)?
+    };
+    Ok(Body::Other { kind, octets })
 }
 
 /// What a message says, behind its header.
@@ -189,7 +188,7 @@ fn read_other(alloc: Global, header: &Header) -> Result<Body, V2Fault>
 pub fn read_body(alloc: Global, header: &Header) -> Result<Body, V2Fault>
     ensures content { MessageGives (ContentGrows (table_of header.now.kind)) content_of result (content_at (headed_of header.now)) }
     ensures kind { IfOk result (λ body. kind_of body ≡ header.now.kind) }
-    ensures free { IfOk result KindFits }
+    ensures fits { IfOk result KindFits }
 {
     with_kinds!(read_among, alloc, header)
 }
@@ -204,7 +203,7 @@ pub fn room_behind(body: &Body, room: usize) -> Option<usize>
 
 /// Whether a TEID stands exactly where the kind has one, and what the marks of its table ask is there.
 pub fn meets_marks(body: &Body, has_teid: bool) -> bool
-    ensures { (teid : Option ℕ) → is_some teid ≡ has_teid → (result ≡ true) ↔ ContentMarked (table_of (kind_of body.now)) teid (content_of body.now) }
+    ensures { IsTrue result ↔ ContentMarked (table_of (kind_of body.now)) has_teid (content_of body.now) }
 {
     with_kinds!(marks_among, body, has_teid)
 }

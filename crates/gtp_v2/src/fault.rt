@@ -3,9 +3,11 @@
 ghost use Rattle.std.specs.Prelude.{◌≡◌};
 ghost use Rattle.gtp_v2.specs.Needs.{need_where};
 ghost use Rattle.gtp_v2.specs.declared.fault.BodyFault.TheVariants.{Row};
+ghost use Rattle.gtp_v2.specs.declared.fault.V2Fault.TheVariants as faults;
 
 use gtp_ie::IeFault;
 use gtp_values::{Below, FTeid, Seq, Teid};
+use std::alloc::AllocError;
 use thiserror::Error;
 
 /// Why a row of a message's table has no value.
@@ -24,7 +26,8 @@ pub enum RowFault {
 pub enum Need {
     Mandatory,
     Conditional,
-    Free,
+    /// None needs to be there.
+    Optional,
 }
 
 impl Need {
@@ -35,7 +38,7 @@ impl Need {
         if accepting {
             Need::Conditional
         } else {
-            Need::Free
+            Need::Optional
         }
     }
 }
@@ -119,4 +122,12 @@ pub enum V2Fault {
     /// H9: answered by `encode` alone.
     #[error("the length is above 65535")]
     TooLong,
+}
+
+impl From<AllocError> for V2Fault {
+    ghost from_gives = { λ _ e. e ≡ faults.Memory };
+
+    fn from(_e: AllocError) -> V2Fault {
+        V2Fault::Memory
+    }
 }

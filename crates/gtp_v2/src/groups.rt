@@ -1,6 +1,6 @@
 //! Rows of groups.
 
-ghost use Rattle.std.specs.Prelude.{◌≡◌, ◌↔◌, ◌++◌, true, List, map, length, OnOk};
+ghost use Rattle.std.specs.Prelude.{◌≡◌, ◌↔◌, ◌++◌, IsTrue, List, map, length, OnOk};
 ghost use Rattle.gtp_v2.specs.declared.fault.RowFault.TheVariants.{Missing};
 ghost use Rattle.gtp_ie.specs.Element.{all_of};
 ghost use Rattle.gtp_ie.specs.View.{element_of};
@@ -46,7 +46,7 @@ pub trait Context: Copy {
 
     /// Whether what the marks of its rows ask is there.
     fn meets_marks(&self, accepting: bool) -> bool
-        ensures { (result ≡ true) ↔ RowsMarked accepting rows (values self.now) };
+        ensures { IsTrue result ↔ RowsMarked accepting rows (values self.now) };
 }
 
 /// The context that an element holds.
@@ -96,7 +96,7 @@ pub fn contexts<C: Context>(
         match need {
             Need::Mandatory => return Err(BodyFault::Row(missing(false))),
             Need::Conditional => return Err(BodyFault::Row(missing(true))),
-            Need::Free => {}
+            Need::Optional => {}
         }
     }
     Ok(Listed::of(contexts))

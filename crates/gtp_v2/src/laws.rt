@@ -1,23 +1,20 @@
 //! Laws of the grammar, each the contract of a function that does nothing.
 
-ghost use Rattle.std.specs.Prelude.{◌≡◌, ◌<◌, ℕ, true, List, length, take};
+ghost use Rattle.std.specs.Prelude.{◌<◌, ℕ, List, length, take};
 ghost use Rattle.gtp_v2.specs.Table.{Line, Field, start};
 ghost use Rattle.gtp_ie.specs.Element.{Element};
 ghost use Rattle.gtp_ie.specs.Octets.{AreElements};
-ghost use Rattle.gtp_v2.specs.Apart.{is_table};
-ghost use Rattle.gtp_v2.specs.Kinds.{LinesHaveKinds};
-ghost use Rattle.gtp_v2.specs.Marks.{LinesMarked};
 ghost use Rattle.gtp_v2.specs.Grammar.{LinesAre};
 ghost use Rattle.gtp_v2.specs.Message.{Spoken};
 ghost use Rattle.gtp_v2.specs.Datagram.{IsMessage};
-ghost use Rattle.gtp_v2.specs.Encoding.{Meets, text};
+ghost use Rattle.gtp_v2.specs.Encoding.{FieldsMeet, Meets, text};
 ghost use Rattle.gtp_v2.specs.Fronts.{IsCutFront};
 ghost use Rattle.gtp_v2.specs.Text.{lines_text};
 
 /// What was written by any table is read by it: fields whose values are of the rows' types, that have
 /// what the marks ask, and whose text is not too long.
 pub fn fields_are_read_again()
-    ensures { (at : ℕ) (lines : List Line) (fields : List Field) → is_table lines ≡ true → LinesHaveKinds lines fields → LinesMarked start lines fields → length (lines_text lines fields) < 65536 → (es : List Element) × AreElements at (lines_text lines fields) es × LinesAre start lines es fields }
+    ensures { (at : ℕ) (lines : List Line) (fields : List Field) → FieldsMeet lines fields → (es : List Element) × AreElements at (lines_text lines fields) es × LinesAre start lines es fields }
 {}
 
 /// Each strict front of a datagram is at fault: it has too few octets, or fewer than stated.

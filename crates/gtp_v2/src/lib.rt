@@ -23,6 +23,7 @@ pub use body::{
     SessionRequestContext, SessionResponseContext, VersionNotSupported, type_name,
 };
 pub use fault::{Head, V2Fault};
+pub use groups::BEARER_CONTEXT;
 pub use listed::Listed;
 pub use message::{Datagram, Message, decode, encode};
 

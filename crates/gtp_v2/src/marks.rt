@@ -1,6 +1,6 @@
 //! What the marks of a table ask.
 
-ghost use Rattle.std.specs.Prelude.{◌≡◌, ◌↔◌, true, map, All};
+ghost use Rattle.std.specs.Prelude.{◌≡◌, ◌↔◌, IsTrue, map, All};
 ghost use Rattle.gtp_v2.specs.Grammar.{IsEnough};
 ghost use Rattle.gtp_v2.specs.Marks.{RowsMarked};
 
@@ -9,7 +9,7 @@ use crate::groups::Context;
 
 /// Whether each bearer context has what the marks of its rows ask.
 fn all_meet<C: Context>(accepting: bool, contexts: &[C]) -> bool
-    ensures { (result ≡ true) ↔ All (RowsMarked accepting C.rows) (map C.values contexts.now) }
+    ensures { IsTrue result ↔ All (RowsMarked accepting C.rows) (map C.values contexts.now) }
 {
     for context in contexts {
         if !context.meets_marks(accepting) {
@@ -21,7 +21,7 @@ fn all_meet<C: Context>(accepting: bool, contexts: &[C]) -> bool
 
 /// Whether there are as many bearer contexts as are needed, and each has what the marks of its rows ask.
 pub fn contexts_meet<C: Context>(need: Need, accepting: bool, contexts: &[C]) -> bool
-    ensures { (result ≡ true) ↔ (IsEnough need (map C.values contexts.now) × All (RowsMarked accepting C.rows) (map C.values contexts.now)) }
+    ensures { IsTrue result ↔ (IsEnough need (map C.values contexts.now) × All (RowsMarked accepting C.rows) (map C.values contexts.now)) }
 {
-    (need == Need::Free || !contexts.is_empty()) && all_meet(accepting, contexts)
+    (need == Need::Optional || !contexts.is_empty()) && all_meet(accepting, contexts)
 }

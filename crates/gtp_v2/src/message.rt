@@ -1,11 +1,12 @@
 //! Messages.
 
-ghost use Rattle.std.specs.Prelude.{◌≡◌, ◌<◌, ◌^◌, Ok, Err, [], ◌∷◌, ◌++◌, ◌⊎◌, ◌↔◌, true, OnOk, IfOk, IfErr};
+ghost use Rattle.std.specs.Prelude.{◌≡◌, ◌<◌, ◌+◌, ◌^◌, length, Err, IsErrOf, IsOkAnd, [], ◌∷◌, ◌++◌, ◌⊎◌, ◌↔◌, IsTrue, OnOk, IfOk, IfErr};
 ghost use Rattle.gtp_v2.specs.Message.{MessageGives, MessageGrows, Spoken, message_at};
 ghost use Rattle.gtp_v2.specs.Tables.{table_of};
-ghost use Rattle.gtp_v2.specs.Body.{content_of, kind_of, spoken_of, KindFits, Encodes};
+ghost use Rattle.gtp_v2.specs.Body.{content_of, kind_of, spoken_of, KindFits};
 ghost use Rattle.gtp_v2.specs.Places.{HasPlace};
-ghost use Rattle.gtp_v2.specs.Encoding.{open_header, three, four, HeaderMeets};
+ghost use Rattle.gtp_v2.specs.Encoding.{open_header, text, HeaderMeets};
+ghost use Rattle.gtp_values.specs.Numbers.{three, four};
 ghost use Rattle.gtp_v2.specs.Kinds.{ContentHasKinds};
 ghost use Rattle.gtp_v2.specs.Marks.{MeetsMarks};
 ghost use Rattle.gtp_v2.specs.Datagram.{IsMessage, IsFault, MayGrow};
@@ -28,6 +29,7 @@ pub struct Message {
     pub seq: Seq,
     /// The message's priority, 0 the highest: only where the header has a TEID.
     pub priority: Option<Below<16>>,
+    /// Its type, and what it carries.
     pub body: Body,
 }
 
@@ -35,19 +37,20 @@ impl Message {
     /// Whether `encode` takes it: a priority stands beside a TEID alone, and a message kept as octets is
     /// of a type without a table.
     pub fn is_encodable(&self) -> bool
-        ensures { (result ≡ true) ↔ (HasPlace self.now.teid self.now.priority × KindFits self.now.body) }
+        ensures { IsTrue result ↔ (HasPlace self.now.teid self.now.priority × KindFits self.now.body) }
     {
-        let is_free = match &self.body {
+        let fits = match &self.body {
             Body::Other { kind, .. } => type_name(*kind).is_none(),
             _ => true,
         };
-        (self.teid.is_some() || self.priority.is_none()) && is_free
+        (self.teid.is_some() || self.priority.is_none()) && fits
     }
 
-    /// Whether its text is read as this message: it has a TEID exactly where its type has one, and what
-    /// the marks of its table ask is there. Each message that `decode` answers has it.
+    /// Whether it has a TEID exactly where its table says so, and what the marks of the table ask is there
+    /// (a message of a type without a table meets them). Exactly then the text that `encode` answers is
+    /// read as this message. Each message that `decode` answers meets them.
     pub fn meets_marks(&self) -> bool
-        ensures { (result ≡ true) ↔ MeetsMarks (spoken_of self.now) }
+        ensures { IsTrue result ↔ MeetsMarks (spoken_of self.now) }
     {
         meets_marks(&self.body, self.teid.is_some())
     }
@@ -85,8 +88,8 @@ fn read_datagram(alloc: Global, octets: &[u8]) -> Result<Datagram, V2Fault>
 pub fn decode(alloc: Global, octets: &[u8]) -> Result<Datagram, V2Fault>
     // What is answered is spelled so.
     ensures found { IfOk result (λ d. IsMessage octets.now (spoken_of d.message)) }
-    // What is spelled so is answered, unless memory runs out.
-    ensures only { (m : Spoken) → IsMessage octets.now m → MessageGives MessageGrows (λ d. spoken_of d.message) result (Ok m) }
+    // What is spelled so is answered, unless memory runs out, which it does only where it grows for the message.
+    ensures only { (m : Spoken) → IsMessage octets.now m → IsOkAnd result (λ d. spoken_of d.message ≡ m) ⊎ ((result ≡ Err V2Fault.Memory) × MessageGrows m) }
     // The first fault is answered, whether or not there is memory.
     ensures first { (f : AnyFault) → IsFault octets.now f → result ≡ Err f }
     // A fault is the first one.
@@ -157,7 +160,9 @@ const LONGEST: usize = 65535;
 fn write_message(alloc: Global, message: &Message) -> Result<Vec<u8>, V2Fault>
     requires header { HasPlace message.now.teid message.now.priority }
     requires kind { KindFits message.now.body }
-    ensures written { Encodes (spoken_of message.now) result }
+    ensures written { IfOk result (λ octets. octets.items ≡ text (spoken_of message.now)) }
+    ensures too_long { IsErrOf result V2Fault.TooLong ↔ (65535 + 4 < length (text (spoken_of message.now))) }
+    ensures fault { IfErr result (λ f. (f ≡ V2Fault.Memory) ⊎ (f ≡ V2Fault.TooLong)) }
     ensures range { OnOk result (HeaderMeets (spoken_of message.now).teid message.now.seq message.now.priority) }
     ensures kinds { OnOk result (ContentHasKinds (table_of (kind_of message.now.body)) (content_of message.now.body)) }
 {
@@ -170,14 +175,12 @@ fn write_message(alloc: Global, message: &Message) -> Result<Vec<u8>, V2Fault>
         return Err(V2Fault::TooLong);
     };
     let size = LONGEST - left;
-    let Ok(mut out) = Vec::with_capacity(alloc, 4 + size) else {
-        return Err(V2Fault::Memory);
-    };
-    if write_header(&mut out, message).is_err() || write_body(&mut out, &message.body).is_err() {
-        return Err(V2Fault::Memory);
-    }
-    out[2] = (size / 256) as u8;
-    out[3] = (size % 256) as u8;
+    let mut out = Vec::with_capacity(alloc, 4 + size)?;
+    write_header(&mut out, message)?;
+    write_body(&mut out, &message.body)?;
+    let [high, low] = (size as u16).to_be_bytes();
+    out[2] = high;
+    out[3] = low;
     Ok(out)
 }
 
@@ -189,7 +192,10 @@ pub fn encode(alloc: Global, message: &Message) -> Result<Vec<u8>, V2Fault>
     requires header { HasPlace message.now.teid message.now.priority }
     // A message of a type that has a table is not kept as octets.
     requires kind { KindFits message.now.body }
-    ensures written { Encodes (spoken_of message.now) result }
+    ensures written { IfOk result (λ octets. octets.items ≡ text (spoken_of message.now)) }
+    // Two octets state the length of all but the first four.
+    ensures too_long { IsErrOf result V2Fault.TooLong ↔ (65535 + 4 < length (text (spoken_of message.now))) }
+    ensures fault { IfErr result (λ f. (f ≡ V2Fault.Memory) ⊎ (f ≡ V2Fault.TooLong)) }
     // It is read again where the message meets the marks of its table, and nowhere else.
     ensures read_again { IfOk result (λ octets. MeetsMarks (spoken_of message.now) ↔ IsMessage octets.items (spoken_of message.now)) }
 {

@@ -1,5 +1,6 @@
 ghost use Rattle.std.specs.Prelude.{◌<◌, ◌^◌};
 ghost use Rattle.gtp_v2.specs.Body.{KindFits};
+ghost use Rattle.gtp_v2.specs.Places.{HasPlace};
 
 use super::*;
 use std::alloc::Global;
@@ -128,8 +129,17 @@ fn fields_are_read(rt: HostRuntime) -> Result<(), Fail> {
     Ok(())
 }
 
-/// Whether a body with a TEID of 7, a sequence number of 9 and a priority of 3 has these octets, and they
-/// are read as that message.
+/// Whether a message has these octets, and they are read as that message.
+fn is_text_of(alloc: Global, message: &Message, digits: &str) -> Result<bool, Fail>
+    requires header { HasPlace message.now.teid message.now.priority }
+    requires kind { KindFits message.now.body }
+{
+    let octets = encode(alloc, message)?;
+    let again = decode(alloc, &octets)?;
+    Ok(octets == octets_of(alloc, digits)? && again.message == *message)
+}
+
+/// The same of a body with a TEID of 7, a sequence number of 9 and a priority of 3.
 fn is_written(alloc: Global, body: Body, digits: &str) -> Result<bool, Fail>
     requires { KindFits body }
 {
@@ -139,9 +149,7 @@ fn is_written(alloc: Global, body: Body, digits: &str) -> Result<bool, Fail>
         priority: Some(Below::new(3)),
         body,
     };
-    let octets = encode(alloc, &message)?;
-    let again = decode(alloc, &octets)?;
-    Ok(octets == octets_of(alloc, digits)? && again.message == message)
+    is_text_of(alloc, &message, digits)
 }
 
 #[test]
@@ -217,7 +225,7 @@ fn messages_are_told_apart(rt: HostRuntime) -> Result<(), Fail> {
     Ok(())
 }
 
-/// Whether a message has these octets, and they are read as that message.
+/// Whether a message without a priority has these octets, and they are read as that message.
 fn stands(
     alloc: Global,
     teid: Option<u32>,
@@ -234,9 +242,7 @@ fn stands(
         priority: None,
         body,
     };
-    let octets = encode(alloc, &message)?;
-    let again = decode(alloc, &octets)?;
-    Ok(octets == octets_of(alloc, digits)? && again.message == message)
+    is_text_of(alloc, &message, digits)
 }
 
 fn accepted() -> Cause {
@@ -422,6 +428,39 @@ fn heads_of_faults(rt: HostRuntime) -> Result<(), Fail> {
     };
     assert!(rt; head.teid == Some(Teid(0x01000001)) && head.seq == Seq::new(5));
     assert!(rt; head.priority.is_none() && head.sender.is_none());
+    Ok(())
+}
+
+/// The sender that the fault of a datagram tells.
+fn sender_told(alloc: Global, digits: &str) -> Result<Option<FTeid>, Fail> {
+    let octets = octets_of(alloc, digits)?;
+    match decode(alloc, &octets) {
+        Err(V2Fault::Missing { head, .. }) => Ok(head.sender),
+        Err(V2Fault::Element { head, .. }) => Ok(head.sender),
+        _ => Err("no fault of a row".into()),
+    }
+}
+
+/// The sender of a Create Session Request is told where its list is whole and its end reads, whichever
+/// row is at fault, before the end or behind it or in a context.
+#[test]
+fn senders_of_faults(rt: HostRuntime) -> Result<(), Fail> {
+    let alloc = rt.alloc();
+    let sender = Some(end(6, 0x01000001, 1)?);
+    let session = "00000007000009000100080000010121436587f9";
+    let rat = "5200010006";
+    let control = "5700090086010000010a000001";
+    let context = "470004000361626363000100015d0005004900010005";
+    for (header, first, second, third, told) in [
+        ("48200021", control, "", "", sender),
+        ("48200026", rat, control, "", sender),
+        ("4820003c", rat, control, context, sender),
+        ("48200029", rat, control, "4700ff", None),
+        ("48200022", rat, "570005000601000001", "", None),
+    ] {
+        let digits = format!(in alloc; "{header}{session}{first}{second}{third}")?;
+        assert!(rt; sender_told(alloc, &digits)? == told, "of {digits}");
+    }
     Ok(())
 }
 

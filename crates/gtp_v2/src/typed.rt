@@ -1,6 +1,6 @@
 //! Messages with a table.
 
-ghost use Rattle.std.specs.Prelude.{◌≡◌, ◌↔◌, ◌++◌, OnOk, Bool, ℕ, List, true, length};
+ghost use Rattle.std.specs.Prelude.{◌≡◌, ◌↔◌, ◌++◌, OnOk, Bool, ℕ, List, IsTrue, length, true};
 ghost use Rattle.gtp_v2.specs.Table.{Line, Field, start, grows};
 ghost use Rattle.gtp_v2.specs.Rows.{lines_at};
 ghost use Rattle.gtp_v2.specs.Headed.{headed_of};
@@ -60,7 +60,7 @@ pub trait Typed: Drop {
 
     /// Whether what the marks of the table ask is there.
     fn meets_marks(&self) -> bool
-        ensures { (result ≡ true) ↔ LinesMarked start lines (fields self.now) };
+        ensures { IsTrue result ↔ LinesMarked start lines (fields self.now) };
 }
 
 /// What is known of a message whose elements are at fault.

@@ -159,14 +159,6 @@ after_octet (suc left) octets i lt some h =
 
 -- ---- one step of the loop that reads
 
-pub one_dot : (text now after total : List ℕ) (i : ℕ) → i < length text → (get_or text i 0 == 46) ≡ true → after ≡ now ++ label_length (drop (i + 1) text) ∷ [] → now ++ lengths_for_dots (drop i text) ≡ total → after ++ lengths_for_dots (drop (i + 1) text) ≡ total
-one_dot text now after total i lt dot e h =
-    rw e (append_assoc now (label_length (drop (i + 1) text) ∷ []) (lengths_for_dots (drop (i + 1) text)) ∙ (ap (λ (xs : List ℕ). now ++ xs) (sym (at_drop_more lengths_for_dots text i 0 lt ∙ rw dot refl)) ∙ h))
-
-pub one_octet : (text now after total : List ℕ) (i : ℕ) → i < length text → (get_or text i 0 == 46) ≡ false → after ≡ now ++ get_or text i 0 ∷ [] → now ++ lengths_for_dots (drop i text) ≡ total → after ++ lengths_for_dots (drop (i + 1) text) ≡ total
-one_octet text now after total i lt other e h =
-    rw e (append_assoc now (get_or text i 0 ∷ []) (lengths_for_dots (drop (i + 1) text)) ∙ (ap (λ (xs : List ℕ). now ++ xs) (sym (at_drop_more lengths_for_dots text i 0 lt ∙ rw other refl)) ∙ h))
-
 pub found_or_end : (p n : ℕ) → p ≤ n → unwrap_or (cond (ltb p n) (Some p) None) n ≡ p
 found_or_end p n le = by_test (ltb p n) refl where
   by_test : (b : Bool) → ltb p n ≡ b → unwrap_or (cond b (Some p) None) n ≡ p

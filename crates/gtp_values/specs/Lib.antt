@@ -4,6 +4,7 @@ pub mod Cause
 pub mod Counter
 pub mod Ebi
 pub mod Imsi
+pub mod Numbers
 pub mod Padded
 pub mod Paa
 pub mod Plmn

@@ -114,14 +114,14 @@ impl FromStr for Apn {
 fn is_label_octet(octet: u8) -> bool
     ensures { result ≡ spec_is_label_octet octet }
 {
-    0x21 <= octet && octet <= 0x7e && octet != b'.'
+    octet.is_ascii_graphic() && octet != b'.'
 }
 
 /// Whether a label may have so many octets.
 fn is_label_length(length: u8) -> bool
     ensures { result ≡ spec_is_label_length length }
 {
-    1 <= length && length <= 63
+    matches!(length, 1..=63)
 }
 
 /// Whether octets are labels, each behind its length.

@@ -35,6 +35,6 @@ impl Cause {
     pub fn is_accepting(&self) -> bool
         ensures { result ≡ is_accepting_value self.now.value }
     {
-        16 <= self.value && self.value < 64
+        matches!(self.value, 16..=63)
     }
 }

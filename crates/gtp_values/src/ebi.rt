@@ -34,7 +34,7 @@ impl Ebi {
         ensures value { IfOk result (λ ebi. ebi ≡ number) }
         ensures fault { IfErr result (λ f. f ≡ OutOfRange) }
     {
-        if 5 <= number && number <= 15 {
+        if matches!(number, 5..=15) {
             Ok(Ebi { number })
         } else {
             Err(ValueFault::OutOfRange)

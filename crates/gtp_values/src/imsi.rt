@@ -71,7 +71,7 @@ impl Imsi {
         if octets.len() > 15 {
             return Err(ValueFault::TooLong);
         }
-        if !octets.iter().all(|octet| b'0' <= *octet && *octet <= b'9') {
+        if !octets.iter().all(u8::is_ascii_digit) {
             return Err(ValueFault::BadDigit);
         }
         let mut digits = Octets::new();

@@ -29,13 +29,6 @@ behind octets h is = elim is [
       record { place = teid ∙ sym at; rest = ap (λ (n : ℕ). drop n octets) at ∙ ap (drop 12) text; room = omega (arith, at, ap length text) }
 ]
 
--- a message's first octets are its header
-pub room_of : (octets : List ℕ) (m : Spoken) → IsMessage octets m → place_of m.teid ≤ length octets
-room_of octets m (h, headed, (content, carries, e)) =
-    let b = behind octets h headed in
-    let same : place_of m.teid ≡ h.at = ap (λ (x : Spoken). place_of x.teid) e ∙ b.place in
-    omega (arith, same, b.room)
-
 by_table : (table : Option Table) (h : Headed) (fields : List Field) → CarriesBy table h (Fields fields) → (es : List Element) × AreElements h.at h.rest es
 by_table None h fields c = absurd cc
 by_table (Some table) h fields (flag, others, (es, are, lines), e) = (es, are)

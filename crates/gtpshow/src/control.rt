@@ -10,7 +10,7 @@ ghost use Rattle.gtpshow.specs.Control.{element_head, inner_line, element_lines,
 use crate::text::{put, put_teid};
 use crate::values::{put_body, put_field, put_raw};
 use gtp_ie::{ElementView, Elements, IeFault};
-use gtp_v2::{Message, V2Fault, type_name};
+use gtp_v2::{BEARER_CONTEXT, Message, V2Fault, type_name};
 use gtp_values::{Below, Teid};
 use std::alloc::AllocError;
 
@@ -69,7 +69,7 @@ fn put_element(out: &mut Vec<u8>, view: &ElementView) -> Result<(), AllocError>
     ensures ok { OnOk result (out.new.items ≡ out.old.items ++ element_lines (element_of view.now)) }
 {
     put_element_head(out, view)?;
-    if view.kind == 93 {
+    if view.kind == BEARER_CONTEXT {
         return put_group(out, view);
     }
     put_body(out, view.kind, view.body)?;

@@ -58,7 +58,12 @@ impl Typed for DeleteBearerResponse {
         let cause = mandatory::<Cause>(elements, 0)?;
         let accepting = cause.is_accepting();
         let linked_ebi = optional::<EbiValue>(elements, 0);
-        let contexts = contexts::<RemovalResponseContext>(alloc, Need::Free, accepting, elements)?;
+        let contexts = contexts::<RemovalResponseContext>(
+            alloc,
+            Need::Optional,
+            accepting,
+            elements,
+        )?;
         let recovery = optional::<Recovery>(elements, 0);
         Ok(DeleteBearerResponse {
             cause,
@@ -87,7 +92,7 @@ impl Typed for DeleteBearerResponse {
 
     fn meets_marks(&self) -> bool {
         let accepting = self.cause.is_accepting();
-        contexts_meet(Need::Free, accepting, self.contexts.as_slice())
+        contexts_meet(Need::Optional, accepting, self.contexts.as_slice())
     }
 }
 

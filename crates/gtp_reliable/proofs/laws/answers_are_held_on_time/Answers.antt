@@ -2,4 +2,4 @@ use Rattle.gtp_reliable.proofs.OnTime.{held_on_time, forgotten_on_time, forgets_
 use Rattle.gtp_reliable.proofs.laws.answers_are_held_on_time.Goals as goal
 
 pub returns : goal.returns
-returns c = record { stays = held_on_time; ends = forgotten_on_time; forgets = λ hold k source request answer. forgets_then hold (record { source = source; request = request; answer = answer; age = k }); quiet = λ hold k source request answer. keeps_then hold (record { source = source; request = request; answer = answer; age = k }) }
+returns c = record { stays = held_on_time; ends = forgotten_on_time; forgets = forgets_then; quiet = keeps_then }

@@ -12,7 +12,7 @@ returns-clause-read_again c =
     let short : length (behind_text (spoken_of c.args.message.now)) < 65536 = omega arith in
     written_again (spoken_of c.args.message.now) c.write_body.new.out.items
     (record {
-      writable = c.requires;
+      encodable = c.requires;
       seq = c.in_ok-write_options.ensures.seq;
       ext = c.octets.ensures.headers;
       teid = c.in_ok-write_opening.ensures.teid;

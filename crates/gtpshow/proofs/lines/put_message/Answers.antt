@@ -1,4 +1,4 @@
-use Rattle.std.proofs.Common.{◌≡◌, List, ℕ, Option, None, ap, sym, ◌∙◌}
+use Rattle.std.proofs.Common.{ap, sym, ◌∙◌}
 use Rattle.std.specs.Prelude.{option_map}
 use Rattle.gtp_v2.specs.Body.{content_of, spoken_of}
 use Rattle.gtpshow.proofs.Whole.{fields_of, elements_in, slice_elements}
