@@ -2,7 +2,7 @@
 use Rattle.std.proofs.Common.{◌≡◌, Bool, true, false, ℕ, ◌+◌, ◌*◌, ◌<◌, ◌^◌, List, [], ◌++◌, refl, sym, ap, ◌∙◌, arith}
 use Rattle.byteorder.specs.Endian.{big_bytes, big_number}
 use Rattle.byteorder.specs.Numbers.{big_from-bytes}
-use Rattle.gtp_ie.specs.Value.{OfRecovery, OfEbi, OfRat, OfChargingId, OfPdnType, OfPti, OfSelection, OfCause, OfAmbr, OfQos, text_of, bit, rates_text, AreRates}
+use Rattle.gtp_ie.specs.Value.{OfRecovery, OfEbi, OfRat, OfChargingId, OfPdnType, OfPti, OfSelection, OfCause, OfAmbr, OfQos, encoding_of, bit, rates_encoding, AreRates}
 use Rattle.gtp_values.specs.declared.cause.Cause.{Cause}
 use Rattle.gtp_values.specs.declared.cause.Offending.{Offending}
 use Rattle.gtp_values.specs.declared.qos.Ambr.{Ambr}
@@ -12,36 +12,36 @@ use Rattle.std.specs.Prelude.{◌==◌, Option, Some, None}
 use Rattle.gtp_ie.specs.Layout.{bits, is_set}
 use Rattle.gtp_ie.specs.Spelling.{Spells, Says}
 
-pub recovery_again : (counter : ℕ) → Spells 3 (text_of (OfRecovery counter)) (OfRecovery counter)
-unfolding text_of Says
+pub recovery_again : (counter : ℕ) → Spells 3 (encoding_of (OfRecovery counter)) (OfRecovery counter)
+unfolding encoding_of Says
 recovery_again counter = record { long_enough = omega arith; says = refl }
 
-pub ebi_again : (n : ℕ) → n < 16 → Spells 73 (text_of (OfEbi n)) (OfEbi n)
-unfolding text_of Says
+pub ebi_again : (n : ℕ) → n < 16 → Spells 73 (encoding_of (OfEbi n)) (OfEbi n)
+unfolding encoding_of Says
 ebi_again n small = record { long_enough = omega arith; says = ap OfEbi (omega arith) }
 
 -- a number is read from its octets
 number_again : (n : ℕ) (rest : List ℕ) → n < 2 ^ 32 → big_number 4 (big_bytes 4 n ++ rest) ≡ n
 number_again n rest small = big_from-bytes 4 n rest ∙ omega arith
 
-pub charging_id_again : (n : ℕ) → n < 2 ^ 32 → Spells 94 (text_of (OfChargingId n)) (OfChargingId n)
-unfolding text_of Says
+pub charging_id_again : (n : ℕ) → n < 2 ^ 32 → Spells 94 (encoding_of (OfChargingId n)) (OfChargingId n)
+unfolding encoding_of Says
 charging_id_again n small = record { long_enough = omega arith; says = ap OfChargingId (sym (number_again n [] small)) }
 
-pub rat_again : (n : ℕ) → Spells 82 (text_of (OfRat n)) (OfRat n)
-unfolding text_of Says
+pub rat_again : (n : ℕ) → Spells 82 (encoding_of (OfRat n)) (OfRat n)
+unfolding encoding_of Says
 rat_again n = record { long_enough = omega arith; says = refl }
 
-pub pti_again : (n : ℕ) → Spells 100 (text_of (OfPti n)) (OfPti n)
-unfolding text_of Says
+pub pti_again : (n : ℕ) → Spells 100 (encoding_of (OfPti n)) (OfPti n)
+unfolding encoding_of Says
 pti_again n = record { long_enough = omega arith; says = refl }
 
-pub pdn_type_again : (n : ℕ) → n < 8 → Spells 99 (text_of (OfPdnType n)) (OfPdnType n)
-unfolding text_of Says
+pub pdn_type_again : (n : ℕ) → n < 8 → Spells 99 (encoding_of (OfPdnType n)) (OfPdnType n)
+unfolding encoding_of Says
 pdn_type_again n small = record { long_enough = omega arith; says = ap OfPdnType (omega arith) }
 
-pub selection_again : (n : ℕ) → n < 4 → Spells 128 (text_of (OfSelection n)) (OfSelection n)
-unfolding text_of Says
+pub selection_again : (n : ℕ) → n < 4 → Spells 128 (encoding_of (OfSelection n)) (OfSelection n)
+unfolding encoding_of Says
 selection_again n small = record { long_enough = omega arith; says = ap OfSelection (omega arith) }
 
 -- ---- causes
@@ -79,8 +79,8 @@ abbrev pub IsSmall : Option Offending → Type 0
 IsSmall None = Unit {0}
 IsSmall (Some o) = o.instance < 16
 
-cause_parts : (v : ℕ) (o : Option Offending) (p b s : Bool) → IsSmall o → Spells 2 (text_of (OfCause (cause_with v o p b s))) (OfCause (cause_with v o p b s))
-unfolding text_of Says
+cause_parts : (v : ℕ) (o : Option Offending) (p b s : Bool) → IsSmall o → Spells 2 (encoding_of (OfCause (cause_with v o p b s))) (OfCause (cause_with v o p b s))
+unfolding encoding_of Says
 cause_parts v None p b s small =
     let f = flags_are p b s in
     record { long_enough = omega arith; says = ap OfCause (same_cause v (sym f.pce) (sym f.bce) (sym f.cs) refl) }
@@ -89,7 +89,7 @@ cause_parts v (Some o) p b s small =
     let same : o.instance ≡ bits 4 1 o.instance = omega arith in
     record { long_enough = omega arith; says = ap OfCause (same_cause v (sym f.pce) (sym f.bce) (sym f.cs) (ap (offending_with o.kind) same)) }
 
-pub cause_again : (c : Cause) → IsSmall c.offending → Spells 2 (text_of (OfCause c)) (OfCause c)
+pub cause_again : (c : Cause) → IsSmall c.offending → Spells 2 (encoding_of (OfCause c)) (OfCause c)
 cause_again c small = cause_parts c.value c.offending c.pce c.bce c.cs small
 
 -- ---- rates
@@ -97,8 +97,8 @@ cause_again c small = cause_parts c.value c.offending c.pce c.bce c.cs small
 abbrev ambr_with : ℕ → ℕ → Ambr
 ambr_with up down = record { up = up; down = down }
 
-pub ambr_again : (a : Ambr) → a.up < 2 ^ 32 → a.down < 2 ^ 32 → Spells 72 (text_of (OfAmbr a)) (OfAmbr a)
-unfolding text_of Says
+pub ambr_again : (a : Ambr) → a.up < 2 ^ 32 → a.down < 2 ^ 32 → Spells 72 (encoding_of (OfAmbr a)) (OfAmbr a)
+unfolding encoding_of Says
 ambr_again a up down =
     let first : a.up ≡ big_number 4 (big_bytes 4 a.up ++ big_bytes 4 a.down) = sym (number_again a.up (big_bytes 4 a.down) up) in
     let second : a.down ≡ big_number 4 (big_bytes 4 a.down) = sym (number_again a.down [] down) in
@@ -110,11 +110,11 @@ rate_again n rest small = big_from-bytes 5 n rest ∙ omega arith
 abbrev rates_with : ℕ → ℕ → Rates
 rates_with up down = record { up = up; down = down }
 
-rates_again : (r : Rates) (rest : List ℕ) → AreRates r → r ≡ rates_with (big_number 5 (rates_text r ++ rest)) (big_number 5 (big_bytes 5 r.down ++ rest))
+rates_again : (r : Rates) (rest : List ℕ) → AreRates r → r ≡ rates_with (big_number 5 (rates_encoding r ++ rest)) (big_number 5 (big_bytes 5 r.down ++ rest))
 rates_again r rest are =
-    let up : r.up ≡ big_number 5 (rates_text r ++ rest) = sym (rate_again r.up (big_bytes 5 r.down ++ rest) are.up) in
+    let up : r.up ≡ big_number 5 (rates_encoding r ++ rest) = sym (rate_again r.up (big_bytes 5 r.down ++ rest) are.up) in
     let down : r.down ≡ big_number 5 (big_bytes 5 r.down ++ rest) = sym (rate_again r.down rest are.down) in
-    ap (λ (n : ℕ). rates_with n r.down) up ∙ ap (rates_with (big_number 5 (rates_text r ++ rest))) down
+    ap (λ (n : ℕ). rates_with n r.down) up ∙ ap (rates_with (big_number 5 (rates_encoding r ++ rest))) down
 
 abbrev qos_flags : Bool → ℕ → Bool → ℕ
 qos_flags c pl v = 64 * bit c + 4 * pl + bit v
@@ -139,8 +139,8 @@ qos_flags_are false pl false small = record { pci = is_zero _ (omega arith); lev
 abbrev qos_with : ℕ → Bool → ℕ → Bool → Rates → Rates → Qos
 qos_with qci c pl v m g = record { pci = c; pl = pl; pvi = v; qci = qci; mbr = m; gbr = g }
 
-pub qos_again : (q : Qos) → q.pl < 16 → AreRates q.mbr → AreRates q.gbr → Spells 80 (text_of (OfQos q)) (OfQos q)
-unfolding text_of Says
+pub qos_again : (q : Qos) → q.pl < 16 → AreRates q.mbr → AreRates q.gbr → Spells 80 (encoding_of (OfQos q)) (OfQos q)
+unfolding encoding_of Says
 qos_again q small m g =
     let f = qos_flags_are q.pci q.pl q.pvi small in
     let flags : ℕ = qos_flags q.pci q.pl q.pvi in
@@ -148,6 +148,6 @@ qos_again q small m g =
       long_enough = omega arith;
       says =
           ap OfQos (ap (λ (c : Bool). qos_with q.qci c q.pl q.pvi q.mbr q.gbr) (sym f.pci) ∙ (ap (λ (n : ℕ). qos_with q.qci (is_set 7 flags) n q.pvi q.mbr q.gbr) (sym f.level) ∙ (ap (λ (v : Bool). qos_with q.qci (is_set 7 flags) (bits 6 3 flags) v q.mbr q.gbr) (sym f.pvi)
-          ∙ (ap (λ (r : Rates). qos_with q.qci (is_set 7 flags) (bits 6 3 flags) (is_set 1 flags) r q.gbr) (rates_again q.mbr (rates_text q.gbr) m)
-          ∙ ap (λ (r : Rates). qos_with q.qci (is_set 7 flags) (bits 6 3 flags) (is_set 1 flags) (rates_with (big_number 5 (rates_text q.mbr ++ rates_text q.gbr)) (big_number 5 (big_bytes 5 q.mbr.down ++ rates_text q.gbr))) r) (rates_again q.gbr [] g)))));
+          ∙ (ap (λ (r : Rates). qos_with q.qci (is_set 7 flags) (bits 6 3 flags) (is_set 1 flags) r q.gbr) (rates_again q.mbr (rates_encoding q.gbr) m)
+          ∙ ap (λ (r : Rates). qos_with q.qci (is_set 7 flags) (bits 6 3 flags) (is_set 1 flags) (rates_with (big_number 5 (rates_encoding q.mbr ++ rates_encoding q.gbr)) (big_number 5 (big_bytes 5 q.mbr.down ++ rates_encoding q.gbr))) r) (rates_again q.gbr [] g)))));
     }

@@ -10,8 +10,8 @@ use Rattle.gtp_values.specs.TunnelEnd.{TunnelEnd, IsTunnelEnd}
 use Rattle.gtp_values.specs.Plmn.{Network, IsNetwork}
 use Rattle.gtp_values.specs.Paa.{IsOtherPdnType}
 use Rattle.gtp_values.specs.declared.paa.Paa.TheVariants as paas
-use Rattle.gtp_ie.specs.Value.{OfPaa, OfPlmn, OfFTeid, text_of, network_in}
-use Rattle.gtp_ie.specs.Digits.{network_text}
+use Rattle.gtp_ie.specs.Value.{OfPaa, OfPlmn, OfFTeid, encoding_of, network_in}
+use Rattle.gtp_ie.specs.Digits.{network_encoding}
 use Rattle.gtp_ie.specs.Spelling.{Spells, Says}
 
 -- the first octets of a list that has no others
@@ -20,23 +20,23 @@ take_whole n xs e = ap (take n) (sym (append-nil xs)) ∙ take_at xs [] n e
 
 -- ---- addresses of subscribers
 
-pub v4_again : (v4 : List ℕ) → length v4 ≡ 4 → Spells 79 (text_of (OfPaa (paas.V4 v4))) (OfPaa (paas.V4 v4))
-unfolding text_of Says
+pub v4_again : (v4 : List ℕ) → length v4 ≡ 4 → Spells 79 (encoding_of (OfPaa (paas.V4 v4))) (OfPaa (paas.V4 v4))
+unfolding encoding_of Says
 v4_again v4 e = record { long_enough = omega arith; says = ap (λ (xs : List ℕ). OfPaa (paas.V4 xs)) (sym (take_whole 4 v4 e)) }
 
-pub v6_again : (prefix : ℕ) (v6 : List ℕ) → length v6 ≡ 16 → Spells 79 (text_of (OfPaa (paas.V6 prefix v6))) (OfPaa (paas.V6 prefix v6))
-unfolding text_of Says
+pub v6_again : (prefix : ℕ) (v6 : List ℕ) → length v6 ≡ 16 → Spells 79 (encoding_of (OfPaa (paas.V6 prefix v6))) (OfPaa (paas.V6 prefix v6))
+unfolding encoding_of Says
 v6_again prefix v6 e = record { long_enough = omega arith; says = ap (λ (xs : List ℕ). OfPaa (paas.V6 prefix xs)) (sym (take_whole 16 v6 e)) }
 
-pub v4v6_again : (prefix : ℕ) (v6 v4 : List ℕ) → length v6 ≡ 16 → length v4 ≡ 4 → Spells 79 (text_of (OfPaa (paas.V4V6 prefix v6 v4))) (OfPaa (paas.V4V6 prefix v6 v4))
-unfolding text_of Says
+pub v4v6_again : (prefix : ℕ) (v6 v4 : List ℕ) → length v6 ≡ 16 → length v4 ≡ 4 → Spells 79 (encoding_of (OfPaa (paas.V4V6 prefix v6 v4))) (OfPaa (paas.V4V6 prefix v6 v4))
+unfolding encoding_of Says
 v4v6_again prefix v6 v4 e f =
     let first : take 16 (v6 ++ v4) ≡ v6 = take_at v6 v4 16 e in
     let second : take 4 (drop 16 (v6 ++ v4)) ≡ v4 = ap (take 4) (drop_at v6 v4 16 e) ∙ take_whole 4 v4 f in
     record { long_enough = omega (arith, length-append v6 v4); says = ap (λ (xs : List ℕ). OfPaa (paas.V4V6 prefix xs v4)) (sym first) ∙ ap (λ (xs : List ℕ). OfPaa (paas.V4V6 prefix (take 16 (v6 ++ v4)) xs)) (sym second) }
 
-pub other_again : (pdn : ℕ) → IsOtherPdnType pdn → Spells 79 (text_of (OfPaa (paas.Other pdn))) (OfPaa (paas.Other pdn))
-unfolding text_of Says
+pub other_again : (pdn : ℕ) → IsOtherPdnType pdn → Spells 79 (encoding_of (OfPaa (paas.Other pdn))) (OfPaa (paas.Other pdn))
+unfolding encoding_of Says
 other_again pdn is =
     let same : (pdn / 1) % 8 ≡ pdn = grind (arith, nat_tests) in
     let not_v4 : (pdn == 1) ≡ false = grind (arith, nat_tests) in
@@ -52,8 +52,8 @@ end_with interface teid v4 v6 = record { interface = interface; teid = teid; v4 
 number_again : (n : ℕ) (rest : List ℕ) → n < 2 ^ 32 → big_number 4 (big_bytes 4 n ++ rest) ≡ n
 number_again n rest small = big_from-bytes 4 n rest ∙ omega arith
 
-end_parts : (interface teid : ℕ) (v4 v6 : Option (List ℕ)) → IsTunnelEnd (end_with interface teid v4 v6) → Spells 87 (text_of (OfFTeid (end_with interface teid v4 v6))) (OfFTeid (end_with interface teid v4 v6))
-unfolding text_of Says
+end_parts : (interface teid : ℕ) (v4 v6 : Option (List ℕ)) → IsTunnelEnd (end_with interface teid v4 v6) → Spells 87 (encoding_of (OfFTeid (end_with interface teid v4 v6))) (OfFTeid (end_with interface teid v4 v6))
+unfolding encoding_of Says
 end_parts interface teid (Some v4) (Some v6) is =
     let a : length v4 ≡ 4 = is.v4 in
     let b : length v6 ≡ 16 = is.v6 in
@@ -85,7 +85,7 @@ end_parts interface teid None (Some v6) is =
     record { long_enough = rw (flag4, flag6) (omega arith); says = rw (flag4, flag6, low, again, first) (refl, refl) }
 end_parts interface teid None None is = let no : false ≡ true = is.some_address in absurd cc
 
-pub fteid_again : (e : TunnelEnd) → IsTunnelEnd e → Spells 87 (text_of (OfFTeid e)) (OfFTeid e)
+pub fteid_again : (e : TunnelEnd) → IsTunnelEnd e → Spells 87 (encoding_of (OfFTeid e)) (OfFTeid e)
 fteid_again e is = end_parts e.interface e.teid e.v4 e.v6 is
 
 -- ---- networks
@@ -100,18 +100,18 @@ low_half a b small = omega arith
 high_half : (a b : ℕ) → a < 16 → b < 16 → ((16 * b + a) / 16) % 16 ≡ b
 high_half a b p q = omega arith
 
-plmn_two : (a b c d e : ℕ) → a < 10 → b < 10 → c < 10 → d < 10 → e < 10 → IsNetwork (network_with (a ∷ b ∷ c ∷ []) (d ∷ e ∷ [])) → Spells 83 (network_text (network_with (a ∷ b ∷ c ∷ []) (d ∷ e ∷ []))) (OfPlmn (network_with (a ∷ b ∷ c ∷ []) (d ∷ e ∷ [])))
+plmn_two : (a b c d e : ℕ) → a < 10 → b < 10 → c < 10 → d < 10 → e < 10 → IsNetwork (network_with (a ∷ b ∷ c ∷ []) (d ∷ e ∷ [])) → Spells 83 (network_encoding (network_with (a ∷ b ∷ c ∷ []) (d ∷ e ∷ []))) (OfPlmn (network_with (a ∷ b ∷ c ∷ []) (d ∷ e ∷ [])))
 unfolding Says
 plmn_two a b c d e p q r s t is =
-    let same : network_in (network_text (network_with (a ∷ b ∷ c ∷ []) (d ∷ e ∷ []))) ≡ network_with (a ∷ b ∷ c ∷ []) (d ∷ e ∷ []) =
+    let same : network_in (network_encoding (network_with (a ∷ b ∷ c ∷ []) (d ∷ e ∷ []))) ≡ network_with (a ∷ b ∷ c ∷ []) (d ∷ e ∷ []) =
     rw (low_half a b (omega arith), high_half a b (omega arith) (omega arith), low_half c 15 (omega arith), high_half c 15 (omega arith) (omega arith), low_half d e (omega arith), high_half d e (omega arith) (omega arith)) refl in
     record { long_enough = omega arith; says = (subst IsNetwork (sym same) is, ap OfPlmn (sym same)) }
 
-plmn_three : (a b c d e f : ℕ) → a < 10 → b < 10 → c < 10 → d < 10 → e < 10 → f < 10 → IsNetwork (network_with (a ∷ b ∷ c ∷ []) (d ∷ e ∷ f ∷ [])) → Spells 83 (network_text (network_with (a ∷ b ∷ c ∷ []) (d ∷ e ∷ f ∷ []))) (OfPlmn (network_with (a ∷ b ∷ c ∷ []) (d ∷ e ∷ f ∷ [])))
+plmn_three : (a b c d e f : ℕ) → a < 10 → b < 10 → c < 10 → d < 10 → e < 10 → f < 10 → IsNetwork (network_with (a ∷ b ∷ c ∷ []) (d ∷ e ∷ f ∷ [])) → Spells 83 (network_encoding (network_with (a ∷ b ∷ c ∷ []) (d ∷ e ∷ f ∷ []))) (OfPlmn (network_with (a ∷ b ∷ c ∷ []) (d ∷ e ∷ f ∷ [])))
 unfolding Says
 plmn_three a b c d e f p q r s t u is =
     let third : (f == 15) ≡ false = grind (arith, nat_tests) in
-    let same : network_in (network_text (network_with (a ∷ b ∷ c ∷ []) (d ∷ e ∷ f ∷ []))) ≡ network_with (a ∷ b ∷ c ∷ []) (d ∷ e ∷ f ∷ []) =
+    let same : network_in (network_encoding (network_with (a ∷ b ∷ c ∷ []) (d ∷ e ∷ f ∷ []))) ≡ network_with (a ∷ b ∷ c ∷ []) (d ∷ e ∷ f ∷ []) =
     rw (low_half a b (omega arith), high_half a b (omega arith) (omega arith), low_half c f (omega arith), high_half c f (omega arith) (omega arith), third, low_half d e (omega arith), high_half d e (omega arith) (omega arith)) refl in
     record { long_enough = omega arith; says = (subst IsNetwork (sym same) is, ap OfPlmn (sym same)) }
 
@@ -119,7 +119,7 @@ abbrev IsDigit : ℕ → Type 0
 IsDigit digit = digit < 10
 
 -- the two digits of a list, and the three
-by_mnc : (a b c : ℕ) (mnc : List ℕ) → a < 10 → b < 10 → c < 10 → IsNetwork (network_with (a ∷ b ∷ c ∷ []) mnc) → Spells 83 (network_text (network_with (a ∷ b ∷ c ∷ []) mnc)) (OfPlmn (network_with (a ∷ b ∷ c ∷ []) mnc))
+by_mnc : (a b c : ℕ) (mnc : List ℕ) → a < 10 → b < 10 → c < 10 → IsNetwork (network_with (a ∷ b ∷ c ∷ []) mnc) → Spells 83 (network_encoding (network_with (a ∷ b ∷ c ∷ []) mnc)) (OfPlmn (network_with (a ∷ b ∷ c ∷ []) mnc))
 by_mnc a b c [] p q r is = absurd (omega (arith, is.least))
 by_mnc a b c (d ∷ []) p q r is = absurd (omega (arith, is.least))
 by_mnc a b c (d ∷ e ∷ []) p q r is =
@@ -129,7 +129,7 @@ by_mnc a b c (d ∷ e ∷ f ∷ []) p q r is =
     plmn_three a b c d e f p q r (All-head IsDigit d (e ∷ f ∷ []) is.network_digits) (All-head IsDigit e (f ∷ []) rest) (All-head IsDigit f [] (All-tail IsDigit e (f ∷ []) rest)) is
 by_mnc a b c (d ∷ e ∷ f ∷ g ∷ mnc) p q r is = absurd (omega (arith, is.most))
 
-by_mcc : (mcc mnc : List ℕ) → IsNetwork (network_with mcc mnc) → Spells 83 (network_text (network_with mcc mnc)) (OfPlmn (network_with mcc mnc))
+by_mcc : (mcc mnc : List ℕ) → IsNetwork (network_with mcc mnc) → Spells 83 (network_encoding (network_with mcc mnc)) (OfPlmn (network_with mcc mnc))
 by_mcc [] mnc is = absurd (omega (arith, is.country))
 by_mcc (a ∷ []) mnc is = absurd (omega (arith, is.country))
 by_mcc (a ∷ b ∷ []) mnc is = absurd (omega (arith, is.country))
@@ -138,6 +138,6 @@ by_mcc (a ∷ b ∷ c ∷ []) mnc is =
     by_mnc a b c mnc (All-head IsDigit a (b ∷ c ∷ []) is.country_digits) (All-head IsDigit b (c ∷ []) rest) (All-head IsDigit c [] (All-tail IsDigit b (c ∷ []) rest)) is
 by_mcc (a ∷ b ∷ c ∷ d ∷ mcc) mnc is = absurd (omega (arith, is.country))
 
-pub plmn_again : (n : Network) → IsNetwork n → Spells 83 (text_of (OfPlmn n)) (OfPlmn n)
-unfolding text_of
+pub plmn_again : (n : Network) → IsNetwork n → Spells 83 (encoding_of (OfPlmn n)) (OfPlmn n)
+unfolding encoding_of
 plmn_again n is = by_mcc n.mcc n.mnc is

@@ -3,7 +3,7 @@ use Rattle.std.proofs.Common.{ℕ, ◌*◌, ◌≤◌, List, [], ◌∷◌, leng
 use Rattle.gtp_values.specs.Apn.{IsApn}
 use Rattle.gtp_values.specs.Imsi.{IsImsi}
 use Rattle.gtp_ie.specs.Digits.{packed}
-use Rattle.gtp_ie.specs.Value.{OfImsi, OfApn, OfTft, text_of}
+use Rattle.gtp_ie.specs.Value.{OfImsi, OfApn, OfTft, encoding_of}
 use Rattle.gtp_ie.specs.Spelling.{Spells, Says}
 
 -- two digits an octet, and one more where their count is odd
@@ -12,14 +12,14 @@ length-packed [] = omega arith
 length-packed (a ∷ []) = omega arith
 length-packed (a ∷ b ∷ digits) = let more = length-packed digits in omega (arith, more)
 
-pub imsi_again : (digits : List ℕ) → IsImsi digits → Spells 1 (text_of (OfImsi digits)) (OfImsi digits)
-unfolding text_of Says
+pub imsi_again : (digits : List ℕ) → IsImsi digits → Spells 1 (encoding_of (OfImsi digits)) (OfImsi digits)
+unfolding encoding_of Says
 imsi_again digits is = let long = length-packed digits in record { long_enough = omega (arith, is.least, long); says = (digits, is, refl, refl) }
 
-pub apn_again : (octets : List ℕ) → IsApn octets → Spells 71 (text_of (OfApn octets)) (OfApn octets)
-unfolding text_of Says
+pub apn_again : (octets : List ℕ) → IsApn octets → Spells 71 (encoding_of (OfApn octets)) (OfApn octets)
+unfolding encoding_of Says
 apn_again octets is = record { long_enough = is.least; says = (is, refl) }
 
-pub tft_again : (octets : List ℕ) → length octets ≤ 255 → Spells 84 (text_of (OfTft octets)) (OfTft octets)
-unfolding text_of Says
+pub tft_again : (octets : List ℕ) → length octets ≤ 255 → Spells 84 (encoding_of (OfTft octets)) (OfTft octets)
+unfolding encoding_of Says
 tft_again octets few = record { long_enough = omega arith; says = (few, refl) }

@@ -7,7 +7,7 @@ use Rattle.gtp_ie.specs.Free.{SaysTheSame, form_length, counted_by, counted_from
 pub same_as_itself : (kind : ℕ) (body : List ℕ) → SaysTheSame kind body body
 same_as_itself kind body = record { same = refl }
 
--- octets behind the form
+-- octets after the form
 pub more_free : (kind : ℕ) (body more : List ℕ) → form_length kind body ≤ length body → form_length kind (body ++ more) ≡ form_length kind body → SaysTheSame kind body (body ++ more)
 more_free kind body more there e = record { same = sym (ap (λ (n : ℕ). counted_from kind 5 (take n (body ++ more))) e ∙ ap (counted_from kind 5) (take-append-le (form_length kind body) body more there)) }
 

@@ -16,7 +16,7 @@ use Rattle.gtp_values.specs.Plmn.{IsNetwork}
 use Rattle.gtp_values.specs.TunnelEnd.{TunnelEnd}
 use Rattle.gtp_ie.specs.Layout.{octet, bits, is_set}
 use Rattle.gtp_ie.specs.Free.{SaysTheSame, SpellsFreely, counted_by, counted_from, spare_lines}
-use Rattle.gtp_ie.specs.Value.{Value, OfRecovery, OfEbi, OfRat, OfChargingId, OfPdnType, OfPti, OfSelection, OfAmbr, OfPlmn, OfFTeid, OfCause, OfPaa, OfQos, least, least_paa, pdn_type_in, qos_in, room, network_in, fteid_in, has_v4, has_v6, text_of}
+use Rattle.gtp_ie.specs.Value.{Value, OfRecovery, OfEbi, OfRat, OfChargingId, OfPdnType, OfPti, OfSelection, OfAmbr, OfPlmn, OfFTeid, OfCause, OfPaa, OfQos, least, least_paa, pdn_type_in, qos_in, room, network_in, fteid_in, has_v4, has_v6, encoding_of}
 use Rattle.gtp_ie.specs.Spelling.{Spells, Says}
 use Rattle.gtp_ie.proofs.Free.{CountWhole, whole_from, get_same, part_same, number_same, long_same}
 
@@ -277,8 +277,8 @@ fteid_free body other v s spells =
     let first : get_or body 0 0 ≡ get_or other 0 0 = cc in
     let v4 : has_v4 body ≡ has_v4 other = ap (λ (n : ℕ). is_set 8 n) first in
     let v6 : has_v6 body ≡ has_v6 other = ap (λ (n : ℕ). is_set 7 n) first in
-    let fronts : take (end_room (has_v4 body) (has_v6 body)) body ≡ take (end_room (has_v4 other) (has_v6 other)) other = front_same 87 (end_room (has_v4 body) (has_v6 body)) (end_room (has_v4 other) (has_v6 other)) (λ m o h. refl) body other s.same in
-    let same : take (end_room (has_v4 body) (has_v6 body)) body ≡ take (end_room (has_v4 body) (has_v6 body)) other = one_room (has_v4 body) (has_v6 body) (has_v4 other) (has_v6 other) body other v4 v6 fronts in
+    let prefixes : take (end_room (has_v4 body) (has_v6 body)) body ≡ take (end_room (has_v4 other) (has_v6 other)) other = front_same 87 (end_room (has_v4 body) (has_v6 body)) (end_room (has_v4 other) (has_v6 other)) (λ m o h. refl) body other s.same in
+    let same : take (end_room (has_v4 body) (has_v6 body)) body ≡ take (end_room (has_v4 body) (has_v6 body)) other = one_room (has_v4 body) (has_v6 body) (has_v4 other) (has_v6 other) body other v4 v6 prefixes in
     let some : IsTrue (has_v4 other || has_v6 other) = subst (λ (n : ℕ). IsTrue (is_set 8 n || is_set 7 n)) first spells.says.0 in
     let long : end_room (has_v4 body) (has_v6 body) ≤ length other = long_same (end_room (has_v4 body) (has_v6 body)) body other enough same in
     let ends : fteid_in body ≡ fteid_in other = end_same (has_v4 body) (has_v6 body) body other same ∙ end_as (has_v4 body) (has_v6 body) (has_v4 other) (has_v6 other) other v4 v6 in
@@ -405,5 +405,5 @@ free kind =
     λ body other v s spells. absurd (rw (a, b, c, d, e, f, g, h, i, j, k, l, m, n, o, p) at spells.says)))))))))))))))))
 
 -- so it is enough that the text of the value does
-pub text_free : (kind : ℕ) (v : Value) → Spells kind (text_of v) v → SpellsFreely kind v
-text_free kind v again = record { free = λ body s. free kind (text_of v) body v s again }
+pub encoding_free : (kind : ℕ) (v : Value) → Spells kind (encoding_of v) v → SpellsFreely kind v
+encoding_free kind v again = record { free = λ body s. free kind (encoding_of v) body v s again }

@@ -13,3 +13,4 @@ pub mod Reading
 pub mod Finding
 pub mod Free
 pub mod FreeKinds
+pub mod Same

@@ -36,6 +36,6 @@ abbrev pub third_or_filler : List ℕ → ℕ
 third_or_filler mnc = if length mnc == 3 then slice_index mnc 2 else 15
 
 -- TS 29.274 8.18: MCC digits 2 and 1, MNC digit 3 and MCC digit 3, MNC digits 2 and 1
-abbrev pub network_text : Network → List ℕ
-network_text n =
+abbrev pub network_encoding : Network → List ℕ
+network_encoding n =
     (16 * slice_index n.mcc 1 + slice_index n.mcc 0) ∷ (16 * third_or_filler n.mnc + slice_index n.mcc 2) ∷ (16 * slice_index n.mnc 1 + slice_index n.mnc 0) ∷ []

@@ -1,10 +1,10 @@
--- When another body says the same as a given one: the octets of its form are the same, but for spare bits, and behind the
+-- When another body says the same as a given one: the octets of its form are the same, but for spare bits, and after the
 -- form there are any. Octets and bits are counted as the figures of TS 29.274 clause 8 count them: octet 5 is the first of
 -- the body, bit 8 the highest.
 use Rattle.std.specs.Prelude.{◌≡◌, ◌==◌, ◌&&◌, ◌||◌, ℕ, ◌+◌, Bool, List, [], ◌∷◌, map, length, take, nat_lt, if◌then◌else◌}
 use Rattle.gtp_ie.specs.Layout.{bits}
 use Rattle.gtp_ie.specs.Spelling.{Spells}
-use Rattle.gtp_ie.specs.Value.{Value, least, text_of}
+use Rattle.gtp_ie.specs.Value.{Value, least, encoding_of}
 
 -- an octet of elements of a type, and the runs of its bits that count, each from a high bit to a low one; its other bits are
 -- spare
@@ -69,4 +69,4 @@ pub record SaysTheSame (kind : ℕ) (body other : List ℕ) : Type 0 where
 
 -- each body that says the same as the text of the value spells the value
 pub record SpellsFreely (kind : ℕ) (v : Value) : Type 0 where
-  pub free : (body : List ℕ) → SaysTheSame kind (text_of v) body → Spells kind body v
+  pub free : (body : List ℕ) → SaysTheSame kind (encoding_of v) body → Spells kind body v

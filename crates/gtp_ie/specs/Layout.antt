@@ -1,4 +1,4 @@
--- Where the parts of an element's body stand, as the figures of TS 29.274 clause 8 count them: octets from 5 on, behind the
+-- Where the parts of an element's body stand, as the figures of TS 29.274 clause 8 count them: octets from 5 on, after the
 -- four of the element's own header; bits from 8, the highest, to 1.
 use Rattle.std.specs.Prelude.{ℕ, ◌+◌, ◌-◌, ◌/◌, ◌%◌, ◌^◌, Bool, ◌==◌, List, drop, slice_index}
 use Rattle.byteorder.specs.Endian.{big_number}

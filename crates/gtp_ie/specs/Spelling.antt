@@ -1,5 +1,5 @@
 -- Which bodies spell which values, one case for each type of element, and which spell none. Spare bits and, but for names
--- and templates that are the whole body, octets behind the form stand in no case: they are free.
+-- and templates that are the whole body, octets after the form stand in no case: they are free.
 use Rattle.std.specs.Prelude.{◌≡◌, ◌==◌, cond, ◌||◌, IsTrue, ℕ, ◌≤◌, ◌<◌, List, length}
 use Rattle.gtp_values.specs.Apn.{IsApn}
 use Rattle.gtp_values.specs.Imsi.{IsImsi}

@@ -14,7 +14,7 @@ use Rattle.gtp_values.specs.Plmn.{Network}
 use Rattle.gtp_ie.specs.declared.fault.ReadFault.{ReadFault}
 use Rattle.gtp_ie.specs.declared.fault.ReadFault.TheVariants.{Short, Bad}
 use Rattle.gtp_ie.specs.Layout.{octet, octets_from, number_in, bits, is_set}
-use Rattle.gtp_ie.specs.Digits.{digits_in, packed, are_imsi_digits, are_network_digits, network_text}
+use Rattle.gtp_ie.specs.Digits.{digits_in, packed, are_imsi_digits, are_network_digits, network_encoding}
 
 -- a value of any type of element
 pub data Value : Type 0 where
@@ -62,7 +62,7 @@ ebi_in body = bits 4 1 (octet 5 body)
 abbrev pub pdn_type_in : List ℕ → ℕ
 pdn_type_in body = bits 3 1 (octet 5 body)
 
--- TS 29.274 8.14: behind the type an IPv4 address, or a prefix length and an IPv6 address, or all three
+-- TS 29.274 8.14: after the type an IPv4 address, or a prefix length and an IPv6 address, or all three
 abbrev pub paa_in : List ℕ → Paa
 paa_in body =
     if pdn_type_in body == 1 then paas.V4 (take 4 (octets_from 6 body))
@@ -204,38 +204,38 @@ abbrev pub bit : Bool → ℕ
 bit true = 1
 bit false = 0
 
-abbrev pub offending_text : Option Offending → List ℕ
-offending_text None = []
-offending_text (Some o) = o.kind ∷ 0 ∷ 0 ∷ o.instance ∷ []
+abbrev pub offending_encoding : Option Offending → List ℕ
+offending_encoding None = []
+offending_encoding (Some o) = o.kind ∷ 0 ∷ 0 ∷ o.instance ∷ []
 
-abbrev pub address_text : Option (List ℕ) → List ℕ
-address_text None = []
-address_text (Some octets) = octets
+abbrev pub address_encoding : Option (List ℕ) → List ℕ
+address_encoding None = []
+address_encoding (Some octets) = octets
 
-abbrev pub paa_text : Paa → List ℕ
-paa_text (paas.V4 v4) = 1 ∷ v4
-paa_text (paas.V6 prefix v6) = 2 ∷ prefix ∷ v6
-paa_text (paas.V4V6 prefix v6 v4) = 3 ∷ prefix ∷ (v6 ++ v4)
-paa_text (paas.Other pdn) = pdn ∷ []
+abbrev pub paa_encoding : Paa → List ℕ
+paa_encoding (paas.V4 v4) = 1 ∷ v4
+paa_encoding (paas.V6 prefix v6) = 2 ∷ prefix ∷ v6
+paa_encoding (paas.V4V6 prefix v6 v4) = 3 ∷ prefix ∷ (v6 ++ v4)
+paa_encoding (paas.Other pdn) = pdn ∷ []
 
-abbrev pub rates_text : Rates → List ℕ
-rates_text r = big_bytes 5 r.up ++ big_bytes 5 r.down
+abbrev pub rates_encoding : Rates → List ℕ
+rates_encoding r = big_bytes 5 r.up ++ big_bytes 5 r.down
 
--- the one body that is written for a value: spare bits 0, no octets behind the form
-unfoldable pub text_of : Value → List ℕ
-text_of (OfImsi digits) = packed digits
-text_of (OfCause c) = c.value ∷ (4 * bit c.pce + 2 * bit c.bce + bit c.cs) ∷ offending_text c.offending
-text_of (OfRecovery counter) = counter ∷ []
-text_of (OfApn octets) = octets
-text_of (OfAmbr a) = big_bytes 4 a.up ++ big_bytes 4 a.down
-text_of (OfEbi n) = n ∷ []
-text_of (OfPaa p) = paa_text p
-text_of (OfQos q) = (64 * bit q.pci + 4 * q.pl + bit q.pvi) ∷ q.qci ∷ (rates_text q.mbr ++ rates_text q.gbr)
-text_of (OfRat n) = n ∷ []
-text_of (OfPlmn n) = network_text n
-text_of (OfTft octets) = octets
-text_of (OfFTeid f) = (128 * bit (is_some f.v4) + 64 * bit (is_some f.v6) + f.interface) ∷ (big_bytes 4 f.teid ++ address_text f.v4 ++ address_text f.v6)
-text_of (OfChargingId n) = big_bytes 4 n
-text_of (OfPdnType n) = n ∷ []
-text_of (OfPti n) = n ∷ []
-text_of (OfSelection n) = n ∷ []
+-- the one body that is written for a value: spare bits 0, no octets after the form
+unfoldable pub encoding_of : Value → List ℕ
+encoding_of (OfImsi digits) = packed digits
+encoding_of (OfCause c) = c.value ∷ (4 * bit c.pce + 2 * bit c.bce + bit c.cs) ∷ offending_encoding c.offending
+encoding_of (OfRecovery counter) = counter ∷ []
+encoding_of (OfApn octets) = octets
+encoding_of (OfAmbr a) = big_bytes 4 a.up ++ big_bytes 4 a.down
+encoding_of (OfEbi n) = n ∷ []
+encoding_of (OfPaa p) = paa_encoding p
+encoding_of (OfQos q) = (64 * bit q.pci + 4 * q.pl + bit q.pvi) ∷ q.qci ∷ (rates_encoding q.mbr ++ rates_encoding q.gbr)
+encoding_of (OfRat n) = n ∷ []
+encoding_of (OfPlmn n) = network_encoding n
+encoding_of (OfTft octets) = octets
+encoding_of (OfFTeid f) = (128 * bit (is_some f.v4) + 64 * bit (is_some f.v6) + f.interface) ∷ (big_bytes 4 f.teid ++ address_encoding f.v4 ++ address_encoding f.v6)
+encoding_of (OfChargingId n) = big_bytes 4 n
+encoding_of (OfPdnType n) = n ∷ []
+encoding_of (OfPti n) = n ∷ []
+encoding_of (OfSelection n) = n ∷ []

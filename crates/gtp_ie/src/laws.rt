@@ -3,7 +3,7 @@
 ghost use Rattle.std.specs.Prelude.{◌≡◌, ◌++◌, ◌≤◌, ℕ, List, length, Ok, IfOk, OnOk, OnErr};
 ghost use Rattle.gtp_ie.specs.Free.{SaysTheSame, form_length};
 ghost use Rattle.gtp_ie.specs.Spelling.{Spells};
-ghost use Rattle.gtp_ie.specs.Value.{Value, text_of};
+ghost use Rattle.gtp_ie.specs.Value.{Value, encoding_of};
 
 use crate::fault::ReadFault;
 use crate::value::IeValue;
@@ -14,14 +14,17 @@ pub fn bodies_say_the_same_as_themselves()
     ensures { (kind : ℕ) (body : List ℕ) → SaysTheSame kind body body }
 {}
 
-/// Octets behind the form are free, as long as the form stays as long as it was.
-pub fn octets_behind_are_free()
-    ensures { (kind : ℕ) (body more : List ℕ) → form_length kind body ≤ length body → form_length kind (body ++ more) ≡ form_length kind body → SaysTheSame kind body (body ++ more) }
+/// Octets after the form are free, as long as the form stays as long as it was.
+pub fn octets_after_the_form_are_free()
+    ensures { (kind : ℕ) (body more : List ℕ) → form_length kind body ≤ length body
+        → form_length kind (body ++ more) ≡ form_length kind body
+        → SaysTheSame kind body (body ++ more) }
 {}
 
 /// What says the same as a body spells the same value.
 pub fn bodies_that_say_the_same_spell_the_same()
-    ensures { (kind : ℕ) (body other : List ℕ) (v : Value) → SaysTheSame kind body other → Spells kind body v → Spells kind other v }
+    ensures { (kind : ℕ) (body other : List ℕ) (v : Value) → SaysTheSame kind body other
+        → Spells kind body v → Spells kind other v }
 {}
 
 /// What is written of a value of any type is read as that value, and so is each body that says the
@@ -31,9 +34,9 @@ pub fn read_again<T: IeValue>(
     out: &mut Vec<u8>,
     body: &[u8],
 ) -> Result<Result<T, ReadFault>, AllocError>
-    requires { SaysTheSame T.KIND (text_of (T.value value.now)) body.now }
+    requires { SaysTheSame T.KIND (encoding_of (T.value value.now)) body.now }
     ensures again { IfOk result (λ read. read ≡ Ok value.now) }
-    ensures ok { OnOk result (out.new.items ≡ out.old.items ++ text_of (T.value value.now)) }
+    ensures ok { OnOk result (out.new.items ≡ out.old.items ++ encoding_of (T.value value.now)) }
     ensures err { OnErr result (out.new.items ≡ out.old.items) }
 {
     value.write(out)?;

@@ -1,8 +1,8 @@
 //! What elements say: the law of element values.
 
-ghost use Rattle.std.specs.Prelude.{◌≡◌, ◌↔◌, ℕ, ◌++◌, Ok, OnOk, OnErr, IfOk, IsOkAnd, IsErrOf, length};
+ghost use Rattle.std.specs.Prelude.{◌≡◌, ◌↔◌, ℕ, ◌++◌, ◌≤◌, Ok, OnOk, OnErr, IfOk, IsOkAnd, IsErrOf, length};
 ghost use Rattle.gtp_values.specs.Steps.{Gives};
-ghost use Rattle.gtp_ie.specs.Value.{Value, value_at, text_of};
+ghost use Rattle.gtp_ie.specs.Value.{Value, value_at, encoding_of};
 ghost use Rattle.gtp_ie.specs.Spelling.{Spells, IsShort, IsBad};
 ghost use Rattle.gtp_ie.specs.Free.{SpellsFreely};
 
@@ -31,19 +31,20 @@ pub trait IeValue: Copy {
     fn parse(body: &[u8]) -> Result<Self, ReadFault>
         ensures { Gives value result (value_at KIND body.now) };
 
-    /// Appends the one body of the value: spare bits 0, and no octets behind the form. After want of
-    /// memory the vector is as before.
+    /// Appends the one body of the value: spare bits 0, and no octets after the form. Where memory runs
+    /// out the vector is as before.
     fn write(&self, out: &mut Vec<u8>) -> Result<(), AllocError>
-        ensures ok { OnOk result (out.new.items ≡ out.old.items ++ text_of (value self.now)) }
+        ensures ok { OnOk result (out.new.items ≡ out.old.items ++ encoding_of (value self.now)) }
         ensures err { OnErr result (out.new.items ≡ out.old.items) }
         // What is written spells the value.
-        ensures again { Spells KIND (text_of (value self.now)) (value self.now) }
-        // So does each body that says the same: spare bits and octets behind the form are free.
+        ensures again { Spells KIND (encoding_of (value self.now)) (value self.now) }
+        // So does each body that says the same: spare bits and octets after the form are free.
         ensures free { SpellsFreely KIND (value self.now) };
 
     /// How many octets its body has: the Length of its element (TS 29.274 8.2).
     fn body_length(&self) -> usize
-        ensures { result ≡ length (text_of (value self.now)) };
+        ensures length { result ≡ length (encoding_of (value self.now)) }
+        ensures most { result ≤ 255 };
 
     /// No two have one value: nothing of them is hidden from it.
     ghost one_value: { (x y : Self) → value x ≡ value y → x ≡ y };

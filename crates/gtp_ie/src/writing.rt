@@ -1,9 +1,9 @@
 //! Writing elements.
 
 ghost use Rattle.std.specs.Prelude.{◌≡◌, ◌+◌, ◌-◌, ◌≤◌, ◌<◌, ◌↔◌, ◌⊎◌, [], ◌∷◌, ◌++◌, OnOk, OnErr, IfErr, IsErrOf, length};
-ghost use Rattle.gtp_ie.specs.Text.{element_text, closed};
+ghost use Rattle.gtp_ie.specs.Text.{element_encoding, closed};
 ghost use Rattle.gtp_ie.specs.Spelling.{Spells};
-ghost use Rattle.gtp_ie.specs.Value.{text_of};
+ghost use Rattle.gtp_ie.specs.Value.{encoding_of};
 ghost use Rattle.gtp_ie.specs.Parts.{joined};
 ghost use Rattle.gtp_ie.specs.declared.fault.IeFault.TheVariants.{Memory, TooLong};
 
@@ -48,12 +48,15 @@ pub fn close(out: &mut Vec<u8>, start: usize)
     out[start + 2] = low;
 }
 
-/// Appends the element of a value. After want of memory the vector is as before.
+/// Appends the element of a value. After out of memory the vector is as before.
 pub fn put_value<T: IeValue>(out: &mut Vec<u8>, instance: u8, value: &T) -> Result<(), AllocError>
     requires { instance < 16 }
-    ensures ok { OnOk result (out.new.items ≡ out.old.items ++ element_text T.KIND instance (text_of (T.value value.now))) }
+    ensures ok { OnOk result
+        (out.new.items
+        ≡ out.old.items
+        ++ element_encoding T.KIND instance (encoding_of (T.value value.now))) }
     // Its body spells the value.
-    ensures again { OnOk result (Spells T.KIND (text_of (T.value value.now)) (T.value value.now)) }
+    ensures again { OnOk result (Spells T.KIND (encoding_of (T.value value.now)) (T.value value.now)) }
     ensures err { OnErr result (out.new.items ≡ out.old.items) }
 {
     let start = out.len();
@@ -67,11 +70,11 @@ pub fn put_value<T: IeValue>(out: &mut Vec<u8>, instance: u8, value: &T) -> Resu
 }
 
 /// Appends the element of a type and instance with this body and spare bits 0: `TooLong` exactly
-/// for a body above 65,535 octets, else `Memory` where a growth was refused. After a refusal the
+/// for a body above 65,535 octets, else `Memory` where an allocation was refused. After a refusal the
 /// vector is as before.
 pub fn put(out: &mut Vec<u8>, kind: u8, instance: u8, body: &[u8]) -> Result<(), IeFault>
     requires { instance < 16 }
-    ensures ok { OnOk result (out.new.items ≡ out.old.items ++ element_text kind instance body.now) }
+    ensures ok { OnOk result (out.new.items ≡ out.old.items ++ element_encoding kind instance body.now) }
     ensures long { IsErrOf result IeFault.TooLong ↔ (65535 < length body.now) }
     ensures fault { IfErr result (λ f. (f ≡ TooLong) ⊎ (f ≡ Memory)) }
     ensures err { OnErr result (out.new.items ≡ out.old.items) }

@@ -1,4 +1,4 @@
--- The text of a message spells it, where its fields meet its table.
+-- The canonical_encoding of a message spells it, where its fields meet its table.
 use Rattle.std.proofs.Common.{◌≡◌, ◌⊎◌, inl, inr, ℕ, ◌+◌, ◌*◌, ◌/◌, ◌%◌, ◌<◌, ◌≤◌, ◌^◌, Bool, true, false, cond, ◌&&◌, List, [], ◌∷◌, length, Option, Some, None, Ok, refl, subst, arith, eq-eqb}
 use Rattle.std.specs.Prelude.{◌==◌, is_some}
 use Rattle.byteorder.specs.Endian.{big_number}
@@ -10,12 +10,12 @@ use Rattle.gtp_v2.specs.Rows.{whole, lines_at}
 use Rattle.gtp_v2.specs.Apart.{lines_apart, all_fit}
 use Rattle.gtp_v2.proofs.Meets.{LinesMeet}
 use Rattle.gtp_v2.specs.Headed.{Headed, header_at}
-use Rattle.gtp_v2.specs.Message.{Content, Fields, Raw, Spoken}
+use Rattle.gtp_v2.specs.Message.{Content, Fields, Raw, MessageValue}
 use Rattle.gtp_v2.specs.Tables.{tables, table_among, table_of}
-use Rattle.gtp_v2.specs.Text.{lines_text}
+use Rattle.gtp_v2.specs.Text.{lines_encoding}
 use Rattle.gtp_v2.specs.Datagram.{CarriesBy, IsMessage}
 use Rattle.gtp_values.specs.Numbers.{three, four}
-use Rattle.gtp_v2.specs.Encoding.{carried, carried_by, headed_text, text, HeaderMeets}
+use Rattle.gtp_v2.specs.Encoding.{carried, carried_by, headed_encoding, canonical_encoding, HeaderMeets}
 use Rattle.gtp_v2.proofs.Decided.{whole_decided, lines_decided}
 use Rattle.gtp_v2.proofs.Headers.{header_decided}
 use Rattle.gtp_v2.proofs.Again.{fields_again}
@@ -38,8 +38,8 @@ four_again n lt = omega arith
 three_again : (n : ℕ) → n < 2 ^ 24 → big_number 3 (three n []) ≡ n
 three_again n lt = omega arith
 
-header_again : (kind : ℕ) (teid : Option ℕ) (seq : ℕ) (priority : Option ℕ) (rest : List ℕ) → HeaderMeets teid seq priority → length (headed_text kind teid seq priority rest) ≤ 65539
-    → header_at (headed_text kind teid seq priority rest) ≡ Ok (headed_by kind teid seq priority rest (place_of teid))
+header_again : (kind : ℕ) (teid : Option ℕ) (seq : ℕ) (priority : Option ℕ) (rest : List ℕ) → HeaderMeets teid seq priority → length (headed_encoding kind teid seq priority rest) ≤ 65539
+    → header_at (headed_encoding kind teid seq priority rest) ≡ Ok (headed_by kind teid seq priority rest (place_of teid))
 header_again kind None seq None rest m lt = rw (size_again (4 + length rest) (three seq (0 ∷ rest)) (omega arith) (omega arith), three_again seq m) refl
 header_again kind None seq (Some p) rest m lt = absurd m
 header_again kind (Some teid) seq None rest m lt = rw (size_again (8 + length rest) (four teid (three seq (0 ∷ rest))) (omega arith) (omega arith), four_again teid m.0, three_again seq m.1) refl
@@ -93,12 +93,12 @@ content_again (Some table) kind teid seq priority (Raw octets) apart m = absurd 
 content_again (Some table) kind teid seq priority (Fields fields) apart m =
     let at : ℕ = place_of teid in
     let again = fields_again at table.lines fields (apart table refl) m.1 in
-    let b = bind_ok (whole (elements_of at (lines_text table.lines fields))) (λ es. lines_at start table.lines es) fields again in
-    (m.0, fields, (b.0, (whole_decided at (lines_text table.lines fields)).ok b.0 b.1, (lines_decided start table.lines b.0).ok fields b.2), refl)
+    let b = bind_ok (whole (elements_of at (lines_encoding table.lines fields))) (λ es. lines_at start table.lines es) fields again in
+    (m.0, fields, (b.0, (whole_decided at (lines_encoding table.lines fields)).ok b.0 b.1, (lines_decided start table.lines b.0).ok fields b.2), refl)
 
-pub text_again : (m : Spoken) → HeaderMeets m.teid m.seq m.priority → ContentMeets (table_of m.kind) m.teid m.content → length (text m) ≤ 65539 → IsMessage (text m) m
+pub text_again : (m : MessageValue) → HeaderMeets m.teid m.seq m.priority → ContentMeets (table_of m.kind) m.teid m.content → length (canonical_encoding m) ≤ 65539 → IsMessage (canonical_encoding m) m
 text_again m header content short = (
   headed_by m.kind m.teid m.seq m.priority (carried m) (place_of m.teid),
-  (header_decided (text m)).ok (headed_by m.kind m.teid m.seq m.priority (carried m) (place_of m.teid)) (header_again m.kind m.teid m.seq m.priority (carried m) header short),
+  (header_decided (canonical_encoding m)).ok (headed_by m.kind m.teid m.seq m.priority (carried m) (place_of m.teid)) (header_again m.kind m.teid m.seq m.priority (carried m) header short),
   (m.content, content_again (table_of m.kind) m.kind m.teid m.seq m.priority m.content (tables_apart m.kind) content, refl),
 )

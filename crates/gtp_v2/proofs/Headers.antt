@@ -31,14 +31,14 @@ teid_is octets h (flags, a, b, c, d, e, f, g, last, small, (high, low, lt, text,
     ap header_at text ∙ rw (version, no_second, same, has_teid, third_flag flags small) (ap (λ (x : Headed). Ok x) (sym is))
 
 -- octets that are too few for the rest of a header
-few_plain : (kind : ℕ) (behind : List ℕ) → length behind < 4 → after_no_teid kind behind ≡ Err (faults.Short (4 + length behind))
+few_plain : (kind : ℕ) (following : List ℕ) → length following < 4 → after_no_teid kind following ≡ Err (faults.Short (4 + length following))
 few_plain kind [] lt = refl
 few_plain kind (a ∷ []) lt = refl
 few_plain kind (a ∷ b ∷ []) lt = refl
 few_plain kind (a ∷ b ∷ c ∷ []) lt = refl
 few_plain kind (a ∷ b ∷ c ∷ d ∷ rest) lt = absurd (omega arith)
 
-few_teid : (first kind : ℕ) (behind : List ℕ) → length behind < 8 → after_teid first kind behind ≡ Err (faults.Short (4 + length behind))
+few_teid : (first kind : ℕ) (following : List ℕ) → length following < 8 → after_teid first kind following ≡ Err (faults.Short (4 + length following))
 few_teid first kind [] lt = refl
 few_teid first kind (a ∷ []) lt = refl
 few_teid first kind (a ∷ b ∷ []) lt = refl
@@ -58,51 +58,51 @@ few (a ∷ b ∷ c ∷ d ∷ rest) lt = absurd (omega arith)
 
 -- what the first octet says
 abbrev begins : ℕ → ℕ → ℕ → ℕ → List ℕ → List ℕ
-begins first kind high low behind = first ∷ kind ∷ high ∷ low ∷ behind
+begins first kind high low following = first ∷ kind ∷ high ∷ low ∷ following
 
-at_version : (first kind high low : ℕ) (behind : List ℕ) → first / 32 ≢ 2 → header_at (begins first kind high low behind) ≡ Err (faults.Version (first / 32))
-at_version first kind high low behind ne = let t : (first / 32 == 2) ≡ false = grind (arith, nat_tests) in rw t refl
+at_version : (first kind high low : ℕ) (following : List ℕ) → first / 32 ≢ 2 → header_at (begins first kind high low following) ≡ Err (faults.Version (first / 32))
+at_version first kind high low following ne = let t : (first / 32 == 2) ≡ false = grind (arith, nat_tests) in rw t refl
 
-at_second : (flags kind high low : ℕ) (behind : List ℕ) → flags < 16 → header_at (begins (80 + flags) kind high low behind) ≡ Err faults.Piggyback
-at_second flags kind high low behind lt =
+at_second : (flags kind high low : ℕ) (following : List ℕ) → flags < 16 → header_at (begins (80 + flags) kind high low following) ≡ Err faults.Piggyback
+at_second flags kind high low following lt =
     let version : ((80 + flags) / 32 == 2) ≡ true = grind (arith, nat_tests) in
     let second : (((80 + flags) / 16) % 2 == 1) ≡ true = grind (arith, nat_tests) in
     rw (version, second) refl
 
-at_length : (flags kind high low : ℕ) (behind : List ℕ) → flags < 16 → 256 * high + low ≢ length behind → header_at (begins (64 + flags) kind high low behind) ≡ Err (faults.Length (256 * high + low) (length behind))
-at_length flags kind high low behind lt ne =
+at_length : (flags kind high low : ℕ) (following : List ℕ) → flags < 16 → 256 * high + low ≢ length following → header_at (begins (64 + flags) kind high low following) ≡ Err (faults.Length (256 * high + low) (length following))
+at_length flags kind high low following lt ne =
     let version : ((64 + flags) / 32 == 2) ≡ true = grind (arith, nat_tests) in
     let no_second : (((64 + flags) / 16) % 2 == 1) ≡ false = grind (arith, nat_tests) in
-    let other : (256 * high + low == length behind) ≡ false = grind (arith, nat_tests) in
+    let other : (256 * high + low == length following) ≡ false = grind (arith, nat_tests) in
     rw (version, no_second, other) refl
 
-at_plain : (flags kind high low : ℕ) (behind : List ℕ) → flags < 8 → 256 * high + low ≡ length behind → header_at (begins (64 + flags) kind high low behind) ≡ after_no_teid kind behind
-at_plain flags kind high low behind lt e =
+at_plain : (flags kind high low : ℕ) (following : List ℕ) → flags < 8 → 256 * high + low ≡ length following → header_at (begins (64 + flags) kind high low following) ≡ after_no_teid kind following
+at_plain flags kind high low following lt e =
     let version : ((64 + flags) / 32 == 2) ≡ true = grind (arith, nat_tests) in
     let no_second : (((64 + flags) / 16) % 2 == 1) ≡ false = grind (arith, nat_tests) in
     let no_teid : (((64 + flags) / 8) % 2 == 1) ≡ false = grind (arith, nat_tests) in
-    let same : (256 * high + low == length behind) ≡ true = grind (arith, nat_tests) in
+    let same : (256 * high + low == length following) ≡ true = grind (arith, nat_tests) in
     rw (version, no_second, same, no_teid) refl
 
-at_teid : (flags kind high low : ℕ) (behind : List ℕ) → flags < 8 → 256 * high + low ≡ length behind → header_at (begins (72 + flags) kind high low behind) ≡ after_teid (72 + flags) kind behind
-at_teid flags kind high low behind lt e =
+at_teid : (flags kind high low : ℕ) (following : List ℕ) → flags < 8 → 256 * high + low ≡ length following → header_at (begins (72 + flags) kind high low following) ≡ after_teid (72 + flags) kind following
+at_teid flags kind high low following lt e =
     let version : ((72 + flags) / 32 == 2) ≡ true = grind (arith, nat_tests) in
     let no_second : (((72 + flags) / 16) % 2 == 1) ≡ false = grind (arith, nat_tests) in
     let has_teid : (((72 + flags) / 8) % 2 == 1) ≡ true = grind (arith, nat_tests) in
-    let same : (256 * high + low == length behind) ≡ true = grind (arith, nat_tests) in
+    let same : (256 * high + low == length following) ≡ true = grind (arith, nat_tests) in
     rw (version, no_second, same, has_teid) refl
 
 fault_is : (octets : List ℕ) (f : V2Fault) → HeaderFails octets f → header_at octets ≡ Err f
 fault_is octets f (inl (lt, e)) = few octets lt ∙ ap (λ (x : V2Fault). Err x) (sym e)
-fault_is octets f (inr (first, kind, high, low, behind, text, inl (ne, e))) = ap header_at text ∙ (at_version first kind high low behind ne ∙ ap (λ (x : V2Fault). Err x) (sym e))
-fault_is octets f (inr (first, kind, high, low, behind, text, inr (inl (flags, lt, is, e)))) =
-    ap header_at (text ∙ ap (λ n. begins n kind high low behind) is) ∙ (at_second flags kind high low behind lt ∙ ap (λ (x : V2Fault). Err x) (sym e))
-fault_is octets f (inr (first, kind, high, low, behind, text, inr (inr (inl (flags, lt, is, ne, e))))) =
-    ap header_at (text ∙ ap (λ n. begins n kind high low behind) is) ∙ (at_length flags kind high low behind lt ne ∙ ap (λ (x : V2Fault). Err x) (sym e))
-fault_is octets f (inr (first, kind, high, low, behind, text, inr (inr (inr (inl (flags, lt, is, long, shorter, e)))))) =
-    ap header_at (text ∙ ap (λ n. begins n kind high low behind) is) ∙ (at_plain flags kind high low behind lt long ∙ (few_plain kind behind shorter ∙ ap (λ (x : V2Fault). Err x) (sym e)))
-fault_is octets f (inr (first, kind, high, low, behind, text, inr (inr (inr (inr (flags, lt, is, long, shorter, e)))))) =
-    ap header_at (text ∙ ap (λ n. begins n kind high low behind) is) ∙ (at_teid flags kind high low behind lt long ∙ (few_teid (72 + flags) kind behind shorter ∙ ap (λ (x : V2Fault). Err x) (sym e)))
+fault_is octets f (inr (first, kind, high, low, following, text, inl (ne, e))) = ap header_at text ∙ (at_version first kind high low following ne ∙ ap (λ (x : V2Fault). Err x) (sym e))
+fault_is octets f (inr (first, kind, high, low, following, text, inr (inl (flags, lt, is, e)))) =
+    ap header_at (text ∙ ap (λ n. begins n kind high low following) is) ∙ (at_second flags kind high low following lt ∙ ap (λ (x : V2Fault). Err x) (sym e))
+fault_is octets f (inr (first, kind, high, low, following, text, inr (inr (inl (flags, lt, is, ne, e))))) =
+    ap header_at (text ∙ ap (λ n. begins n kind high low following) is) ∙ (at_length flags kind high low following lt ne ∙ ap (λ (x : V2Fault). Err x) (sym e))
+fault_is octets f (inr (first, kind, high, low, following, text, inr (inr (inr (inl (flags, lt, is, long, shorter, e)))))) =
+    ap header_at (text ∙ ap (λ n. begins n kind high low following) is) ∙ (at_plain flags kind high low following lt long ∙ (few_plain kind following shorter ∙ ap (λ (x : V2Fault). Err x) (sym e)))
+fault_is octets f (inr (first, kind, high, low, following, text, inr (inr (inr (inr (flags, lt, is, long, shorter, e)))))) =
+    ap header_at (text ∙ ap (λ n. begins n kind high low following) is) ∙ (at_teid flags kind high low following lt long ∙ (few_teid (72 + flags) kind following shorter ∙ ap (λ (x : V2Fault). Err x) (sym e)))
 
 unequal : (m n : ℕ) → (m == n) ≡ false → m ≡ n → ⊥
 unequal m n t e = grind (arith, nat_tests)
@@ -112,8 +112,8 @@ unequal m n t e = grind (arith, nat_tests)
 abbrev Sorted : List ℕ → Type 0
 Sorted octets = ((h : Headed) × IsHeaded octets h) ⊎ ((f : V2Fault) × HeaderFails octets f)
 
--- behind four octets of which the first is below 72
-sorted_plain : (flags kind high low : ℕ) (behind : List ℕ) → flags < 8 → 256 * high + low ≡ length behind → Sorted (begins (64 + flags) kind high low behind)
+-- after four octets of which the first is below 72
+sorted_plain : (flags kind high low : ℕ) (following : List ℕ) → flags < 8 → 256 * high + low ≡ length following → Sorted (begins (64 + flags) kind high low following)
 sorted_plain flags kind high low (a ∷ b ∷ c ∷ spare ∷ rest) lt e =
     inl (record { kind = kind; teid = None; seq = big_number 3 (a ∷ b ∷ c ∷ []); priority = None; rest = rest; at = 8 }, inl (flags, a, b, c, spare, lt, (high, low, omega arith, refl, e), refl))
 sorted_plain flags kind high low [] lt e = inr (faults.Short 4, inr (64 + flags, kind, high, low, [], refl, inr (inr (inr (inl (flags, lt, refl, e, omega arith, refl))))))
@@ -121,7 +121,7 @@ sorted_plain flags kind high low (a ∷ []) lt e = inr (faults.Short 5, inr (64 
 sorted_plain flags kind high low (a ∷ b ∷ []) lt e = inr (faults.Short 6, inr (64 + flags, kind, high, low, a ∷ b ∷ [], refl, inr (inr (inr (inl (flags, lt, refl, e, omega arith, refl))))))
 sorted_plain flags kind high low (a ∷ b ∷ c ∷ []) lt e = inr (faults.Short 7, inr (64 + flags, kind, high, low, a ∷ b ∷ c ∷ [], refl, inr (inr (inr (inl (flags, lt, refl, e, omega arith, refl))))))
 
-long_teid : (flags kind high low : ℕ) (behind : List ℕ) → flags < 8 → 256 * high + low ≡ length behind → 8 ≤ length behind → Sorted (begins (72 + flags) kind high low behind)
+long_teid : (flags kind high low : ℕ) (following : List ℕ) → flags < 8 → 256 * high + low ≡ length following → 8 ≤ length following → Sorted (begins (72 + flags) kind high low following)
 long_teid flags kind high low [] lt e le = absurd (omega arith)
 long_teid flags kind high low (a ∷ []) lt e le = absurd (omega arith)
 long_teid flags kind high low (a ∷ b ∷ []) lt e le = absurd (omega arith)
@@ -136,32 +136,32 @@ long_teid flags kind high low (a ∷ b ∷ c ∷ d ∷ p ∷ q ∷ r ∷ last �
       inr (flags, a, b, c, d, p, q, r, last, lt, (high, low, omega arith, ap (λ n. begins n kind high low (a ∷ b ∷ c ∷ d ∷ p ∷ q ∷ r ∷ last ∷ rest)) (omega arith), e), refl),
     )
 
--- behind four octets of which the first is from 72 to 79
-sorted_teid : (flags kind high low : ℕ) (behind : List ℕ) → flags < 8 → 256 * high + low ≡ length behind → Sorted (begins (72 + flags) kind high low behind)
-sorted_teid flags kind high low behind lt e = elim (cases_lt (length behind) 8) [
-  | inl few ↦ inr (faults.Short (4 + length behind), inr (72 + flags, kind, high, low, behind, refl, inr (inr (inr (inr (flags, lt, refl, e, few, refl))))))
-  | inr enough ↦ long_teid flags kind high low behind lt e enough
+-- after four octets of which the first is from 72 to 79
+sorted_teid : (flags kind high low : ℕ) (following : List ℕ) → flags < 8 → 256 * high + low ≡ length following → Sorted (begins (72 + flags) kind high low following)
+sorted_teid flags kind high low following lt e = elim (cases_lt (length following) 8) [
+  | inl few ↦ inr (faults.Short (4 + length following), inr (72 + flags, kind, high, low, following, refl, inr (inr (inr (inr (flags, lt, refl, e, few, refl))))))
+  | inr enough ↦ long_teid flags kind high low following lt e enough
 ]
 
-by_length : (first kind high low : ℕ) (behind : List ℕ) → 64 ≤ first → first < 80 → (b : Bool) → (256 * high + low == length behind) ≡ b → Sorted (begins first kind high low behind)
-by_length first kind high low behind le lt false t =
-    inr (faults.Length (256 * high + low) (length behind), inr (first, kind, high, low, behind, refl, inr (inr (inl (first - 64, omega arith, omega arith, (λ e. absurd (unequal (256 * high + low) (length behind) t e)), refl)))))
-by_length first kind high low behind le lt true t =
-    let e : 256 * high + low ≡ length behind = eqb-true _ _ t in
+by_length : (first kind high low : ℕ) (following : List ℕ) → 64 ≤ first → first < 80 → (b : Bool) → (256 * high + low == length following) ≡ b → Sorted (begins first kind high low following)
+by_length first kind high low following le lt false t =
+    inr (faults.Length (256 * high + low) (length following), inr (first, kind, high, low, following, refl, inr (inr (inl (first - 64, omega arith, omega arith, (λ e. absurd (unequal (256 * high + low) (length following) t e)), refl)))))
+by_length first kind high low following le lt true t =
+    let e : 256 * high + low ≡ length following = eqb-true _ _ t in
     elim (cases_lt first 72) [
-      | inl plain ↦ subst (λ n. Sorted (begins n kind high low behind)) (omega arith) (sorted_plain (first - 64) kind high low behind (omega arith) e)
-      | inr named ↦ subst (λ n. Sorted (begins n kind high low behind)) (omega arith) (sorted_teid (first - 72) kind high low behind (omega arith) e)
+      | inl plain ↦ subst (λ n. Sorted (begins n kind high low following)) (omega arith) (sorted_plain (first - 64) kind high low following (omega arith) e)
+      | inr named ↦ subst (λ n. Sorted (begins n kind high low following)) (omega arith) (sorted_teid (first - 72) kind high low following (omega arith) e)
     ]
 
 -- by the first octet, and the length
-sorted_by : (first kind high low : ℕ) (behind : List ℕ) → Sorted (begins first kind high low behind)
-sorted_by first kind high low behind = elim (cases_lt first 64) [
-  | inl small ↦ inr (faults.Version (first / 32), inr (first, kind, high, low, behind, refl, inl ((λ e. omega (arith, e)), refl)))
+sorted_by : (first kind high low : ℕ) (following : List ℕ) → Sorted (begins first kind high low following)
+sorted_by first kind high low following = elim (cases_lt first 64) [
+  | inl small ↦ inr (faults.Version (first / 32), inr (first, kind, high, low, following, refl, inl ((λ e. omega (arith, e)), refl)))
   | inr le64 ↦ elim (cases_lt first 96) [
-    | inr large ↦ inr (faults.Version (first / 32), inr (first, kind, high, low, behind, refl, inl ((λ e. omega (arith, e)), refl)))
+    | inr large ↦ inr (faults.Version (first / 32), inr (first, kind, high, low, following, refl, inl ((λ e. omega (arith, e)), refl)))
     | inl lt96 ↦ elim (cases_lt first 80) [
-      | inr le80 ↦ inr (faults.Piggyback, inr (first, kind, high, low, behind, refl, inr (inl (first - 80, omega arith, omega arith, refl))))
-      | inl lt80 ↦ by_length first kind high low behind le64 lt80 (256 * high + low == length behind) refl
+      | inr le80 ↦ inr (faults.Piggyback, inr (first, kind, high, low, following, refl, inr (inl (first - 80, omega arith, omega arith, refl))))
+      | inl lt80 ↦ by_length first kind high low following le64 lt80 (256 * high + low == length following) refl
     ]
   ]
 ]
@@ -171,7 +171,7 @@ sorted [] = inr (faults.Short 0, inl (omega arith, refl))
 sorted (a ∷ []) = inr (faults.Short 1, inl (omega arith, refl))
 sorted (a ∷ b ∷ []) = inr (faults.Short 2, inl (omega arith, refl))
 sorted (a ∷ b ∷ c ∷ []) = inr (faults.Short 3, inl (omega arith, refl))
-sorted (a ∷ b ∷ c ∷ d ∷ behind) = sorted_by a b c d behind
+sorted (a ∷ b ∷ c ∷ d ∷ following) = sorted_by a b c d following
 
 headed_is : (octets : List ℕ) (h : Headed) → IsHeaded octets h → header_at octets ≡ Ok h
 headed_is octets h (inl p) = plain_is octets h p

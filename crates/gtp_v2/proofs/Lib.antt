@@ -3,8 +3,12 @@ pub mod Decided
 pub mod Appends
 pub mod Meets
 pub mod Again
+pub mod Same
+pub mod SameBodies
+pub mod SameMessages
 pub mod Told
-pub mod Fronts
+pub mod Instances
+pub mod Prefixes
 pub mod Encoded
 pub mod Marked
 pub mod MarksOf

@@ -59,16 +59,16 @@ has_last (x ∷ front) last h = cc
 
 -- a push that was not refused
 pub pushed : {X Y E : Type 0} (view : X → Y) (before later : List X) (x : X) (r : Result (Unit {0}) E) → later ≡ (if is_ok r then before ++ x ∷ [] else before) → is_err r ≡ false → map view later ≡ map view before ++ view x ∷ []
-pushed view before later x (Ok u) grown fine = ap (map view) grown ∙ map_push view before x
-pushed view before later x (Err e) grown fine = absurd cc
+pushed view before later x (Ok u) allocated fine = ap (map view) allocated ∙ map_push view before x
+pushed view before later x (Err e) allocated fine = absurd cc
 
 -- no item is lost before memory is refused, and it stays refused
 pub gathers_on : {X : Type 0} (read : Element → Result X RowFault) (refused now : Bool) (items more : List X) (e : Element) (es left : List Element) (first : X) (total : Result (List X) RowFault)
     → (refused ≡ true → now ≡ true) → (refused ≡ false → now ≡ false → more ≡ items ++ first ∷ []) → left ≡ e ∷ es → read e ≡ Ok first → Gathers read refused items left total → Gathers read now more es total
-gathers_on read false false items more e es left first total stays grows split h so_far = rw (grows refl refl) (goes_on read items e es left first total split h so_far)
-gathers_on read false true items more e es left first total stays grows split h so_far = (items ++ first ∷ [], has_last items first, goes_on read items e es left first total split h so_far)
-gathers_on read true false items more e es left first total stays grows split h so_far = absurd (let no = stays refl in cc)
-gathers_on read true true items more e es left first total stays grows split h so_far = (so_far.0 ++ first ∷ [], has_last so_far.0 first, goes_on read so_far.0 e es left first total split h so_far.2)
+gathers_on read false false items more e es left first total stays allocates split h so_far = rw (allocates refl refl) (goes_on read items e es left first total split h so_far)
+gathers_on read false true items more e es left first total stays allocates split h so_far = (items ++ first ∷ [], has_last items first, goes_on read items e es left first total split h so_far)
+gathers_on read true false items more e es left first total stays allocates split h so_far = absurd (let no = stays refl in cc)
+gathers_on read true true items more e es left first total stays allocates split h so_far = (so_far.0 ++ first ∷ [], has_last so_far.0 first, goes_on read so_far.0 e es left first total split h so_far.2)
 
 -- an element at fault
 pub gathers_fault : {X : Type 0} (read : Element → Result X RowFault) (refused : Bool) (f : RowFault) (items : List X) (e : Element) (es left : List Element) (total : Result (List X) RowFault)

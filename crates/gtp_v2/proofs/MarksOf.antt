@@ -10,7 +10,7 @@ use Rattle.gtp_v2.specs.Rows.{accepts, after, need_of, kind_of, instance_of}
 use Rattle.gtp_v2.specs.Grammar.{One, RowIs, RowsAre, GroupsAre, IsEnough, LineIs, LinesAre}
 use Rattle.gtp_v2.specs.Marks.{RowsMarked, LineMarked, LinesMarked, ContentMarked, MeetsMarks}
 use Rattle.gtp_v2.specs.Headed.{Headed}
-use Rattle.gtp_v2.specs.Message.{Content, Spoken}
+use Rattle.gtp_v2.specs.Message.{Content, MessageValue}
 use Rattle.gtp_v2.specs.Tables.{table_of}
 use Rattle.gtp_v2.specs.Datagram.{CarriesBy, IsMessage}
 
@@ -52,5 +52,5 @@ content_marked : (table : Option Table) (h : Headed) (content : Content) → Car
 content_marked None h content carries = tt
 content_marked (Some table) h content carries = subst (ContentMarked (Some table) (is_some h.teid)) (sym carries.3) (carries.0, lines_marked start table.lines carries.2.0 carries.1 carries.2.2)
 
-pub message_marked : (octets : List ℕ) (m : Spoken) → IsMessage octets m → MeetsMarks m
+pub message_marked : (octets : List ℕ) (m : MessageValue) → IsMessage octets m → MeetsMarks m
 message_marked octets m is = subst MeetsMarks (sym is.2.2) (content_marked (table_of is.0.kind) is.0 is.2.0 is.2.1)

@@ -1,18 +1,18 @@
 -- Fields that meet the marks of a table, by one recursion, and have a text that is not too long.
 use Rattle.std.specs.Prelude.{◌≡◌, ℕ, ◌<◌, Bool, true, false, ◌&&◌, List, [], ◌∷◌, length}
 use Rattle.std.specs.List.{AllByRecursion}
-use Rattle.gtp_ie.specs.Value.{Value, text_of}
+use Rattle.gtp_ie.specs.Value.{Value, encoding_of}
 use Rattle.gtp_ie.specs.Spelling.{Spells}
 use Rattle.gtp_v2.specs.Table.{Row, Mandatory, Conditional, Accepted, Optional, Line, Single, Grouped, Several, Field, Plain, Groups, State}
 use Rattle.gtp_v2.specs.Table.{accepts, after, need_of, instance_of}
 use Rattle.gtp_v2.specs.Apart.{are_apart}
 use Rattle.gtp_v2.specs.Grammar.{IsEnough}
-use Rattle.gtp_v2.specs.Text.{rows_text}
+use Rattle.gtp_v2.specs.Text.{rows_encoding}
 
 -- a value of a type of element: its text spells it
 pub record IsOf (kind : ℕ) (v : Value) : Type 0 where
-  pub again : Spells kind (text_of v) v
-  pub short : length (text_of v) < 65536
+  pub again : Spells kind (encoding_of v) v
+  pub short : length (encoding_of v) < 65536
 
 abbrev pub Alone : ℕ → List Value → Type 0
 Alone kind [] = ⊥
@@ -39,7 +39,7 @@ RowsMeet accepting (row ∷ rows) (values ∷ others) = RowMeets accepting row v
 -- the values of a group meet the marks of its rows
 pub record GroupMeets (accepting : Bool) (rows : List Row) (all : List (List Value)) : Type 0 where
   pub rows_meet : RowsMeet accepting rows all
-  pub short : length (rows_text rows all) < 65536
+  pub short : length (rows_encoding rows all) < 65536
 
 -- the values meet the line's mark, by what the lines before it say
 abbrev pub LineMeets : State → Line → Field → Type 0

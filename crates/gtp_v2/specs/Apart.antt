@@ -30,7 +30,7 @@ all_small (row ∷ rows) = nat_lt (instance_of row) 16 && all_small rows
 abbrev pub fits : Line → Bool
 fits (Single row) = nat_lt (instance_of row) 16
 fits (Grouped row rows) = nat_lt (instance_of row) 16 && (all_small rows && are_apart rows)
-fits (Several kind instance missed) = nat_lt instance 16
+fits (Several kind instance missed) = nat_lt instance 16 && nat_lt missed 16
 
 abbrev pub all_fit : List Line → Bool
 all_fit [] = true

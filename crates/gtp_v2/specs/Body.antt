@@ -14,7 +14,7 @@ use Rattle.gtp_v2.specs.CreateBearerRequest.{create_bearer_request, create_beare
 use Rattle.gtp_v2.specs.CreateBearerResponse.{create_bearer_response, create_bearer_response_fields}
 use Rattle.gtp_v2.specs.DeleteBearerRequest.{delete_bearer_request, delete_bearer_request_fields}
 use Rattle.gtp_v2.specs.DeleteBearerResponse.{delete_bearer_response, delete_bearer_response_fields}
-use Rattle.gtp_v2.specs.Message.{Content, Fields, Raw, Spoken}
+use Rattle.gtp_v2.specs.Message.{Content, Fields, Raw, MessageValue}
 use Rattle.gtp_v2.specs.Table.{Field, Table}
 use Rattle.gtp_v2.specs.Tables.{table_of}
 
@@ -47,10 +47,10 @@ abbrev pub content_of : Body → Content
 content_of body = (said_of body).content
 
 -- what a message says
-abbrev pub spoken_of : Message → Spoken
-spoken_of m = record { kind = kind_of m.body; teid = option_map (λ t. t.0) m.teid; seq = m.seq; priority = m.priority; content = content_of m.body }
+abbrev pub message_value : Message → MessageValue
+message_value m = record { kind = kind_of m.body; teid = option_map (λ t. t.0) m.teid; seq = m.seq; priority = m.priority; content = content_of m.body }
 
 -- the kind fits the body: a message kept as octets is of a type without a table
-abbrev pub KindFits : Body → Type 0
-KindFits (bodies.Other kind octets) = table_of kind ≡ None
-KindFits body = Unit {0}
+abbrev pub OctetsOnlyWithoutTable : Body → Type 0
+OctetsOnlyWithoutTable (bodies.Other kind octets) = table_of kind ≡ None
+OctetsOnlyWithoutTable body = Unit {0}

@@ -13,7 +13,7 @@ use Rattle.gtp_v2.specs.Table.{Line, Field, start, Table}
 use Rattle.gtp_v2.specs.Grammar.{Says, SaysNothing, LinesAre, LinesFail}
 use Rattle.gtp_v2.specs.Headed.{Headed}
 use Rattle.gtp_v2.specs.Header.{IsHeaded, HeaderFails}
-use Rattle.gtp_v2.specs.Message.{head_of, with_head, Content, Fields, Raw, Spoken, spoken, MessageGrows}
+use Rattle.gtp_v2.specs.Message.{head_of, with_head, Content, Fields, Raw, MessageValue, with_content, MessageAllocates}
 use Rattle.gtp_v2.specs.CreateSessionRequest.{create_session_request}
 use Rattle.gtp_v2.specs.Tables.{table_of}
 
@@ -51,13 +51,13 @@ FailsBy (Some table) h f =
     ⊎ ((is_some h.teid ≡ table.has_teid) × First_or_later (AreElements h.at h.rest) (ListFails h) (FieldsFail table.lines h) f)
 
 -- the octets spell the message
-abbrev pub IsMessage : List ℕ → Spoken → Type 0
-IsMessage octets m = (h : Headed) × IsHeaded octets h × ((content : Content) × CarriesBy (table_of h.kind) h content × (m ≡ spoken h content))
+abbrev pub IsMessage : List ℕ → MessageValue → Type 0
+IsMessage octets m = (h : Headed) × IsHeaded octets h × ((content : Content) × CarriesBy (table_of h.kind) h content × (m ≡ with_content h content))
 
 -- the first fault of the octets
 abbrev pub IsFault : List ℕ → V2Fault → Type 0
 IsFault octets = First_or_later (IsHeaded octets) (HeaderFails octets) (λ h. FailsBy (table_of h.kind) h)
 
--- a message for which memory grows: a list in it has a member, or its octets are kept
-abbrev pub MayGrow : List ℕ → Type 0
-MayGrow octets = (m : Spoken) × IsMessage octets m × MessageGrows m
+-- a message for which memory is allocated: a list in it has a member, or its octets are kept
+abbrev pub MayAllocate : List ℕ → Type 0
+MayAllocate octets = (m : MessageValue) × IsMessage octets m × MessageAllocates m

@@ -17,7 +17,7 @@ pub record Headed : Type 0 where
 abbrev pub headed_of : Header → Headed
 headed_of h = record { kind = h.kind; teid = option_map (λ t. t.0) h.teid; seq = h.seq; priority = h.priority; rest = h.rest.now; at = h.at }
 
--- behind the first four octets of a message with a TEID
+-- after the first four octets of a message with a TEID
 abbrev pub after_teid : ℕ → ℕ → List ℕ → Result Headed V2Fault
 after_teid first kind (a ∷ b ∷ c ∷ d ∷ e ∷ f ∷ g ∷ last ∷ rest) =
     Ok (record {
@@ -30,7 +30,7 @@ after_teid first kind (a ∷ b ∷ c ∷ d ∷ e ∷ f ∷ g ∷ last ∷ rest) 
     })
 after_teid first kind octets = Err (Short (4 + length octets))
 
--- behind the first four octets of a message without one
+-- after the first four octets of a message without one
 abbrev pub after_no_teid : ℕ → List ℕ → Result Headed V2Fault
 after_no_teid kind (a ∷ b ∷ c ∷ d ∷ rest) =
     Ok (record { kind = kind; teid = None; seq = big_number 3 (a ∷ b ∷ c ∷ []); priority = None; rest = rest; at = 8 })

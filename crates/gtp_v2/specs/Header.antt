@@ -5,9 +5,9 @@ use Rattle.gtp_v2.specs.declared.fault.V2Fault.{V2Fault}
 use Rattle.gtp_v2.specs.declared.fault.V2Fault.TheVariants as faults
 use Rattle.gtp_v2.specs.Headed.{Headed}
 
--- the first four octets of a message of version 2 that announces no other: flags, kind, and the length of the octets behind them
+-- the first four octets of a message of version 2 that announces no other: flags, kind, and the length of the octets after them
 abbrev pub Opens : List ℕ → ℕ → ℕ → List ℕ → Type 0
-Opens octets flags kind behind = (high : ℕ) × (low : ℕ) × (flags < 16) × (octets ≡ (64 + flags) ∷ kind ∷ high ∷ low ∷ behind) × (256 * high + low ≡ length behind)
+Opens octets flags kind following = (high : ℕ) × (low : ℕ) × (flags < 16) × (octets ≡ (64 + flags) ∷ kind ∷ high ∷ low ∷ following) × (256 * high + low ≡ length following)
 
 -- without a TEID: a number in three octets, and one that is spare
 abbrev pub HeadedPlain : List ℕ → Headed → Type 0
@@ -36,9 +36,9 @@ IsHeaded octets h = HeadedPlain octets h ⊎ HeadedByTeid octets h
 abbrev pub HeaderFails : List ℕ → V2Fault → Type 0
 HeaderFails octets f =
     ((length octets < 4) × (f ≡ faults.Short (length octets)))
-    ⊎ ((first : ℕ) × (kind : ℕ) × (high : ℕ) × (low : ℕ) × (behind : List ℕ) × (octets ≡ first ∷ kind ∷ high ∷ low ∷ behind)
+    ⊎ ((first : ℕ) × (kind : ℕ) × (high : ℕ) × (low : ℕ) × (following : List ℕ) × (octets ≡ first ∷ kind ∷ high ∷ low ∷ following)
     × (((first / 32 ≢ 2) × (f ≡ faults.Version (first / 32)))
     ⊎ (((flags : ℕ) × (flags < 16) × (first ≡ 80 + flags) × (f ≡ faults.Piggyback))
-    ⊎ (((flags : ℕ) × (flags < 16) × (first ≡ 64 + flags) × (256 * high + low ≢ length behind) × (f ≡ faults.Length (256 * high + low) (length behind)))
-    ⊎ (((flags : ℕ) × (flags < 8) × (first ≡ 64 + flags) × (256 * high + low ≡ length behind) × (length behind < 4) × (f ≡ faults.Short (4 + length behind)))
-    ⊎ ((flags : ℕ) × (flags < 8) × (first ≡ 72 + flags) × (256 * high + low ≡ length behind) × (length behind < 8) × (f ≡ faults.Short (4 + length behind))))))))
+    ⊎ (((flags : ℕ) × (flags < 16) × (first ≡ 64 + flags) × (256 * high + low ≢ length following) × (f ≡ faults.Length (256 * high + low) (length following)))
+    ⊎ (((flags : ℕ) × (flags < 8) × (first ≡ 64 + flags) × (256 * high + low ≡ length following) × (length following < 4) × (f ≡ faults.Short (4 + length following)))
+    ⊎ ((flags : ℕ) × (flags < 8) × (first ≡ 72 + flags) × (256 * high + low ≡ length following) × (length following < 8) × (f ≡ faults.Short (4 + length following))))))))

@@ -1,6 +1,6 @@
 -- Values of the types that a table's rows have, whether or not its marks are met.
 use Rattle.std.specs.Prelude.{ℕ, List, [], ◌∷◌, Option, Some, None, All}
-use Rattle.gtp_ie.specs.Value.{Value, text_of}
+use Rattle.gtp_ie.specs.Value.{Value, encoding_of}
 use Rattle.gtp_ie.specs.Spelling.{Spells}
 use Rattle.gtp_v2.specs.Table.{Row, Line, Single, Grouped, Several, Field, Plain, Groups, Table}
 use Rattle.gtp_v2.specs.Rows.{kind_of}
@@ -8,7 +8,7 @@ use Rattle.gtp_v2.specs.Message.{Content, Fields, Raw}
 
 -- a value of a type of element: its text spells it
 abbrev pub HasKind : ℕ → Value → Type 0
-HasKind kind v = Spells kind (text_of v) v
+HasKind kind v = Spells kind (encoding_of v) v
 
 -- at most one value, of this type
 abbrev pub AtMostOneOf : ℕ → List Value → Type 0

@@ -3,7 +3,7 @@ pub mod Needs
 pub mod Rows
 pub mod Outcome
 pub mod Tables
-pub mod Places
+pub mod Priority
 pub mod Headed
 pub mod Header
 pub mod Text
@@ -15,7 +15,8 @@ pub mod Apart
 pub mod Kinds
 pub mod Marks
 pub mod Datagram
-pub mod Fronts
+pub mod Prefixes
+pub mod Instances
 pub mod Encoding
 -- the messages
 pub mod EchoRequest

@@ -4,7 +4,7 @@ use Rattle.gtp_ie.specs.Value.{Value}
 use Rattle.gtp_v2.specs.Table.{Row, Line, Single, Grouped, Several, Field, Plain, Groups, State, start, Table}
 use Rattle.gtp_v2.specs.Rows.{accepts, after, need_of}
 use Rattle.gtp_v2.specs.Grammar.{IsEnough}
-use Rattle.gtp_v2.specs.Message.{Content, Fields, Spoken}
+use Rattle.gtp_v2.specs.Message.{Content, Fields, MessageValue}
 use Rattle.gtp_v2.specs.Tables.{table_of}
 
 -- the rows of a group, each by the causes before it
@@ -29,5 +29,5 @@ ContentMarked (Some table) has_teid (Fields fields) = (has_teid ≡ table.has_te
 ContentMarked table has_teid content = Unit {0}
 
 -- a message that meets the marks of its kind's table, where it has one
-abbrev pub MeetsMarks : Spoken → Type 0
+abbrev pub MeetsMarks : MessageValue → Type 0
 MeetsMarks m = ContentMarked (table_of m.kind) (is_some m.teid) m.content

@@ -10,7 +10,7 @@ use Rattle.gtp_v2.specs.declared.fault.RowFault.{RowFault}
 use Rattle.gtp_v2.specs.declared.fault.RowFault.TheVariants as row_faults
 use Rattle.gtp_v2.specs.declared.fault.V2Fault.{V2Fault}
 use Rattle.gtp_v2.specs.declared.fault.V2Fault.TheVariants as faults
-use Rattle.gtp_v2.specs.Table.{Line, Field, Table, start, grows}
+use Rattle.gtp_v2.specs.Table.{Line, Field, Table, start, allocates}
 use Rattle.gtp_v2.specs.Rows.{whole, optional_at, lines_at}
 use Rattle.gtp_v2.specs.Headed.{Headed, header_at}
 use Rattle.gtp_v2.specs.CreateSessionRequest.{create_session_request}
@@ -57,31 +57,31 @@ raw_of (Fields fields) = None
 raw_of (Raw octets) = Some octets
 
 -- a message, without how it is kept
-pub record Spoken : Type 0 where
+pub record MessageValue : Type 0 where
   pub kind : ℕ
   pub teid : Option ℕ
   pub seq : ℕ
   pub priority : Option ℕ
   pub content : Content
 
--- want of memory, where the outcome would be something for which memory grows; or the outcome is this fault
+-- out of memory, where the outcome would be something for which memory is allocated; or the outcome is this fault
 abbrev pub FaultIs : {Y : Type 0} → (Y → Type 0) → V2Fault → Result Y V2Fault → Type 0
-FaultIs Grows faults.Memory outcome = IsOkAnd outcome Grows
-FaultIs Grows fault outcome = outcome ≡ Err fault
+FaultIs Allocates faults.Memory outcome = IsOkAnd outcome Allocates
+FaultIs Allocates fault outcome = outcome ≡ Err fault
 
 -- the outcome of a call, its value seen by view, is this one, unless memory ran out
 abbrev pub MessageGives : {X Y : Type 0} → (Y → Type 0) → (X → Y) → Result X V2Fault → Result Y V2Fault → Type 0
-MessageGives Grows view (Ok x) outcome = outcome ≡ Ok (view x)
-MessageGives Grows view (Err fault) outcome = FaultIs Grows fault outcome
+MessageGives Allocates view (Ok x) outcome = outcome ≡ Ok (view x)
+MessageGives Allocates view (Err fault) outcome = FaultIs Allocates fault outcome
 
--- memory grows for a list that has a member, and for octets that are kept
-abbrev pub ContentGrows : Option Table → Content → Type 0
-ContentGrows (Some table) (Fields fields) = grows table.lines fields ≡ true
-ContentGrows None (Raw octets) = 0 < length octets
-ContentGrows table content = ⊥
+-- memory is allocated for a list that has a member, and for octets that are kept
+abbrev pub ContentAllocates : Option Table → Content → Type 0
+ContentAllocates (Some table) (Fields fields) = allocates table.lines fields ≡ true
+ContentAllocates None (Raw octets) = 0 < length octets
+ContentAllocates table content = ⊥
 
-abbrev pub MessageGrows : Spoken → Type 0
-MessageGrows m = ContentGrows (table_of m.kind) m.content
+abbrev pub MessageAllocates : MessageValue → Type 0
+MessageAllocates m = ContentAllocates (table_of m.kind) m.content
 
 -- what a message carries, by its kind's table
 abbrev pub by_table : Option Table → Headed → Result Content V2Fault
@@ -91,12 +91,12 @@ by_table (Some table) h = typed_at table.has_teid table.lines h >>= λ fields. O
 unfoldable pub content_at : Headed → Result Content V2Fault
 content_at h = by_table (table_of h.kind) h
 
-abbrev pub spoken : Headed → Content → Spoken
-spoken h content = record { kind = h.kind; teid = h.teid; seq = h.seq; priority = h.priority; content = content }
+abbrev pub with_content : Headed → Content → MessageValue
+with_content h content = record { kind = h.kind; teid = h.teid; seq = h.seq; priority = h.priority; content = content }
 
 -- the message that a datagram spells
-unfoldable pub message_at : List ℕ → Result Spoken V2Fault
+unfoldable pub message_at : List ℕ → Result MessageValue V2Fault
 message_at octets = do
   h ← header_at octets
   content ← content_at h
-  Ok (spoken h content)
+  Ok (with_content h content)

@@ -58,10 +58,10 @@ is_list (Single row) = false
 is_list (Grouped row rows) = true
 is_list (Several kind instance missed) = true
 
--- some list has a member, for which it grows
-abbrev pub grows : List Line → List Field → Bool
-grows (line ∷ lines) (field ∷ fields) = (is_list line && not (is_silent field)) || grows lines fields
-grows lines fields = false
+-- some list has a member, for which memory is allocated
+abbrev pub allocates : List Line → List Field → Bool
+allocates (line ∷ lines) (field ∷ fields) = (is_list line && not (is_silent field)) || allocates lines fields
+allocates lines fields = false
 
 -- what the lines say, with one more
 abbrev pub after : State → Field → State

@@ -2,10 +2,10 @@
 
 ghost use Rattle.std.specs.Prelude.{◌≡◌, ◌↔◌, ◌++◌, length, IsTrue, ℕ, Option, None, is_some, option_map, OnOk, IfOk};
 ghost use Rattle.gtp_v2.specs.Tables.{table_of};
-ghost use Rattle.gtp_v2.specs.Message.{MessageGives, ContentGrows, content_at, raw_of};
-ghost use Rattle.gtp_v2.specs.Body.{content_of, kind_of, KindFits};
+ghost use Rattle.gtp_v2.specs.Message.{MessageGives, ContentAllocates, content_at, raw_of};
+ghost use Rattle.gtp_v2.specs.Body.{content_of, kind_of, OctetsOnlyWithoutTable};
 ghost use Rattle.gtp_v2.specs.Encoding.{carried_by};
-ghost use Rattle.gtp_v2.specs.Room.{Leaves};
+ghost use Rattle.gtp_v2.specs.Room.{Leaves, TakesAtMost, most_carried_by};
 ghost use Rattle.gtp_v2.specs.Marks.{ContentMarked};
 ghost use Rattle.gtp_v2.specs.Kinds.{ContentHasKinds};
 ghost use Rattle.gtp_v2.specs.Headed.{headed_of};
@@ -53,7 +53,7 @@ pub enum Body {
     CreateBearerResponse(CreateBearerResponse),
     DeleteBearerRequest(DeleteBearerRequest),
     DeleteBearerResponse(DeleteBearerResponse),
-    /// A message of another type: the octets behind its header.
+    /// A message of another type: the octets after its header.
     Other { kind: u8, octets: Vec<u8> },
 }
 
@@ -97,7 +97,7 @@ macro_rules! name_among {
     }};
 }
 
-/// The body that stands behind a header, or the octets behind it.
+/// The body that stands after a header, or the octets after it.
 macro_rules! read_among {
     (($alloc:expr, $header:expr), $($kind:ident),+) => {{
         $(if $header.kind == $kind::KIND {
@@ -108,11 +108,11 @@ macro_rules! read_among {
     }};
 }
 
-/// What is left of a room behind what a body carries.
+/// What is left of a room after what a body carries.
 macro_rules! room_among {
     (($body:expr, $room:expr), $($kind:ident),+) => {
         match $body {
-            $(Body::$kind(message) => message.room_behind($room),)+
+            $(Body::$kind(message) => message.room_after($room),)+
             Body::Other { octets, .. } => $room.checked_sub(octets.len()),
         }
     };
@@ -169,12 +169,13 @@ pub fn type_name(kind: u8) -> Option<&'static str>
 #[tactic(auto, unfolding(crate::specs::Message::content_at))]
 fn read_other(alloc: Global, header: &Header) -> Result<Body, V2Fault>
     requires { table_of header.now.kind ≡ None }
-    ensures content { MessageGives (ContentGrows (table_of header.now.kind)) content_of result (content_at (headed_of header.now)) }
+    ensures content { MessageGives (ContentAllocates (table_of header.now.kind)) content_of result
+        (content_at (headed_of header.now)) }
     ensures kind { IfOk result (λ body. kind_of body ≡ header.now.kind) }
-    ensures fits { IfOk result KindFits }
+    ensures fits { IfOk result OctetsOnlyWithoutTable }
 {
     let kind = header.kind;
-    // No octets want no memory, and so no answer may be that it was wanting.
+    // No octets take no memory, so it may not be answered that it ran out.
     let octets = if header.rest.is_empty() {
         Vec::new(alloc)
     } else {
@@ -183,20 +184,23 @@ fn read_other(alloc: Global, header: &Header) -> Result<Body, V2Fault>
     Ok(Body::Other { kind, octets })
 }
 
-/// What a message says, behind its header.
+/// What a message says, after its header.
 #[tactic(auto, unfolding(crate::specs::Message::content_at))]
 pub fn read_body(alloc: Global, header: &Header) -> Result<Body, V2Fault>
-    ensures content { MessageGives (ContentGrows (table_of header.now.kind)) content_of result (content_at (headed_of header.now)) }
+    ensures content { MessageGives (ContentAllocates (table_of header.now.kind)) content_of result
+        (content_at (headed_of header.now)) }
     ensures kind { IfOk result (λ body. kind_of body ≡ header.now.kind) }
-    ensures fits { IfOk result KindFits }
+    ensures fits { IfOk result OctetsOnlyWithoutTable }
 {
     with_kinds!(read_among, alloc, header)
 }
 
-/// What is left of a room behind what a message carries, `None` where it doesn't fit.
-pub fn room_behind(body: &Body, room: usize) -> Option<usize>
-    requires { KindFits body.now }
-    ensures { Leaves room (length (carried_by (table_of (kind_of body.now)) (content_of body.now))) result }
+/// What is left of a room after what a message carries, `None` where it doesn't fit.
+pub fn room_after(body: &Body, room: usize) -> Option<usize>
+    requires { OctetsOnlyWithoutTable body.now }
+    ensures left { Leaves room (length (carried_by (table_of (kind_of body.now)) (content_of body.now))) result }
+    ensures most { TakesAtMost room (most_carried_by (table_of (kind_of body.now)) (content_of body.now))
+        result }
 {
     with_kinds!(room_among, body, room)
 }
@@ -210,8 +214,11 @@ pub fn meets_marks(body: &Body, has_teid: bool) -> bool
 
 /// Appends what a message carries.
 pub fn write_body(out: &mut Vec<u8>, body: &Body) -> Result<(), AllocError>
-    requires { KindFits body.now }
-    ensures ok { OnOk result (out.new.items ≡ out.old.items ++ carried_by (table_of (kind_of body.now)) (content_of body.now)) }
+    requires { OctetsOnlyWithoutTable body.now }
+    ensures ok { OnOk result
+        (out.new.items
+        ≡ out.old.items
+        ++ carried_by (table_of (kind_of body.now)) (content_of body.now)) }
     ensures kinds { OnOk result (ContentHasKinds (table_of (kind_of body.now)) (content_of body.now)) }
 {
     with_kinds!(write_among, body, out);

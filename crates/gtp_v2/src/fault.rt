@@ -74,7 +74,7 @@ pub struct Head {
     pub sender: Option<FTeid>,
 }
 
-/// Why a datagram is no message: the first check that fails, or want of memory (TS 29.274 7.7.2 to
+/// Why a datagram is no message: the first check that fails, or out of memory (TS 29.274 7.7.2 to
 /// 7.7.8). `held` counts octets, `at` of an `IeFault` from the start of the datagram; `conditional`
 /// tells a conditional row from a mandatory one.
 #[derive(Clone, Copy, Debug, PartialEq, Eq, Error)]
@@ -87,7 +87,7 @@ pub enum V2Fault {
     /// H2: the version, which is told, is not 2.
     #[error("version {0}")]
     Version(u8),
-    /// H5: the flag P is set; a message with another behind it is not read.
+    /// H5: the flag P is set; a message with another after it is not read.
     #[error("a second message is announced")]
     Piggyback,
     /// H3: `held` is without the first four octets.
@@ -116,7 +116,7 @@ pub enum V2Fault {
         fault: IeFault,
         head: Head,
     },
-    /// H8: a growth was refused.
+    /// H8: an allocation was refused.
     #[error("no memory")]
     Memory,
     /// H9: answered by `encode` alone.

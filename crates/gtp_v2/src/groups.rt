@@ -1,6 +1,6 @@
 //! Rows of groups.
 
-ghost use Rattle.std.specs.Prelude.{◌≡◌, ◌↔◌, ◌++◌, IsTrue, List, map, length, OnOk};
+ghost use Rattle.std.specs.Prelude.{◌≡◌, ◌↔◌, ◌*◌, ◌++◌, IsTrue, List, map, length, OnOk};
 ghost use Rattle.gtp_v2.specs.declared.fault.RowFault.TheVariants.{Missing};
 ghost use Rattle.gtp_ie.specs.Element.{all_of};
 ghost use Rattle.gtp_ie.specs.View.{element_of};
@@ -8,8 +8,8 @@ ghost use Rattle.gtp_values.specs.Steps.{Gives};
 ghost use Rattle.gtp_ie.specs.Value.{Value};
 ghost use Rattle.gtp_v2.specs.Table.{Row};
 ghost use Rattle.gtp_v2.specs.Rows.{rows_at, group_at, groups_at, some_groups};
-ghost use Rattle.gtp_v2.specs.Text.{rows_text};
-ghost use Rattle.gtp_v2.specs.Room.{Leaves};
+ghost use Rattle.gtp_v2.specs.Text.{rows_encoding};
+ghost use Rattle.gtp_v2.specs.Room.{Leaves, TakesAtMost};
 ghost use Rattle.gtp_v2.specs.Kinds.{RowsHaveKinds};
 ghost use Rattle.gtp_v2.specs.Marks.{RowsMarked};
 ghost use Rattle.gtp_v2.specs.Outcome.{GivesOrMemory, HasGroup};
@@ -36,13 +36,14 @@ pub trait Context: Copy {
 
     /// Appends the elements of the rows.
     fn write(&self, out: &mut Vec<u8>) -> Result<(), AllocError>
-        ensures ok { OnOk result (out.new.items ≡ out.old.items ++ rows_text rows (values self.now)) }
+        ensures ok { OnOk result (out.new.items ≡ out.old.items ++ rows_encoding rows (values self.now)) }
         // Each row has at most one value, of its type.
         ensures kinds { OnOk result (RowsHaveKinds rows (values self.now)) };
 
-    /// What is left of a room behind the elements of the rows, `None` where they don't fit.
-    fn room_behind(&self, room: usize) -> Option<usize>
-        ensures { Leaves room (length (rows_text rows (values self.now))) result };
+    /// What is left of a room after the elements of the rows, `None` where they don't fit.
+    fn room_after(&self, room: usize) -> Option<usize>
+        ensures left { Leaves room (length (rows_encoding rows (values self.now))) result }
+        ensures most { TakesAtMost room (259 * length rows) result };
 
     /// Whether what the marks of its rows ask is there.
     fn meets_marks(&self, accepting: bool) -> bool
@@ -66,7 +67,8 @@ fn all_contexts<C: Context>(
     accepting: bool,
     elements: &Elements,
 ) -> Result<Vec<C>, BodyFault>
-    ensures { GivesOrMemory HasGroup (λ v. map C.values v.items) result (groups_at accepting C.rows (all_of 93 0 elements.now)) }
+    ensures { GivesOrMemory HasGroup (λ v. map C.values v.items) result
+        (groups_at accepting C.rows (all_of 93 0 elements.now)) }
 {
     let mut contexts = Vec::new(alloc);
     let mut refused = false;
@@ -74,7 +76,7 @@ fn all_contexts<C: Context>(
         let context = context_in::<C>(accepting, &view)?;
         refused = refused || contexts.push(context).is_err();
     }
-    // A context at fault comes before want of memory.
+    // A context at fault comes before out of memory.
     if refused {
         return Err(BodyFault::Memory);
     }
@@ -89,7 +91,8 @@ pub fn contexts<C: Context>(
     accepting: bool,
     elements: &Elements,
 ) -> Result<Listed<C>, BodyFault>
-    ensures { GivesOrMemory HasGroup (λ list. map C.values list) result (some_groups need 93 0 accepting C.rows (all_of 93 0 elements.now)) }
+    ensures { GivesOrMemory HasGroup (λ list. map C.values list) result
+        (some_groups need 93 0 accepting C.rows (all_of 93 0 elements.now)) }
 {
     let contexts = all_contexts::<C>(alloc, accepting, elements)?;
     if contexts.is_empty() {

@@ -5,6 +5,7 @@ mod body;
 mod fault;
 mod groups;
 mod header;
+pub mod kinds;
 pub mod laws;
 mod listed;
 mod marks;

@@ -21,7 +21,9 @@ fn all_meet<C: Context>(accepting: bool, contexts: &[C]) -> bool
 
 /// Whether there are as many bearer contexts as are needed, and each has what the marks of its rows ask.
 pub fn contexts_meet<C: Context>(need: Need, accepting: bool, contexts: &[C]) -> bool
-    ensures { IsTrue result ↔ (IsEnough need (map C.values contexts.now) × All (RowsMarked accepting C.rows) (map C.values contexts.now)) }
+    ensures { IsTrue result
+        ↔ (IsEnough need (map C.values contexts.now)
+        × All (RowsMarked accepting C.rows) (map C.values contexts.now)) }
 {
     (need == Need::Optional || !contexts.is_empty()) && all_meet(accepting, contexts)
 }

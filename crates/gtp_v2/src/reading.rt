@@ -2,7 +2,7 @@
 
 ghost use Rattle.std.specs.Prelude.{IfOk};
 ghost use Rattle.gtp_values.specs.Steps.{Gives};
-ghost use Rattle.gtp_v2.specs.Places.{HasPlace};
+ghost use Rattle.gtp_v2.specs.Priority.{PriorityNeedsTeid};
 ghost use Rattle.gtp_v2.specs.Headed.{Headed, headed_of, header_at, after_teid, after_no_teid};
 
 use crate::fault::V2Fault;
@@ -10,10 +10,10 @@ use crate::header::Header;
 use byteorder::{BigEndian, ByteOrder};
 use gtp_values::{Below, Seq, Teid};
 
-/// The header of a message with a TEID, behind its first four octets.
+/// The header of a message with a TEID, after its first four octets.
 fn with_teid(first: u8, kind: u8, octets: &[u8]) -> Result<Header<'_>, V2Fault>
     ensures header { Gives headed_of result (after_teid first kind octets.now) }
-    ensures place { IfOk result (λ h. HasPlace h.teid h.priority) }
+    ensures place { IfOk result (λ h. PriorityNeedsTeid h.teid h.priority) }
 {
     let [a, b, c, d, e, f, g, last, rest @ ..] = octets else {
         return Err(V2Fault::Short {
@@ -38,7 +38,7 @@ fn with_teid(first: u8, kind: u8, octets: &[u8]) -> Result<Header<'_>, V2Fault>
 /// The same without a TEID.
 fn without_teid(kind: u8, octets: &[u8]) -> Result<Header<'_>, V2Fault>
     ensures header { Gives headed_of result (after_no_teid kind octets.now) }
-    ensures place { IfOk result (λ h. HasPlace h.teid h.priority) }
+    ensures place { IfOk result (λ h. PriorityNeedsTeid h.teid h.priority) }
 {
     let [a, b, c, _, rest @ ..] = octets else {
         return Err(V2Fault::Short {
@@ -58,7 +58,7 @@ fn without_teid(kind: u8, octets: &[u8]) -> Result<Header<'_>, V2Fault>
 /// The header of a datagram, which it fills exactly.
 pub fn read_header(octets: &[u8]) -> Result<Header<'_>, V2Fault>
     ensures header { Gives headed_of result (header_at octets.now) }
-    ensures place { IfOk result (λ h. HasPlace h.teid h.priority) }
+    ensures place { IfOk result (λ h. PriorityNeedsTeid h.teid h.priority) }
 {
     let [first, kind, high, low, rest @ ..] = octets else {
         return Err(V2Fault::Short { held: octets.len() });

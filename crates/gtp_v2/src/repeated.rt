@@ -38,7 +38,8 @@ fn all_values<T: IeValue>(
     elements: &Elements,
     instance: u8,
 ) -> Result<Vec<T>, BodyFault>
-    ensures { GivesOrMemory HasValue (λ v. map T.value v.items) result (values_at T.KIND instance (all_of T.KIND instance elements.now)) }
+    ensures { GivesOrMemory HasValue (λ v. map T.value v.items) result
+        (values_at T.KIND instance (all_of T.KIND instance elements.now)) }
 {
     let mut values = Vec::new(alloc);
     let mut refused = false;
@@ -46,7 +47,7 @@ fn all_values<T: IeValue>(
         let value = value_in::<T>(instance, &view)?;
         refused = refused || values.push(value).is_err();
     }
-    // An element at fault comes before want of memory.
+    // An element at fault comes before out of memory.
     if refused {
         return Err(BodyFault::Memory);
     }
@@ -63,7 +64,8 @@ pub fn several<T: IeValue>(
     instance: u8,
     missed: u8,
 ) -> Result<Listed<T>, BodyFault>
-    ensures { GivesOrMemory HasValue (λ list. map T.value list) result (several_at needed T.KIND instance missed elements.now) }
+    ensures { GivesOrMemory HasValue (λ list. map T.value list) result
+        (several_at needed T.KIND instance missed elements.now) }
 {
     let values = all_values::<T>(alloc, elements, instance)?;
     if needed && values.is_empty() {

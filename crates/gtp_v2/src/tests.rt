@@ -1,6 +1,6 @@
 ghost use Rattle.std.specs.Prelude.{◌<◌, ◌^◌};
-ghost use Rattle.gtp_v2.specs.Body.{KindFits};
-ghost use Rattle.gtp_v2.specs.Places.{HasPlace};
+ghost use Rattle.gtp_v2.specs.Body.{OctetsOnlyWithoutTable};
+ghost use Rattle.gtp_v2.specs.Priority.{PriorityNeedsTeid};
 
 use super::*;
 use std::alloc::Global;
@@ -131,8 +131,8 @@ fn fields_are_read(rt: HostRuntime) -> Result<(), Fail> {
 
 /// Whether a message has these octets, and they are read as that message.
 fn is_text_of(alloc: Global, message: &Message, digits: &str) -> Result<bool, Fail>
-    requires header { HasPlace message.now.teid message.now.priority }
-    requires kind { KindFits message.now.body }
+    requires header { PriorityNeedsTeid message.now.teid message.now.priority }
+    requires kind { OctetsOnlyWithoutTable message.now.body }
 {
     let octets = encode(alloc, message)?;
     let again = decode(alloc, &octets)?;
@@ -141,7 +141,7 @@ fn is_text_of(alloc: Global, message: &Message, digits: &str) -> Result<bool, Fa
 
 /// The same of a body with a TEID of 7, a sequence number of 9 and a priority of 3.
 fn is_written(alloc: Global, body: Body, digits: &str) -> Result<bool, Fail>
-    requires { KindFits body }
+    requires { OctetsOnlyWithoutTable body }
 {
     let message = Message {
         teid: Some(Teid(7)),
@@ -234,7 +234,7 @@ fn stands(
     digits: &str,
 ) -> Result<bool, Fail>
     requires number { seq < 2 ^ 24 }
-    requires kind { KindFits body }
+    requires kind { OctetsOnlyWithoutTable body }
 {
     let message = Message {
         teid: teid.map(Teid),
@@ -442,7 +442,7 @@ fn sender_told(alloc: Global, digits: &str) -> Result<Option<FTeid>, Fail> {
 }
 
 /// The sender of a Create Session Request is told where its list is whole and its end reads, whichever
-/// row is at fault, before the end or behind it or in a context.
+/// row is at fault, before the end or after it or in a context.
 #[test]
 fn senders_of_faults(rt: HostRuntime) -> Result<(), Fail> {
     let alloc = rt.alloc();
@@ -499,7 +499,7 @@ fn lists_of_many_elements(rt: HostRuntime) -> Result<(), Fail> {
 }
 
 #[test]
-fn texts_of_any_length(rt: HostRuntime) -> Result<(), Fail> {
+fn encodings_of_any_length(rt: HostRuntime) -> Result<(), Fail> {
     let alloc = rt.alloc();
     for (count, fits) in [(65_531, true), (65_532, false)] {
         let octets = vec![in alloc; 0u8; count]?;
@@ -516,6 +516,93 @@ fn texts_of_any_length(rt: HostRuntime) -> Result<(), Fail> {
             Err(fault) => assert!(rt; matches!(fault, V2Fault::TooLong) && !fits),
         }
     }
+    Ok(())
+}
+
+/// A Delete Bearer Response that accepts (TS 29.274 table 7.2.10.2-1), with so many contexts whose cause has
+/// two octets, and so many whose cause names an element and has six.
+fn removals(alloc: Global, short: usize, long: usize) -> Result<Vec<u8>, Fail> {
+    let mut elements = octets_of(alloc, "020002001000")?;
+    for _ in 0..short {
+        elements.extend_from_slice(&octets_of(alloc, "5d000b004900010005020002001000")?)?;
+    }
+    for _ in 0..long {
+        elements.extend_from_slice(&octets_of(alloc, "5d000f00490001000602000600400049000001")?)?;
+    }
+    let size = u16::try_from(8 + elements.len())?;
+    let mut octets = Vec::new(alloc);
+    octets.extend_from_slice(&[0x48, 100])?;
+    octets.extend_from_slice(&size.to_be_bytes())?;
+    octets.extend_from_slice(&[1, 0, 0, 1, 0, 0, 7, 0])?;
+    octets.extend_from_slice(&elements)?;
+    Ok(octets)
+}
+
+/// No memory runs out above some size: three hundred contexts, and three hundred identities.
+#[test]
+fn long_lists_are_decoded_and_encoded(rt: HostRuntime) -> Result<(), Fail> {
+    let alloc = rt.alloc();
+    let octets = removals(alloc, 300, 0)?;
+    let datagram = decode(alloc, &octets)?;
+    let Body::DeleteBearerResponse(response) = &datagram.message.body else {
+        return Err("of another kind".into());
+    };
+    assert_eq!(rt; response.contexts.len(), 300);
+    for context in response.contexts.iter() {
+        assert!(rt; context.ebi == EbiValue(Below::new(5)) && context.cause.value == 16);
+    }
+    assert!(rt; encode(alloc, &datagram.message)? == octets);
+    let mut octets = octets_of(alloc, "486305e40100000100000700")?;
+    for _ in 0..300 {
+        octets.extend_from_slice(&octets_of(alloc, "4900010109")?)?;
+    }
+    let datagram = decode(alloc, &octets)?;
+    let Body::DeleteBearerRequest(request) = &datagram.message.body else {
+        return Err("of another kind".into());
+    };
+    assert!(rt; request.linked_ebi.is_none() && !request.ebis.is_empty());
+    assert_eq!(rt; request.ebis.len(), 300);
+    for ebi in request.ebis.iter() {
+        assert!(rt; *ebi == EbiValue(Below::new(9)));
+    }
+    assert!(rt; encode(alloc, &datagram.message)? == octets);
+    Ok(())
+}
+
+/// The longest message with a table that a header can state: 6 octets of its cause, 4,363 contexts of 15
+/// and 4 of 19. With a counter of 5 it is too long.
+#[test]
+fn the_longest_message(rt: HostRuntime) -> Result<(), Fail> {
+    let alloc = rt.alloc();
+    let octets = removals(alloc, 4_363, 4)?;
+    assert_eq!(rt; octets.len(), 65_539);
+    let datagram = decode(alloc, &octets)?;
+    assert!(rt; encode(alloc, &datagram.message)? == octets);
+    let message = datagram.message;
+    let (teid, seq) = (message.teid, message.seq);
+    let Body::DeleteBearerResponse(response) = message.body else {
+        return Err("of another kind".into());
+    };
+    let DeleteBearerResponse {
+        cause,
+        linked_ebi,
+        contexts,
+        recovery: _,
+    } = response;
+    assert_eq!(rt; contexts.len(), 4_367);
+    let body = Body::DeleteBearerResponse(DeleteBearerResponse {
+        cause,
+        linked_ebi,
+        contexts,
+        recovery: Some(Recovery(Counter(7))),
+    });
+    let longer = Message {
+        teid,
+        seq,
+        priority: None,
+        body,
+    };
+    assert!(rt; matches!(encode(alloc, &longer), Err(V2Fault::TooLong)));
     Ok(())
 }
 
@@ -592,10 +679,10 @@ fn names_of_types(rt: HostRuntime) -> Result<(), Fail> {
     Ok(())
 }
 
-/// Eighteen contexts in each other in a Create Bearer Response that refuses: the outermost one is the
+/// Eighteen contexts nested in a Create Bearer Response that refuses: the outermost one is the
 /// message's and is read, and what else it holds is passed over.
 #[test]
-fn contexts_in_each_other(rt: HostRuntime) -> Result<(), Fail> {
+fn nested_contexts(rt: HostRuntime) -> Result<(), Fail> {
     let alloc = rt.alloc();
     let mut inner = Vec::new(alloc);
     for depth in 0..17u8 {

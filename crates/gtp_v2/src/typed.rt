@@ -1,11 +1,11 @@
 //! Messages with a table.
 
 ghost use Rattle.std.specs.Prelude.{◌≡◌, ◌↔◌, ◌++◌, OnOk, Bool, ℕ, List, IsTrue, length, true};
-ghost use Rattle.gtp_v2.specs.Table.{Line, Field, start, grows};
+ghost use Rattle.gtp_v2.specs.Table.{Line, Field, start, allocates};
 ghost use Rattle.gtp_v2.specs.Rows.{lines_at};
 ghost use Rattle.gtp_v2.specs.Headed.{headed_of};
-ghost use Rattle.gtp_v2.specs.Text.{lines_text};
-ghost use Rattle.gtp_v2.specs.Room.{Leaves};
+ghost use Rattle.gtp_v2.specs.Text.{lines_encoding};
+ghost use Rattle.gtp_v2.specs.Room.{Leaves, TakesAtMost, most_of_lines};
 ghost use Rattle.gtp_v2.specs.Kinds.{LinesHaveKinds};
 ghost use Rattle.gtp_v2.specs.Marks.{LinesMarked};
 ghost use Rattle.gtp_v2.specs.Outcome.{GivesOrMemory};
@@ -46,17 +46,19 @@ pub trait Typed: Drop {
 
     /// The message that the elements spell.
     fn read(alloc: Global, elements: &Elements) -> Result<Self, BodyFault>
-        ensures { GivesOrMemory (λ all. grows lines all ≡ true) fields result (lines_at start lines elements.now) };
+        ensures { GivesOrMemory (λ all. allocates lines all ≡ true) fields result
+            (lines_at start lines elements.now) };
 
     /// Appends the elements of the lines.
     fn write(&self, out: &mut Vec<u8>) -> Result<(), AllocError>
-        ensures ok { OnOk result (out.new.items ≡ out.old.items ++ lines_text lines (fields self.now)) }
+        ensures ok { OnOk result (out.new.items ≡ out.old.items ++ lines_encoding lines (fields self.now)) }
         // The values are of the types of the table's rows.
         ensures kinds { OnOk result (LinesHaveKinds lines (fields self.now)) };
 
-    /// What is left of a room behind the elements of the lines, `None` where they don't fit.
-    fn room_behind(&self, room: usize) -> Option<usize>
-        ensures { Leaves room (length (lines_text lines (fields self.now))) result };
+    /// What is left of a room after the elements of the lines, `None` where they don't fit.
+    fn room_after(&self, room: usize) -> Option<usize>
+        ensures left { Leaves room (length (lines_encoding lines (fields self.now))) result }
+        ensures most { TakesAtMost room (most_of_lines lines (fields self.now)) result };
 
     /// Whether what the marks of the table ask is there.
     fn meets_marks(&self) -> bool
@@ -107,10 +109,11 @@ fn with_head(head: Head, fault: RowFault) -> V2Fault
     }
 }
 
-/// The message behind a header.
+/// The message after a header.
 #[tactic(auto, unfolding(crate::specs::Message::typed_at))]
 pub fn read_typed<M: Typed>(alloc: Global, header: &Header) -> Result<M, V2Fault>
-    ensures { MessageGives (λ all. grows M.lines all ≡ true) M.fields result (typed_at M.HAS_TEID M.lines (headed_of header.now)) }
+    ensures { MessageGives (λ all. allocates M.lines all ≡ true) M.fields result
+        (typed_at M.HAS_TEID M.lines (headed_of header.now)) }
 {
     if header.teid.is_some() != M::HAS_TEID {
         return Err(V2Fault::FlagT { kind: header.kind });

@@ -1,5 +1,7 @@
 pub mod Addresses
 pub mod NamesAsText
+pub mod TeidsAsText
+pub mod Same
 pub mod Labels
 pub mod Fills
 pub mod Digits

@@ -4,10 +4,10 @@ use Rattle.std.proofs.lemmas.Bool.Decides.{nat_tests}
 use Rattle.std.proofs.lemmas.List.{at_drop_more, at_drop_all, append-nil}
 use Rattle.std.specs.Option.{unwrap_or}
 use lib.Dec.{ltb}
-use Rattle.gtp_values.specs.Apn.{is_label_octet, are_labels_from, IsApn, IsApnText, HasApnTextLength, HasApnLength, joined_from, joined, behind_dots, labels_text, apn_text, label_length, lengths_for_dots, octets_of_text}
+use Rattle.gtp_values.specs.Apn.{is_label_octet, are_labels_from, IsApn, IsApnText, HasApnTextLength, HasApnLength, joined_from, joined, after_dots, labels_text, apn_text, label_length, lengths_for_dots, octets_of_text}
 use Rattle.gtp_values.proofs.Labels.{labels_are, Both, both}
 
--- one more character in front
+-- one more character at the start
 by_dot : (octet : ℕ) (octets : List ℕ) (b : Bool) → (octet == 46) ≡ b → joined_from (label_length octets) (lengths_for_dots octets) ≡ octets
     → joined_from (cond (not b) (1 + label_length octets) 0) (cond b (label_length octets) octet ∷ lengths_for_dots octets) ≡ octet ∷ octets
 unfolding joined_from
@@ -79,7 +79,7 @@ again (octet ∷ octets) is =
     let b = octets_of_joined octet octets (in_first octet octets (labels_are (octet ∷ octets) is.labels)) in
     ap (λ (n : ℕ). n ∷ lengths_for_dots (joined_from octet octets)) b.count ∙ ap (λ (xs : List ℕ). octet ∷ xs) b.rest
 
--- no two names have one text
+-- no two names have the same text
 pub one_name : (apn other : List ℕ) → IsApn apn → IsApn other → apn_text apn ≡ apn_text other → apn ≡ other
 one_name apn other is is_other same = sym (again apn is) ∙ (ap octets_of_text same ∙ again other is_other)
 
@@ -88,7 +88,7 @@ pub text_of_labels : (labels : List (List ℕ)) → apn_text (labels_text labels
 unfolding joined_from
 text_of_labels [] = refl
 text_of_labels (label ∷ labels) = in_label label labels where
-  in_label : (part : List ℕ) (labels : List (List ℕ)) → joined_from (length part) (part ++ labels_text labels) ≡ part ++ behind_dots labels
+  in_label : (part : List ℕ) (labels : List (List ℕ)) → joined_from (length part) (part ++ labels_text labels) ≡ part ++ after_dots labels
   in_label [] [] = refl
   in_label [] (label ∷ labels) = ap (λ (xs : List ℕ). 46 ∷ xs) (in_label label labels)
   in_label (octet ∷ part) labels = ap (λ (xs : List ℕ). octet ∷ xs) (in_label part labels)

@@ -1,8 +1,10 @@
 -- Addresses as texts.
-use Rattle.std.specs.Prelude.{◌≡◌, ℕ, ◌≤◌, ◌<◌, List, length, All, Ok}
+use Rattle.std.specs.Prelude.{◌≡◌, ◌↔◌, ℕ, ◌≤◌, ◌<◌, List, length, All, Result, Ok, IsOk, IfOk, IsErrOf}
 use Rattle.std.specs.Net.Grammar.{IsDotted}
 use Rattle.std.specs.Net.Text.{ipv4_text}
 use Rattle.hex.specs.Hex.{decode_of, encode_lower}
+use Rattle.gtp_values.specs.declared.fault.ValueFault.{ValueFault}
+use Rattle.gtp_values.specs.declared.fault.ValueFault.TheVariants.{TooShort, TooLong, BadDigit}
 use Rattle.gtp_values.specs.declared.address.Ip.{Ip}
 use Rattle.gtp_values.specs.declared.address.Ip.TheVariants as TheIp
 
@@ -29,3 +31,11 @@ SomeIpText text = (ip : Ip) × IsIpText text ip
 pub record HasIpTextLength (text : List ℕ) : Type 0 where
   pub least : 7 ≤ length text
   pub most : length text ≤ 32
+
+-- what reading a text answers: the address that it writes, or the first refusal
+pub record ReadsIp (text : List ℕ) (result : Result Ip ValueFault) : Type 0 where
+  pub ok : IsOk result ↔ SomeIpText text
+  pub value : IfOk result (IsIpText text)
+  pub short : IsErrOf result TooShort ↔ (length text < 7)
+  pub long : IsErrOf result TooLong ↔ (32 < length text)
+  pub digit : IsErrOf result BadDigit ↔ (HasIpTextLength text × ¬ SomeIpText text)

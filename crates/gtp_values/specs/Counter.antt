@@ -7,6 +7,6 @@ use Rattle.gtp_values.specs.declared.counter.Age.TheVariants.{Same, Later, Earli
 abbrev pub lead : ℕ → ℕ → ℕ
 lead old new = (new + 256 - old) % 256
 
--- the same, at most 127 ahead, or else behind (a choice of this product: TS 23.007 18 leaves open how a counter turns over)
+-- the same, at most 127 ahead, or else earlier (a choice of this product: TS 23.007 18 leaves open how a counter turns over)
 abbrev pub age_of : ℕ → ℕ → Age
 age_of old new = if lead old new == 0 then Same else (if nat_le (lead old new) 127 then Later else Earlier)

@@ -1,5 +1,7 @@
 -- Subscribers (TS 29.274 8.3).
-use Rattle.std.specs.Prelude.{ℕ, ◌≤◌, ◌<◌, ◌+◌, ◌-◌, List, length, All, map}
+use Rattle.std.specs.Prelude.{◌≡◌, ◌↔◌, ℕ, ◌≤◌, ◌<◌, ◌+◌, ◌-◌, List, length, All, map, Result, IsOk, IfOk, IsErrOf}
+use Rattle.gtp_values.specs.declared.fault.ValueFault.{ValueFault}
+use Rattle.gtp_values.specs.declared.fault.ValueFault.TheVariants.{TooShort, TooLong, BadDigit}
 
 -- 6 to 15 digits
 pub record HasImsiLength (digits : List ℕ) : Type 0 where
@@ -30,3 +32,11 @@ pub record IsImsiText (text : List ℕ) : Type 0 where
 -- digits as a text, a character each
 abbrev pub digits_text : List ℕ → List ℕ
 digits_text digits = map (λ digit. 48 + digit) digits
+
+-- what reading a text answers: the subscriber of its digits, or the first refusal
+pub record ReadsImsi (text : List ℕ) (result : Result (List ℕ) ValueFault) : Type 0 where
+  pub ok : IsOk result ↔ IsImsiText text
+  pub value : IfOk result (λ imsi. imsi ≡ map value_of_digit text)
+  pub short : IsErrOf result TooShort ↔ (length text < 6)
+  pub long : IsErrOf result TooLong ↔ (15 < length text)
+  pub digit : IsErrOf result BadDigit ↔ (HasImsiLength text × ¬ All IsDigitCode text)

@@ -8,6 +8,7 @@ pub mod Numbers
 pub mod Padded
 pub mod Paa
 pub mod Plmn
+pub mod Teid
 pub mod TunnelEnd
 pub mod Steps
 pub mod Decides

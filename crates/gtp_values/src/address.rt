@@ -1,23 +1,24 @@
 //! Addresses of gateways.
 
 ghost use Rattle.std.specs.Prelude.{◌≡◌, ◌<◌, ◌↔◌, length, Some, IsOk, IfOk, IsErrOf};
-ghost use Rattle.gtp_values.specs.Address.{HasIpTextLength, IsIpText, SomeIpText, ip_text};
+ghost use Rattle.gtp_values.specs.Address.{ReadsIp, ip_text};
 
 use crate::fault::ValueFault;
+use crate::hexadecimal::write_digits;
+use std::fmt;
 use std::net::Ipv4Addr;
 use std::str::FromStr;
-use std::{fmt, str};
 
 /// An address of IP version 4 (RFC 791) or 6 (RFC 4291), its octets in the order in which they are
 /// sent.
-#[derive(Clone, Copy, Debug, PartialEq, Eq)]
+#[derive(Clone, Copy, Debug, PartialEq, Eq, PartialOrd, Ord)]
 pub enum Ip {
     V4([u8; 4]),
     V6([u8; 16]),
 }
 
 /// Where a datagram comes from or goes to: an address and a UDP port (TS 29.274 4.2, TS 29.281 4.4.2).
-#[derive(Clone, Copy, Debug, PartialEq, Eq)]
+#[derive(Clone, Copy, Debug, PartialEq, Eq, PartialOrd, Ord)]
 pub struct Endpoint {
     /// The IP address.
     pub ip: Ip,
@@ -30,11 +31,7 @@ impl Ip {
     /// of either case for version 6: `TooShort` below 7 octets, `TooLong` above 32, `BadDigit`
     /// where it's neither.
     pub fn from_text(text: &str) -> Result<Ip, ValueFault>
-        ensures ok { IsOk result ↔ SomeIpText text.now }
-        ensures value { IfOk result (IsIpText text.now) }
-        ensures short { IsErrOf result ValueFault.TooShort ↔ (length text.now < 7) }
-        ensures long { IsErrOf result ValueFault.TooLong ↔ (32 < length text.now) }
-        ensures digit { IsErrOf result ValueFault.BadDigit ↔ (HasIpTextLength text.now × ¬ SomeIpText text.now) }
+        ensures { ReadsIp text.now result }
     {
         if text.len() < 7 {
             return Err(ValueFault::TooShort);
@@ -61,16 +58,7 @@ impl fmt::Display for Ip {
         let ip = *self;
         match ip {
             Ip::V4(octets) => f.write(Ipv4Addr::from(octets)),
-            Ip::V6(octets) => {
-                let mut digits = [0u8; 32];
-                let Ok(()) = hex::encode_to_slice(octets, &mut digits) else {
-                    unreachable!();
-                };
-                let Ok(text) = str::from_utf8(&digits) else {
-                    unreachable!();
-                };
-                f.write_str(text)
-            }
+            Ip::V6(octets) => write_digits(f, &octets, &mut [0; 32]),
         }
     }
 }
@@ -78,9 +66,7 @@ impl fmt::Display for Ip {
 impl FromStr for Ip {
     type Err = ValueFault;
 
-    ghost use Rattle.gtp_values.specs.declared.fault.ValueFault.TheVariants as ValueFault;
-
-    ghost from_str_gives = { λ text result. (IsOk result ↔ SomeIpText text) × IfOk result (IsIpText text) × (IsErrOf result ValueFault.TooShort ↔ (length text < 7)) × (IsErrOf result ValueFault.TooLong ↔ (32 < length text)) × (IsErrOf result ValueFault.BadDigit ↔ (HasIpTextLength text × ¬ SomeIpText text)) };
+    ghost from_str_gives = { ReadsIp };
 
     fn from_str(text: &str) -> Result<Ip, ValueFault> {
         Ip::from_text(text)

@@ -1,7 +1,7 @@
 //! Access point names.
 
 ghost use Rattle.std.specs.Prelude.{◌≡◌, ◌<◌, ◌≤◌, ◌↔◌, length, IsTrue, Some, IsOk, IfOk, IsErrOf};
-ghost use Rattle.gtp_values.specs.Apn.{IsApn, HasApnLength, AreLabels, HasApnTextLength, IsApnText, apn_text};
+ghost use Rattle.gtp_values.specs.Apn.{IsApn, HasApnLength, AreLabels, ReadsApn, apn_text};
 ghost use Rattle.std.specs.Fmt.{WritesOnOk};
 ghost use Rattle.gtp_values.specs.Apn.{joined_from, are_labels_from, is_label_length as spec_is_label_length, is_label_octet as spec_is_label_octet, label_length as spec_label_length, octets_of_text as spec_octets_of_text};
 
@@ -11,7 +11,7 @@ use std::fmt;
 use std::marker::Model;
 use std::str::FromStr;
 
-/// An access point name: labels, each behind an octet with its length, 1 to 100 octets in all
+/// An access point name: labels, each after an octet with its length, 1 to 100 octets in all
 /// (TS 29.274 8.6, TS 23.003 9.1). Contracts see the list of these octets.
 #[derive(Clone, Copy, Debug, PartialEq, Eq)]
 pub struct Apn {
@@ -33,7 +33,7 @@ impl Model for Apn {
 }
 
 impl Apn {
-    /// The name of these octets: labels, each behind an octet with its length. `TooShort` for none,
+    /// The name of these octets: labels, each after an octet with its length. `TooShort` for none,
     /// `TooLong` above 100, `BadLabel` where they are no labels.
     #[tactic(auto, using(crate::proofs::Labels::labels_are, crate::proofs::Labels::are_labels))]
     pub fn try_new(octets: &[u8]) -> Result<Apn, ValueFault>
@@ -61,11 +61,7 @@ impl Apn {
     /// above 99 octets, `BadLabel` where they are no labels.
     #[tactic(auto, using(crate::proofs::NamesAsText::text_has_length, crate::proofs::NamesAsText::name_of_text, crate::proofs::NamesAsText::says_its_name, crate::proofs::NamesAsText::same_text))]
     pub fn from_text(text: &str) -> Result<Apn, ValueFault>
-        ensures ok { IsOk result ↔ IsApnText text.now }
-        ensures value { IfOk result (λ apn. apn_text apn ≡ text.now) }
-        ensures short { IsErrOf result ValueFault.TooShort ↔ (length text.now < 1) }
-        ensures long { IsErrOf result ValueFault.TooLong ↔ (99 < length text.now) }
-        ensures label { IsErrOf result ValueFault.BadLabel ↔ (HasApnTextLength text.now × ¬ IsApnText text.now) }
+        ensures { ReadsApn text.now result }
     {
         let text = text.as_bytes();
         if text.is_empty() {
@@ -77,7 +73,7 @@ impl Apn {
         Apn::try_new(octets_of_text(text).as_slice())
     }
 
-    /// The labels, each behind an octet with its length.
+    /// The labels, each after an octet with its length.
     pub fn octets(&self) -> &[u8]
         ensures value { result.now ≡ self.now }
         ensures range { IsApn self.now }
@@ -101,9 +97,7 @@ impl fmt::Display for Apn {
 impl FromStr for Apn {
     type Err = ValueFault;
 
-    ghost use Rattle.gtp_values.specs.declared.fault.ValueFault.TheVariants as ValueFault;
-
-    ghost from_str_gives = { λ text result. (IsOk result ↔ IsApnText text) × IfOk result (λ apn. apn_text apn ≡ text) × (IsErrOf result ValueFault.TooShort ↔ (length text < 1)) × (IsErrOf result ValueFault.TooLong ↔ (99 < length text)) × (IsErrOf result ValueFault.BadLabel ↔ (HasApnTextLength text × ¬ IsApnText text)) };
+    ghost from_str_gives = { ReadsApn };
 
     fn from_str(text: &str) -> Result<Apn, ValueFault> {
         Apn::from_text(text)
@@ -124,7 +118,7 @@ fn is_label_length(length: u8) -> bool
     matches!(length, 1..=63)
 }
 
-/// Whether octets are labels, each behind its length.
+/// Whether octets are labels, each after its length.
 #[tactic(auto, unfolding(crate::specs::Apn::are_labels_from))]
 fn are_labels(octets: &[u8]) -> bool
     ensures { result ≡ are_labels_from 0 octets.now }

@@ -1,9 +1,10 @@
 //! Small numbers, as parts of an octet hold them.
 
-ghost use Rattle.std.specs.Prelude.{◌≡◌, ◌<◌, ◌↔◌, IsOk, IfOk, IfErr};
+ghost use Rattle.std.specs.Prelude.{◌≡◌, ◌<◌, ◌↔◌, IsOk, IfOk, IfErr, Some, decimal};
 ghost use Rattle.gtp_values.specs.declared.fault.ValueFault.TheVariants.{OutOfRange};
 
 use crate::fault::ValueFault;
+use std::fmt;
 use std::marker::Model;
 
 /// A number below `N`. Contracts see the number.
@@ -52,5 +53,15 @@ impl<const N: u8> Below<N> {
         ensures small { result < N }
     {
         self.number
+    }
+}
+
+/// The number in decimal.
+impl<const N: u8> fmt::Display for Below<N> {
+    ghost output = { λ small. Some (decimal small) };
+
+    fn fmt<W: fmt::Write>(&self, f: &mut fmt::Formatter<W>) -> fmt::Result {
+        let number = self.number;
+        write!(f, "{number}")
     }
 }

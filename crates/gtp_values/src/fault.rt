@@ -1,4 +1,4 @@
-//! Why a text or a number is no value, and want of memory.
+//! Why a text or a number is no value, and out of memory.
 
 ghost use Rattle.std.specs.Prelude.{◌≡◌};
 
@@ -25,7 +25,7 @@ pub enum ValueFault {
     OutOfRange,
 }
 
-/// Want of memory: a growth was refused.
+/// Out of memory: an allocation was refused.
 #[derive(Clone, Copy, Debug, PartialEq, Eq, Error)]
 #[error("no memory")]
 pub struct Memory;

@@ -2,8 +2,10 @@
 
 ghost use Rattle.std.specs.Prelude.{◌≡◌, ◌<◌, ◌↔◌, ◌||◌, IsTrue, IsOk, IfOk, IfErr, is_some};
 ghost use Rattle.gtp_values.specs.declared.fault.ValueFault.TheVariants.{OutOfRange};
-ghost use Rattle.gtp_values.specs.TunnelEnd.{IsTunnelEnd};
+ghost use Rattle.gtp_values.specs.TunnelEnd.{IsTunnelEnd, HasAddress};
 
+use crate::address::Ip;
+use crate::below::Below;
 use crate::fault::ValueFault;
 use crate::identifiers::Teid;
 use std::marker::Model;
@@ -40,7 +42,8 @@ impl FTeid {
         v6: Option<[u8; 16]>,
     ) -> Result<FTeid, ValueFault>
         ensures ok { IsOk result ↔ ((interface < 64) × IsTrue (is_some v4 || is_some v6)) }
-        ensures value { IfOk result (λ end. end ≡ record { interface = interface; teid = teid.0; v4 = v4; v6 = v6 }) }
+        ensures value { IfOk result
+            (λ end. end ≡ record { interface = interface; teid = teid.0; v4 = v4; v6 = v6 }) }
         ensures fault { IfErr result (λ f. f ≡ OutOfRange) }
     {
         if interface >= 64 || (v4.is_none() && v6.is_none()) {
@@ -52,6 +55,24 @@ impl FTeid {
             v4,
             v6,
         })
+    }
+
+    /// The tunnel end of one address. It takes any interface type, so it can't be refused.
+    pub fn new(interface: Below<64>, teid: Teid, address: Ip) -> FTeid
+        ensures interface { result.interface ≡ interface }
+        ensures teid { result.teid ≡ teid.0 }
+        ensures address { HasAddress result address }
+    {
+        let (v4, v6) = match address {
+            Ip::V4(octets) => (Some(octets), None),
+            Ip::V6(octets) => (None, Some(octets)),
+        };
+        FTeid {
+            interface: interface.number(),
+            teid,
+            v4,
+            v6,
+        }
     }
 
     /// The interface type, below 64.
@@ -70,16 +91,16 @@ impl FTeid {
     }
 
     /// The address of version 4, where there is one.
-    pub fn v4(&self) -> &Option<[u8; 4]>
-        ensures { result.now ≡ self.now.v4 }
+    pub fn v4(&self) -> Option<[u8; 4]>
+        ensures { result ≡ self.now.v4 }
     {
-        &self.v4
+        self.v4
     }
 
     /// The address of version 6, where there is one.
-    pub fn v6(&self) -> &Option<[u8; 16]>
-        ensures { result.now ≡ self.now.v6 }
+    pub fn v6(&self) -> Option<[u8; 16]>
+        ensures { result ≡ self.now.v6 }
     {
-        &self.v6
+        self.v6
     }
 }

@@ -1,7 +1,7 @@
 //! Subscribers.
 
 ghost use Rattle.std.specs.Prelude.{◌≡◌, ◌<◌, ◌≤◌, ◌↔◌, length, map, All, Some, IsOk, IfOk, IsErrOf};
-ghost use Rattle.gtp_values.specs.Imsi.{IsImsi, HasImsiLength, IsImsiText, IsDigitCode, value_of_digit, digits_text};
+ghost use Rattle.gtp_values.specs.Imsi.{IsImsi, HasImsiLength, ReadsImsi, digits_text};
 
 use crate::fault::ValueFault;
 use crate::octets::Octets;
@@ -39,7 +39,8 @@ impl Imsi {
         ensures value { IfOk result (λ imsi. imsi ≡ digits.now) }
         ensures short { IsErrOf result ValueFault.TooShort ↔ (length digits.now < 6) }
         ensures long { IsErrOf result ValueFault.TooLong ↔ (15 < length digits.now) }
-        ensures digit { IsErrOf result ValueFault.BadDigit ↔ (HasImsiLength digits.now × ¬ All (λ digit. digit < 10) digits.now) }
+        ensures digit { IsErrOf result ValueFault.BadDigit
+            ↔ (HasImsiLength digits.now × ¬ All (λ digit. digit < 10) digits.now) }
     {
         if digits.len() < 6 {
             return Err(ValueFault::TooShort);
@@ -58,11 +59,7 @@ impl Imsi {
     /// The identity that a text of decimal digits says: `TooShort` below 6 octets, `TooLong` above
     /// 15, `BadDigit` where one isn't a digit.
     pub fn from_text(text: &str) -> Result<Imsi, ValueFault>
-        ensures ok { IsOk result ↔ IsImsiText text.now }
-        ensures value { IfOk result (λ imsi. imsi ≡ map value_of_digit text.now) }
-        ensures short { IsErrOf result ValueFault.TooShort ↔ (length text.now < 6) }
-        ensures long { IsErrOf result ValueFault.TooLong ↔ (15 < length text.now) }
-        ensures digit { IsErrOf result ValueFault.BadDigit ↔ (HasImsiLength text.now × ¬ All IsDigitCode text.now) }
+        ensures { ReadsImsi text.now result }
     {
         let octets = text.as_bytes();
         if octets.len() < 6 {
@@ -104,9 +101,7 @@ impl fmt::Display for Imsi {
 impl FromStr for Imsi {
     type Err = ValueFault;
 
-    ghost use Rattle.gtp_values.specs.declared.fault.ValueFault.TheVariants as ValueFault;
-
-    ghost from_str_gives = { λ text result. (IsOk result ↔ IsImsiText text) × IfOk result (λ imsi. imsi ≡ map value_of_digit text) × (IsErrOf result ValueFault.TooShort ↔ (length text < 6)) × (IsErrOf result ValueFault.TooLong ↔ (15 < length text)) × (IsErrOf result ValueFault.BadDigit ↔ (HasImsiLength text × ¬ All IsDigitCode text)) };
+    ghost from_str_gives = { ReadsImsi };
 
     fn from_str(text: &str) -> Result<Imsi, ValueFault> {
         Imsi::from_text(text)

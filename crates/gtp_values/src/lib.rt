@@ -9,6 +9,7 @@ mod counter;
 mod ebi;
 mod fault;
 mod fteid;
+mod hexadecimal;
 mod identifiers;
 mod imsi;
 pub mod laws;

@@ -5,7 +5,7 @@ ghost use Rattle.std.specs.Prelude.{◌≡◌, ◌≤◌, ◌<◌, [], ◌∷◌
 use std::marker::Model;
 
 /// At most `N` octets. Contracts see the list of them.
-#[derive(Clone, Copy, Debug, PartialEq, Eq)]
+#[derive(Clone, Copy, Debug)]
 pub struct Octets<const N: usize> {
     cells: [u8; N],
     len: u8,
@@ -68,4 +68,27 @@ impl<const N: usize> Octets<N> {
     {
         &self.cells[..self.len as usize]
     }
+}
+
+impl<const N: usize> PartialEq for Octets<N> {
+    ghost use Rattle.std.specs.Prelude.{nat_eq};
+    ghost use Rattle.std.specs.Cmp.Lexicographic.{pointwise, lists_per};
+    ghost use Rattle.std.specs.Cmp.Rules.{comparing};
+    ghost use Rattle.std.proofs.Common.{rules};
+
+    ghost eq = { pointwise nat_eq };
+
+    ghost laws = { lists_per (Prim.search (comparing, rules)) };
+
+    fn eq(&self, other: &Octets<N>) -> bool {
+        self.as_slice() == other.as_slice()
+    }
+}
+
+impl<const N: usize> Eq for Octets<N> {
+    ghost use Rattle.std.specs.Cmp.Lexicographic.{lists_equiv};
+    ghost use Rattle.std.specs.Cmp.Rules.{comparing};
+    ghost use Rattle.std.proofs.Common.{rules};
+
+    ghost laws = { lists_equiv (Prim.search (comparing, rules)) };
 }

@@ -25,7 +25,7 @@ pub enum Paa {
         v6: [u8; 16],
         v4: [u8; 4],
     },
-    /// Another PDN type, behind which nothing is read.
+    /// Another PDN type, after which nothing is read.
     Other(OtherPdnType),
 }
 

@@ -34,8 +34,11 @@ impl Plmn {
         ensures ok { IsOk result ↔ IsNetwork (record { mcc = mcc.now; mnc = mnc.now }) }
         ensures value { IfOk result (λ plmn. plmn ≡ record { mcc = mcc.now; mnc = mnc.now }) }
         ensures short { IsErrOf result ValueFault.TooShort ↔ IsShortNetwork mcc.now mnc.now }
-        ensures long { IsErrOf result ValueFault.TooLong ↔ (¬ IsShortNetwork mcc.now mnc.now × IsLongNetwork mcc.now mnc.now) }
-        ensures digit { IsErrOf result ValueFault.BadDigit ↔ (HasNetworkLengths mcc.now mnc.now × ¬ (All (λ digit. digit < 10) mcc.now × All (λ digit. digit < 10) mnc.now)) }
+        ensures long { IsErrOf result ValueFault.TooLong
+            ↔ (¬ IsShortNetwork mcc.now mnc.now × IsLongNetwork mcc.now mnc.now) }
+        ensures digit { IsErrOf result ValueFault.BadDigit
+            ↔ (HasNetworkLengths mcc.now mnc.now
+            × ¬ (All (λ digit. digit < 10) mcc.now × All (λ digit. digit < 10) mnc.now)) }
     {
         if mcc.len() < 3 || mnc.len() < 2 {
             return Err(ValueFault::TooShort);

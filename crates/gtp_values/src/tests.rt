@@ -152,6 +152,54 @@ fn addresses_as_texts(rt: HostRuntime) -> Result<(), Fail> {
 }
 
 #[test]
+fn identifiers_as_texts(rt: HostRuntime) -> Result<(), Fail> {
+    let alloc = rt.alloc();
+    for (text, teid) in [
+        ("00000000", Teid(0)),
+        ("01000002", Teid(16_777_218)),
+        ("fedcba98", Teid(4_275_878_552)),
+    ] {
+        let read: Teid = text.parse()?;
+        assert_eq!(rt; read, teid);
+        assert_eq!(rt; teid.to_string(alloc)?.as_str(), text);
+    }
+    assert_eq!(rt; Teid::from_text("FEDCBA98"), Ok(Teid(4_275_878_552)));
+    for (text, fault) in [
+        ("", ValueFault::TooShort),
+        ("1000002", ValueFault::TooShort),
+        ("001000002", ValueFault::TooLong),
+        ("0100000g", ValueFault::BadDigit),
+        ("0x000002", ValueFault::BadDigit),
+        ("+1000002", ValueFault::BadDigit),
+    ] {
+        assert_eq!(rt; Teid::from_text(text), Err(fault), "of {text}");
+    }
+    Ok(())
+}
+
+#[test]
+fn addresses_in_order(rt: HostRuntime) {
+    let low = Ip::V4([10, 0, 0, 1]);
+    let high = Ip::V4([10, 0, 1, 0]);
+    assert!(rt; low < high && high < Ip::V6([0; 16]));
+    let port = |ip, port| Endpoint { ip, port };
+    assert!(rt; port(low, 2152) < port(high, 2123) && port(low, 2123) < port(low, 2152));
+}
+
+#[test]
+fn tunnel_ends_of_one_address(rt: HostRuntime) {
+    let interface = Below::new(6);
+    for (address, v4, v6) in [
+        (Ip::V4([10, 0, 0, 1]), Some([10, 0, 0, 1]), None),
+        (Ip::V6([1; 16]), None, Some([1; 16])),
+    ] {
+        let end = FTeid::new(interface, Teid(7), address);
+        assert_eq!(rt; Ok(end), FTeid::try_new(6, Teid(7), v4, v6));
+        assert_eq!(rt; (end.v4(), end.v6()), (v4, v6));
+    }
+}
+
+#[test]
 fn ranges(rt: HostRuntime) {
     let outside = ValueFault::OutOfRange;
     assert!(rt; Seq::try_new(16_777_215).is_ok());

@@ -2,7 +2,7 @@
 
 ghost use Rattle.std.specs.Prelude.{◌≡◌, ◌≤◌, length, take, drop};
 ghost use Rattle.std.proofs.Common.{rules};
-ghost use Rattle.gtp_ie.specs.Value.{OfPaa, OfPlmn, OfFTeid, address_text};
+ghost use Rattle.gtp_ie.specs.Value.{OfPaa, OfPlmn, OfFTeid, address_encoding};
 
 use crate::fault::ReadFault;
 use crate::value::IeValue;
@@ -23,7 +23,7 @@ fn first<const N: usize>(octets: &[u8]) -> [u8; N]
 
 /// The octets of an address, or none.
 fn octets_of<const N: usize>(address: &Option<[u8; N]>) -> &[u8]
-    ensures value { result.now ≡ address_text address.now }
+    ensures value { result.now ≡ address_encoding address.now }
     ensures most { length result.now ≤ N }
 {
     match address {
@@ -67,21 +67,21 @@ impl IeValue for FTeid {
         FTeid::try_new(*flags % 64, teid, v4, v6).map_err(|_| ReadFault::Bad)
     }
 
-    #[tactic(auto, unfolding(crate::specs::Value::text_of), using(crate::proofs::AgainAddresses::fteid_again, crate::proofs::FreeKinds::text_free))]
+    #[tactic(auto, unfolding(crate::specs::Value::encoding_of), using(crate::proofs::AgainAddresses::fteid_again, crate::proofs::FreeKinds::encoding_free))]
     fn write(&self, out: &mut Vec<u8>) -> Result<(), AllocError> {
-        let v4 = octets_of(self.v4());
-        let v6 = octets_of(self.v6());
-        let flags = 128 * u8::from(self.v4().is_some())
-            + 64 * u8::from(self.v6().is_some())
-            + self.interface();
+        let v4 = self.v4();
+        let v6 = self.v6();
+        let flags = 128 * u8::from(v4.is_some()) + 64 * u8::from(v6.is_some()) + self.interface();
         let mut teid = [0u8; 4];
         BigEndian::write_u32(&mut teid, self.teid().0);
-        append(out, &[&[flags], &teid, v4, v6])
+        append(out, &[&[flags], &teid, octets_of(&v4), octets_of(&v6)])
     }
 
-    #[tactic(auto, unfolding(crate::specs::Value::text_of))]
+    #[tactic(auto, unfolding(crate::specs::Value::encoding_of))]
     fn body_length(&self) -> usize {
-        5 + octets_of(self.v4()).len() + octets_of(self.v6()).len()
+        let v4 = self.v4();
+        let v6 = self.v6();
+        5 + octets_of(&v4).len() + octets_of(&v6).len()
     }
 }
 
@@ -119,7 +119,7 @@ impl IeValue for Paa {
         }
     }
 
-    #[tactic(auto, unfolding(crate::specs::Value::text_of), using(crate::proofs::AgainAddresses::v4_again, crate::proofs::AgainAddresses::v6_again, crate::proofs::AgainAddresses::v4v6_again, crate::proofs::AgainAddresses::other_again, crate::proofs::FreeKinds::text_free))]
+    #[tactic(auto, unfolding(crate::specs::Value::encoding_of), using(crate::proofs::AgainAddresses::v4_again, crate::proofs::AgainAddresses::v6_again, crate::proofs::AgainAddresses::v4v6_again, crate::proofs::AgainAddresses::other_again, crate::proofs::FreeKinds::encoding_free))]
     fn write(&self, out: &mut Vec<u8>) -> Result<(), AllocError> {
         match self {
             Paa::V4(v4) => append(out, &[&[1], v4]),
@@ -129,7 +129,7 @@ impl IeValue for Paa {
         }
     }
 
-    #[tactic(auto, unfolding(crate::specs::Value::text_of))]
+    #[tactic(auto, unfolding(crate::specs::Value::encoding_of))]
     fn body_length(&self) -> usize {
         let paa = *self;
         match paa {
@@ -164,7 +164,7 @@ impl IeValue for Plmn {
         }
     }
 
-    #[tactic(auto, unfolding(crate::specs::Value::text_of), using(crate::proofs::AgainAddresses::plmn_again, crate::proofs::FreeKinds::text_free))]
+    #[tactic(auto, unfolding(crate::specs::Value::encoding_of), using(crate::proofs::AgainAddresses::plmn_again, crate::proofs::FreeKinds::encoding_free))]
     fn write(&self, out: &mut Vec<u8>) -> Result<(), AllocError> {
         let mcc = self.mcc();
         let mnc = self.mnc();
@@ -177,7 +177,7 @@ impl IeValue for Plmn {
         Ok(())
     }
 
-    #[tactic(auto, unfolding(crate::specs::Value::text_of))]
+    #[tactic(auto, unfolding(crate::specs::Value::encoding_of))]
     fn body_length(&self) -> usize {
         3
     }

@@ -40,7 +40,7 @@ impl IeValue for Cause {
         })
     }
 
-    #[tactic(auto, unfolding(crate::specs::Value::text_of), using(crate::proofs::Again::cause_again, crate::proofs::FreeKinds::text_free))]
+    #[tactic(auto, unfolding(crate::specs::Value::encoding_of), using(crate::proofs::Again::cause_again, crate::proofs::FreeKinds::encoding_free))]
     fn write(&self, out: &mut Vec<u8>) -> Result<(), AllocError> {
         let flags = 4 * u8::from(self.pce) + 2 * u8::from(self.bce) + u8::from(self.cs);
         match self.offending {
@@ -53,7 +53,7 @@ impl IeValue for Cause {
         Ok(())
     }
 
-    #[tactic(auto, unfolding(crate::specs::Value::text_of))]
+    #[tactic(auto, unfolding(crate::specs::Value::encoding_of))]
     fn body_length(&self) -> usize {
         if self.offending.is_some() { 6 } else { 2 }
     }

@@ -69,13 +69,13 @@ impl IeValue for Imsi {
         }
     }
 
-    #[tactic(auto, unfolding(crate::specs::Value::text_of), using(crate::proofs::AgainNames::imsi_again, crate::proofs::FreeKinds::text_free))]
+    #[tactic(auto, unfolding(crate::specs::Value::encoding_of), using(crate::proofs::AgainNames::imsi_again, crate::proofs::FreeKinds::encoding_free))]
     fn write(&self, out: &mut Vec<u8>) -> Result<(), AllocError> {
         out.extend_from_slice(packed_octets(self.digits()).as_slice())?;
         Ok(())
     }
 
-    #[tactic(auto, unfolding(crate::specs::Value::text_of))]
+    #[tactic(auto, unfolding(crate::specs::Value::encoding_of))]
     fn body_length(&self) -> usize {
         self.digits().len().div_ceil(2)
     }
@@ -101,13 +101,13 @@ impl IeValue for Apn {
         }
     }
 
-    #[tactic(auto, unfolding(crate::specs::Value::text_of), using(crate::proofs::AgainNames::apn_again, crate::proofs::FreeKinds::text_free))]
+    #[tactic(auto, unfolding(crate::specs::Value::encoding_of), using(crate::proofs::AgainNames::apn_again, crate::proofs::FreeKinds::encoding_free))]
     fn write(&self, out: &mut Vec<u8>) -> Result<(), AllocError> {
         out.extend_from_slice(self.octets())?;
         Ok(())
     }
 
-    #[tactic(auto, unfolding(crate::specs::Value::text_of))]
+    #[tactic(auto, unfolding(crate::specs::Value::encoding_of))]
     fn body_length(&self) -> usize {
         self.octets().len()
     }
@@ -127,12 +127,12 @@ impl IeValue for Tft {
         Tft::try_new(body).map_err(|_| ReadFault::Bad)
     }
 
-    #[tactic(auto, unfolding(crate::specs::Value::text_of), using(crate::proofs::AgainNames::tft_again, crate::proofs::FreeKinds::text_free))]
+    #[tactic(auto, unfolding(crate::specs::Value::encoding_of), using(crate::proofs::AgainNames::tft_again, crate::proofs::FreeKinds::encoding_free))]
     fn write(&self, out: &mut Vec<u8>) -> Result<(), AllocError> {
         append(out, &[self.octets()])
     }
 
-    #[tactic(auto, unfolding(crate::specs::Value::text_of))]
+    #[tactic(auto, unfolding(crate::specs::Value::encoding_of))]
     fn body_length(&self) -> usize {
         self.octets().len()
     }

@@ -1,12 +1,16 @@
 //! Elements that say one number.
 
+ghost use Rattle.std.specs.Prelude.{◌≡◌, IfErr};
+ghost use Rattle.std.specs.Result.{OkIff};
 ghost use Rattle.std.proofs.Common.{rules};
+ghost use Rattle.gtp_values.specs.Ebi.{IsEbi};
+ghost use Rattle.gtp_values.specs.declared.fault.ValueFault.TheVariants.{OutOfRange};
 ghost use Rattle.gtp_ie.specs.Value.{OfRecovery, OfEbi, OfRat, OfChargingId, OfPdnType, OfPti, OfSelection};
 
 use crate::fault::ReadFault;
 use crate::value::IeValue;
 use byteorder::{BigEndian, ByteOrder};
-use gtp_values::{Below, Counter};
+use gtp_values::{Below, Counter, Ebi, ValueFault};
 use std::alloc::AllocError;
 
 /// The restart counter of the sender (TS 29.274 8.5).
@@ -30,13 +34,13 @@ impl IeValue for Recovery {
         }
     }
 
-    #[tactic(auto, unfolding(crate::specs::Value::text_of), using(crate::proofs::Again::recovery_again, crate::proofs::FreeKinds::text_free))]
+    #[tactic(auto, unfolding(crate::specs::Value::encoding_of), using(crate::proofs::Again::recovery_again, crate::proofs::FreeKinds::encoding_free))]
     fn write(&self, out: &mut Vec<u8>) -> Result<(), AllocError> {
         out.push(self.0.0)?;
         Ok(())
     }
 
-    #[tactic(auto, unfolding(crate::specs::Value::text_of))]
+    #[tactic(auto, unfolding(crate::specs::Value::encoding_of))]
     fn body_length(&self) -> usize {
         1
     }
@@ -45,6 +49,26 @@ impl IeValue for Recovery {
 /// An EPS bearer identity as an element has it, 0 to 15: 0 where none is given yet (TS 29.274 8.8).
 #[derive(Clone, Copy, Debug, PartialEq, Eq)]
 pub struct EbiValue(pub Below<16>);
+
+/// The identity of a bearer that stands is one that an element has.
+impl From<Ebi> for EbiValue {
+    ghost from_gives = { λ ebi value. value.0 ≡ ebi };
+
+    fn from(ebi: Ebi) -> EbiValue {
+        EbiValue(Below::new(ebi.number()))
+    }
+}
+
+/// `OutOfRange` for an identity below 5, which no bearer has.
+impl TryFrom<EbiValue> for Ebi {
+    type Error = ValueFault;
+
+    ghost try_from_gives = { λ value result. OkIff result (IsEbi value.0) value.0 × IfErr result (λ f. f ≡ OutOfRange) };
+
+    fn try_from(value: EbiValue) -> Result<Ebi, ValueFault> {
+        Ebi::try_new(value.0.number())
+    }
+}
 
 impl IeValue for EbiValue {
     const KIND: u8 = 73;
@@ -63,13 +87,13 @@ impl IeValue for EbiValue {
         }
     }
 
-    #[tactic(auto, unfolding(crate::specs::Value::text_of), using(crate::proofs::Again::ebi_again, crate::proofs::FreeKinds::text_free))]
+    #[tactic(auto, unfolding(crate::specs::Value::encoding_of), using(crate::proofs::Again::ebi_again, crate::proofs::FreeKinds::encoding_free))]
     fn write(&self, out: &mut Vec<u8>) -> Result<(), AllocError> {
         out.push(self.0.number())?;
         Ok(())
     }
 
-    #[tactic(auto, unfolding(crate::specs::Value::text_of))]
+    #[tactic(auto, unfolding(crate::specs::Value::encoding_of))]
     fn body_length(&self) -> usize {
         1
     }
@@ -96,7 +120,7 @@ impl IeValue for ChargingId {
         Ok(ChargingId(BigEndian::read_u32(body)))
     }
 
-    #[tactic(auto, unfolding(crate::specs::Value::text_of), using(crate::proofs::Again::charging_id_again, crate::proofs::FreeKinds::text_free))]
+    #[tactic(auto, unfolding(crate::specs::Value::encoding_of), using(crate::proofs::Again::charging_id_again, crate::proofs::FreeKinds::encoding_free))]
     fn write(&self, out: &mut Vec<u8>) -> Result<(), AllocError> {
         let number = self.0;
         let mut octets = [0u8; 4];
@@ -105,7 +129,7 @@ impl IeValue for ChargingId {
         Ok(())
     }
 
-    #[tactic(auto, unfolding(crate::specs::Value::text_of))]
+    #[tactic(auto, unfolding(crate::specs::Value::encoding_of))]
     fn body_length(&self) -> usize {
         4
     }
@@ -132,13 +156,13 @@ impl IeValue for Rat {
         }
     }
 
-    #[tactic(auto, unfolding(crate::specs::Value::text_of), using(crate::proofs::Again::rat_again, crate::proofs::FreeKinds::text_free))]
+    #[tactic(auto, unfolding(crate::specs::Value::encoding_of), using(crate::proofs::Again::rat_again, crate::proofs::FreeKinds::encoding_free))]
     fn write(&self, out: &mut Vec<u8>) -> Result<(), AllocError> {
         out.push(self.0)?;
         Ok(())
     }
 
-    #[tactic(auto, unfolding(crate::specs::Value::text_of))]
+    #[tactic(auto, unfolding(crate::specs::Value::encoding_of))]
     fn body_length(&self) -> usize {
         1
     }
@@ -165,13 +189,13 @@ impl IeValue for PdnType {
         }
     }
 
-    #[tactic(auto, unfolding(crate::specs::Value::text_of), using(crate::proofs::Again::pdn_type_again, crate::proofs::FreeKinds::text_free))]
+    #[tactic(auto, unfolding(crate::specs::Value::encoding_of), using(crate::proofs::Again::pdn_type_again, crate::proofs::FreeKinds::encoding_free))]
     fn write(&self, out: &mut Vec<u8>) -> Result<(), AllocError> {
         out.push(self.0.number())?;
         Ok(())
     }
 
-    #[tactic(auto, unfolding(crate::specs::Value::text_of))]
+    #[tactic(auto, unfolding(crate::specs::Value::encoding_of))]
     fn body_length(&self) -> usize {
         1
     }
@@ -198,13 +222,13 @@ impl IeValue for Pti {
         }
     }
 
-    #[tactic(auto, unfolding(crate::specs::Value::text_of), using(crate::proofs::Again::pti_again, crate::proofs::FreeKinds::text_free))]
+    #[tactic(auto, unfolding(crate::specs::Value::encoding_of), using(crate::proofs::Again::pti_again, crate::proofs::FreeKinds::encoding_free))]
     fn write(&self, out: &mut Vec<u8>) -> Result<(), AllocError> {
         out.push(self.0)?;
         Ok(())
     }
 
-    #[tactic(auto, unfolding(crate::specs::Value::text_of))]
+    #[tactic(auto, unfolding(crate::specs::Value::encoding_of))]
     fn body_length(&self) -> usize {
         1
     }
@@ -231,13 +255,13 @@ impl IeValue for Selection {
         }
     }
 
-    #[tactic(auto, unfolding(crate::specs::Value::text_of), using(crate::proofs::Again::selection_again, crate::proofs::FreeKinds::text_free))]
+    #[tactic(auto, unfolding(crate::specs::Value::encoding_of), using(crate::proofs::Again::selection_again, crate::proofs::FreeKinds::encoding_free))]
     fn write(&self, out: &mut Vec<u8>) -> Result<(), AllocError> {
         out.push(self.0.number())?;
         Ok(())
     }
 
-    #[tactic(auto, unfolding(crate::specs::Value::text_of))]
+    #[tactic(auto, unfolding(crate::specs::Value::encoding_of))]
     fn body_length(&self) -> usize {
         1
     }

@@ -3,7 +3,7 @@
 ghost use Rattle.std.specs.Prelude.{◌≡◌, ◌≤◌, ◌+◌, length, drop};
 ghost use Rattle.byteorder.specs.Endian.{big_number};
 ghost use Rattle.std.proofs.Common.{rules};
-ghost use Rattle.gtp_ie.specs.Value.{OfAmbr, OfQos, AreRates, rates_text};
+ghost use Rattle.gtp_ie.specs.Value.{OfAmbr, OfQos, AreRates, rates_encoding};
 
 use crate::fault::ReadFault;
 use crate::value::IeValue;
@@ -32,7 +32,7 @@ impl IeValue for Ambr {
         })
     }
 
-    #[tactic(auto, unfolding(crate::specs::Value::text_of), using(crate::proofs::Again::ambr_again, crate::proofs::FreeKinds::text_free))]
+    #[tactic(auto, unfolding(crate::specs::Value::encoding_of), using(crate::proofs::Again::ambr_again, crate::proofs::FreeKinds::encoding_free))]
     fn write(&self, out: &mut Vec<u8>) -> Result<(), AllocError> {
         let up = self.up;
         let down = self.down;
@@ -43,7 +43,7 @@ impl IeValue for Ambr {
         Ok(())
     }
 
-    #[tactic(auto, unfolding(crate::specs::Value::text_of))]
+    #[tactic(auto, unfolding(crate::specs::Value::encoding_of))]
     fn body_length(&self) -> usize {
         8
     }
@@ -71,7 +71,7 @@ fn rates(octets: &[u8]) -> Rates
 
 /// Writes bit rates into ten octets.
 fn octets_of(rates: &Rates) -> [u8; 10]
-    ensures text { result ≡ rates_text rates.now }
+    ensures text { result ≡ rates_encoding rates.now }
     ensures range { AreRates rates.now }
 {
     let mut octets = [0u8; 10];
@@ -105,7 +105,7 @@ impl IeValue for Qos {
         })
     }
 
-    #[tactic(auto, unfolding(crate::specs::Value::text_of), using(crate::proofs::Again::qos_again, crate::proofs::FreeKinds::text_free))]
+    #[tactic(auto, unfolding(crate::specs::Value::encoding_of), using(crate::proofs::Again::qos_again, crate::proofs::FreeKinds::encoding_free))]
     fn write(&self, out: &mut Vec<u8>) -> Result<(), AllocError> {
         let flags = 64 * u8::from(self.pci) + 4 * self.pl.number() + u8::from(self.pvi);
         append(
@@ -118,7 +118,7 @@ impl IeValue for Qos {
         )
     }
 
-    #[tactic(auto, unfolding(crate::specs::Value::text_of))]
+    #[tactic(auto, unfolding(crate::specs::Value::encoding_of))]
     fn body_length(&self) -> usize {
         22
     }

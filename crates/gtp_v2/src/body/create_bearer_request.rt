@@ -11,9 +11,10 @@ ghost use Rattle.gtp_v2.specs.CreateBearerRequest.{create_bearer_request, create
 
 use crate::fault::{BodyFault, Need, RowFault};
 use crate::groups::{Context, contexts};
+use crate::kinds::CREATE_BEARER_REQUEST;
 use crate::listed::Listed;
 use crate::marks::contexts_meet;
-use crate::room::{behind_contexts, behind_option, behind_row};
+use crate::room::{after_contexts, after_option, after_row};
 use crate::rows::{conditional, mandatory, optional};
 use crate::typed::Typed;
 use crate::writing::{put_contexts, put_option, put_row};
@@ -33,7 +34,7 @@ pub struct CreateBearerRequest {
 }
 
 impl Typed for CreateBearerRequest {
-    const KIND: u8 = 95;
+    const KIND: u8 = CREATE_BEARER_REQUEST;
 
     ghost KIND = { 95 };
 
@@ -72,10 +73,10 @@ impl Typed for CreateBearerRequest {
     }
 
     #[tactic(auto, using(crate::proofs::Measured::measuring))]
-    fn room_behind(&self, room: usize) -> Option<usize> {
-        let room = behind_option(room, &self.pti)?;
-        let room = behind_row(room, &self.linked_ebi)?;
-        behind_contexts(room, self.contexts.as_slice())
+    fn room_after(&self, room: usize) -> Option<usize> {
+        let room = after_option(room, &self.pti)?;
+        let room = after_row(room, &self.linked_ebi)?;
+        after_contexts(room, self.contexts.as_slice())
     }
 
     fn meets_marks(&self) -> bool {
@@ -130,12 +131,12 @@ impl Context for BearerRequestContext {
     }
 
     #[tactic(auto, using(crate::proofs::Measured::measuring))]
-    fn room_behind(&self, room: usize) -> Option<usize> {
-        let room = behind_row(room, &self.ebi)?;
-        let room = behind_row(room, &self.tft)?;
-        let room = behind_row(room, &self.user)?;
-        let room = behind_row(room, &self.qos)?;
-        behind_option(room, &self.charging_id)
+    fn room_after(&self, room: usize) -> Option<usize> {
+        let room = after_row(room, &self.ebi)?;
+        let room = after_row(room, &self.tft)?;
+        let room = after_row(room, &self.user)?;
+        let room = after_row(room, &self.qos)?;
+        after_option(room, &self.charging_id)
     }
 
     fn meets_marks(&self, _accepting: bool) -> bool {

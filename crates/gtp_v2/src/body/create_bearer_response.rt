@@ -11,9 +11,10 @@ ghost use Rattle.gtp_v2.specs.CreateBearerResponse.{create_bearer_response, crea
 
 use crate::fault::{BodyFault, Need, RowFault};
 use crate::groups::{Context, contexts};
+use crate::kinds::CREATE_BEARER_RESPONSE;
 use crate::listed::Listed;
 use crate::marks::contexts_meet;
-use crate::room::{behind_contexts, behind_option, behind_row};
+use crate::room::{after_contexts, after_option, after_row};
 use crate::rows::{mandatory, needed_if, optional};
 use crate::typed::Typed;
 use crate::writing::{put_contexts, put_option, put_row};
@@ -33,7 +34,7 @@ pub struct CreateBearerResponse {
 }
 
 impl Typed for CreateBearerResponse {
-    const KIND: u8 = 96;
+    const KIND: u8 = CREATE_BEARER_RESPONSE;
 
     ghost KIND = { 96 };
 
@@ -74,10 +75,10 @@ impl Typed for CreateBearerResponse {
     }
 
     #[tactic(auto, using(crate::proofs::Measured::measuring))]
-    fn room_behind(&self, room: usize) -> Option<usize> {
-        let room = behind_row(room, &self.cause)?;
-        let room = behind_contexts(room, self.contexts.as_slice())?;
-        behind_option(room, &self.recovery)
+    fn room_after(&self, room: usize) -> Option<usize> {
+        let room = after_row(room, &self.cause)?;
+        let room = after_contexts(room, self.contexts.as_slice())?;
+        after_option(room, &self.recovery)
     }
 
     fn meets_marks(&self) -> bool {
@@ -131,11 +132,11 @@ impl Context for BearerResponseContext {
     }
 
     #[tactic(auto, using(crate::proofs::Measured::measuring))]
-    fn room_behind(&self, room: usize) -> Option<usize> {
-        let room = behind_row(room, &self.ebi)?;
-        let room = behind_row(room, &self.cause)?;
-        let room = behind_option(room, &self.serving_user)?;
-        behind_option(room, &self.packet_user)
+    fn room_after(&self, room: usize) -> Option<usize> {
+        let room = after_row(room, &self.ebi)?;
+        let room = after_row(room, &self.cause)?;
+        let room = after_option(room, &self.serving_user)?;
+        after_option(room, &self.packet_user)
     }
 
     fn meets_marks(&self, accepting: bool) -> bool {

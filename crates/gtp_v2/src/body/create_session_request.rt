@@ -11,9 +11,10 @@ ghost use Rattle.gtp_v2.specs.CreateSessionRequest.{create_session_request, crea
 
 use crate::fault::{BodyFault, Need, RowFault};
 use crate::groups::{Context, contexts};
+use crate::kinds::CREATE_SESSION_REQUEST;
 use crate::listed::Listed;
 use crate::marks::contexts_meet;
-use crate::room::{behind_contexts, behind_option, behind_row};
+use crate::room::{after_contexts, after_option, after_row};
 use crate::rows::{conditional, mandatory, optional};
 use crate::typed::Typed;
 use crate::writing::{put_contexts, put_option, put_row};
@@ -50,7 +51,7 @@ pub struct CreateSessionRequest {
 }
 
 impl Typed for CreateSessionRequest {
-    const KIND: u8 = 32;
+    const KIND: u8 = CREATE_SESSION_REQUEST;
 
     ghost KIND = { 32 };
 
@@ -113,18 +114,18 @@ impl Typed for CreateSessionRequest {
     }
 
     #[tactic(auto, using(crate::proofs::Measured::measuring))]
-    fn room_behind(&self, room: usize) -> Option<usize> {
-        let room = behind_row(room, &self.imsi)?;
-        let room = behind_row(room, &self.rat)?;
-        let room = behind_option(room, &self.serving_network)?;
-        let room = behind_row(room, &self.control)?;
-        let room = behind_row(room, &self.apn)?;
-        let room = behind_option(room, &self.selection)?;
-        let room = behind_row(room, &self.pdn_type)?;
-        let room = behind_option(room, &self.paa)?;
-        let room = behind_option(room, &self.ambr)?;
-        let room = behind_contexts(room, self.contexts.as_slice())?;
-        behind_option(room, &self.recovery)
+    fn room_after(&self, room: usize) -> Option<usize> {
+        let room = after_row(room, &self.imsi)?;
+        let room = after_row(room, &self.rat)?;
+        let room = after_option(room, &self.serving_network)?;
+        let room = after_row(room, &self.control)?;
+        let room = after_row(room, &self.apn)?;
+        let room = after_option(room, &self.selection)?;
+        let room = after_row(room, &self.pdn_type)?;
+        let room = after_option(room, &self.paa)?;
+        let room = after_option(room, &self.ambr)?;
+        let room = after_contexts(room, self.contexts.as_slice())?;
+        after_option(room, &self.recovery)
     }
 
     fn meets_marks(&self) -> bool {
@@ -165,10 +166,10 @@ impl Context for SessionRequestContext {
     }
 
     #[tactic(auto, using(crate::proofs::Measured::measuring))]
-    fn room_behind(&self, room: usize) -> Option<usize> {
-        let room = behind_row(room, &self.ebi)?;
-        let room = behind_row(room, &self.qos)?;
-        behind_row(room, &self.user)
+    fn room_after(&self, room: usize) -> Option<usize> {
+        let room = after_row(room, &self.ebi)?;
+        let room = after_row(room, &self.qos)?;
+        after_row(room, &self.user)
     }
 
     fn meets_marks(&self, _accepting: bool) -> bool {

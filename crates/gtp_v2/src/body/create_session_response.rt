@@ -11,9 +11,10 @@ ghost use Rattle.gtp_v2.specs.CreateSessionResponse.{create_session_response, cr
 
 use crate::fault::{BodyFault, Need, RowFault};
 use crate::groups::{Context, contexts};
+use crate::kinds::CREATE_SESSION_RESPONSE;
 use crate::listed::Listed;
 use crate::marks::contexts_meet;
-use crate::room::{behind_contexts, behind_option, behind_row};
+use crate::room::{after_contexts, after_option, after_row};
 use crate::rows::{mandatory, needed_if, optional};
 use crate::typed::Typed;
 use crate::writing::{put_contexts, put_option, put_row};
@@ -40,7 +41,7 @@ pub struct CreateSessionResponse {
 }
 
 impl Typed for CreateSessionResponse {
-    const KIND: u8 = 33;
+    const KIND: u8 = CREATE_SESSION_RESPONSE;
 
     ghost KIND = { 33 };
 
@@ -90,13 +91,13 @@ impl Typed for CreateSessionResponse {
     }
 
     #[tactic(auto, using(crate::proofs::Measured::measuring))]
-    fn room_behind(&self, room: usize) -> Option<usize> {
-        let room = behind_row(room, &self.cause)?;
-        let room = behind_option(room, &self.control)?;
-        let room = behind_option(room, &self.paa)?;
-        let room = behind_option(room, &self.ambr)?;
-        let room = behind_contexts(room, self.contexts.as_slice())?;
-        behind_option(room, &self.recovery)
+    fn room_after(&self, room: usize) -> Option<usize> {
+        let room = after_row(room, &self.cause)?;
+        let room = after_option(room, &self.control)?;
+        let room = after_option(room, &self.paa)?;
+        let room = after_option(room, &self.ambr)?;
+        let room = after_contexts(room, self.contexts.as_slice())?;
+        after_option(room, &self.recovery)
     }
 
     fn meets_marks(&self) -> bool {
@@ -155,12 +156,12 @@ impl Context for SessionResponseContext {
     }
 
     #[tactic(auto, using(crate::proofs::Measured::measuring))]
-    fn room_behind(&self, room: usize) -> Option<usize> {
-        let room = behind_row(room, &self.ebi)?;
-        let room = behind_row(room, &self.cause)?;
-        let room = behind_option(room, &self.user)?;
-        let room = behind_option(room, &self.qos)?;
-        behind_option(room, &self.charging_id)
+    fn room_after(&self, room: usize) -> Option<usize> {
+        let room = after_row(room, &self.ebi)?;
+        let room = after_row(room, &self.cause)?;
+        let room = after_option(room, &self.user)?;
+        let room = after_option(room, &self.qos)?;
+        after_option(room, &self.charging_id)
     }
 
     fn meets_marks(&self, accepting: bool) -> bool {

@@ -9,9 +9,10 @@ ghost use Rattle.gtp_v2.specs.Outcome.{GivesOrMemory};
 ghost use Rattle.gtp_v2.specs.DeleteBearerRequest.{delete_bearer_request, delete_bearer_request_fields};
 
 use crate::fault::BodyFault;
+use crate::kinds::DELETE_BEARER_REQUEST;
 use crate::listed::Listed;
 use crate::repeated::several;
-use crate::room::{behind_option, behind_several};
+use crate::room::{after_option, after_several};
 use crate::rows::optional;
 use crate::typed::Typed;
 use crate::writing::{put_option, put_several};
@@ -28,7 +29,7 @@ pub struct DeleteBearerRequest {
 }
 
 impl Typed for DeleteBearerRequest {
-    const KIND: u8 = 99;
+    const KIND: u8 = DELETE_BEARER_REQUEST;
 
     ghost KIND = { 99 };
 
@@ -61,9 +62,9 @@ impl Typed for DeleteBearerRequest {
     }
 
     #[tactic(auto, using(crate::proofs::Measured::measuring))]
-    fn room_behind(&self, room: usize) -> Option<usize> {
-        let room = behind_option(room, &self.linked_ebi)?;
-        behind_several(room, self.ebis.as_slice())
+    fn room_after(&self, room: usize) -> Option<usize> {
+        let room = after_option(room, &self.linked_ebi)?;
+        after_several(room, self.ebis.as_slice())
     }
 
     fn meets_marks(&self) -> bool {

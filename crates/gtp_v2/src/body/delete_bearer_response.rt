@@ -11,9 +11,10 @@ ghost use Rattle.gtp_v2.specs.DeleteBearerResponse.{delete_bearer_response, dele
 
 use crate::fault::{BodyFault, Need, RowFault};
 use crate::groups::{Context, contexts};
+use crate::kinds::DELETE_BEARER_RESPONSE;
 use crate::listed::Listed;
 use crate::marks::contexts_meet;
-use crate::room::{behind_contexts, behind_option, behind_row};
+use crate::room::{after_contexts, after_option, after_row};
 use crate::rows::{mandatory, optional};
 use crate::typed::Typed;
 use crate::writing::{put_contexts, put_option, put_row};
@@ -35,7 +36,7 @@ pub struct DeleteBearerResponse {
 }
 
 impl Typed for DeleteBearerResponse {
-    const KIND: u8 = 100;
+    const KIND: u8 = DELETE_BEARER_RESPONSE;
 
     ghost KIND = { 100 };
 
@@ -83,11 +84,11 @@ impl Typed for DeleteBearerResponse {
     }
 
     #[tactic(auto, using(crate::proofs::Measured::measuring))]
-    fn room_behind(&self, room: usize) -> Option<usize> {
-        let room = behind_row(room, &self.cause)?;
-        let room = behind_option(room, &self.linked_ebi)?;
-        let room = behind_contexts(room, self.contexts.as_slice())?;
-        behind_option(room, &self.recovery)
+    fn room_after(&self, room: usize) -> Option<usize> {
+        let room = after_row(room, &self.cause)?;
+        let room = after_option(room, &self.linked_ebi)?;
+        let room = after_contexts(room, self.contexts.as_slice())?;
+        after_option(room, &self.recovery)
     }
 
     fn meets_marks(&self) -> bool {
@@ -125,9 +126,9 @@ impl Context for RemovalResponseContext {
     }
 
     #[tactic(auto, using(crate::proofs::Measured::measuring))]
-    fn room_behind(&self, room: usize) -> Option<usize> {
-        let room = behind_row(room, &self.ebi)?;
-        behind_row(room, &self.cause)
+    fn room_after(&self, room: usize) -> Option<usize> {
+        let room = after_row(room, &self.ebi)?;
+        after_row(room, &self.cause)
     }
 
     fn meets_marks(&self, _accepting: bool) -> bool {

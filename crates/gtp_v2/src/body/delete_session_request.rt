@@ -9,7 +9,8 @@ ghost use Rattle.gtp_v2.specs.Outcome.{GivesOrMemory};
 ghost use Rattle.gtp_v2.specs.DeleteSessionRequest.{delete_session_request, delete_session_request_fields};
 
 use crate::fault::BodyFault;
-use crate::room::behind_option;
+use crate::kinds::DELETE_SESSION_REQUEST;
+use crate::room::after_option;
 use crate::rows::optional;
 use crate::typed::Typed;
 use crate::writing::put_option;
@@ -24,7 +25,7 @@ pub struct DeleteSessionRequest {
 }
 
 impl Typed for DeleteSessionRequest {
-    const KIND: u8 = 36;
+    const KIND: u8 = DELETE_SESSION_REQUEST;
 
     ghost KIND = { 36 };
 
@@ -55,8 +56,8 @@ impl Typed for DeleteSessionRequest {
     }
 
     #[tactic(auto, using(crate::proofs::Measured::measuring))]
-    fn room_behind(&self, room: usize) -> Option<usize> {
-        behind_option(room, &self.linked_ebi)
+    fn room_after(&self, room: usize) -> Option<usize> {
+        after_option(room, &self.linked_ebi)
     }
 
     fn meets_marks(&self) -> bool {

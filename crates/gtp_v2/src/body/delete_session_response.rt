@@ -9,7 +9,8 @@ ghost use Rattle.gtp_v2.specs.Outcome.{GivesOrMemory};
 ghost use Rattle.gtp_v2.specs.DeleteSessionResponse.{delete_session_response, delete_session_response_fields};
 
 use crate::fault::BodyFault;
-use crate::room::{behind_option, behind_row};
+use crate::kinds::DELETE_SESSION_RESPONSE;
+use crate::room::{after_option, after_row};
 use crate::rows::{mandatory, optional};
 use crate::typed::Typed;
 use crate::writing::{put_option, put_row};
@@ -27,7 +28,7 @@ pub struct DeleteSessionResponse {
 }
 
 impl Typed for DeleteSessionResponse {
-    const KIND: u8 = 37;
+    const KIND: u8 = DELETE_SESSION_RESPONSE;
 
     ghost KIND = { 37 };
 
@@ -60,9 +61,9 @@ impl Typed for DeleteSessionResponse {
     }
 
     #[tactic(auto, using(crate::proofs::Measured::measuring))]
-    fn room_behind(&self, room: usize) -> Option<usize> {
-        let room = behind_row(room, &self.cause)?;
-        behind_option(room, &self.recovery)
+    fn room_after(&self, room: usize) -> Option<usize> {
+        let room = after_row(room, &self.cause)?;
+        after_option(room, &self.recovery)
     }
 
     fn meets_marks(&self) -> bool {

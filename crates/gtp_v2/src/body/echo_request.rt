@@ -9,7 +9,8 @@ ghost use Rattle.gtp_v2.specs.Outcome.{GivesOrMemory};
 ghost use Rattle.gtp_v2.specs.EchoRequest.{echo_request, echo_request_fields};
 
 use crate::fault::BodyFault;
-use crate::room::behind_row;
+use crate::kinds::ECHO_REQUEST;
+use crate::room::after_row;
 use crate::rows::mandatory;
 use crate::typed::Typed;
 use crate::writing::put_row;
@@ -24,7 +25,7 @@ pub struct EchoRequest {
 }
 
 impl Typed for EchoRequest {
-    const KIND: u8 = 1;
+    const KIND: u8 = ECHO_REQUEST;
 
     ghost KIND = { 1 };
 
@@ -55,8 +56,8 @@ impl Typed for EchoRequest {
     }
 
     #[tactic(auto, using(crate::proofs::Measured::measuring))]
-    fn room_behind(&self, room: usize) -> Option<usize> {
-        behind_row(room, &self.recovery)
+    fn room_after(&self, room: usize) -> Option<usize> {
+        after_row(room, &self.recovery)
     }
 
     fn meets_marks(&self) -> bool {

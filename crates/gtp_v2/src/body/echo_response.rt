@@ -9,7 +9,8 @@ ghost use Rattle.gtp_v2.specs.Outcome.{GivesOrMemory};
 ghost use Rattle.gtp_v2.specs.EchoResponse.{echo_response, echo_response_fields};
 
 use crate::fault::BodyFault;
-use crate::room::behind_row;
+use crate::kinds::ECHO_RESPONSE;
+use crate::room::after_row;
 use crate::rows::mandatory;
 use crate::typed::Typed;
 use crate::writing::put_row;
@@ -24,7 +25,7 @@ pub struct EchoResponse {
 }
 
 impl Typed for EchoResponse {
-    const KIND: u8 = 2;
+    const KIND: u8 = ECHO_RESPONSE;
 
     ghost KIND = { 2 };
 
@@ -55,8 +56,8 @@ impl Typed for EchoResponse {
     }
 
     #[tactic(auto, using(crate::proofs::Measured::measuring))]
-    fn room_behind(&self, room: usize) -> Option<usize> {
-        behind_row(room, &self.recovery)
+    fn room_after(&self, room: usize) -> Option<usize> {
+        after_row(room, &self.recovery)
     }
 
     fn meets_marks(&self) -> bool {

@@ -9,6 +9,7 @@ ghost use Rattle.gtp_v2.specs.Outcome.{GivesOrMemory};
 ghost use Rattle.gtp_v2.specs.VersionNotSupported.{version_not_supported, version_not_supported_fields};
 
 use crate::fault::BodyFault;
+use crate::kinds::VERSION_NOT_SUPPORTED;
 use crate::typed::Typed;
 use gtp_ie::Elements;
 use std::alloc::{AllocError, Global};
@@ -18,7 +19,7 @@ use std::alloc::{AllocError, Global};
 pub struct VersionNotSupported {}
 
 impl Typed for VersionNotSupported {
-    const KIND: u8 = 3;
+    const KIND: u8 = VERSION_NOT_SUPPORTED;
 
     ghost KIND = { 3 };
 
@@ -47,7 +48,7 @@ impl Typed for VersionNotSupported {
     }
 
     #[tactic(auto, using(crate::proofs::Measured::measuring))]
-    fn room_behind(&self, room: usize) -> Option<usize> {
+    fn room_after(&self, room: usize) -> Option<usize> {
         Some(room)
     }
 

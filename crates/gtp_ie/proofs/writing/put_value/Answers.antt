@@ -1,11 +1,11 @@
 use Rattle.std.proofs.Common.{◌≡◌, ℕ, List, [], ◌∷◌, ◌∙◌, ap, rules, length, ◌++◌}
-use Rattle.gtp_ie.specs.Value.{text_of}
+use Rattle.gtp_ie.specs.Value.{encoding_of}
 use Rattle.gtp_ie.proofs.Closed.{closed_is}
 use Rattle.gtp_ie.proofs.writing.put_value.Goals as goal
 
 pub returns-clause-ok : goal.returns-clause-ok
 returns-clause-ok g c =
-    let text = text_of (g.T.IeValue.value c.args.value.now) in
+    let text = encoding_of (g.T.IeValue.value c.args.value.now) in
     let here : length c.args.out.now.items ≡ c.len-start.result = search rules in
     let written =
     c.in_default.ensures.ok ∙ ap (λ (xs : List ℕ). xs ++ text) c.in_ok-open.ensures.ok

@@ -4,11 +4,11 @@ use Rattle.std.specs.Prelude.{◌≡◌, ◌+◌, ◌<◌, ◌≤◌, length, Li
 use Rattle.std.specs.Global.{Vec}
 use Rattle.gtp_v2.specs.declared.fault.V2Fault.{V2Fault}
 use Rattle.gtp_v2.specs.declared.fault.V2Fault.TheVariants as faults
-use Rattle.gtp_v2.specs.Message.{Spoken}
+use Rattle.gtp_v2.specs.Message.{MessageValue}
 use Rattle.gtp_v2.specs.Tables.{table_of}
-use Rattle.gtp_v2.specs.Body.{spoken_of}
+use Rattle.gtp_v2.specs.Body.{message_value}
 use Rattle.gtp_v2.specs.Datagram.{IsMessage}
-use Rattle.gtp_v2.specs.Encoding.{text, HeaderMeets}
+use Rattle.gtp_v2.specs.Encoding.{canonical_encoding, HeaderMeets}
 use Rattle.gtp_v2.specs.Kinds.{ContentHasKinds}
 use Rattle.gtp_v2.specs.Marks.{MeetsMarks}
 use Rattle.gtp_v2.proofs.Marked.{marked_again}
@@ -18,12 +18,12 @@ use Rattle.gtp_v2.proofs.message.encode.Goals as goal
 no_fault : (octets : Vec ℕ) → Ok octets ≡ Err faults.TooLong → ⊥
 no_fault octets h = cc
 
-again : (m : Spoken) (r : Result (Vec ℕ) V2Fault) → IfOk r (λ octets. octets.items ≡ text m) → (IsErrOf r faults.TooLong ↔ (65535 + 4 < length (text m))) → OnOk r (HeaderMeets m.teid m.seq m.priority) → OnOk r (ContentHasKinds (table_of m.kind) m.content) → IfOk r (λ octets. MeetsMarks m ↔ IsMessage octets.items m)
+again : (m : MessageValue) (r : Result (Vec ℕ) V2Fault) → IfOk r (λ octets. octets.items ≡ canonical_encoding m) → (IsErrOf r faults.TooLong ↔ (65535 + 4 < length (canonical_encoding m))) → OnOk r (HeaderMeets m.teid m.seq m.priority) → OnOk r (ContentHasKinds (table_of m.kind) m.content) → IfOk r (λ octets. MeetsMarks m ↔ IsMessage octets.items m)
 again m (Err f) written long header have = tt
 again m (Ok octets) written long header have =
-    let few : length (text m) < 65535 + 5 = lt_of_not-le (λ many. absurd (no_fault octets (long.1 (omega arith)))) in
-    let short : length (text m) ≤ 65535 + 4 = omega arith in
+    let few : length (canonical_encoding m) < 65535 + 5 = lt_of_not-le (λ many. absurd (no_fault octets (long.1 (omega arith)))) in
+    let short : length (canonical_encoding m) ≤ 65535 + 4 = omega arith in
     (λ marked. subst (λ (xs : List ℕ). IsMessage xs m) (sym written) (marked_again m (record { header = header; kinds = have; marks = marked; short = short })), message_marked octets.items m)
 
 pub returns-clause-read_again : goal.returns-clause-read_again
-returns-clause-read_again c = again (spoken_of c.args.message.now) c.write_message.result c.write_message.ensures.written c.write_message.ensures.too_long c.write_message.ensures.range c.write_message.ensures.kinds
+returns-clause-read_again c = again (message_value c.args.message.now) c.write_message.result c.write_message.ensures.written c.write_message.ensures.too_long c.write_message.ensures.range c.write_message.ensures.kinds

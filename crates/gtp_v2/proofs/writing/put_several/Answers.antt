@@ -4,14 +4,14 @@ use Rattle.std.proofs.lemmas.Grind.{common_steps}
 use Rattle.std.proofs.lemmas.List.Elements.{All-map, All-more}
 use Rattle.std.proofs.lemmas.List.{take_all}
 use Rattle.gtp_v2.specs.Kinds.{HasKind}
-use Rattle.gtp_v2.specs.Text.{several_text}
+use Rattle.gtp_v2.specs.Text.{several_encoding}
 use Rattle.gtp_v2.proofs.writing.put_several.Goals as goal
 
 pub loop-value-preserved : goal.loop-value-preserved
-unfolding several_text
+unfolding several_encoding
 loop-value-preserved g c =
     let i = c.loop-value.value-index in
-    let text : c.put_value.new.out.items ≡ c.args.out.now.items ++ several_text g.T.IeValue.KIND c.args.instance (map g.T.IeValue.value (take (i + 1) c.args.values.now)) = grind (arith, common_steps) in
+    let text : c.put_value.new.out.items ≡ c.args.out.now.items ++ several_encoding g.T.IeValue.KIND c.args.instance (map g.T.IeValue.value (take (i + 1) c.args.values.now)) = grind (arith, common_steps) in
     let kind = g.T.IeValue.KIND in (
       text,
       All-more (λ value. HasKind kind (g.T.IeValue.value value)) c.args.values.now i c.value-item.result c.loop-value-test.true c.loop-value.invariant.1

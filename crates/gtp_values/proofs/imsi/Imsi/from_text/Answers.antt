@@ -16,3 +16,10 @@ invariant_of-result c =
       most = subst (λ n. n ≤ 15) (sym count) c.if-octets-gt15.false;
       decimal = subst (All (λ digit. digit < 10)) (sym whole) (digits_below octets all);
     }
+
+pub returns : goal.returns
+returns c =
+    let octets = c.as_bytes-octets.result.now in
+    let passed : length octets ≤ c.loop-octet.octet-index = omega (c.loop-octet-test.false, arith) in
+    let whole : c.loop-octet.digits ≡ map value_of_digit octets = c.loop-octet.invariant ∙ ap (map value_of_digit) (take_all c.loop-octet.octet-index octets passed) in
+    record { ok = search rules; value = search rules; short = search rules; long = search rules; digit = search rules }

@@ -1,7 +1,0 @@
--- Where a priority stands.
-use Rattle.std.specs.Prelude.{Option, Some, None}
-
--- a priority stands in a header with a TEID alone (TS 29.274 5.1)
-abbrev pub HasPlace : {X Y : Type 0} → Option X → Option Y → Type 0
-HasPlace None (Some priority) = ⊥
-HasPlace teid priority = Unit {0}
