@@ -7,4 +7,5 @@ pub mod Headers
 pub mod Spanned
 pub mod Messages
 pub mod Again
-pub mod Fronts
+pub mod Prefixes
+pub mod Same

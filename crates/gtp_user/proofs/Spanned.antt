@@ -52,10 +52,10 @@ stuck_decided end x xs h = known_err (faults.Element (end - length (x ∷ xs))) 
   one f ([], rest, spans, some, nothing, is) = is ∙ ap (λ (ys : List ℕ). faults.Element (end - length ys)) (sym spans)
   one f (e ∷ es, rest, (after, b, s), some, nothing, is) = absurd (stuck e after b)
 
--- behind an element the others decide
-behind_decided : (end : ℕ) (octets : List ℕ) (e : Element) (rest : List ℕ) (r : Result (List Element) UserFault) → 0 < length octets → element_at octets ≡ Some (found e rest)
+-- after an element the others decide
+rest_decided : (end : ℕ) (octets : List ℕ) (e : Element) (rest : List ℕ) (r : Result (List Element) UserFault) → 0 < length octets → element_at octets ≡ Some (found e rest)
     → Decides r (AreElements rest) (IsCut end rest) → Decides (r >>= λ es. Ok (e ∷ es)) (AreElements octets) (IsCut end octets)
-behind_decided end octets e rest r some h d =
+rest_decided end octets e rest r some h d =
     decide_as (r >>= λ es. Ok (e ∷ es)) (λ all. (es : List Element) × AreElements rest es × (all ≡ e ∷ es)) (AreElements octets) (IsCut end rest) (IsCut end octets) to_all from_all to_cut from_cut
     (decide_map r (λ es. e ∷ es) (AreElements rest) (IsCut end rest) d)
   where
@@ -82,7 +82,7 @@ by_front : (steps end x : ℕ) (xs : List ℕ) → length (x ∷ xs) ≤ suc ste
 by_front steps end x xs l others None h = stuck_decided end x xs h
 by_front steps end x xs l others (Some p) h =
     let s = begins_shorter (x ∷ xs) p.0 p.1 (element_begins (x ∷ xs) p.0 p.1 h) in
-    behind_decided end (x ∷ xs) p.0 p.1 (elements_in steps end p.1) (omega arith) h (others p.1 (omega (arith, s)))
+    rest_decided end (x ∷ xs) p.0 p.1 (elements_in steps end p.1) (omega arith) h (others p.1 (omega (arith, s)))
 
 in_decided : (steps end : ℕ) (octets : List ℕ) → length octets ≤ steps → Decides (elements_in steps end octets) (AreElements octets) (IsCut end octets)
 unfolding elements_in
