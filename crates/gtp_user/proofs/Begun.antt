@@ -1,4 +1,4 @@
--- Reading the element at the front decides which one begins the octets.
+-- Reading the element at the start of octets decides which one begins them.
 use Rattle.std.proofs.Common.{◌≡◌, ◌≢◌, ℕ, ◌+◌, ◌*◌, ◌<◌, ◌≤◌, Bool, true, false, cond, ltb, List, [], ◌∷◌, ◌++◌, length, take, drop, Option, Some, None, refl, sym, ap, subst, ◌∙◌, arith}
 use Rattle.std.specs.Prelude.{◌==◌, nat_lt}
 use Rattle.std.specs.Int.{w32, from_be_bytes}
@@ -8,24 +8,19 @@ use Rattle.std.proofs.lemmas.List.{take-append-drop, length-take, length-append,
 use Rattle.gtp_values.specs.declared.address.Ip.TheVariants as addresses
 use Rattle.gtp_user.specs.Element.{Element, Recovery, TeidData, Peer, Types, Skipped, BeginsElement}
 use Rattle.gtp_user.specs.Elements.{split, split_body, recovery_at, teid_at, types_of, types_at, address_of, with_rest, peer_of, skipped_of, element_at}
+use Rattle.gtp_user.proofs.Outcomes.{some_same, none_some}
 
 -- what a test chose
 if_some : {X : Type 0} (P : Type 0) (b : Bool) (r s : Option X) (x : X) → (b ≡ true → r ≡ Some x → P) → (b ≡ false → s ≡ Some x → P) → cond b r s ≡ Some x → P
 if_some P true r s x then_p else_p h = then_p refl h
 if_some P false r s x then_p else_p h = else_p refl h
 
-none_some : {X : Type 0} (x : X) → None ≡ Some x → ⊥
-none_some x h = cc
-
-some_is : {X : Type 0} (x y : X) → Some x ≡ Some y → x ≡ y
-some_is x y h = cc
-
 abbrev found : Element → List ℕ → Element × List ℕ
 found e rest = (e, rest)
 
 -- what begins the octets, found under another name
 as_found : (octets : List ℕ) (d e : Element) (after rest : List ℕ) → BeginsElement octets d after → Some (found d after) ≡ Some (found e rest) → BeginsElement octets e rest
-as_found octets d e after rest b h = subst (λ (p : Element × List ℕ). BeginsElement octets p.0 p.1) (some_is (found d after) (found e rest) h) b
+as_found octets d e after rest b h = subst (λ (p : Element × List ℕ). BeginsElement octets p.0 p.1) (some_same (found d after) (found e rest) h) b
 
 -- two parts of octets
 record AreParts (size : ℕ) (octets a b : List ℕ) : Type 0 where
@@ -39,7 +34,7 @@ split_parts : (size : ℕ) (octets a b : List ℕ) → split size octets ≡ Som
 split_parts size octets a b h =
     if_some (AreParts size octets a b) (ltb (length octets) size) None (Some (parts (take size octets) (drop size octets))) (parts a b) (λ t g. absurd (none_some (parts a b) g))
     (λ t g.
-    let e = some_is (parts (take size octets) (drop size octets)) (parts a b) g in
+    let e = some_same (parts (take size octets) (drop size octets)) (parts a b) g in
     let enough : size ≤ length octets = ltb-false _ _ t in
     subst (λ (p : List ℕ × List ℕ). AreParts size octets p.0 p.1) e (record { whole = sym (take-append-drop size octets); size_is = omega (arith, length-take size octets) })) h
 

@@ -9,6 +9,7 @@ use Rattle.gtp_values.specs.Steps.{◌>>=◌}
 use Rattle.gtp_values.specs.Decides.{Decides, First_or_later}
 use Rattle.gtp_user.specs.Chain.{Extension, BeginsExtension, Leads, IsChain, ExtensionFails, ChainFails, WholeChainFails, first_kind, chain_encoding, AreExtensions}
 use Rattle.gtp_user.specs.Walk.{Front, front_at, Chained, with_front, walk, chain_at, headers_of, rest_of, with_no_rest, whole_at}
+use Rattle.gtp_user.proofs.Outcomes.{some_same, ok_same, err_same, apart, decided_by}
 use Rattle.gtp_values.proofs.Decided.{bind_at, bind_at_err, decide_bind, decide_map, decide_as, known_ok, known_err}
 
 -- the header that a front is
@@ -104,22 +105,8 @@ sorted end kind [] k = inr (faults.ExtensionPast end, inl (refl, refl))
 sorted end kind (zero ∷ rest) k = inr (faults.ExtensionZero (end - length (zero ∷ rest)), inr (inl (rest, refl, refl)))
 sorted end kind (suc n ∷ rest) k = by_length end kind (suc n) rest k (omega arith) (nat_lt (length (suc n ∷ rest)) (4 * suc n)) refl
 
-read_same : (x y : Front) → read x ≡ Ok y → x ≡ y
-read_same x y h = cc
-
-refused_same : (f g : UserFault) → refused f ≡ Err g → f ≡ g
-refused_same f g h = cc
-
-read_apart : (x : Front) (f : UserFault) → read x ≡ Err f → ⊥
-read_apart x f h = cc
-
 front_decided : (end kind : ℕ) (octets : List ℕ) → 0 < kind → Decides (front_at end kind octets) (IsFront kind octets) (ExtensionFails end kind octets)
-front_decided end kind octets k = record {
-  ok = λ h e. elim (sorted end kind octets k) [ inl s ↦ subst (IsFront kind octets) (read_same s.0 h (sym (front_is end kind octets s.0 s.1) ∙ e)) s.1 | inr s ↦ absurd (read_apart h s.0 (sym e ∙ fault_is end kind octets s.0 s.1)) ];
-  is = λ h p. front_is end kind octets h p;
-  err = λ f e. elim (sorted end kind octets k) [ inl s ↦ absurd (read_apart s.0 f (sym (front_is end kind octets s.0 s.1) ∙ e)) | inr s ↦ subst (ExtensionFails end kind octets) (refused_same s.0 f (sym (fault_is end kind octets s.0 s.1) ∙ e)) s.1 ];
-  fails = λ f p. fault_is end kind octets f p;
-}
+front_decided end kind octets k = decided_by (front_at end kind octets) (IsFront kind octets) (ExtensionFails end kind octets) (sorted end kind octets k) (front_is end kind octets) (fault_is end kind octets)
 
 front_shorter : (kind : ℕ) (octets : List ℕ) (f : Front) → IsFront kind octets f → length f.rest < length octets
 front_shorter kind octets f (units, encoding, size, some, small) = omega (arith, ap length encoding, length-append f.content (f.next ∷ f.rest))
@@ -152,7 +139,7 @@ as_front kind octets e next rest same (units, encoding, size, some, small) = (un
 
 one_front : (end kind : ℕ) (octets : List ℕ) (f : Front) (e : Extension) (next : ℕ) (rest : List ℕ) → IsFront kind octets f → e.kind ≡ kind → BeginsExtension octets e next rest → front e.content next rest ≡ f
 one_front end kind octets f e next rest is same begins =
-    read_same (front e.content next rest) f (sym (front_is end kind octets (front e.content next rest) (as_front kind octets e next rest same begins)) ∙ front_is end kind octets f is)
+    ok_same UserFault (front e.content next rest) f (sym (front_is end kind octets (front e.content next rest) (as_front kind octets e next rest same begins)) ∙ front_is end kind octets f is)
 
 here_fails : (end kind next : ℕ) (octets rest : List ℕ) (g : UserFault) → kind ≡ next → octets ≡ rest → ExtensionFails end next rest g → front_at end kind octets ≡ Err g
 here_fails end kind next octets rest g k o fails = ap (λ (n : ℕ). front_at end n octets) k ∙ (ap (front_at end next) o ∙ fault_is end next rest g fails)
@@ -178,7 +165,7 @@ after_front end kind octets f r some is d =
     to_fails g (es, next, rest, leads, more, fails) = (header kind f ∷ es, next, rest, (f.next, f.rest, refl, is, leads), more, fails)
 
     from_fails : (g : UserFault) → ChainFails end kind octets g → ChainFails end f.next f.rest g
-    from_fails g ([], next, rest, leads, more, fails) = absurd (read_apart f g (sym (front_is end kind octets f is) ∙ here_fails end kind next octets rest g leads.0 leads.1 fails))
+    from_fails g ([], next, rest, leads, more, fails) = absurd (apart f g (sym (front_is end kind octets f is) ∙ here_fails end kind next octets rest g leads.0 leads.1 fails))
     from_fails g (e ∷ es, next, rest, (follows, after, same, begins, leads), more, fails) =
         let one = one_front end kind octets f e follows after is same begins in
         (es, next, rest, subst (λ (h : Front). Leads h.next h.rest es next rest) one leads, more, fails)
@@ -190,14 +177,14 @@ no_chain g = Err g
 stopped : (end kind : ℕ) (octets : List ℕ) (g : UserFault) → 0 < kind → ExtensionFails end kind octets g → Decides (no_chain g) (IsChained kind octets) (ChainFails end kind octets)
 stopped end kind octets g some fails = known_err g (IsChained kind octets) (ChainFails end kind octets) ([], kind, octets, (refl, refl), some, fails) (λ c p. none c.headers c.rest p) one where
   no_header : (e : Extension) (next : ℕ) (rest : List ℕ) → e.kind ≡ kind → BeginsExtension octets e next rest → ⊥
-  no_header e next rest same begins = read_apart (front e.content next rest) g (sym (front_is end kind octets (front e.content next rest) (as_front kind octets e next rest same begins)) ∙ fault_is end kind octets g fails)
+  no_header e next rest same begins = apart (front e.content next rest) g (sym (front_is end kind octets (front e.content next rest) (as_front kind octets e next rest same begins)) ∙ fault_is end kind octets g fails)
 
   none : (es : List Extension) (rest : List ℕ) → IsChain kind octets es rest → ⊥
   none [] rest p = omega (arith, p.0)
   none (e ∷ es) rest (follows, after, same, begins, leads) = no_header e follows after same begins
 
   one : (h : UserFault) → ChainFails end kind octets h → h ≡ g
-  one h ([], next, rest, leads, more, other) = refused_same h g (sym (here_fails end kind next octets rest h leads.0 leads.1 other) ∙ fault_is end kind octets g fails)
+  one h ([], next, rest, leads, more, other) = err_same Front h g (sym (here_fails end kind next octets rest h leads.0 leads.1 other) ∙ fault_is end kind octets g fails)
   one h (e ∷ es, next, rest, (follows, after, same, begins, leads), more, other) = absurd (no_header e follows after same begins)
 
 -- a header and then the others
@@ -322,9 +309,7 @@ pub record IsWhole (first : ℕ) (octets : List ℕ) (es : List Extension) : Typ
   pub extensions : AreExtensions es
 
 rest_is : (r : Result Chained UserFault) → rest_of r ≡ Some [] → r ≡ Ok (chained (headers_of r) [])
-rest_is (Ok c) h = ap (λ (xs : List ℕ). Ok (chained c.headers xs)) (some_same h) where
-  some_same : Some c.rest ≡ Some [] → c.rest ≡ []
-  some_same h = cc
+rest_is (Ok c) h = ap (λ (xs : List ℕ). Ok (chained c.headers xs)) (some_same c.rest [] h)
 rest_is (Err f) h = absurd cc
 
 pub whole_chain : (first : ℕ) (octets : List ℕ) → rest_of (chain_at (length octets) first octets) ≡ Some [] → IsChain first octets (headers_of (chain_at (length octets) first octets)) []
@@ -375,10 +360,7 @@ whole_next first octets f h some found = by_headers (headers_of (chain_at (lengt
 -- and there is one
 pub whole_begins : (first : ℕ) (octets : List ℕ) (g : UserFault) → rest_of (chain_at (length octets) first octets) ≡ Some [] → 0 < first → front_at (length octets) first octets ≡ Err g → ⊥
 whole_begins first octets g h some found =
-    ok_apart (chained (headers_of (chain_at (length octets) first octets)) []) g (sym (rest_is (chain_at (length octets) first octets) h) ∙ (chain_decided (length octets) first octets).fails g ([], first, octets, (refl, refl), some, (front_decided (length octets) first octets some).err g found))
-  where
-    ok_apart : (c : Chained) (g : UserFault) → (let r : Result Chained UserFault = Ok c in r ≡ Err g) → ⊥
-    ok_apart c g h = cc
+    apart (chained (headers_of (chain_at (length octets) first octets)) []) g (sym (rest_is (chain_at (length octets) first octets) h) ∙ (chain_decided (length octets) first octets).fails g ([], first, octets, (refl, refl), some, (front_decided (length octets) first octets some).err g found))
 
 -- ---- a chain and nothing else
 

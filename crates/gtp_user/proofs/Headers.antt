@@ -9,6 +9,7 @@ use Rattle.gtp_user.specs.declared.fault.UserFault.TheVariants as faults
 use Rattle.gtp_values.specs.Decides.{Decides}
 use Rattle.gtp_user.specs.Headed.{Headed, where_set, header_at, after_flags}
 use Rattle.gtp_user.specs.Header.{Flags, bit, bits, Opens, HeadedPlain, HeadedByFlags, IsHeaded, HeaderFails}
+use Rattle.gtp_user.proofs.Outcomes.{decided_by}
 
 -- ---- bits
 
@@ -258,20 +259,6 @@ headed_is : (octets : List ℕ) (h : Headed) → IsHeaded octets h → header_at
 headed_is octets h (inl p) = plain_is octets h p
 headed_is octets h (inr p) = flags_headed octets h p
 
-ok_is : (x y : Headed) → header_read x ≡ Ok y → x ≡ y
-ok_is x y h = cc
-
-err_is : (f g : UserFault) → header_refused f ≡ Err g → f ≡ g
-err_is f g h = cc
-
-apart : (x : Headed) (f : UserFault) → header_read x ≡ Err f → ⊥
-apart x f h = cc
-
 -- reading a header decides its form
 pub header_decided : (octets : List ℕ) → Decides (header_at octets) (IsHeaded octets) (HeaderFails octets)
-header_decided octets = record {
-  ok = λ h e. elim (sorted octets) [ inl s ↦ subst (IsHeaded octets) (ok_is s.0 h (sym (headed_is octets s.0 s.1) ∙ e)) s.1 | inr s ↦ absurd (apart h s.0 (sym e ∙ fault_is octets s.0 s.1)) ];
-  is = λ h p. headed_is octets h p;
-  err = λ f e. elim (sorted octets) [ inl s ↦ absurd (apart s.0 f (sym (headed_is octets s.0 s.1) ∙ e)) | inr s ↦ subst (HeaderFails octets) (err_is s.0 f (sym (fault_is octets s.0 s.1) ∙ e)) s.1 ];
-  fails = λ f p. fault_is octets f p;
-}
+header_decided octets = decided_by (header_at octets) (IsHeaded octets) (HeaderFails octets) (sorted octets) (headed_is octets) (fault_is octets)

@@ -1,4 +1,5 @@
 pub mod Appends
+pub mod Outcomes
 pub mod Begun
 pub mod Gathers
 pub mod Chains

@@ -21,23 +21,15 @@ use Rattle.gtp_values.proofs.Decided.{decide_bind, decide_map, decide_ok, decide
 use Rattle.gtp_user.proofs.Headers.{header_decided}
 use Rattle.gtp_user.proofs.Chains.{IsChained, chain_decided}
 use Rattle.gtp_user.proofs.Spanned.{elements_decided}
+use Rattle.gtp_user.proofs.Outcomes.{some_same, none_some}
 
 -- ---- elements that a message must have
 
 abbrev IsAbsent : {X : Type 0} → ℕ → Option X → UserFault → Type 0
 IsAbsent kind o f = (o ≡ None) × (f ≡ faults.Missing kind)
 
-some_same : {X : Type 0} (x y : X) → Some x ≡ Some y → y ≡ x
-some_same x y h = cc
-
-some_none : {X : Type 0} (x : X) → Some x ≡ None → ⊥
-some_none x h = cc
-
-none_some : {X : Type 0} (x : X) → None ≡ Some x → ⊥
-none_some x h = cc
-
 needed_decided : {X : Type 0} (kind : ℕ) (o : Option X) → Decides (needed kind o) (λ x. o ≡ Some x) (IsAbsent kind o)
-needed_decided kind (Some x) = known_ok x (λ y. Some x ≡ Some y) (IsAbsent kind (Some x)) refl (λ y h. some_same x y h) (λ f h. some_none x h.0)
+needed_decided kind (Some x) = known_ok x (λ y. Some x ≡ Some y) (IsAbsent kind (Some x)) refl (λ y h. sym (some_same x y h)) (λ f h. none_some x (sym h.0))
 needed_decided kind None = known_err (faults.Missing kind) (λ y. None ≡ Some y) (IsAbsent kind None) (refl, refl) (λ y h. none_some y h) (λ f h. h.1)
 
 -- elements, and then what they must have

@@ -8,6 +8,7 @@ use Rattle.gtp_user.specs.Element.{Element, BeginsElement, Spans, AreElements, I
 use Rattle.gtp_user.specs.Elements.{element_at, go_on, elements_in, elements_at}
 use Rattle.gtp_user.proofs.Begun.{element_begins, begins_element, begins_shorter}
 use Rattle.gtp_values.proofs.Decided.{decide_map, decide_as, known_ok, known_err}
+use Rattle.gtp_user.proofs.Outcomes.{some_same, none_some}
 
 abbrev whole_so_far : List Element → Result (List Element) UserFault
 whole_so_far es = Ok es
@@ -15,17 +16,11 @@ whole_so_far es = Ok es
 abbrev cut : UserFault → Result (List Element) UserFault
 cut f = Err f
 
-none_some : {X : Type 0} (x : X) → None ≡ Some x → ⊥
-none_some x h = cc
-
-some_is : (p q : Element × List ℕ) → Some p ≡ Some q → p ≡ q
-some_is p q h = cc
-
 abbrev found : Element → List ℕ → Element × List ℕ
 found e rest = (e, rest)
 
 begin_alike : (octets : List ℕ) (e d : Element) (rest after : List ℕ) → element_at octets ≡ Some (found e rest) → BeginsElement octets d after → found d after ≡ found e rest
-begin_alike octets e d rest after h b = some_is (found d after) (found e rest) (sym (begins_element octets d after b) ∙ h)
+begin_alike octets e d rest after h b = some_same (found d after) (found e rest) (sym (begins_element octets d after b) ∙ h)
 
 -- no octets are no elements
 empty_decided : (end : ℕ) → Decides (whole_so_far []) (AreElements []) (IsCut end [])
