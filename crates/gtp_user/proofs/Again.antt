@@ -14,6 +14,7 @@ use Rattle.gtp_user.specs.Message.{Content, EchoRequest, EchoResponse, ErrorIndi
 use Rattle.gtp_user.specs.Datagram.{Carries, IsUserMessage}
 use Rattle.gtp_values.specs.Numbers.{two, four}
 use Rattle.gtp_user.specs.Encoding.{kind_of, teid_of, HasAddressSize, address_encoding, content_encoding, options_encoding, encoding, IsEncodableBy, IsInRange, Meets}
+use Rattle.gtp_user.proofs.Headers.{headed}
 use Rattle.gtp_user.proofs.Chains.{encoding_chained}
 
 -- ---- the header
@@ -45,9 +46,6 @@ options_with none seq npdu first = cond (bits (flags_with none seq npdu) == 0) [
 abbrev headed_encoding : Bool → ℕ → ℕ → Option ℕ → Option ℕ → ℕ → List ℕ → List ℕ
 headed_encoding none kind teid seq npdu first rest =
     (48 + bits (flags_with none seq npdu)) ∷ kind ∷ two (length (options_with none seq npdu first ++ rest)) (four teid (options_with none seq npdu first ++ rest))
-
-abbrev headed : ℕ → ℕ → Option ℕ → Option ℕ → ℕ → List ℕ → Headed
-headed kind teid seq npdu first rest = record { kind = kind; teid = teid; seq = seq; npdu = npdu; first = first; rest = rest }
 
 two_again : (n : ℕ) → n < 2 ^ 16 → Some n ≡ Some (256 * ((n / 256) % 256) + n % 256)
 two_again n lt = ap (λ (k : ℕ). Some k) (omega arith)

@@ -15,7 +15,7 @@ if_some : {X : Type 0} (P : Type 0) (b : Bool) (r s : Option X) (x : X) → (b �
 if_some P true r s x then_p else_p h = then_p refl h
 if_some P false r s x then_p else_p h = else_p refl h
 
-abbrev found : Element → List ℕ → Element × List ℕ
+abbrev pub found : Element → List ℕ → Element × List ℕ
 found e rest = (e, rest)
 
 -- what begins the octets, found under another name

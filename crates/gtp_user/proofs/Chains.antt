@@ -117,7 +117,7 @@ front_shorter kind octets f (units, encoding, size, some, small) = omega (arith,
 abbrev pub IsChained : ℕ → List ℕ → Chained → Type 0
 IsChained kind octets c = IsChain kind octets c.headers c.rest
 
-abbrev chained : List Extension → List ℕ → Chained
+abbrev pub chained : List Extension → List ℕ → Chained
 chained headers rest = record { headers = headers; rest = rest }
 
 -- type 0 ends it

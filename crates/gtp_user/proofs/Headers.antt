@@ -74,7 +74,7 @@ begins first kind high low a b c d tail = first ∷ kind ∷ high ∷ low ∷ a 
 abbrev plain : ℕ → ℕ → List ℕ → Headed
 plain kind teid rest = record { kind = kind; teid = teid; seq = None; npdu = None; first = 0; rest = rest }
 
-abbrev headed : ℕ → ℕ → Option ℕ → Option ℕ → ℕ → List ℕ → Headed
+abbrev pub headed : ℕ → ℕ → Option ℕ → Option ℕ → ℕ → List ℕ → Headed
 headed kind teid seq npdu first rest = record { kind = kind; teid = teid; seq = seq; npdu = npdu; first = first; rest = rest }
 
 abbrev header_read : Headed → Result Headed UserFault

@@ -19,7 +19,7 @@ use Rattle.gtp_user.specs.Reading.{needed, echo_response, error_indication, noti
 use Rattle.gtp_user.specs.Datagram.{Carries, Lacks, CarriesNone, IsUserMessage, FailsAfterHeader, IsUserFault}
 use Rattle.gtp_values.proofs.Decided.{decide_bind, decide_map, decide_ok, decide_as, known_ok, known_err}
 use Rattle.gtp_user.proofs.Headers.{header_decided}
-use Rattle.gtp_user.proofs.Chains.{IsChained, chain_decided}
+use Rattle.gtp_user.proofs.Chains.{IsChained, chained, chain_decided}
 use Rattle.gtp_user.proofs.Spanned.{elements_decided}
 use Rattle.gtp_user.proofs.Outcomes.{some_same, none_some}
 
@@ -254,9 +254,6 @@ body_decided end kind teid octets =
     (decide_kind kind 1 (said EchoRequest) (read2 end kind teid octets) (λ c. c ≡ EchoRequest) (Is2 kind teid octets) Never (Fails2 end kind octets) (decide_ok {E = UserFault} EchoRequest) (read2_decided end kind teid octets))
 
 -- ---- the whole datagram
-
-abbrev chained : List Extension → List ℕ → Chained
-chained headers rest = record { headers = headers; rest = rest }
 
 abbrev message_by : Option ℕ → Option ℕ → List Extension → Content → MessageValue
 message_by seq npdu ext content = record { seq = seq; npdu = npdu; ext = ext; content = content }

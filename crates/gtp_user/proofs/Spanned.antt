@@ -6,7 +6,7 @@ use Rattle.gtp_values.specs.Steps.{◌>>=◌}
 use Rattle.gtp_values.specs.Decides.{Decides}
 use Rattle.gtp_user.specs.Element.{Element, BeginsElement, Spans, AreElements, IsCut}
 use Rattle.gtp_user.specs.Elements.{element_at, go_on, elements_in, elements_at}
-use Rattle.gtp_user.proofs.Begun.{element_begins, begins_element, begins_shorter}
+use Rattle.gtp_user.proofs.Begun.{found, element_begins, begins_element, begins_shorter}
 use Rattle.gtp_values.proofs.Decided.{decide_map, decide_as, known_ok, known_err}
 use Rattle.gtp_user.proofs.Outcomes.{some_same, none_some}
 
@@ -15,9 +15,6 @@ whole_so_far es = Ok es
 
 abbrev cut : UserFault → Result (List Element) UserFault
 cut f = Err f
-
-abbrev found : Element → List ℕ → Element × List ℕ
-found e rest = (e, rest)
 
 begin_alike : (octets : List ℕ) (e d : Element) (rest after : List ℕ) → element_at octets ≡ Some (found e rest) → BeginsElement octets d after → found d after ≡ found e rest
 begin_alike octets e d rest after h b = some_same (found d after) (found e rest) (sym (begins_element octets d after b) ∙ h)

@@ -1,4 +1,5 @@
-//! Datagrams whose octets and readings come from outside.
+//! Datagrams whose octets and readings come from outside. Those of examples/datagrams/user stand there
+//! with their clauses.
 
 use super::*;
 use std::alloc::Global;
