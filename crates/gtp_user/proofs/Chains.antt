@@ -7,8 +7,9 @@ use Rattle.gtp_user.specs.declared.fault.UserFault.{UserFault}
 use Rattle.gtp_user.specs.declared.fault.UserFault.TheVariants as faults
 use Rattle.gtp_values.specs.Steps.{◌>>=◌}
 use Rattle.gtp_values.specs.Decides.{Decides, First_or_later}
-use Rattle.gtp_user.specs.Chain.{Extension, BeginsExtension, Leads, IsChain, ExtensionFails, ChainFails, WholeChainFails, first_kind, chain_text, AreExtensions}
+use Rattle.gtp_user.specs.Chain.{Extension, BeginsExtension, Leads, IsChain, ExtensionFails, ChainFails, WholeChainFails, first_kind, chain_encoding, AreExtensions}
 use Rattle.gtp_user.specs.Walk.{Front, front_at, Chained, with_front, walk, chain_at, headers_of, rest_of, with_no_rest, whole_at}
+use Rattle.gtp_user.proofs.Outcomes.{some_same, ok_same, err_same, apart, decided_by}
 use Rattle.gtp_values.proofs.Decided.{bind_at, bind_at_err, decide_bind, decide_map, decide_as, known_ok, known_err}
 
 -- the header that a front is
@@ -54,33 +55,33 @@ parts_at content next rest size h =
 
 -- each header is read as itself
 front_is : (end kind : ℕ) (octets : List ℕ) (f : Front) → IsFront kind octets f → front_at end kind octets ≡ Ok f
-front_is end kind octets f (units, text, size, some, small) =
+front_is end kind octets f (units, encoding, size, some, small) =
     let n : ℕ = 4 * units - 2 in
     let length_is : length f.content ≡ 4 * units - 2 = omega arith in
     let not_zero : (units == 0) ≡ false = grind (arith, nat_tests) in
     let enough : nat_le (length (f.content ++ f.next ∷ f.rest)) (4 * units - 2) ≡ false = long_enough (length (f.content ++ f.next ∷ f.rest)) (4 * units - 2) (omega (arith, length-append f.content (f.next ∷ f.rest))) in
     let known : nat_lt kind 128 ≡ true = grind (arith, nat_tests) in
-    ap (front_at end kind) text ∙ rw (not_zero, enough, known) (ap read (parts_at f.content f.next f.rest (4 * units - 2) length_is))
+    ap (front_at end kind) encoding ∙ rw (not_zero, enough, known) (ap read (parts_at f.content f.next f.rest (4 * units - 2) length_is))
   where
     long_enough : (a b : ℕ) → b < a → nat_le a b ≡ false
     long_enough a b h = grind (arith, nat_tests)
 
 -- and each fault as itself
 fault_is : (end kind : ℕ) (octets : List ℕ) (f : UserFault) → ExtensionFails end kind octets f → front_at end kind octets ≡ Err f
-fault_is end kind octets f (inl (text, e)) = ap (front_at end kind) text ∙ ap refused (sym e)
-fault_is end kind octets f (inr (inl (rest, text, e))) = ap (front_at end kind) text ∙ ap refused (ap (λ (xs : List ℕ). faults.ExtensionZero (end - length xs)) (sym text) ∙ sym e)
-fault_is end kind octets f (inr (inr (inl (units, rest, text, some, lt, e)))) =
+fault_is end kind octets f (inl (encoding, e)) = ap (front_at end kind) encoding ∙ ap refused (sym e)
+fault_is end kind octets f (inr (inl (rest, encoding, e))) = ap (front_at end kind) encoding ∙ ap refused (ap (λ (xs : List ℕ). faults.ExtensionZero (end - length xs)) (sym encoding) ∙ sym e)
+fault_is end kind octets f (inr (inr (inl (units, rest, encoding, some, lt, e)))) =
     let not_zero : (units == 0) ≡ false = grind (arith, nat_tests) in
-    let short : nat_le (length rest) (4 * units - 2) ≡ true = too_short (length rest) units (omega (arith, ap length text)) in
-    ap (front_at end kind) text ∙ rw (not_zero, short) (ap refused (ap (λ (xs : List ℕ). faults.ExtensionPast (end - length xs)) (sym text) ∙ sym e))
+    let short : nat_le (length rest) (4 * units - 2) ≡ true = too_short (length rest) units (omega (arith, ap length encoding)) in
+    ap (front_at end kind) encoding ∙ rw (not_zero, short) (ap refused (ap (λ (xs : List ℕ). faults.ExtensionPast (end - length xs)) (sym encoding) ∙ sym e))
   where
     too_short : (n units : ℕ) → n + 1 < 4 * units → nat_le n (4 * units - 2) ≡ true
     too_short n units h = grind (arith, nat_tests)
-fault_is end kind octets f (inr (inr (inr (units, rest, text, some, le, high, e)))) =
+fault_is end kind octets f (inr (inr (inr (units, rest, encoding, some, le, high, e)))) =
     let not_zero : (units == 0) ≡ false = grind (arith, nat_tests) in
-    let enough : nat_le (length rest) (4 * units - 2) ≡ false = long_enough (length rest) units (omega (arith, ap length text)) some in
+    let enough : nat_le (length rest) (4 * units - 2) ≡ false = long_enough (length rest) units (omega (arith, ap length encoding)) some in
     let unknown : nat_lt kind 128 ≡ false = grind (arith, nat_tests) in
-    ap (front_at end kind) text ∙ rw (not_zero, enough, unknown) (ap refused (sym e))
+    ap (front_at end kind) encoding ∙ rw (not_zero, enough, unknown) (ap refused (sym e))
   where
     long_enough : (n units : ℕ) → 4 * units ≤ n + 1 → 0 < units → nat_le n (4 * units - 2) ≡ false
     long_enough n units h s = grind (arith, nat_tests)
@@ -104,25 +105,11 @@ sorted end kind [] k = inr (faults.ExtensionPast end, inl (refl, refl))
 sorted end kind (zero ∷ rest) k = inr (faults.ExtensionZero (end - length (zero ∷ rest)), inr (inl (rest, refl, refl)))
 sorted end kind (suc n ∷ rest) k = by_length end kind (suc n) rest k (omega arith) (nat_lt (length (suc n ∷ rest)) (4 * suc n)) refl
 
-read_same : (x y : Front) → read x ≡ Ok y → x ≡ y
-read_same x y h = cc
-
-refused_same : (f g : UserFault) → refused f ≡ Err g → f ≡ g
-refused_same f g h = cc
-
-read_apart : (x : Front) (f : UserFault) → read x ≡ Err f → ⊥
-read_apart x f h = cc
-
 front_decided : (end kind : ℕ) (octets : List ℕ) → 0 < kind → Decides (front_at end kind octets) (IsFront kind octets) (ExtensionFails end kind octets)
-front_decided end kind octets k = record {
-  ok = λ h e. elim (sorted end kind octets k) [ inl s ↦ subst (IsFront kind octets) (read_same s.0 h (sym (front_is end kind octets s.0 s.1) ∙ e)) s.1 | inr s ↦ absurd (read_apart h s.0 (sym e ∙ fault_is end kind octets s.0 s.1)) ];
-  is = λ h p. front_is end kind octets h p;
-  err = λ f e. elim (sorted end kind octets k) [ inl s ↦ absurd (read_apart s.0 f (sym (front_is end kind octets s.0 s.1) ∙ e)) | inr s ↦ subst (ExtensionFails end kind octets) (refused_same s.0 f (sym (fault_is end kind octets s.0 s.1) ∙ e)) s.1 ];
-  fails = λ f p. fault_is end kind octets f p;
-}
+front_decided end kind octets k = decided_by (front_at end kind octets) (IsFront kind octets) (ExtensionFails end kind octets) (sorted end kind octets k) (front_is end kind octets) (fault_is end kind octets)
 
 front_shorter : (kind : ℕ) (octets : List ℕ) (f : Front) → IsFront kind octets f → length f.rest < length octets
-front_shorter kind octets f (units, text, size, some, small) = omega (arith, ap length text, length-append f.content (f.next ∷ f.rest))
+front_shorter kind octets f (units, encoding, size, some, small) = omega (arith, ap length encoding, length-append f.content (f.next ∷ f.rest))
 
 -- ---- a chain
 
@@ -130,7 +117,7 @@ front_shorter kind octets f (units, text, size, some, small) = omega (arith, ap 
 abbrev pub IsChained : ℕ → List ℕ → Chained → Type 0
 IsChained kind octets c = IsChain kind octets c.headers c.rest
 
-abbrev chained : List Extension → List ℕ → Chained
+abbrev pub chained : List Extension → List ℕ → Chained
 chained headers rest = record { headers = headers; rest = rest }
 
 -- type 0 ends it
@@ -148,19 +135,19 @@ ended end octets = known_ok (chained [] octets) (IsChained 0 octets) (ChainFails
 
 -- the front that a header is
 as_front : (kind : ℕ) (octets : List ℕ) (e : Extension) (next : ℕ) (rest : List ℕ) → e.kind ≡ kind → BeginsExtension octets e next rest → IsFront kind octets (front e.content next rest)
-as_front kind octets e next rest same (units, text, size, some, small) = (units, text, size, subst (λ (k : ℕ). 0 < k) same some, subst (λ (k : ℕ). k < 128) same small)
+as_front kind octets e next rest same (units, encoding, size, some, small) = (units, encoding, size, subst (λ (k : ℕ). 0 < k) same some, subst (λ (k : ℕ). k < 128) same small)
 
 one_front : (end kind : ℕ) (octets : List ℕ) (f : Front) (e : Extension) (next : ℕ) (rest : List ℕ) → IsFront kind octets f → e.kind ≡ kind → BeginsExtension octets e next rest → front e.content next rest ≡ f
 one_front end kind octets f e next rest is same begins =
-    read_same (front e.content next rest) f (sym (front_is end kind octets (front e.content next rest) (as_front kind octets e next rest same begins)) ∙ front_is end kind octets f is)
+    ok_same UserFault (front e.content next rest) f (sym (front_is end kind octets (front e.content next rest) (as_front kind octets e next rest same begins)) ∙ front_is end kind octets f is)
 
 here_fails : (end kind next : ℕ) (octets rest : List ℕ) (g : UserFault) → kind ≡ next → octets ≡ rest → ExtensionFails end next rest g → front_at end kind octets ≡ Err g
 here_fails end kind next octets rest g k o fails = ap (λ (n : ℕ). front_at end n octets) k ∙ (ap (front_at end next) o ∙ fault_is end next rest g fails)
 
--- behind a header the others decide
-behind_front : (end kind : ℕ) (octets : List ℕ) (f : Front) (r : Result Chained UserFault) → 0 < kind → IsFront kind octets f → Decides r (IsChained f.next f.rest) (ChainFails end f.next f.rest)
+-- after a header the others decide
+after_front : (end kind : ℕ) (octets : List ℕ) (f : Front) (r : Result Chained UserFault) → 0 < kind → IsFront kind octets f → Decides r (IsChained f.next f.rest) (ChainFails end f.next f.rest)
     → Decides (r >>= λ c. Ok (with_front kind f c)) (IsChained kind octets) (ChainFails end kind octets)
-behind_front end kind octets f r some is d =
+after_front end kind octets f r some is d =
     decide_as (r >>= λ c. Ok (with_front kind f c)) (λ y. (c : Chained) × IsChained f.next f.rest c × (y ≡ with_front kind f c)) (IsChained kind octets) (ChainFails end f.next f.rest) (ChainFails end kind octets)
     to_chain (λ y p. from_chain y.headers y.rest p) to_fails from_fails
     (decide_map r (with_front kind f) (IsChained f.next f.rest) (ChainFails end f.next f.rest) d)
@@ -178,7 +165,7 @@ behind_front end kind octets f r some is d =
     to_fails g (es, next, rest, leads, more, fails) = (header kind f ∷ es, next, rest, (f.next, f.rest, refl, is, leads), more, fails)
 
     from_fails : (g : UserFault) → ChainFails end kind octets g → ChainFails end f.next f.rest g
-    from_fails g ([], next, rest, leads, more, fails) = absurd (read_apart f g (sym (front_is end kind octets f is) ∙ here_fails end kind next octets rest g leads.0 leads.1 fails))
+    from_fails g ([], next, rest, leads, more, fails) = absurd (apart f g (sym (front_is end kind octets f is) ∙ here_fails end kind next octets rest g leads.0 leads.1 fails))
     from_fails g (e ∷ es, next, rest, (follows, after, same, begins, leads), more, fails) =
         let one = one_front end kind octets f e follows after is same begins in
         (es, next, rest, subst (λ (h : Front). Leads h.next h.rest es next rest) one leads, more, fails)
@@ -190,24 +177,24 @@ no_chain g = Err g
 stopped : (end kind : ℕ) (octets : List ℕ) (g : UserFault) → 0 < kind → ExtensionFails end kind octets g → Decides (no_chain g) (IsChained kind octets) (ChainFails end kind octets)
 stopped end kind octets g some fails = known_err g (IsChained kind octets) (ChainFails end kind octets) ([], kind, octets, (refl, refl), some, fails) (λ c p. none c.headers c.rest p) one where
   no_header : (e : Extension) (next : ℕ) (rest : List ℕ) → e.kind ≡ kind → BeginsExtension octets e next rest → ⊥
-  no_header e next rest same begins = read_apart (front e.content next rest) g (sym (front_is end kind octets (front e.content next rest) (as_front kind octets e next rest same begins)) ∙ fault_is end kind octets g fails)
+  no_header e next rest same begins = apart (front e.content next rest) g (sym (front_is end kind octets (front e.content next rest) (as_front kind octets e next rest same begins)) ∙ fault_is end kind octets g fails)
 
   none : (es : List Extension) (rest : List ℕ) → IsChain kind octets es rest → ⊥
   none [] rest p = omega (arith, p.0)
   none (e ∷ es) rest (follows, after, same, begins, leads) = no_header e follows after same begins
 
   one : (h : UserFault) → ChainFails end kind octets h → h ≡ g
-  one h ([], next, rest, leads, more, other) = refused_same h g (sym (here_fails end kind next octets rest h leads.0 leads.1 other) ∙ fault_is end kind octets g fails)
+  one h ([], next, rest, leads, more, other) = err_same Front h g (sym (here_fails end kind next octets rest h leads.0 leads.1 other) ∙ fault_is end kind octets g fails)
   one h (e ∷ es, next, rest, (follows, after, same, begins, leads), more, other) = absurd (no_header e follows after same begins)
 
 -- a header and then the others
-behind_decided : (end kind : ℕ) (octets : List ℕ) (k : Front → Result Chained UserFault) → 0 < kind → ((f : Front) → IsFront kind octets f → Decides (k f) (IsChained f.next f.rest) (ChainFails end f.next f.rest))
+rest_decided : (end kind : ℕ) (octets : List ℕ) (k : Front → Result Chained UserFault) → 0 < kind → ((f : Front) → IsFront kind octets f → Decides (k f) (IsChained f.next f.rest) (ChainFails end f.next f.rest))
     → Decides (front_at end kind octets >>= λ f. k f >>= λ c. Ok (with_front kind f c)) (IsChained kind octets) (ChainFails end kind octets)
-behind_decided end kind octets k some others = by_front (sorted end kind octets some) where
+rest_decided end kind octets k some others = by_front (sorted end kind octets some) where
   by_front : Sorted end kind octets → Decides (front_at end kind octets >>= λ f. k f >>= λ c. Ok (with_front kind f c)) (IsChained kind octets) (ChainFails end kind octets)
   by_front (inl (f, is)) =
       subst (λ r. Decides r (IsChained kind octets) (ChainFails end kind octets)) (sym (bind_at (front_at end kind octets) (λ f. k f >>= λ c. Ok (with_front kind f c)) f (front_is end kind octets f is)))
-      (behind_front end kind octets f (k f) some is (others f is))
+      (after_front end kind octets f (k f) some is (others f is))
   by_front (inr (g, fails)) =
       subst (λ r. Decides r (IsChained kind octets) (ChainFails end kind octets)) (sym (bind_at_err (front_at end kind octets) (λ f. k f >>= λ c. Ok (with_front kind f c)) g (fault_is end kind octets g fails)))
       (stopped end kind octets g some fails)
@@ -230,50 +217,50 @@ walk_decided zero end (suc k) [] l =
 walk_decided zero end (suc k) (x ∷ xs) l = absurd (omega arith)
 walk_decided (suc steps) end (suc k) octets l =
     subst (λ (b : Bool). Decides (cond b (no_headers octets) (front_at end (suc k) octets >>= λ f. walk steps end f.next f.rest >>= λ c. Ok (with_front (suc k) f c))) (IsChained (suc k) octets) (ChainFails end (suc k) octets)) (not_zero k)
-    (behind_decided end (suc k) octets (λ f. walk steps end f.next f.rest) (omega arith) (λ f is. walk_decided steps end f.next f.rest (omega (arith, front_shorter (suc k) octets f is))))
+    (rest_decided end (suc k) octets (λ f. walk steps end f.next f.rest) (omega arith) (λ f is. walk_decided steps end f.next f.rest (omega (arith, front_shorter (suc k) octets f is))))
 
 -- reading a chain decides which headers it has
 pub chain_decided : (end kind : ℕ) (octets : List ℕ) → Decides (chain_at end kind octets) (IsChained kind octets) (ChainFails end kind octets)
 unfolding chain_at
 chain_decided end kind octets = walk_decided (length octets) end kind octets (omega arith)
 
--- ---- the text of a chain
+-- ---- the encoding of a chain
 
--- a chain behind headers more
+-- a chain with one more header
 pub leads_on : (kind : ℕ) (octets : List ℕ) (es : List Extension) (next : ℕ) (rest : List ℕ) (e : Extension) (follows : ℕ) (after : List ℕ) → Leads kind octets es next rest → e.kind ≡ next → BeginsExtension rest e follows after
     → Leads kind octets (es ++ e ∷ []) follows after
 leads_on kind octets [] next rest e follows after leads same begins = (follows, after, same ∙ sym leads.0, subst (λ (xs : List ℕ). BeginsExtension xs e follows after) (sym leads.1) begins, (refl, refl))
 leads_on kind octets (d ∷ es) next rest e follows after (n, xs, k, b, leads) same begins = (n, xs, k, b, leads_on n xs es next rest e follows after leads same begins)
 
--- the octets of a chain are its text, and then the rest
+-- the octets of a chain are its encoding, and then the rest
 pub record IsSpelled (kind : ℕ) (octets : List ℕ) (es : List Extension) (rest : List ℕ) : Type 0 where
   pub first : kind ≡ first_kind es
-  pub text : octets ≡ chain_text es ++ rest
+  pub encoding : octets ≡ chain_encoding es ++ rest
 
 pub chain_spelled : (kind : ℕ) (octets : List ℕ) (es : List Extension) (rest : List ℕ) → IsChain kind octets es rest → IsSpelled kind octets es rest
-chain_spelled kind octets [] rest h = record { first = h.0; text = h.1 }
-chain_spelled kind octets (e ∷ es) rest (follows, after, same, (units, text, size, some, small), leads) =
+chain_spelled kind octets [] rest h = record { first = h.0; encoding = h.1 }
+chain_spelled kind octets (e ∷ es) rest (follows, after, same, (units, encoding, size, some, small), leads) =
     let others = chain_spelled follows after es rest leads in
     let units_is : units ≡ (2 + length e.content) / 4 = omega arith in
     record {
       first = sym same;
-      text =
-          text ∙ (ap (λ (n : ℕ). n ∷ (e.content ++ follows ∷ after)) units_is
+      encoding =
+          encoding ∙ (ap (λ (n : ℕ). n ∷ (e.content ++ follows ∷ after)) units_is
           ∙ (ap (λ (n : ℕ). ((2 + length e.content) / 4) ∷ (e.content ++ n ∷ after)) others.first
-          ∙ (ap (λ (xs : List ℕ). ((2 + length e.content) / 4) ∷ (e.content ++ first_kind es ∷ xs)) others.text
-          ∙ ap (λ (xs : List ℕ). ((2 + length e.content) / 4) ∷ xs) (sym (append_assoc e.content (first_kind es ∷ chain_text es) rest)))));
+          ∙ (ap (λ (xs : List ℕ). ((2 + length e.content) / 4) ∷ (e.content ++ first_kind es ∷ xs)) others.encoding
+          ∙ ap (λ (xs : List ℕ). ((2 + length e.content) / 4) ∷ xs) (sym (append_assoc e.content (first_kind es ∷ chain_encoding es) rest)))));
     }
 
 -- each of them can be written
 pub chain_extensions : (kind : ℕ) (octets : List ℕ) (es : List Extension) (rest : List ℕ) → IsChain kind octets es rest → AreExtensions es
 chain_extensions kind octets [] rest h = tt
-chain_extensions kind octets (e ∷ es) rest (follows, after, same, (units, text, size, some, small), leads) = ((some, small, (units, size)), chain_extensions follows after es rest leads)
+chain_extensions kind octets (e ∷ es) rest (follows, after, same, (units, encoding, size, some, small), leads) = ((some, small, (units, size)), chain_extensions follows after es rest leads)
 
--- the text of headers is their chain
-pub text_chained : (es : List Extension) (rest : List ℕ) → AreExtensions es → IsChain (first_kind es) (chain_text es ++ rest) es rest
-text_chained [] rest h = (refl, refl)
-text_chained (e ∷ es) rest ((some, small, (units, size)), others) =
-    (first_kind es, chain_text es ++ rest, refl, (units, ap (λ (n : ℕ). n ∷ ((e.content ++ first_kind es ∷ chain_text es) ++ rest)) (omega arith) ∙ ap (λ (xs : List ℕ). units ∷ xs) (append_assoc e.content (first_kind es ∷ chain_text es) rest), size, some, small), text_chained es rest others)
+-- the encoding of headers is their chain
+pub encoding_chained : (es : List Extension) (rest : List ℕ) → AreExtensions es → IsChain (first_kind es) (chain_encoding es ++ rest) es rest
+encoding_chained [] rest h = (refl, refl)
+encoding_chained (e ∷ es) rest ((some, small, (units, size)), others) =
+    (first_kind es, chain_encoding es ++ rest, refl, (units, ap (λ (n : ℕ). n ∷ ((e.content ++ first_kind es ∷ chain_encoding es) ++ rest)) (omega arith) ∙ ap (λ (xs : List ℕ). units ∷ xs) (append_assoc e.content (first_kind es ∷ chain_encoding es) rest), size, some, small), encoding_chained es rest others)
 
 -- ---- the loop
 
@@ -294,20 +281,20 @@ so_far_goes_on end first kind octets rest f (es, leads) some h =
     record { so_far = (es ++ header kind f ∷ [], leads_on first octets es kind rest (header kind f) f.next f.rest leads refl is); shorter = front_shorter kind rest f is }
 
 -- octets that are a whole chain
-pub record AreChain (end first : ℕ) (octets text rest : List ℕ) : Type 0 where
-  pub whole : rest_of (chain_at (length text) first text) ≡ Some []
-  pub chain : chain_at end first octets ≡ Ok (chained (headers_of (chain_at (length text) first text)) rest)
+pub record AreChain (end first : ℕ) (octets encoding rest : List ℕ) : Type 0 where
+  pub whole : rest_of (chain_at (length encoding) first encoding) ≡ Some []
+  pub chain : chain_at end first octets ≡ Ok (chained (headers_of (chain_at (length encoding) first encoding)) rest)
 
 pub so_far_ends : (end first : ℕ) (octets rest : List ℕ) → SoFar first octets 0 rest → AreChain end first octets (take (length octets - length rest) octets) rest
 so_far_ends end first octets rest (es, chain) =
     let spelled = chain_spelled first octets es rest chain in
     let n : ℕ = length octets - length rest in
-    let size : length (chain_text es) ≡ length octets - length rest = omega (arith, ap length spelled.text, length-append (chain_text es) rest) in
-    let text_is : take (length octets - length rest) octets ≡ chain_text es = ap (take (length octets - length rest)) spelled.text ∙ take_at (chain_text es) rest (length octets - length rest) size in
-    let again : IsChain first (chain_text es) es [] =
-    subst (λ (k : ℕ). IsChain k (chain_text es) es []) (sym spelled.first) (subst (λ (xs : List ℕ). IsChain (first_kind es) xs es []) (append-nil (chain_text es)) (text_chained es [] (chain_extensions first octets es rest chain))) in
+    let size : length (chain_encoding es) ≡ length octets - length rest = omega (arith, ap length spelled.encoding, length-append (chain_encoding es) rest) in
+    let encoding_is : take (length octets - length rest) octets ≡ chain_encoding es = ap (take (length octets - length rest)) spelled.encoding ∙ take_at (chain_encoding es) rest (length octets - length rest) size in
+    let again : IsChain first (chain_encoding es) es [] =
+    subst (λ (k : ℕ). IsChain k (chain_encoding es) es []) (sym spelled.first) (subst (λ (xs : List ℕ). IsChain (first_kind es) xs es []) (append-nil (chain_encoding es)) (encoding_chained es [] (chain_extensions first octets es rest chain))) in
     let read_again : chain_at (length (take (length octets - length rest) octets)) first (take (length octets - length rest) octets) ≡ Ok (chained es []) =
-    (chain_decided (length (take (length octets - length rest) octets)) first (take (length octets - length rest) octets)).is (chained es []) (subst (λ (xs : List ℕ). IsChain first xs es []) (sym text_is) again) in
+    (chain_decided (length (take (length octets - length rest) octets)) first (take (length octets - length rest) octets)).is (chained es []) (subst (λ (xs : List ℕ). IsChain first xs es []) (sym encoding_is) again) in
     record {
       whole = ap rest_of read_again;
       chain = (chain_decided end first octets).is (chained es rest) chain ∙ ap (λ (ds : List Extension). Ok (chained ds rest)) (sym (ap headers_of read_again));
@@ -318,13 +305,11 @@ so_far_ends end first octets rest (es, chain) =
 -- what a whole chain's octets say of its headers
 pub record IsWhole (first : ℕ) (octets : List ℕ) (es : List Extension) : Type 0 where
   pub first_is : first ≡ first_kind es
-  pub text : octets ≡ chain_text es
+  pub encoding : octets ≡ chain_encoding es
   pub extensions : AreExtensions es
 
 rest_is : (r : Result Chained UserFault) → rest_of r ≡ Some [] → r ≡ Ok (chained (headers_of r) [])
-rest_is (Ok c) h = ap (λ (xs : List ℕ). Ok (chained c.headers xs)) (some_same h) where
-  some_same : Some c.rest ≡ Some [] → c.rest ≡ []
-  some_same h = cc
+rest_is (Ok c) h = ap (λ (xs : List ℕ). Ok (chained c.headers xs)) (some_same c.rest [] h)
 rest_is (Err f) h = absurd cc
 
 pub whole_chain : (first : ℕ) (octets : List ℕ) → rest_of (chain_at (length octets) first octets) ≡ Some [] → IsChain first octets (headers_of (chain_at (length octets) first octets)) []
@@ -335,7 +320,7 @@ whole_is first octets h =
     let chain = whole_chain first octets h in
     let es = headers_of (chain_at (length octets) first octets) in
     let spelled = chain_spelled first octets es [] chain in
-    record { first_is = spelled.first; text = spelled.text ∙ append-nil (chain_text es); extensions = chain_extensions first octets es [] chain }
+    record { first_is = spelled.first; encoding = spelled.encoding ∙ append-nil (chain_encoding es); extensions = chain_extensions first octets es [] chain }
 
 -- no octets are no headers
 pub none_chained : chain_at 0 0 [] ≡ no_headers []
@@ -351,7 +336,7 @@ whole_end first octets h zero_is = by_headers (headers_of (chain_at (length octe
   by_headers [] p = refl
   by_headers (e ∷ es) (follows, after, same, begins, leads) = absurd (omega (arith, same, zero_is, begins.3))
 
--- a header is at the front, and the others behind it
+-- a header is at the front, and the others after it
 pub record IsNext (first : ℕ) (octets : List ℕ) (f : Front) : Type 0 where
   pub headers : headers_of (chain_at (length octets) first octets) ≡ record { kind = first; content = f.content } ∷ headers_of (chain_at (length f.rest) f.next f.rest)
   pub others : rest_of (chain_at (length f.rest) f.next f.rest) ≡ Some []
@@ -375,10 +360,7 @@ whole_next first octets f h some found = by_headers (headers_of (chain_at (lengt
 -- and there is one
 pub whole_begins : (first : ℕ) (octets : List ℕ) (g : UserFault) → rest_of (chain_at (length octets) first octets) ≡ Some [] → 0 < first → front_at (length octets) first octets ≡ Err g → ⊥
 whole_begins first octets g h some found =
-    ok_apart (chained (headers_of (chain_at (length octets) first octets)) []) g (sym (rest_is (chain_at (length octets) first octets) h) ∙ (chain_decided (length octets) first octets).fails g ([], first, octets, (refl, refl), some, (front_decided (length octets) first octets some).err g found))
-  where
-    ok_apart : (c : Chained) (g : UserFault) → (let r : Result Chained UserFault = Ok c in r ≡ Err g) → ⊥
-    ok_apart c g h = cc
+    apart (chained (headers_of (chain_at (length octets) first octets)) []) g (sym (rest_is (chain_at (length octets) first octets) h) ∙ (chain_decided (length octets) first octets).fails g ([], first, octets, (refl, refl), some, (front_decided (length octets) first octets some).err g found))
 
 -- ---- a chain and nothing else
 

@@ -1,4 +1,5 @@
 pub mod Appends
+pub mod Outcomes
 pub mod Begun
 pub mod Gathers
 pub mod Chains
@@ -7,4 +8,5 @@ pub mod Headers
 pub mod Spanned
 pub mod Messages
 pub mod Again
-pub mod Fronts
+pub mod Prefixes
+pub mod Same

@@ -14,30 +14,22 @@ use Rattle.gtp_user.specs.Header.{IsHeaded, HeaderFails}
 use Rattle.gtp_user.specs.Element.{Element, AreElements, IsCut, has_recovery, first_teid, first_peer, first_types}
 use Rattle.gtp_user.specs.Elements.{Found, found_in, elements_at}
 use Rattle.gtp_user.specs.Gathered.{found_at}
-use Rattle.gtp_user.specs.Message.{Content, EchoRequest, EchoResponse, ErrorIndication, Notification, EndMarker, Packet, Other, Spoken, numbered}
-use Rattle.gtp_user.specs.Reading.{needed, echo_response, error_indication, notification, body_at, spoken, message_at}
-use Rattle.gtp_user.specs.Datagram.{Carries, Lacks, CarriesNone, IsUserMessage, FailsBehind, IsUserFault}
+use Rattle.gtp_user.specs.Message.{Content, EchoRequest, EchoResponse, ErrorIndication, Notification, EndMarker, Packet, Other, MessageValue, numbered}
+use Rattle.gtp_user.specs.Reading.{needed, echo_response, error_indication, notification, body_at, message_of, message_at}
+use Rattle.gtp_user.specs.Datagram.{Carries, Lacks, CarriesNone, IsUserMessage, FailsAfterHeader, IsUserFault}
 use Rattle.gtp_values.proofs.Decided.{decide_bind, decide_map, decide_ok, decide_as, known_ok, known_err}
 use Rattle.gtp_user.proofs.Headers.{header_decided}
-use Rattle.gtp_user.proofs.Chains.{IsChained, chain_decided}
+use Rattle.gtp_user.proofs.Chains.{IsChained, chained, chain_decided}
 use Rattle.gtp_user.proofs.Spanned.{elements_decided}
+use Rattle.gtp_user.proofs.Outcomes.{some_same, none_some}
 
 -- ---- elements that a message must have
 
 abbrev IsAbsent : {X : Type 0} → ℕ → Option X → UserFault → Type 0
 IsAbsent kind o f = (o ≡ None) × (f ≡ faults.Missing kind)
 
-some_same : {X : Type 0} (x y : X) → Some x ≡ Some y → y ≡ x
-some_same x y h = cc
-
-some_none : {X : Type 0} (x : X) → Some x ≡ None → ⊥
-some_none x h = cc
-
-none_some : {X : Type 0} (x : X) → None ≡ Some x → ⊥
-none_some x h = cc
-
 needed_decided : {X : Type 0} (kind : ℕ) (o : Option X) → Decides (needed kind o) (λ x. o ≡ Some x) (IsAbsent kind o)
-needed_decided kind (Some x) = known_ok x (λ y. Some x ≡ Some y) (IsAbsent kind (Some x)) refl (λ y h. some_same x y h) (λ f h. some_none x h.0)
+needed_decided kind (Some x) = known_ok x (λ y. Some x ≡ Some y) (IsAbsent kind (Some x)) refl (λ y h. sym (some_same x y h)) (λ f h. none_some x (sym h.0))
 needed_decided kind None = known_err (faults.Missing kind) (λ y. None ≡ Some y) (IsAbsent kind None) (refl, refl) (λ y h. none_some y h) (λ f h. h.1)
 
 -- elements, and then what they must have
@@ -263,49 +255,46 @@ body_decided end kind teid octets =
 
 -- ---- the whole datagram
 
-abbrev chained : List Extension → List ℕ → Chained
-chained headers rest = record { headers = headers; rest = rest }
+abbrev message_by : Option ℕ → Option ℕ → List Extension → Content → MessageValue
+message_by seq npdu ext content = record { seq = seq; npdu = npdu; ext = ext; content = content }
 
-abbrev spoken_by : Option ℕ → Option ℕ → List Extension → Content → Spoken
-spoken_by seq npdu ext content = record { seq = seq; npdu = npdu; ext = ext; content = content }
+-- what is read after a header
+abbrev IsAfterHeader : Headed → MessageValue → Type 0
+IsAfterHeader h m = (c : Chained) × IsChained h.first h.rest c × ((content : Content) × Carries h.kind h.teid c.rest content × (m ≡ message_of h c content))
 
--- what is read behind a header
-abbrev IsBehind : Headed → Spoken → Type 0
-IsBehind h m = (c : Chained) × IsChained h.first h.rest c × ((content : Content) × Carries h.kind h.teid c.rest content × (m ≡ spoken h c content))
+abbrev FailsByReading : ℕ → Headed → UserFault → Type 0
+FailsByReading end h = First_or_later (IsChained h.first h.rest) (ChainFails end h.first h.rest) (λ c. CarriesNone end h.kind c.rest)
 
-abbrev FailsAfter : ℕ → Headed → UserFault → Type 0
-FailsAfter end h = First_or_later (IsChained h.first h.rest) (ChainFails end h.first h.rest) (λ c. CarriesNone end h.kind c.rest)
-
-behind_decided : (end : ℕ) (h : Headed) → Decides (chain_at end h.first h.rest >>= λ c. body_at end h.kind h.teid c.rest >>= λ content. Ok (spoken h c content)) (IsBehind h) (FailsAfter end h)
-behind_decided end h =
-    decide_bind (chain_at end h.first h.rest) (λ c. body_at end h.kind h.teid c.rest >>= λ content. Ok (spoken h c content)) (IsChained h.first h.rest) (ChainFails end h.first h.rest)
-    (λ c m. (content : Content) × Carries h.kind h.teid c.rest content × (m ≡ spoken h c content)) (λ c. CarriesNone end h.kind c.rest)
-    (chain_decided end h.first h.rest) (λ c. decide_map (body_at end h.kind h.teid c.rest) (spoken h c) (Carries h.kind h.teid c.rest) (CarriesNone end h.kind c.rest) (body_decided end h.kind h.teid c.rest))
+rest_decided : (end : ℕ) (h : Headed) → Decides (chain_at end h.first h.rest >>= λ c. body_at end h.kind h.teid c.rest >>= λ content. Ok (message_of h c content)) (IsAfterHeader h) (FailsByReading end h)
+rest_decided end h =
+    decide_bind (chain_at end h.first h.rest) (λ c. body_at end h.kind h.teid c.rest >>= λ content. Ok (message_of h c content)) (IsChained h.first h.rest) (ChainFails end h.first h.rest)
+    (λ c m. (content : Content) × Carries h.kind h.teid c.rest content × (m ≡ message_of h c content)) (λ c. CarriesNone end h.kind c.rest)
+    (chain_decided end h.first h.rest) (λ c. decide_map (body_at end h.kind h.teid c.rest) (message_of h c) (Carries h.kind h.teid c.rest) (CarriesNone end h.kind c.rest) (body_decided end h.kind h.teid c.rest))
 
 -- the same in the words of the grammar
-abbrev Behind : Headed → Spoken → Type 0
-Behind h m = (behind : List ℕ) × IsChain h.first h.rest m.ext behind × Carries h.kind h.teid behind m.content × (m.seq ≡ numbered m.content h.seq) × (m.npdu ≡ h.npdu)
+abbrev AfterHeader : Headed → MessageValue → Type 0
+AfterHeader h m = (tail : List ℕ) × IsChain h.first h.rest m.ext tail × Carries h.kind h.teid tail m.content × (m.seq ≡ numbered m.content h.seq) × (m.npdu ≡ h.npdu)
 
-to_behind : (h : Headed) (m : Spoken) → IsBehind h m → Behind h m
-to_behind h m (c, chain, (content, carries, e)) = subst (Behind h) (sym e) (c.rest, chain, carries, refl, refl)
+to_after_header : (h : Headed) (m : MessageValue) → IsAfterHeader h m → AfterHeader h m
+to_after_header h m (c, chain, (content, carries, e)) = subst (AfterHeader h) (sym e) (c.rest, chain, carries, refl, refl)
 
-from_behind : (h : Headed) (m : Spoken) → Behind h m → IsBehind h m
-from_behind h m (behind, chain, carries, seq, npdu) =
-    (chained m.ext behind, chain, (m.content, carries, ap (λ n. spoken_by n m.npdu m.ext m.content) seq ∙ ap (λ n. spoken_by (numbered m.content h.seq) n m.ext m.content) npdu))
+from_after_header : (h : Headed) (m : MessageValue) → AfterHeader h m → IsAfterHeader h m
+from_after_header h m (tail, chain, carries, seq, npdu) =
+    (chained m.ext tail, chain, (m.content, carries, ap (λ n. message_by n m.npdu m.ext m.content) seq ∙ ap (λ n. message_by (numbered m.content h.seq) n m.ext m.content) npdu))
 
-to_after : (end : ℕ) (h : Headed) (f : UserFault) → FailsAfter end h f → FailsBehind end h f
-to_after end h f (inl p) = inl p
-to_after end h f (inr (c, chain, p)) = inr (c.headers, c.rest, chain, p)
+to_fails : (end : ℕ) (h : Headed) (f : UserFault) → FailsByReading end h f → FailsAfterHeader end h f
+to_fails end h f (inl p) = inl p
+to_fails end h f (inr (c, chain, p)) = inr (c.headers, c.rest, chain, p)
 
-from_after : (end : ℕ) (h : Headed) (f : UserFault) → FailsBehind end h f → FailsAfter end h f
-from_after end h f (inl p) = inl p
-from_after end h f (inr (es, behind, chain, p)) = inr (chained es behind, chain, p)
+from_fails : (end : ℕ) (h : Headed) (f : UserFault) → FailsAfterHeader end h f → FailsByReading end h f
+from_fails end h f (inl p) = inl p
+from_fails end h f (inr (es, tail, chain, p)) = inr (chained es tail, chain, p)
 
 -- reading a datagram decides which message it spells
 pub message_decided : (octets : List ℕ) → Decides (message_at octets) (IsUserMessage octets) (IsUserFault octets)
 unfolding message_at
 message_decided octets =
-    decide_bind (header_at octets) (λ h. chain_at (length octets) h.first h.rest >>= λ c. body_at (length octets) h.kind h.teid c.rest >>= λ content. Ok (spoken h c content)) (IsHeaded octets) (HeaderFails octets)
-    Behind (FailsBehind (length octets)) (header_decided octets)
-    (λ h. decide_as (chain_at (length octets) h.first h.rest >>= λ c. body_at (length octets) h.kind h.teid c.rest >>= λ content. Ok (spoken h c content)) (IsBehind h) (Behind h) (FailsAfter (length octets) h) (FailsBehind (length octets) h)
-    (to_behind h) (from_behind h) (to_after (length octets) h) (from_after (length octets) h) (behind_decided (length octets) h))
+    decide_bind (header_at octets) (λ h. chain_at (length octets) h.first h.rest >>= λ c. body_at (length octets) h.kind h.teid c.rest >>= λ content. Ok (message_of h c content)) (IsHeaded octets) (HeaderFails octets)
+    AfterHeader (FailsAfterHeader (length octets)) (header_decided octets)
+    (λ h. decide_as (chain_at (length octets) h.first h.rest >>= λ c. body_at (length octets) h.kind h.teid c.rest >>= λ content. Ok (message_of h c content)) (IsAfterHeader h) (AfterHeader h) (FailsByReading (length octets) h) (FailsAfterHeader (length octets) h)
+    (to_after_header h) (from_after_header h) (to_fails (length octets) h) (from_fails (length octets) h) (rest_decided (length octets) h))

@@ -6,8 +6,9 @@ use Rattle.gtp_values.specs.Steps.{◌>>=◌}
 use Rattle.gtp_values.specs.Decides.{Decides}
 use Rattle.gtp_user.specs.Element.{Element, BeginsElement, Spans, AreElements, IsCut}
 use Rattle.gtp_user.specs.Elements.{element_at, go_on, elements_in, elements_at}
-use Rattle.gtp_user.proofs.Begun.{element_begins, begins_element, begins_shorter}
+use Rattle.gtp_user.proofs.Begun.{found, element_begins, begins_element, begins_shorter}
 use Rattle.gtp_values.proofs.Decided.{decide_map, decide_as, known_ok, known_err}
+use Rattle.gtp_user.proofs.Outcomes.{some_same, none_some}
 
 abbrev whole_so_far : List Element → Result (List Element) UserFault
 whole_so_far es = Ok es
@@ -15,17 +16,8 @@ whole_so_far es = Ok es
 abbrev cut : UserFault → Result (List Element) UserFault
 cut f = Err f
 
-none_some : {X : Type 0} (x : X) → None ≡ Some x → ⊥
-none_some x h = cc
-
-some_is : (p q : Element × List ℕ) → Some p ≡ Some q → p ≡ q
-some_is p q h = cc
-
-abbrev found : Element → List ℕ → Element × List ℕ
-found e rest = (e, rest)
-
 begin_alike : (octets : List ℕ) (e d : Element) (rest after : List ℕ) → element_at octets ≡ Some (found e rest) → BeginsElement octets d after → found d after ≡ found e rest
-begin_alike octets e d rest after h b = some_is (found d after) (found e rest) (sym (begins_element octets d after b) ∙ h)
+begin_alike octets e d rest after h b = some_same (found d after) (found e rest) (sym (begins_element octets d after b) ∙ h)
 
 -- no octets are no elements
 empty_decided : (end : ℕ) → Decides (whole_so_far []) (AreElements []) (IsCut end [])
@@ -52,10 +44,10 @@ stuck_decided end x xs h = known_err (faults.Element (end - length (x ∷ xs))) 
   one f ([], rest, spans, some, nothing, is) = is ∙ ap (λ (ys : List ℕ). faults.Element (end - length ys)) (sym spans)
   one f (e ∷ es, rest, (after, b, s), some, nothing, is) = absurd (stuck e after b)
 
--- behind an element the others decide
-behind_decided : (end : ℕ) (octets : List ℕ) (e : Element) (rest : List ℕ) (r : Result (List Element) UserFault) → 0 < length octets → element_at octets ≡ Some (found e rest)
+-- after an element the others decide
+rest_decided : (end : ℕ) (octets : List ℕ) (e : Element) (rest : List ℕ) (r : Result (List Element) UserFault) → 0 < length octets → element_at octets ≡ Some (found e rest)
     → Decides r (AreElements rest) (IsCut end rest) → Decides (r >>= λ es. Ok (e ∷ es)) (AreElements octets) (IsCut end octets)
-behind_decided end octets e rest r some h d =
+rest_decided end octets e rest r some h d =
     decide_as (r >>= λ es. Ok (e ∷ es)) (λ all. (es : List Element) × AreElements rest es × (all ≡ e ∷ es)) (AreElements octets) (IsCut end rest) (IsCut end octets) to_all from_all to_cut from_cut
     (decide_map r (λ es. e ∷ es) (AreElements rest) (IsCut end rest) d)
   where
@@ -82,7 +74,7 @@ by_front : (steps end x : ℕ) (xs : List ℕ) → length (x ∷ xs) ≤ suc ste
 by_front steps end x xs l others None h = stuck_decided end x xs h
 by_front steps end x xs l others (Some p) h =
     let s = begins_shorter (x ∷ xs) p.0 p.1 (element_begins (x ∷ xs) p.0 p.1 h) in
-    behind_decided end (x ∷ xs) p.0 p.1 (elements_in steps end p.1) (omega arith) h (others p.1 (omega (arith, s)))
+    rest_decided end (x ∷ xs) p.0 p.1 (elements_in steps end p.1) (omega arith) h (others p.1 (omega (arith, s)))
 
 in_decided : (steps end : ℕ) (octets : List ℕ) → length octets ≤ steps → Decides (elements_in steps end octets) (AreElements octets) (IsCut end octets)
 unfolding elements_in

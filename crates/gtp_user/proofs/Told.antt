@@ -3,15 +3,7 @@ use Rattle.std.proofs.Common.{◌≡◌, Result, Ok, Err, sym, ap, ◌∙◌}
 use Rattle.std.specs.Prelude.{IfOk, IfErr, IsOkAnd}
 use Rattle.gtp_values.specs.Steps.{Gives}
 use Rattle.gtp_values.specs.Decides.{Decides}
-
-ok_same : {Y : Type 0} (E : Type 0) (x y : Y) → (let r : Result Y E = Ok x in r ≡ Ok y) → x ≡ y
-ok_same E x y h = cc
-
-err_same : {E : Type 0} (Y : Type 0) (f g : E) → (let r : Result Y E = Err f in r ≡ Err g) → f ≡ g
-err_same Y f g h = cc
-
-apart : {Y E : Type 0} (x : Y) (f : E) → (let r : Result Y E = Ok x in r ≡ Err f) → ⊥
-apart x f h = cc
+use Rattle.gtp_user.proofs.Outcomes.{ok_same, err_same, apart}
 
 -- the four clauses of a reading
 pub record Told {X Y E : Type 0} (view : X → Y) (r : Result X E) (Is : Y → Type 0) (Fails : E → Type 0) : Type 0 where

@@ -1,5 +1,7 @@
--- Extension headers (TS 29.281 5.2.1), and the chain that they form behind a header.
-use Rattle.std.specs.Prelude.{◌≡◌, ℕ, ◌+◌, ◌-◌, ◌*◌, ◌/◌, ◌<◌, ◌≤◌, List, [], ◌∷◌, ◌++◌, length, ◌⊎◌}
+-- Extension headers (TS 29.281 5.2.1), and the chain that they form after a header.
+use Rattle.std.specs.Prelude.{◌≡◌, ℕ, ◌+◌, ◌-◌, ◌*◌, ◌/◌, ◌<◌, ◌≤◌, Bool, ◌==◌, List, [], ◌∷◌, ◌++◌, length, ◌⊎◌}
+use Rattle.std.specs.Ordering.{on, eq_of_both}
+use Rattle.std.specs.Cmp.Lexicographic.{pointwise}
 use Rattle.gtp_user.specs.declared.fault.UserFault.{UserFault}
 use Rattle.gtp_user.specs.declared.fault.UserFault.TheVariants as faults
 
@@ -7,6 +9,10 @@ use Rattle.gtp_user.specs.declared.fault.UserFault.TheVariants as faults
 pub record Extension : Type 0 where
   pub kind : ℕ
   pub content : List ℕ
+
+-- whether two headers have the same type and the same content
+abbrev pub header_eq : Extension → Extension → Bool
+header_eq = eq_of_both (on (λ e. e.kind) ◌==◌) (on (λ e. e.content) (pointwise ◌==◌))
 
 -- the octets are a header, the type of the next one, and then the rest (5.2.1): a length in units of four octets, which counts itself and the
 -- type of the next header, and so is at least 1. A type with the highest bit set is for who understands it (figure 5.2.1-2), and none is understood here
@@ -30,7 +36,7 @@ ExtensionFails end kind octets f =
     ⊎ (((units : ℕ) × (rest : List ℕ) × (octets ≡ units ∷ rest) × (0 < units) × (length octets < 4 * units) × (f ≡ faults.ExtensionPast (end - length octets)))
     ⊎ ((units : ℕ) × (rest : List ℕ) × (octets ≡ units ∷ rest) × (0 < units) × (4 * units ≤ length octets) × (128 ≤ kind) × (f ≡ faults.ExtensionNeeded kind))))
 
--- behind whole headers a header is at fault
+-- after whole headers a header is at fault
 abbrev pub ChainFails : ℕ → ℕ → List ℕ → UserFault → Type 0
 ChainFails end kind octets f = (es : List Extension) × (next : ℕ) × (rest : List ℕ) × Leads kind octets es next rest × (0 < next) × ExtensionFails end next rest f
 
@@ -40,19 +46,19 @@ WholeChainFails kind octets f =
     ChainFails (length octets) kind octets f
     ⊎ ((es : List Extension) × (rest : List ℕ) × IsChain kind octets es rest × (0 < length rest) × (f ≡ faults.Length (length octets - length rest) (length octets)))
 
--- ---- the one text
+-- ---- the canonical encoding
 
 -- the type of the first header, 0 where there is none
 abbrev pub first_kind : List Extension → ℕ
 first_kind [] = 0
 first_kind (e ∷ es) = e.kind
 
--- the octets of a chain, behind the type of its first header
-abbrev pub chain_text : List Extension → List ℕ
-chain_text [] = []
-chain_text (e ∷ es) = ((2 + length e.content) / 4) ∷ (e.content ++ first_kind es ∷ chain_text es)
+-- the octets of a chain, after the type of its first header
+abbrev pub chain_encoding : List Extension → List ℕ
+chain_encoding [] = []
+chain_encoding (e ∷ es) = ((2 + length e.content) / 4) ∷ (e.content ++ first_kind es ∷ chain_encoding es)
 
--- what a header needs so that its text is read again; where the text is one of octets, its units are below 256 by themselves
+-- what a header needs so that its encoding is read again; where the encoding is a list of octets, its units are below 256 by themselves
 abbrev pub IsExtension : Extension → Type 0
 IsExtension e = (0 < e.kind) × (e.kind < 128) × ((units : ℕ) × (2 + length e.content ≡ 4 * units))
 

@@ -2,17 +2,18 @@
 use Rattle.std.specs.Prelude.{ℕ, List}
 use Rattle.std.specs.Borrow.{Bor}
 use Rattle.gtp_user.specs.declared.extension.Front.{Front as FrontView}
+use Rattle.gtp_user.specs.declared.extension.ExtensionHeader.{ExtensionHeader}
 use Rattle.gtp_user.specs.declared.extension.Extensions.{Extensions}
 use Rattle.gtp_user.specs.Chain.{Extension}
 use Rattle.gtp_user.specs.Walk.{Front, Chained}
 
--- the header that an item of the iterator shows
-abbrev pub extension_of : ℕ × Bor (List ℕ) → Extension
-extension_of item = record { kind = item.0; content = item.1.now }
+-- the header without where it lies
+abbrev pub extension_of : ExtensionHeader → Extension
+extension_of h = record { kind = h.kind; content = h.content.now }
 
 abbrev pub front_of : FrontView → Front
 front_of f = record { content = f.content.now; next = f.next; rest = f.rest.now }
 
--- a chain and what is behind it
+-- a chain and what is after it
 abbrev pub chained_of : Extensions × Bor (List ℕ) → Chained
 chained_of p = record { headers = p.0; rest = p.1.now }

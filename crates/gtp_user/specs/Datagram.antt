@@ -7,13 +7,13 @@ use Rattle.gtp_user.specs.Chain.{Extension, IsChain, ChainFails}
 use Rattle.gtp_user.specs.Headed.{Headed}
 use Rattle.gtp_user.specs.Header.{IsHeaded, HeaderFails}
 use Rattle.gtp_user.specs.Element.{Element, AreElements, IsCut, has_recovery, first_teid, first_peer, first_types}
-use Rattle.gtp_user.specs.Message.{Content, EchoRequest, EchoResponse, ErrorIndication, Notification, EndMarker, Packet, Other, Spoken, numbered}
+use Rattle.gtp_user.specs.Message.{Content, EchoRequest, EchoResponse, ErrorIndication, Notification, EndMarker, Packet, Other, MessageValue, numbered}
 
 -- a type that has a form of its own is none of the others
 abbrev pub IsOtherKind : ℕ → Type 0
 IsOtherKind kind = (kind ≢ 1) × (kind ≢ 2) × (kind ≢ 26) × (kind ≢ 31) × (kind ≢ 254) × (kind ≢ 255)
 
--- a message of this type and TEID carries this in the octets behind its chain: elements in types 2, 26 and 31, the first one of a type counting;
+-- a message of this type and TEID carries this in the octets after its chain: elements in types 2, 26 and 31, the first one of a type counting;
 -- nothing is looked at in types 1 and 254; in all others the octets themselves
 abbrev pub Carries : ℕ → ℕ → List ℕ → Content → Type 0
 Carries kind teid octets EchoRequest = kind ≡ 1
@@ -40,16 +40,16 @@ HasElements kind = (kind ≡ 2) ⊎ ((kind ≡ 26) ⊎ (kind ≡ 31))
 abbrev pub CarriesNone : ℕ → ℕ → List ℕ → UserFault → Type 0
 CarriesNone end kind octets f = HasElements kind × First_or_later (AreElements octets) (IsCut end octets) (λ es. Lacks kind es) f
 
--- the octets spell the message: a header, a chain of extension headers, and what is carried behind it
-abbrev pub IsUserMessage : List ℕ → Spoken → Type 0
+-- the octets spell the message: a header, a chain of extension headers, and what is carried after it
+abbrev pub IsUserMessage : List ℕ → MessageValue → Type 0
 IsUserMessage octets m =
-    (h : Headed) × IsHeaded octets h × ((behind : List ℕ) × IsChain h.first h.rest m.ext behind × Carries h.kind h.teid behind m.content
+    (h : Headed) × IsHeaded octets h × ((tail : List ℕ) × IsChain h.first h.rest m.ext tail × Carries h.kind h.teid tail m.content
     × (m.seq ≡ numbered m.content h.seq) × (m.npdu ≡ h.npdu))
 
--- what a fault behind the header is: of the chain, or behind a whole chain of what is carried
-abbrev pub FailsBehind : ℕ → Headed → UserFault → Type 0
-FailsBehind end h f = ChainFails end h.first h.rest f ⊎ ((es : List Extension) × (behind : List ℕ) × IsChain h.first h.rest es behind × CarriesNone end h.kind behind f)
+-- what a fault after the header is: of the chain, or after a whole chain of what is carried
+abbrev pub FailsAfterHeader : ℕ → Headed → UserFault → Type 0
+FailsAfterHeader end h f = ChainFails end h.first h.rest f ⊎ ((es : List Extension) × (tail : List ℕ) × IsChain h.first h.rest es tail × CarriesNone end h.kind tail f)
 
--- the first fault of the octets: of the header, or behind it
+-- the first fault of the octets: of the header, or after it
 abbrev pub IsUserFault : List ℕ → UserFault → Type 0
-IsUserFault octets = First_or_later (IsHeaded octets) (HeaderFails octets) (λ h. FailsBehind (length octets) h)
+IsUserFault octets = First_or_later (IsHeaded octets) (HeaderFails octets) (λ h. FailsAfterHeader (length octets) h)

@@ -23,7 +23,7 @@ SpellsAddress octets (addresses.V6 address) rest = (octets ≡ 0 ∷ 16 ∷ (add
 abbrev pub BeginsElement : List ℕ → Element → List ℕ → Type 0
 BeginsElement octets Recovery rest = (counter : ℕ) × (octets ≡ 14 ∷ counter ∷ rest)
 BeginsElement octets (TeidData teid) rest = (a : ℕ) × (b : ℕ) × (c : ℕ) × (d : ℕ) × (octets ≡ 16 ∷ a ∷ b ∷ c ∷ d ∷ rest) × (teid ≡ from_be_bytes w32 (a ∷ b ∷ c ∷ d ∷ []))
-BeginsElement octets (Peer address) rest = (behind : List ℕ) × (octets ≡ 133 ∷ behind) × SpellsAddress behind address rest
+BeginsElement octets (Peer address) rest = (tail : List ℕ) × (octets ≡ 133 ∷ tail) × SpellsAddress tail address rest
 BeginsElement octets (Types types) rest = octets ≡ 141 ∷ length types ∷ (types ++ rest)
 BeginsElement octets Skipped rest =
     (kind : ℕ) × (high : ℕ) × (low : ℕ) × (body : List ℕ) × (octets ≡ kind ∷ high ∷ low ∷ (body ++ rest)) × (length body ≡ 256 * high + low) × (128 ≤ kind) × (kind ≢ 133) × (kind ≢ 141)
@@ -37,7 +37,7 @@ Spans octets (e ∷ es) rest = (after : List ℕ) × BeginsElement octets e afte
 abbrev pub AreElements : List ℕ → List Element → Type 0
 AreElements octets es = Spans octets es []
 
--- behind whole elements there are octets which begin with none, and which are the last ones of `end` octets
+-- after whole elements there are octets which begin with none, and which are the last ones of `end` octets
 abbrev pub IsCut : ℕ → List ℕ → UserFault → Type 0
 IsCut end octets f =
     (es : List Element) × (rest : List ℕ) × Spans octets es rest × (0 < length rest) × ((e : Element) (after : List ℕ) → BeginsElement rest e after → ⊥) × (f ≡ faults.Element (end - length rest))

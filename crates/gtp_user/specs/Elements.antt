@@ -8,13 +8,13 @@ use Rattle.gtp_user.specs.declared.fault.UserFault.TheVariants as faults
 use Rattle.gtp_values.specs.Steps.{◌>>=◌}
 use Rattle.gtp_user.specs.Element.{Element, Recovery, TeidData, Peer, Types, Skipped, has_recovery, first_teid, first_peer, first_types}
 
--- so many octets, and those behind them
+-- so many octets, and those after them
 abbrev pub split : ℕ → List ℕ → Option (List ℕ × List ℕ)
 split size octets = if nat_lt (length octets) size then None else Some (take size octets, drop size octets)
 
--- the body behind a length in two octets, and the octets behind it
+-- the body after a length in two octets, and the octets after it
 abbrev pub split_body : List ℕ → Option (List ℕ × List ℕ)
-split_body (high ∷ low ∷ behind) = split (256 * high + low) behind
+split_body (high ∷ low ∷ tail) = split (256 * high + low) tail
 split_body octets = None
 
 abbrev pub recovery_at : List ℕ → Option (Element × List ℕ)
@@ -31,7 +31,7 @@ types_of (Some p) = Some (Types p.0, p.1)
 
 abbrev pub types_at : List ℕ → Option (Element × List ℕ)
 types_at [] = None
-types_at (size ∷ behind) = types_of (split size behind)
+types_at (size ∷ tail) = types_of (split size tail)
 
 -- an address of four octets, or of sixteen
 abbrev pub address_of : List ℕ → Option Ip
@@ -49,15 +49,15 @@ abbrev pub skipped_of : Option (List ℕ × List ℕ) → Option (Element × Lis
 skipped_of None = None
 skipped_of (Some p) = Some (Skipped, p.1)
 
--- the element at the front, and the octets behind it
+-- the element at the start, and the octets after it
 unfoldable pub element_at : List ℕ → Option (Element × List ℕ)
 element_at [] = None
-element_at (kind ∷ behind) =
-    if kind == 14 then recovery_at behind
-    else (if kind == 16 then teid_at behind
-    else (if kind == 133 then peer_of (split_body behind)
-    else (if kind == 141 then types_at behind
-    else (if nat_lt kind 128 then None else skipped_of (split_body behind)))))
+element_at (kind ∷ tail) =
+    if kind == 14 then recovery_at tail
+    else (if kind == 16 then teid_at tail
+    else (if kind == 133 then peer_of (split_body tail)
+    else (if kind == 141 then types_at tail
+    else (if nat_lt kind 128 then None else skipped_of (split_body tail)))))
 
 -- what follows an element, or the place where there is none
 abbrev pub go_on : ℕ → (List ℕ → Result (List Element) UserFault) → Option (Element × List ℕ) → Result (List Element) UserFault

@@ -20,7 +20,7 @@ element_of (views.Peer address) = Peer address
 element_of (views.Types types) = Types types.now
 element_of views.Skipped = Skipped
 
--- what was found at the front
+-- what was found at the start
 abbrev pub ElementIs : Option (ElementView × Bor (List ℕ)) → Option (Element × List ℕ) → Type 0
 ElementIs found front = option_map (λ p. (element_of p.0, p.1.now)) found ≡ front
 

@@ -21,7 +21,7 @@ headed_of h = record { kind = h.kind; teid = h.teid.0; seq = h.seq; npdu = h.npd
 abbrev pub where_set : Bool → ℕ → Option ℕ
 where_set set n = if set then Some n else None
 
--- behind the first eight octets, where a flag is set
+-- after the first eight octets, where a flag is set
 abbrev pub after_flags : ℕ → ℕ → ℕ → List ℕ → Result Headed UserFault
 after_flags flags kind teid (a ∷ b ∷ c ∷ d ∷ rest) =
     Ok (record {
@@ -35,13 +35,13 @@ after_flags flags kind teid (a ∷ b ∷ c ∷ d ∷ rest) =
 after_flags flags kind teid octets = Err (Short (8 + length octets))
 
 abbrev pub header_at : List ℕ → Result Headed UserFault
-header_at (flags ∷ kind ∷ high ∷ low ∷ a ∷ b ∷ c ∷ d ∷ behind) =
+header_at (flags ∷ kind ∷ high ∷ low ∷ a ∷ b ∷ c ∷ d ∷ tail) =
     if flags / 32 == 1
     then (if (flags / 16) % 2 == 0 then Err Protocol
-    else (if 256 * high + low == length behind
+    else (if 256 * high + low == length tail
     then (if flags % 8 == 0
-    then Ok (record { kind = kind; teid = from_be_bytes w32 (a ∷ b ∷ c ∷ d ∷ []); seq = None; npdu = None; first = 0; rest = behind })
-    else after_flags flags kind (from_be_bytes w32 (a ∷ b ∷ c ∷ d ∷ [])) behind)
-    else Err (Length (256 * high + low) (length behind))))
+    then Ok (record { kind = kind; teid = from_be_bytes w32 (a ∷ b ∷ c ∷ d ∷ []); seq = None; npdu = None; first = 0; rest = tail })
+    else after_flags flags kind (from_be_bytes w32 (a ∷ b ∷ c ∷ d ∷ [])) tail)
+    else Err (Length (256 * high + low) (length tail))))
     else Err (Version (flags / 32))
 header_at octets = Err (Short (length octets))

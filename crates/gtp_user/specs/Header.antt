@@ -20,14 +20,14 @@ bit false = 0
 abbrev pub bits : Flags → ℕ
 bits flags = 4 * bit flags.chain + 2 * bit flags.seq + bit flags.npdu
 
--- the first eight octets: version 1, protocol type 1, a spare bit, the flags; the type; the length of the octets behind them; the TEID
+-- the first eight octets: version 1, protocol type 1, a spare bit, the flags; the type; the length of the octets after them; the TEID
 abbrev pub Opens : List ℕ → Flags → ℕ → ℕ → List ℕ → Type 0
-Opens octets flags kind teid behind =
+Opens octets flags kind teid tail =
     (spare : ℕ) × (high : ℕ) × (low : ℕ) × (a : ℕ) × (b : ℕ) × (c : ℕ) × (d : ℕ)
-    × (octets ≡ (48 + 8 * spare + bits flags) ∷ kind ∷ high ∷ low ∷ a ∷ b ∷ c ∷ d ∷ behind) × (spare < 2)
-    × (256 * high + low ≡ length behind) × (teid ≡ from_be_bytes w32 (a ∷ b ∷ c ∷ d ∷ []))
+    × (octets ≡ (48 + 8 * spare + bits flags) ∷ kind ∷ high ∷ low ∷ a ∷ b ∷ c ∷ d ∷ tail) × (spare < 2)
+    × (256 * high + low ≡ length tail) × (teid ≡ from_be_bytes w32 (a ∷ b ∷ c ∷ d ∷ []))
 
--- no flag is set, and the octets behind the first eight follow
+-- no flag is set, and the octets after the first eight follow
 abbrev pub HeadedPlain : List ℕ → Headed → Type 0
 HeadedPlain octets h = Opens octets (record { chain = false; seq = false; npdu = false }) h.kind h.teid h.rest × (h.seq ≡ None) × (h.npdu ≡ None) × (h.first ≡ 0)
 
@@ -45,8 +45,8 @@ IsHeaded octets h = HeadedPlain octets h ⊎ HeadedByFlags octets h
 abbrev pub HeaderFails : List ℕ → UserFault → Type 0
 HeaderFails octets f =
     ((length octets < 8) × (f ≡ faults.Short (length octets)))
-    ⊎ ((first : ℕ) × (kind : ℕ) × (high : ℕ) × (low : ℕ) × (a : ℕ) × (b : ℕ) × (c : ℕ) × (d : ℕ) × (behind : List ℕ) × (octets ≡ first ∷ kind ∷ high ∷ low ∷ a ∷ b ∷ c ∷ d ∷ behind)
+    ⊎ ((first : ℕ) × (kind : ℕ) × (high : ℕ) × (low : ℕ) × (a : ℕ) × (b : ℕ) × (c : ℕ) × (d : ℕ) × (tail : List ℕ) × (octets ≡ first ∷ kind ∷ high ∷ low ∷ a ∷ b ∷ c ∷ d ∷ tail)
     × (((first / 32 ≢ 1) × (f ≡ faults.Version (first / 32)))
     ⊎ (((flags : ℕ) × (flags < 16) × (first ≡ 32 + flags) × (f ≡ faults.Protocol))
-    ⊎ (((flags : ℕ) × (flags < 16) × (first ≡ 48 + flags) × (256 * high + low ≢ length behind) × (f ≡ faults.Length (256 * high + low) (length behind)))
-    ⊎ ((flags : ℕ) × (flags < 16) × (first ≡ 48 + flags) × (0 < flags % 8) × (256 * high + low ≡ length behind) × (length behind < 4) × (f ≡ faults.Short (8 + length behind)))))))
+    ⊎ (((flags : ℕ) × (flags < 16) × (first ≡ 48 + flags) × (256 * high + low ≢ length tail) × (f ≡ faults.Length (256 * high + low) (length tail)))
+    ⊎ ((flags : ℕ) × (flags < 16) × (first ≡ 48 + flags) × (0 < flags % 8) × (256 * high + low ≡ length tail) × (length tail < 4) × (f ≡ faults.Short (8 + length tail)))))))

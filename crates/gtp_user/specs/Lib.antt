@@ -9,5 +9,4 @@ pub mod Gathered
 pub mod Message
 pub mod Reading
 pub mod Datagram
-pub mod Text
-pub mod Fronts
+pub mod Encoding

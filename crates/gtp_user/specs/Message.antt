@@ -17,7 +17,7 @@ pub data Content : Type 0 where
   Other : ℕ → ℕ → List ℕ → Content
 
 -- sequence number, N-PDU number, extension headers in order, and what it carries
-pub record Spoken : Type 0 where
+pub record MessageValue : Type 0 where
   pub seq : Option ℕ
   pub npdu : Option ℕ
   pub ext : List Extension
@@ -32,8 +32,8 @@ content_of (bodies.EndMarker teid) = EndMarker teid.0
 content_of (bodies.Packet teid payload) = Packet teid.0 payload.now
 content_of (bodies.Other kind teid octets) = Other kind teid.0 octets.now
 
-abbrev pub spoken_of : UserMessage → Spoken
-spoken_of m = record { seq = m.seq; npdu = m.npdu; ext = m.ext; content = content_of m.body }
+abbrev pub message_value : UserMessage → MessageValue
+message_value m = record { seq = m.seq; npdu = m.npdu; ext = m.ext; content = content_of m.body }
 
 -- the sequence number of a message whose header has this one: an echo, an Error Indication and a notification always have one, 0 where their flag S is not set
 abbrev pub numbered : Content → Option ℕ → Option ℕ

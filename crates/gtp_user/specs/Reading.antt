@@ -7,7 +7,7 @@ use Rattle.gtp_user.specs.Walk.{Chained, chain_at}
 use Rattle.gtp_user.specs.Headed.{Headed, header_at}
 use Rattle.gtp_user.specs.Elements.{Found}
 use Rattle.gtp_user.specs.Gathered.{found_at}
-use Rattle.gtp_user.specs.Message.{Content, EchoRequest, EchoResponse, ErrorIndication, Notification, EndMarker, Packet, Other, Spoken, numbered}
+use Rattle.gtp_user.specs.Message.{Content, EchoRequest, EchoResponse, ErrorIndication, Notification, EndMarker, Packet, Other, MessageValue, numbered}
 
 -- an element that the message must have
 abbrev pub needed : {X : Type 0} → ℕ → Option X → Result X UserFault
@@ -23,7 +23,7 @@ error_indication f = needed 16 f.teid >>= λ teid. needed 133 f.peer >>= λ peer
 abbrev pub notification : Found → Result Content UserFault
 notification f = needed 141 f.types >>= λ types. Ok (Notification types)
 
--- what the octets behind the chain say, by the type of the message
+-- what the octets after the chain say, by the type of the message
 unfoldable pub body_at : ℕ → ℕ → ℕ → List ℕ → Result Content UserFault
 body_at end kind teid octets =
     if kind == 1 then Ok EchoRequest
@@ -34,13 +34,13 @@ body_at end kind teid octets =
     else (if kind == 255 then Ok (Packet teid octets)
     else Ok (Other kind teid octets))))))
 
-abbrev pub spoken : Headed → Chained → Content → Spoken
-spoken h c content = record { seq = numbered content h.seq; npdu = h.npdu; ext = c.headers; content = content }
+abbrev pub message_of : Headed → Chained → Content → MessageValue
+message_of h c content = record { seq = numbered content h.seq; npdu = h.npdu; ext = c.headers; content = content }
 
 -- the message that a datagram spells
-unfoldable pub message_at : List ℕ → Result Spoken UserFault
+unfoldable pub message_at : List ℕ → Result MessageValue UserFault
 message_at octets = do
   h ← header_at octets
   c ← chain_at (length octets) h.first h.rest
   content ← body_at (length octets) h.kind h.teid c.rest
-  Ok (spoken h c content)
+  Ok (message_of h c content)

@@ -1,11 +1,11 @@
 -- Reading a chain of extension headers, one after the other.
-use Rattle.std.specs.Prelude.{ℕ, zero, suc, ◌+◌, ◌-◌, ◌*◌, List, [], ◌∷◌, length, take, drop, slice_index, Option, Some, None, Result, Ok, Err, nat_lt, nat_le, ◌==◌, if◌then◌else◌}
+use Rattle.std.specs.Prelude.{◌≡◌, ℕ, zero, suc, ◌+◌, ◌-◌, ◌*◌, List, [], ◌∷◌, length, take, drop, slice_index, Option, Some, None, Result, Ok, Err, nat_lt, nat_le, ◌==◌, if◌then◌else◌}
 use Rattle.gtp_user.specs.declared.fault.UserFault.{UserFault}
 use Rattle.gtp_user.specs.declared.fault.UserFault.TheVariants as faults
 use Rattle.gtp_values.specs.Steps.{◌>>=◌}
 use Rattle.gtp_user.specs.Chain.{Extension}
 
--- the content of the header at the front, the type of the next one, and the octets behind
+-- the content of the header at the start, the type of the next one, and the octets after it
 pub record Front : Type 0 where
   pub content : List ℕ
   pub next : ℕ
@@ -13,14 +13,14 @@ pub record Front : Type 0 where
 
 abbrev pub front_at : ℕ → ℕ → List ℕ → Result Front UserFault
 front_at end kind [] = Err (faults.ExtensionPast end)
-front_at end kind (units ∷ behind) =
-    if units == 0 then Err (faults.ExtensionZero (end - length (units ∷ behind)))
-    else (if nat_le (length behind) (4 * units - 2) then Err (faults.ExtensionPast (end - length (units ∷ behind)))
+front_at end kind (units ∷ tail) =
+    if units == 0 then Err (faults.ExtensionZero (end - length (units ∷ tail)))
+    else (if nat_le (length tail) (4 * units - 2) then Err (faults.ExtensionPast (end - length (units ∷ tail)))
     else (if nat_lt kind 128
-    then Ok (record { content = take (4 * units - 2) behind; next = slice_index behind (4 * units - 2); rest = drop (4 * units - 2 + 1) behind })
+    then Ok (record { content = take (4 * units - 2) tail; next = slice_index tail (4 * units - 2); rest = drop (4 * units - 2 + 1) tail })
     else Err (faults.ExtensionNeeded kind)))
 
--- the headers of a chain, and the octets behind it
+-- the headers of a chain, and the octets after it
 pub record Chained : Type 0 where
   pub headers : List Extension
   pub rest : List ℕ
@@ -44,12 +44,20 @@ abbrev pub headers_of : Result Chained UserFault → List Extension
 headers_of (Ok c) = c.headers
 headers_of (Err f) = []
 
--- the octets behind the chain, where there is one
+-- the octets after the chain, where there is one
 abbrev pub rest_of : Result Chained UserFault → Option (List ℕ)
 rest_of (Ok c) = Some c.rest
 rest_of (Err f) = None
 
--- the headers of a chain with nothing behind it
+-- the headers of the chain that octets begin with
+abbrev pub headers_in : ℕ → List ℕ → List Extension
+headers_in first octets = headers_of (chain_at (length octets) first octets)
+
+-- there is a chain, and no octets are left after it
+abbrev pub HasNoRest : ℕ → List ℕ → Type 0
+HasNoRest first octets = rest_of (chain_at (length octets) first octets) ≡ Some []
+
+-- the headers of a chain with nothing after it
 abbrev pub with_no_rest : ℕ → Chained → Result (List Extension) UserFault
 with_no_rest end c = if length c.rest == 0 then Ok c.headers else Err (faults.Length (end - length c.rest) end)
 

@@ -22,7 +22,7 @@ pub enum Element<'a> {
     Skipped,
 }
 
-/// So many octets, and those behind them.
+/// So many octets, and those after them.
 fn split_at(octets: &[u8], size: usize) -> Option<(&[u8], &[u8])>
     ensures { option_map parts_of result ≡ split size octets.now }
 {
@@ -32,14 +32,14 @@ fn split_at(octets: &[u8], size: usize) -> Option<(&[u8], &[u8])>
     Some(octets.split_at(size))
 }
 
-/// The body behind a length in two octets, and the octets behind it.
+/// The body after a length in two octets, and the octets after it.
 fn read_body(octets: &[u8]) -> Option<(&[u8], &[u8])>
     ensures { option_map parts_of result ≡ split_body octets.now }
 {
-    let [high, low, behind @ ..] = octets else {
+    let [high, low, tail @ ..] = octets else {
         return None;
     };
-    split_at(behind, usize::from(u16::from_be_bytes([*high, *low])))
+    split_at(tail, usize::from(u16::from_be_bytes([*high, *low])))
 }
 
 /// An address of four octets, or of sixteen.
@@ -93,10 +93,10 @@ fn read_peer(octets: &[u8]) -> Option<(Element<'_>, &[u8])>
 fn read_types(octets: &[u8]) -> Option<(Element<'_>, &[u8])>
     ensures { ElementIs result (types_at octets.now) }
 {
-    let [size, behind @ ..] = octets else {
+    let [size, tail @ ..] = octets else {
         return None;
     };
-    let (types, rest) = split_at(behind, usize::from(*size))?;
+    let (types, rest) = split_at(tail, usize::from(*size))?;
     Some((Element::Types(types), rest))
 }
 
@@ -108,20 +108,20 @@ fn read_skipped(octets: &[u8]) -> Option<(Element<'_>, &[u8])>
     Some((Element::Skipped, rest))
 }
 
-/// The element at the front, and the octets behind it.
+/// The element at the start of the octets, and the octets after it.
 #[tactic(auto, unfolding(crate::specs::Elements::element_at))]
 fn read_element(octets: &[u8]) -> Option<(Element<'_>, &[u8])>
     ensures { ElementIs result (element_at octets.now) }
 {
-    let [kind, behind @ ..] = octets else {
+    let [kind, tail @ ..] = octets else {
         return None;
     };
     match *kind {
-        RECOVERY => read_recovery(behind),
-        TEID_DATA => read_teid(behind),
-        PEER_ADDRESS => read_peer(behind),
-        EXTENSION_TYPES => read_types(behind),
-        128..=255 => read_skipped(behind),
+        RECOVERY => read_recovery(tail),
+        TEID_DATA => read_teid(tail),
+        PEER_ADDRESS => read_peer(tail),
+        EXTENSION_TYPES => read_types(tail),
+        128..=255 => read_skipped(tail),
         _ => None,
     }
 }
@@ -139,7 +139,8 @@ impl<'a> Found<'a> {
     /// What was found before, and then this element.
     #[tactic(auto, unfolding(crate::specs::Elements::found_in))]
     fn and(self, element: Element<'a>) -> Found<'a>
-        ensures { found_of result ≡ and_found (found_of self.entry) (found_in (element_of element.entry ∷ [])) }
+        ensures { found_of result
+            ≡ and_found (found_of self.entry) (found_in (element_of element.entry ∷ [])) }
     {
         let mut found = self;
         match element {
@@ -153,8 +154,8 @@ impl<'a> Found<'a> {
     }
 }
 
-/// What the first element of each type says in the last octets of a datagram of `end` octets, which are
-/// elements to their end.
+/// What the first element of each type says in the last octets of a datagram of `end` octets: these
+/// are elements to their end.
 pub fn read_elements(octets: &[u8], end: usize) -> Result<Found<'_>, UserFault>
     requires { length octets.now ≤ end }
     ensures { Gives found_of result (found_at end octets.now) }
@@ -167,13 +168,13 @@ pub fn read_elements(octets: &[u8], end: usize) -> Result<Found<'_>, UserFault>
     };
     let mut rest = octets;
     while !rest.is_empty() {
-        let Some((element, behind)) = read_element(rest) else {
+        let Some((element, tail)) = read_element(rest) else {
             return Err(UserFault::Element {
                 at: end - rest.len(),
             });
         };
         found = found.and(element);
-        rest = behind;
+        rest = tail;
     }
     Ok(found)
 }

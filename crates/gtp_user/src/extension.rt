@@ -4,72 +4,79 @@ ghost use Rattle.std.specs.Prelude.{◌≡◌, ◌+◌, ◌≤◌, ◌<◌, [], 
 ghost use Rattle.std.specs.Iterator.{YieldsFirstBy, item_count};
 ghost use Rattle.gtp_user.specs.declared.fault.UserFault.{UserFault as AnyFault};
 ghost use Rattle.gtp_values.specs.Steps.{Gives};
-ghost use Rattle.gtp_user.specs.Chain.{Extension, IsChain, WholeChainFails, AreExtensions, first_kind, chain_text};
+ghost use Rattle.gtp_user.specs.Chain.{Extension, IsChain, WholeChainFails, AreExtensions, first_kind, chain_encoding};
 ghost use Rattle.gtp_user.specs.Walk.{front_at, chain_at, whole_at};
 ghost use Rattle.gtp_user.specs.Chained.{extension_of, front_of, chained_of};
 
 use crate::fault::UserFault;
 use std::marker::Model;
 
-/// A header at the front of octets, behind the octet that has its type.
+/// A header at the start of octets, after the octet that has its type.
 #[derive(Clone, Copy)]
 pub struct Front<'a> {
     pub content: &'a [u8],
-    /// The type of the header behind it, 0 where there is none.
+    /// The type of the header after it, 0 where there is none.
     pub next: u8,
     pub rest: &'a [u8],
 }
 
-/// The header of this type at the front of the last octets of a datagram of `end` octets.
+/// The header of this type at the start of the last octets of a datagram of `end` octets.
 fn read_front(kind: u8, octets: &[u8], end: usize) -> Result<Front<'_>, UserFault>
     requires { length octets.now ≤ end }
     ensures { Gives front_of result (front_at end kind octets.now) }
 {
     let at = end - octets.len();
-    let [units, behind @ ..] = octets else {
+    let [units, tail @ ..] = octets else {
         return Err(UserFault::ExtensionPast { at });
     };
     if *units == 0 {
         return Err(UserFault::ExtensionZero { at });
     }
     let size = 4 * usize::from(*units) - 2;
-    if behind.len() <= size {
+    if tail.len() <= size {
         return Err(UserFault::ExtensionPast { at });
     }
     if kind >= 128 {
         return Err(UserFault::ExtensionNeeded { kind });
     }
     Ok(Front {
-        content: &behind[..size],
-        next: behind[size],
-        rest: &behind[size + 1..],
+        content: &tail[..size],
+        next: tail[size],
+        rest: &tail[size + 1..],
     })
 }
 
-/// Extension headers one after the other, each its type and its content. Contracts see the list of
-/// those that are left.
-#[derive(Debug, Drop)]
+/// An extension header, as it lies in the datagram.
+#[derive(Clone, Copy, Debug, PartialEq, Eq)]
+pub struct ExtensionHeader<'a> {
+    pub kind: u8,
+    pub content: &'a [u8],
+}
+
+/// A whole chain of extension headers, as it lies in the datagram. Contracts see the list of its
+/// headers.
+#[derive(Clone, Debug, Drop)]
 pub struct Extensions<'a> {
     /// The type of the first header, 0 where there is none.
     first: u8,
-    /// The octets of the chain, behind that type.
+    /// The octets of the chain, after that type.
     octets: &'a [u8],
 }
 
 impl<'a> Model for Extensions<'a> {
-    ghost use Rattle.std.specs.Prelude.{◌≡◌, List, [], length, Some};
+    ghost use Rattle.std.specs.Prelude.{List};
     ghost use Rattle.gtp_user.specs.Chain.{Extension};
-    ghost use Rattle.gtp_user.specs.Walk.{chain_at, headers_of, rest_of};
+    ghost use Rattle.gtp_user.specs.Walk.{headers_in, HasNoRest};
 
     ghost Value = { List Extension };
 
-    ghost view = { λ a. headers_of (chain_at (length a.octets.now) a.first a.octets.now) };
+    ghost view = { λ a. headers_in a.first a.octets.now };
 
-    ghost invariant = { λ a. rest_of (chain_at (length a.octets.now) a.first a.octets.now) ≡ Some [] };
+    ghost invariant = { λ a. HasNoRest a.first a.octets.now };
 }
 
-/// The chain at the front of the last octets of a datagram of `end` octets, its first header of this
-/// type, and the octets behind it.
+/// The chain at the start of the last octets of a datagram of `end` octets, its first header of
+/// this type, and the octets after it.
 pub fn read_chain(
     first: u8,
     octets: &[u8],
@@ -119,23 +126,24 @@ impl<'a> Extensions<'a> {
         }
     }
 
-    /// The headers that a whole chain has, the first one of this type; 0 is the empty chain. Places in a
-    /// fault count from the start of `octets`; `Length` says that octets are left behind the chain.
+    /// The headers that a whole chain has, the first one of this type; 0 is the empty chain. Places
+    /// in a fault count from the start of `octets`; `Length` says that octets are left after the chain.
     pub fn try_new(first: u8, octets: &'a [u8]) -> Result<Extensions<'a>, UserFault>
         ensures found { IfOk result (λ headers. IsChain first octets.now headers []) }
-        ensures only { (es : List Extension) → IsChain first octets.now es [] → IsOkAnd result (λ headers. headers ≡ es) }
+        ensures only { (es : List Extension) →
+            IsChain first octets.now es [] → IsOkAnd result (λ headers. headers ≡ es) }
         ensures fault { IfErr result (WholeChainFails first octets.now) }
         ensures first { (f : AnyFault) → WholeChainFails first octets.now f → result ≡ Err f }
     {
         read_whole(first, octets)
     }
 
-    /// The same headers again.
-    pub fn iter(&self) -> Extensions<'a>
+    /// The headers, in order.
+    pub fn iter(&self) -> ExtensionHeaders<'a>
         ensures { result ≡ self.now }
     {
-        Extensions {
-            first: self.first,
+        ExtensionHeaders {
+            next: self.first,
             octets: self.octets,
         }
     }
@@ -147,32 +155,103 @@ impl<'a> Extensions<'a> {
         self.first
     }
 
-    /// The octets of the chain, behind the type of its first header.
+    /// The octets of the chain, after the type of its first header.
     pub fn octets(&self) -> &'a [u8]
-        ensures text { result.now ≡ chain_text self.now }
+        ensures encoding { result.now ≡ chain_encoding self.now }
         ensures headers { AreExtensions self.now }
     {
         self.octets
     }
 }
 
-impl<'a> Iterator for Extensions<'a> {
-    type Item = (u8, &'a [u8]);
+impl PartialEq for Extensions<'_> {
+    ghost use Rattle.std.specs.Cmp.Lexicographic.{pointwise, lists_per};
+    ghost use Rattle.std.specs.Cmp.Rules.{comparing};
+    ghost use Rattle.std.proofs.Common.{rules};
+    ghost use Rattle.gtp_user.specs.Chain.{header_eq};
+
+    ghost eq = { pointwise header_eq };
+
+    ghost laws = { lists_per (Prim.search (comparing, rules)) };
+
+    fn eq(&self, other: &Extensions<'_>) -> bool {
+        self.first == other.first && self.octets == other.octets
+    }
+}
+
+impl Eq for Extensions<'_> {
+    ghost use Rattle.std.specs.Cmp.Lexicographic.{lists_equiv};
+    ghost use Rattle.std.specs.Cmp.Rules.{comparing};
+    ghost use Rattle.std.proofs.Common.{rules};
+
+    ghost laws = { lists_equiv (Prim.search (comparing, rules)) };
+}
+
+impl<'a> IntoIterator for Extensions<'a> {
+    type Item = ExtensionHeader<'a>;
+
+    type IntoIter = ExtensionHeaders<'a>;
+
+    ghost into_iter_gives = { λ chain headers. headers ≡ chain };
+
+    fn into_iter(self) -> ExtensionHeaders<'a> {
+        self.iter()
+    }
+}
+
+impl<'a> IntoIterator for &Extensions<'a> {
+    type Item = ExtensionHeader<'a>;
+
+    type IntoIter = ExtensionHeaders<'a>;
+
+    ghost into_iter_gives = { λ chain headers. headers ≡ chain.now };
+
+    fn into_iter(self) -> ExtensionHeaders<'a> {
+        self.iter()
+    }
+}
+
+/// Gives the headers of a chain in order. Contracts see the list of those that are left.
+#[derive(Clone, Debug, Drop)]
+pub struct ExtensionHeaders<'a> {
+    /// The type of the next header, 0 where there is none.
+    next: u8,
+    /// The octets that are left, after that type.
+    octets: &'a [u8],
+}
+
+impl<'a> Model for ExtensionHeaders<'a> {
+    ghost use Rattle.std.specs.Prelude.{List};
+    ghost use Rattle.gtp_user.specs.Chain.{Extension};
+    ghost use Rattle.gtp_user.specs.Walk.{headers_in, HasNoRest};
+
+    ghost Value = { List Extension };
+
+    ghost view = { λ a. headers_in a.next a.octets.now };
+
+    ghost invariant = { λ a. HasNoRest a.next a.octets.now };
+}
+
+impl<'a> Iterator for ExtensionHeaders<'a> {
+    type Item = ExtensionHeader<'a>;
 
     ghost next_gives = { YieldsFirstBy extension_of (λ es. es) };
 
     ghost remaining = { item_count (λ es. es) };
 
-    fn next(&mut self) -> Option<(u8, &'a [u8])> {
-        let kind = self.first;
+    fn next(&mut self) -> Option<ExtensionHeader<'a>> {
+        let kind = self.next;
         if kind == 0 {
             return None;
         }
         let Ok(front) = read_front(kind, self.octets, self.octets.len()) else {
             return None;
         };
-        self.first = front.next;
+        self.next = front.next;
         self.octets = front.rest;
-        Some((kind, front.content))
+        Some(ExtensionHeader {
+            kind,
+            content: front.content,
+        })
     }
 }

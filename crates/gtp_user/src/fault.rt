@@ -21,13 +21,13 @@ pub enum UserFault {
     /// U3: the protocol type is GTP' and not GTP.
     #[error("not of the protocol GTP")]
     Protocol,
-    /// U4: the length that is stated is not that of the octets behind the first eight.
+    /// U4: the length that is stated is not that of the octets after the first eight.
     #[error("the length is stated as {stated} and is {held}")]
     Length { stated: usize, held: usize },
     /// U5: an extension header whose length octet, at this place, is 0.
     #[error("the extension header at {at} has length 0")]
     ExtensionZero { at: usize },
-    /// U6: an extension header, its length octet at this place, that is missing or runs past the end.
+    /// U6: an extension header, its length octet at this place, that is missing or passes the end.
     #[error("the extension header at {at} is not whole")]
     ExtensionPast { at: usize },
     /// U7: an extension header that the receiver has to understand, and does not.
@@ -39,7 +39,7 @@ pub enum UserFault {
     /// U9: at this place there is no whole element of a known form.
     #[error("there is no element at {at}")]
     Element { at: usize },
-    /// U10: a growth was refused.
+    /// U10: an allocation was refused.
     #[error("no memory")]
     Memory,
     /// U11: the length passes what two octets can state.

@@ -19,7 +19,14 @@ pub struct Header<'a> {
     pub rest: &'a [u8],
 }
 
-/// The header behind its first eight octets, where a flag is set.
+/// The flags E, S and PN of the first octet: four octets follow the first eight where one is set.
+fn field_flags(first: u8) -> u8
+    ensures { result ≡ first % 8 }
+{
+    first & 7
+}
+
+/// The header after its first eight octets, where a flag is set.
 fn with_flags(flags: u8, kind: u8, teid: Teid, octets: &[u8]) -> Result<Header<'_>, UserFault>
     ensures header { Gives headed_of result (after_flags flags kind teid.0 octets.now) }
     ensures within { IfOk result (λ h. length h.rest.now ≤ length octets.now) }
@@ -33,9 +40,9 @@ fn with_flags(flags: u8, kind: u8, teid: Teid, octets: &[u8]) -> Result<Header<'
     Ok(Header {
         kind,
         teid,
-        seq: (flags / 2 % 2 == 1).then_some(seq),
-        npdu: (flags % 2 == 1).then_some(*npdu),
-        first: if flags / 4 % 2 == 1 { *first } else { 0 },
+        seq: (flags >> 1 & 1 == 1).then_some(seq),
+        npdu: (flags & 1 == 1).then_some(*npdu),
+        first: if flags >> 2 & 1 == 1 { *first } else { 0 },
         rest,
     })
 }
@@ -48,11 +55,11 @@ pub fn read_header(octets: &[u8]) -> Result<Header<'_>, UserFault>
     let [flags, kind, high, low, a, b, c, d, rest @ ..] = octets else {
         return Err(UserFault::Short { held: octets.len() });
     };
-    let version = *flags / 32;
+    let version = *flags >> 5;
     if version != 1 {
         return Err(UserFault::Version { version });
     }
-    if *flags / 16 % 2 == 0 {
+    if *flags >> 4 & 1 == 0 {
         return Err(UserFault::Protocol);
     }
     let stated = usize::from(u16::from_be_bytes([*high, *low]));
@@ -63,7 +70,7 @@ pub fn read_header(octets: &[u8]) -> Result<Header<'_>, UserFault>
         });
     }
     let teid = Teid(u32::from_be_bytes([*a, *b, *c, *d]));
-    if *flags % 8 != 0 {
+    if field_flags(*flags) != 0 {
         return with_flags(*flags, *kind, teid, rest);
     }
     Ok(Header {

@@ -1,17 +1,40 @@
-//! Laws of the grammar, each the contract of a function that does nothing.
+//! Laws of the grammar and of `==`, each the contract of a function that does nothing or only
+//! compares.
 
-ghost use Rattle.std.specs.Prelude.{ℕ, ◌<◌, List, length, take};
-ghost use Rattle.gtp_user.specs.Message.{Spoken};
-ghost use Rattle.gtp_user.specs.Datagram.{IsUserMessage};
-ghost use Rattle.gtp_user.specs.Text.{Meets, text};
-ghost use Rattle.gtp_user.specs.Fronts.{IsCutFront};
+ghost use Rattle.std.specs.Prelude.{◌≡◌, ◌↔◌, ℕ, ◌-◌, ◌<◌, ◌≤◌, IsTrue, List, length, take};
+ghost use Rattle.gtp_user.specs.declared.fault.UserFault.TheVariants as faults;
+ghost use Rattle.gtp_user.specs.Message.{MessageValue, message_value};
+ghost use Rattle.gtp_user.specs.Datagram.{IsUserMessage, IsUserFault};
+ghost use Rattle.gtp_user.specs.Encoding.{Meets, encoding};
 
-/// The text of a message spells it, so what was encoded is decoded.
-pub fn texts_are_read_again()
-    ensures { (m : Spoken) → Meets m → IsUserMessage (text m) m }
+use crate::extension::Extensions;
+use crate::message::UserMessage;
+
+/// The canonical encoding of a message spells it, so what was encoded is decoded.
+pub fn encodings_are_read_again()
+    ensures { (m : MessageValue) → Meets m → IsUserMessage (encoding m) m }
 {}
 
-/// Each strict front of a datagram is at fault: it has too few octets, or fewer than stated.
-pub fn strict_fronts_are_faults()
-    ensures { (octets : List ℕ) (m : Spoken) (n : ℕ) → IsUserMessage octets m → n < length octets → IsCutFront (take n octets) }
+/// Each proper prefix of a datagram is at fault: it has fewer than eight octets, or fewer after these
+/// than its length states.
+pub fn proper_prefixes_are_faults()
+    ensures short { (octets : List ℕ) (m : MessageValue) (n : ℕ) →
+        IsUserMessage octets m → n < 8 → IsUserFault (take n octets) (faults.Short n) }
+    ensures fewer { (octets : List ℕ) (m : MessageValue) (n : ℕ) →
+        IsUserMessage octets m → 8 ≤ n → n < length octets →
+        IsUserFault (take n octets) (faults.Length (length octets - 8) (n - 8)) }
 {}
+
+/// Two messages are equal exactly where contracts see the same message.
+pub fn equal_messages_are_the_same(a: &UserMessage, b: &UserMessage) -> bool
+    ensures { IsTrue result ↔ (message_value a.now ≡ message_value b.now) }
+{
+    a == b
+}
+
+/// Two chains are equal exactly where they have the same headers.
+pub fn equal_chains_have_the_same_headers(a: &Extensions, b: &Extensions) -> bool
+    ensures { IsTrue result ↔ (a.now ≡ b.now) }
+{
+    a == b
+}

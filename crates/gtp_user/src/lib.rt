@@ -1,5 +1,5 @@
-//! GTP-U, the user plane of TS 29.281: a datagram is decoded in place, without memory, and a message is
-//! encoded as its one text.
+//! GTP-U, the user plane of TS 29.281: a datagram is decoded in place, without memory, and a message
+//! is written in its canonical encoding.
 #![tactic(auto)]
 
 mod element;
@@ -12,7 +12,7 @@ mod numbers;
 mod reading;
 mod writing;
 
-pub use extension::Extensions;
+pub use extension::{ExtensionHeader, ExtensionHeaders, Extensions};
 pub use fault::UserFault;
 pub use message::{UserBody, UserMessage};
 pub use reading::decode;

@@ -10,12 +10,13 @@ pub enum UserBody<'a> {
     EchoRequest,
     /// Echo Response (7.2.2).
     EchoResponse,
-    /// Error Indication: the TEID and the address to which a packet went that found no context (7.3.1).
+    /// Error Indication: the TEID and the address of a packet that found no context (7.3.1).
     ErrorIndication {
         teid: Teid,
         peer: Ip,
     },
-    /// Supported Extension Headers Notification: the types that the sender understands, at most 255 (7.2.3).
+    /// Supported Extension Headers Notification: the types that the sender understands, at most 255
+    /// (7.2.3).
     Notification {
         types: &'a [u8],
     },
@@ -28,7 +29,7 @@ pub enum UserBody<'a> {
         teid: Teid,
         payload: &'a [u8],
     },
-    /// A message of another type, and the octets behind its header.
+    /// A message of another type, and the octets after its header.
     Other {
         kind: u8,
         teid: Teid,
@@ -37,7 +38,7 @@ pub enum UserBody<'a> {
 }
 
 /// A message of the user plane (TS 29.281 5.1).
-#[derive(Debug, Drop)]
+#[derive(Clone, Debug, PartialEq, Eq, Drop)]
 pub struct UserMessage<'a> {
     /// The sequence number. Echo messages, Error Indication and Notification always have one.
     pub seq: Option<u16>,

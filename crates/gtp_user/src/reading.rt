@@ -3,7 +3,7 @@
 ghost use Rattle.std.specs.Prelude.{◌≡◌, ◌≤◌, length, IfOk, IfErr, IsOkAnd, Ok, Err};
 ghost use Rattle.gtp_user.specs.declared.fault.UserFault.{UserFault as AnyFault};
 ghost use Rattle.gtp_values.specs.Steps.{Gives};
-ghost use Rattle.gtp_user.specs.Message.{Spoken, content_of, spoken_of};
+ghost use Rattle.gtp_user.specs.Message.{MessageValue, content_of, message_value};
 ghost use Rattle.gtp_user.specs.Reading.{body_at, message_at};
 ghost use Rattle.gtp_user.specs.Datagram.{IsUserMessage, IsUserFault};
 
@@ -18,7 +18,8 @@ use crate::numbers::{
 };
 use gtp_values::Teid;
 
-/// What the last octets of a datagram of `end` octets, behind its chain, say in a message of this type.
+/// What a message of this type carries in the octets after its chain, the last ones of a datagram of
+/// `end` octets.
 #[tactic(auto, unfolding(crate::specs::Reading::body_at))]
 fn read_body(kind: u8, teid: Teid, octets: &[u8], end: usize) -> Result<UserBody<'_>, UserFault>
     requires { length octets.now ≤ end }
@@ -58,7 +59,7 @@ fn read_body(kind: u8, teid: Teid, octets: &[u8], end: usize) -> Result<UserBody
 /// The message that a datagram spells, by one reading.
 #[tactic(auto, unfolding(crate::specs::Reading::message_at))]
 fn read_message(octets: &[u8]) -> Result<UserMessage<'_>, UserFault>
-    ensures { Gives spoken_of result (message_at octets.now) }
+    ensures { Gives message_value result (message_at octets.now) }
 {
     let header = read_header(octets)?;
     let (ext, rest) = read_chain(header.first, header.rest, octets.len())?;
@@ -78,13 +79,14 @@ fn read_message(octets: &[u8]) -> Result<UserMessage<'_>, UserFault>
     })
 }
 
-/// The message that a datagram spells, or its first fault. Takes no memory and copies nothing: the
-/// slices of the answer lie in the datagram, and its chain of extension headers was walked once.
+/// The message that a datagram spells, or its first fault. It is handed no allocator, so it takes no
+/// memory, and the slices of its answer lie in the datagram.
 pub fn decode(octets: &[u8]) -> Result<UserMessage<'_>, UserFault>
     // What is answered is spelled so.
-    ensures found { IfOk result (λ m. IsUserMessage octets.now (spoken_of m)) }
+    ensures found { IfOk result (λ m. IsUserMessage octets.now (message_value m)) }
     // What is spelled so is answered.
-    ensures only { (m : Spoken) → IsUserMessage octets.now m → IsOkAnd result (λ answer. spoken_of answer ≡ m) }
+    ensures only { (m : MessageValue) →
+        IsUserMessage octets.now m → IsOkAnd result (λ answer. message_value answer ≡ m) }
     // A fault is the first one.
     ensures fault { IfErr result (IsUserFault octets.now) }
     // The first fault is answered.

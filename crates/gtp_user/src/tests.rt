@@ -1,4 +1,5 @@
-//! Datagrams whose octets and readings come from outside.
+//! Datagrams whose octets and readings come from outside. Those of examples/datagrams/user stand there
+//! with their clauses.
 
 use super::*;
 use std::alloc::Global;
@@ -6,7 +7,7 @@ use std::process::Abort;
 use std::test::Fail;
 
 /// How many headers there are.
-fn count(headers: Extensions) -> usize {
+fn count(headers: &Extensions) -> usize {
     let mut count = 0usize;
     for _ in headers {
         count = count.saturating_add(1);
@@ -14,8 +15,8 @@ fn count(headers: Extensions) -> usize {
     count
 }
 
-/// The message that the octets spell is this one, with so many extension headers, and is written as the
-/// same octets.
+/// The message that the octets spell is this one, with so many extension headers, and is written as
+/// the same octets.
 fn reads_and_writes(
     rt: &impl Abort,
     alloc: Global,
@@ -28,11 +29,11 @@ fn reads_and_writes(
     let message = decode(octets)?;
     assert_eq!(rt; message.seq, seq, "sequence number of {octets:?}");
     assert_eq!(rt; message.npdu, npdu, "N-PDU number of {octets:?}");
-    assert_eq!(rt; count(message.ext.iter()), headers, "headers of {octets:?}");
+    assert_eq!(rt; count(&message.ext), headers, "headers of {octets:?}");
     assert!(rt; message.body == body, "body of {octets:?}");
     assert!(rt; message.is_encodable());
     let written = encode(alloc, &message)?;
-    assert!(rt; written.as_slice() == octets, "text of {octets:?}");
+    assert!(rt; written.as_slice() == octets, "encoding of {octets:?}");
     Ok(())
 }
 
@@ -99,9 +100,17 @@ fn tunnels(rt: HostRuntime) -> Result<(), Fail> {
         payload: b"abc",
     };
     reads_and_writes(&rt, alloc, chained, None, None, 2, body)?;
-    let mut headers = decode(chained)?.ext;
-    assert!(rt; headers.next() == Some((0x20, b"\xaa\xbb".as_slice())));
-    assert!(rt; headers.next() == Some((0x40, b"\x08\x68".as_slice())));
+    let mut headers = decode(chained)?.ext.into_iter();
+    let first = ExtensionHeader {
+        kind: 0x20,
+        content: b"\xaa\xbb",
+    };
+    assert!(rt; headers.next() == Some(first));
+    let second = ExtensionHeader {
+        kind: 0x40,
+        content: b"\x08\x68",
+    };
+    assert!(rt; headers.next() == Some(second));
     assert!(rt; headers.next().is_none());
     Ok(())
 }
@@ -215,7 +224,7 @@ fn flags(rt: HostRuntime) -> Result<(), Fail> {
         let message = decode(&octets)?;
         assert_eq!(rt; message.seq, seq, "flags {flags}");
         assert_eq!(rt; message.npdu, npdu, "flags {flags}");
-        assert_eq!(rt; count(message.ext.iter()), 0, "flags {flags}");
+        assert_eq!(rt; count(&message.ext), 0, "flags {flags}");
         let teid = Teid(0x0100_0002);
         assert!(rt;
             message.body
@@ -253,24 +262,22 @@ fn octets_that_are_not_walked(rt: HostRuntime) -> Result<(), Fail> {
 
 /// A G-PDU with so many headers of so many units of four octets, and a payload of so many octets.
 fn chained(alloc: Global, headers: u8, units: u8, payload: u16) -> Result<Vec<u8>, Fail> {
-    let mut behind = Vec::new(alloc);
-    behind.extend_from_slice(&[0, 0, 0])?;
+    let mut tail = Vec::new(alloc);
+    tail.extend_from_slice(&[0, 0, 0])?;
     for _ in 0..headers {
-        behind.extend_from_slice(&[0x20, units])?;
+        tail.extend_from_slice(&[0x20, units])?;
         for _ in 2..u16::from(units) * 4 {
-            behind.push(0xaa)?;
+            tail.push(0xaa)?;
         }
     }
-    behind.push(0)?;
+    tail.push(0)?;
     for _ in 0..payload {
-        behind.push(0xbb)?;
+        tail.push(0xbb)?;
     }
-    let size = u16::try_from(behind.len())
-        .or(Err("too long"))?
-        .to_be_bytes();
+    let size = u16::try_from(tail.len()).or(Err("too long"))?.to_be_bytes();
     let mut octets = Vec::new(alloc);
     octets.extend_from_slice(&[0x34, 255, size[0], size[1], 1, 0, 0, 2])?;
-    octets.extend_from_slice(&behind)?;
+    octets.extend_from_slice(&tail)?;
     Ok(octets)
 }
 
@@ -288,10 +295,10 @@ fn chains(rt: HostRuntime) -> Result<(), Fail> {
     ] {
         let octets = chained(rt.alloc(), headers, units, payload)?;
         let message = decode(octets.as_slice())?;
-        assert_eq!(rt; count(message.ext.iter()), usize::from(headers));
-        for (kind, content) in message.ext.iter() {
-            assert_eq!(rt; kind, 0x20);
-            assert_eq!(rt; content.len() + 2, 4 * usize::from(units));
+        assert_eq!(rt; count(&message.ext), usize::from(headers));
+        for header in &message.ext {
+            assert_eq!(rt; header.kind, 0x20);
+            assert_eq!(rt; header.content.len() + 2, 4 * usize::from(units));
         }
         let UserBody::Packet { payload: read, .. } = message.body else {
             return Err("no packet".into());

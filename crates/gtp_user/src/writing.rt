@@ -1,8 +1,8 @@
 //! Encoding messages.
 
 ghost use Rattle.std.specs.Prelude.{◌≡◌, ◌+◌, ◌-◌, ◌^◌, ◌<◌, ◌≤◌, ◌++◌, ◌↔◌, ◌⊎◌, ◌∷◌, min, length, IsTrue, IfSome, OnOk, IfOk, IfErr, Err};
-ghost use Rattle.gtp_user.specs.Message.{spoken_of, content_of};
-ghost use Rattle.gtp_user.specs.Text.{content_text, octets_of, HasAddressSize, options_text, opening_text, behind_text, text, flags_of, kind_of, teid_of, HasShortList, IsInRange, IsEncodable};
+ghost use Rattle.gtp_user.specs.Message.{message_value, content_of};
+ghost use Rattle.gtp_user.specs.Encoding.{content_encoding, octets_of, HasAddressSize, options_encoding, opening_encoding, rest_encoding, encoding, flags_of, kind_of, teid_of, HasShortList, IsInRange, IsEncodable};
 ghost use Rattle.gtp_user.specs.Header.{bits};
 ghost use Rattle.gtp_user.specs.Datagram.{IsUserMessage};
 
@@ -42,7 +42,7 @@ impl UserBody<'_> {
         }
     }
 
-    /// The TEID in the header, 0 in the messages that always have a sequence number (TS 29.281 5.1).
+    /// The TEID in the header: 0 in the messages that always have a sequence number (TS 29.281 5.1).
     fn header_teid(&self) -> u32
         ensures teid { result ≡ teid_of (content_of self.now) }
         ensures small { result < 2 ^ 32 }
@@ -59,9 +59,9 @@ impl UserBody<'_> {
     }
 
     /// How many octets it takes, at most what a `usize` holds.
-    #[tactic(auto, unfolding(crate::specs::Text::content_text))]
+    #[tactic(auto, unfolding(crate::specs::Encoding::content_encoding))]
     fn size(&self) -> usize
-        ensures { result ≡ min (length (content_text (content_of self.now))) (2 ^ 64 - 1) }
+        ensures { result ≡ min (length (content_encoding (content_of self.now))) (2 ^ 64 - 1) }
     {
         match self {
             UserBody::EchoRequest | UserBody::EndMarker { .. } => 0,
@@ -75,11 +75,11 @@ impl UserBody<'_> {
 }
 
 impl UserMessage<'_> {
-    /// Whether `encode` takes it: an echo, an Error Indication and a notification have a sequence number
-    /// (TS 29.281 5.1), a notification has at most 255 types, and `Other` has a type without a form of
-    /// its own.
+    /// Whether `encode` takes it: an echo, an Error Indication and a notification have a sequence
+    /// number (TS 29.281 5.1), a notification has at most 255 types, and `Other` has a type without a
+    /// form of its own.
     pub fn is_encodable(&self) -> bool
-        ensures { IsTrue result ↔ IsEncodable (spoken_of self.now) }
+        ensures { IsTrue result ↔ IsEncodable (message_value self.now) }
     {
         match self.body {
             UserBody::EchoRequest | UserBody::EchoResponse | UserBody::ErrorIndication { .. } =>
@@ -100,17 +100,17 @@ impl UserMessage<'_> {
 
     /// The flags E, S and PN: one for each part that the message has.
     fn flags(&self) -> u8
-        ensures { result ≡ bits (flags_of (spoken_of self.now)) }
+        ensures { result ≡ bits (flags_of (message_value self.now)) }
     {
-        4 * u8::from(self.ext.first_kind() != 0)
-            + 2 * u8::from(self.seq.is_some())
-            + u8::from(self.npdu.is_some())
+        u8::from(self.ext.first_kind() != 0) << 2
+            | u8::from(self.seq.is_some()) << 1
+            | u8::from(self.npdu.is_some())
     }
 
-    /// How many octets stand behind the first eight, at most what a `usize` holds.
-    #[tactic(auto, unfolding(crate::specs::Text::options_text))]
+    /// How many octets there are after the first eight, at most what a `usize` holds.
+    #[tactic(auto, unfolding(crate::specs::Encoding::options_encoding))]
     fn size(&self) -> usize
-        ensures { result ≡ min (length (behind_text (spoken_of self.now))) (2 ^ 64 - 1) }
+        ensures { result ≡ min (length (rest_encoding (message_value self.now))) (2 ^ 64 - 1) }
     {
         let options = if self.flags() == 0 { 0 } else { 4 };
         self.ext
@@ -123,7 +123,8 @@ impl UserMessage<'_> {
 
 /// Appends the first eight octets.
 fn write_opening(out: &mut Vec<u8>, message: &UserMessage, size: u16) -> Result<(), AllocError>
-    ensures ok { OnOk result (out.new.items ≡ out.old.items ++ opening_text size (spoken_of message.now)) }
+    ensures ok { OnOk result
+        (out.new.items ≡ out.old.items ++ opening_encoding size (message_value message.now)) }
     ensures teid { OnOk result (teid_of (content_of message.now.body) < 2 ^ 32) }
 {
     let size = size.to_be_bytes();
@@ -140,11 +141,12 @@ fn write_opening(out: &mut Vec<u8>, message: &UserMessage, size: u16) -> Result<
     ])
 }
 
-/// Appends sequence number, N-PDU number and the type of the first extension header, where there is one
-/// of them.
-#[tactic(auto, unfolding(crate::specs::Text::options_text))]
+/// Appends sequence number, N-PDU number and the type of the first extension header, where there is
+/// one of them.
+#[tactic(auto, unfolding(crate::specs::Encoding::options_encoding))]
 fn write_options(out: &mut Vec<u8>, message: &UserMessage) -> Result<(), AllocError>
-    ensures ok { OnOk result (out.new.items ≡ out.old.items ++ options_text (spoken_of message.now)) }
+    ensures ok { OnOk result
+        (out.new.items ≡ out.old.items ++ options_encoding (message_value message.now)) }
     ensures seq { OnOk result (IfSome message.now.seq (λ n. n < 2 ^ 16)) }
 {
     if message.flags() == 0 {
@@ -155,11 +157,12 @@ fn write_options(out: &mut Vec<u8>, message: &UserMessage) -> Result<(), AllocEr
     out.extend_from_slice(&[seq[0], seq[1], npdu, message.ext.first_kind()])
 }
 
-/// Appends what stands behind the chain.
-#[tactic(auto, using(crate::proofs::Appends::appending), unfolding(crate::specs::Text::content_text))]
+/// Appends what the message carries after its chain.
+#[tactic(auto, using(crate::proofs::Appends::appending), unfolding(crate::specs::Encoding::content_encoding))]
 fn write_body(out: &mut Vec<u8>, body: &UserBody) -> Result<(), AllocError>
     requires { HasShortList (content_of body.now) }
-    ensures ok { OnOk result (out.new.items ≡ out.old.items ++ content_text (content_of body.now)) }
+    ensures ok { OnOk result
+        (out.new.items ≡ out.old.items ++ content_encoding (content_of body.now)) }
     ensures range { OnOk result (IsInRange (content_of body.now)) }
 {
     match body {
@@ -181,15 +184,17 @@ fn write_body(out: &mut Vec<u8>, body: &UserBody) -> Result<(), AllocError>
     }
 }
 
-/// The one text of a message that can be written (`is_encodable`). `TooLong` where its length passes
-/// what two octets can state, before any memory is taken; else only memory can be wanting.
+/// The canonical encoding of a message that `is_encodable`. `TooLong` where its length passes what
+/// two octets can state, whether or not there is memory; `Memory` where an allocation was refused.
 #[tactic(auto, using(crate::proofs::Appends::appending))]
 pub fn encode(alloc: Global, message: &UserMessage) -> Result<Vec<u8>, UserFault>
-    requires { IsEncodable (spoken_of message.now) }
-    ensures written { IfOk result (λ octets. octets.items ≡ text (spoken_of message.now)) }
+    requires { IsEncodable (message_value message.now) }
+    ensures written { IfOk result (λ octets. octets.items ≡ encoding (message_value message.now)) }
     // What was written is read again.
-    ensures read_again { IfOk result (λ octets. IsUserMessage octets.items (spoken_of message.now)) }
-    ensures too_long { (result ≡ Err UserFault.TooLong) ↔ (65535 + 8 < length (text (spoken_of message.now))) }
+    ensures read_again { IfOk result
+        (λ octets. IsUserMessage octets.items (message_value message.now)) }
+    ensures too_long { (result ≡ Err UserFault.TooLong)
+        ↔ (65535 + 8 < length (encoding (message_value message.now))) }
     ensures fault { IfErr result (λ f. (f ≡ UserFault.Memory) ⊎ (f ≡ UserFault.TooLong)) }
 {
     let Ok(size) = u16::try_from(message.size()) else {

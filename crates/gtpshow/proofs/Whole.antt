@@ -11,14 +11,14 @@ use Rattle.gtp_v2.specs.Message.{Content, Fields, Raw, raw_of, Spoken}
 use Rattle.gtp_v2.specs.Datagram.{CarriesBy, IsMessage}
 use Rattle.gtpshow.specs.Control.{place_of}
 
--- where the octets behind a header stand
-record IsBehind (octets : List ℕ) (h : Headed) : Type 0 where
+-- where the octets after a header begin
+record IsAfter (octets : List ℕ) (h : Headed) : Type 0 where
   pub place : place_of h.teid ≡ h.at
   pub rest : drop h.at octets ≡ h.rest
   pub room : h.at ≤ length octets
 
-behind : (octets : List ℕ) (h : Headed) → IsHeaded octets h → IsBehind octets h
-behind octets h is = elim is [
+after_header : (octets : List ℕ) (h : Headed) → IsHeaded octets h → IsAfter octets h
+after_header octets h is = elim is [
   | inl (flags, a, b, c, spare, small, (high, low, lt, text, long), e) ↦
       let at : h.at ≡ 8 = ap (λ (x : Headed). x.at) e in
       let teid : place_of h.teid ≡ 8 = ap (λ (x : Headed). place_of x.teid) e in
@@ -36,7 +36,7 @@ by_table (Some table) h fields (flag, others, (es, are, lines), e) = (es, are)
 -- what a message with fields carries is elements
 pub elements_in : (octets : List ℕ) (m : Spoken) (fields : List Field) → IsMessage octets m → m.content ≡ Fields fields → (es : List Element) × AreElements (place_of m.teid) (drop (place_of m.teid) octets) es
 elements_in octets m fields (h, headed, (content, carries, e)) has =
-    let b = behind octets h headed in
+    let b = after_header octets h headed in
     let same : place_of m.teid ≡ h.at = ap (λ (x : Spoken). place_of x.teid) e ∙ b.place in
     let typed : content ≡ Fields fields = sym (ap (λ (x : Spoken). x.content) e) ∙ has in
     let found = by_table (table_of h.kind) h fields (subst (CarriesBy (table_of h.kind) h) typed carries) in

@@ -60,7 +60,7 @@ abbrev pub place_of : Option ℕ → ℕ
 place_of None = 8
 place_of (Some teid) = 12
 
--- the lines behind the first: those of the elements in the datagram's order, or the octets of a message of another type
+-- the lines after the first: those of the elements in the datagram's order, or the octets of a message of another type
 abbrev pub CarriedLines : List ℕ → Spoken → Content → List ℕ → Type 0
 CarriedLines octets m (Raw carried) lines = lines ≡ codes "octets " ++ (octets_text carried ++ codes "\n")
 CarriedLines octets m (Fields fields) lines =
@@ -97,7 +97,7 @@ fault_shown faults.TooLong = codes "H9"
 abbrev pub fault_line : V2Fault → List ℕ
 fault_line f = codes "fault " ++ (fault_shown f ++ codes "\n")
 
--- behind other text stand the lines of a message that the octets spell
+-- the text is other text, and then the lines of a message that the octets spell
 abbrev pub HasLines : List ℕ → List ℕ → Spoken → List ℕ → Type 0
 HasLines before octets m text = (lines : List ℕ) × CarriedLines octets m m.content lines × (text ≡ before ++ (head_line m ++ lines))
 

@@ -3,7 +3,7 @@ use Rattle.std.specs.Prelude.{ℕ, List, codes}
 use Rattle.gtpshow.specs.declared.command.Failure.{Failure}
 use Rattle.gtpshow.specs.declared.command.Failure.TheVariants.{BadHex, Memory, Write}
 
--- the exit status: 2 for bad hexadecimal, and 3 for want of memory or a failed write
+-- the exit status: 2 for bad hexadecimal, and 3 where memory ran out or a write failed
 abbrev pub status_of : Failure → ℕ
 status_of BadHex = 2
 status_of Memory = 3

@@ -5,7 +5,7 @@ use Rattle.hex.specs.Hex.{encode_lower}
 use Rattle.gtp_user.specs.declared.fault.UserFault.{UserFault}
 use Rattle.gtp_user.specs.declared.fault.UserFault.TheVariants as faults
 use Rattle.gtp_user.specs.Chain.{Extension}
-use Rattle.gtp_user.specs.Message.{Content, EchoRequest, EchoResponse, ErrorIndication, Notification, EndMarker, Packet, Other, Spoken}
+use Rattle.gtp_user.specs.Message.{Content, EchoRequest, EchoResponse, ErrorIndication, Notification, EndMarker, Packet, Other, MessageValue}
 use Rattle.gtp_user.specs.Datagram.{IsUserMessage, IsUserFault}
 use Rattle.gtp_values.specs.Address.{ip_text}
 use Rattle.gtpshow.specs.Text.{octets_text, teid_text}
@@ -36,7 +36,7 @@ abbrev pub some_shown : List ℕ → Option ℕ → List ℕ
 some_shown mark None = []
 some_shown mark (Some number) = field_shown mark number
 
-abbrev pub user_head_line : Spoken → List ℕ
+abbrev pub user_head_line : MessageValue → List ℕ
 user_head_line m = user_title m.content ++ (target_shown m.content ++ (some_shown (codes " seq ") m.seq ++ (some_shown (codes " npdu ") m.npdu ++ codes "\n")))
 
 -- an extension header
@@ -73,10 +73,10 @@ abbrev pub user_fault_line : UserFault → List ℕ
 user_fault_line f = codes "fault " ++ (user_fault_shown f ++ codes "\n")
 
 -- the lines of a message: its head, its extension headers in order, and what it carries
-abbrev pub user_lines : Spoken → List ℕ
+abbrev pub user_lines : MessageValue → List ℕ
 user_lines m = user_head_line m ++ (flat_map extension_line m.ext ++ carried_shown m.content)
 
 -- the lines of a datagram of the user plane, and whether they are a fault's
 abbrev pub UserLines : List ℕ → List ℕ → Bool → Type 0
 UserLines octets text true = (f : UserFault) × IsUserFault octets f × (text ≡ user_fault_line f)
-UserLines octets text false = (m : Spoken) × IsUserMessage octets m × (text ≡ user_lines m)
+UserLines octets text false = (m : MessageValue) × IsUserMessage octets m × (text ≡ user_lines m)

@@ -15,9 +15,9 @@ octets_word = record (new_rule (codes "octets")) { value_names = 1; required = t
 abbrev pub decode_words : App
 decode_words = with_rule (with_rule (new_app (codes "decode")) user_flag) octets_word
 
--- the program's name, which stands before a subcommand
+-- the program's name, before a subcommand; the program has a version
 abbrev pub gtpshow_word : Shape
-gtpshow_word = record (new_app (codes "gtpshow")).top { subcommand_required = true }
+gtpshow_word = record (new_app (codes "gtpshow")).top { has_version = true; subcommand_required = true }
 
 -- all of them
 abbrev pub program_words : App

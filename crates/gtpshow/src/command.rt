@@ -9,12 +9,16 @@ use clap::{Arg, ArgAction, Command};
 use std::alloc::{AllocError, Global};
 use std::fmt;
 
-const EXAMPLE: &str = "\
+const VERSION: &str = "0.1.0";
+
+const NOTES: &str = "\
 Example:
   gtpshow decode 40010009000001000300010007
   gtpshow decode --user 30ff000301000002616263
 
-Exit status: 0 shown, 1 a fault was shown, 2 bad words or hexadecimal, 3 no memory or a failed write";
+Exit status: 0 shown, 1 a fault was shown, 2 bad words or hexadecimal, 3 no memory or a failed write
+
+docs/PROTOCOL.md of the repository explains the codes of faults (H1 .., I1 .., U1 ..)";
 
 /// The words that the program takes.
 pub fn command<'a>(alloc: Global) -> Result<Command<'a>, AllocError>
@@ -34,7 +38,8 @@ pub fn command<'a>(alloc: Global) -> Result<Command<'a>, AllocError>
         .arg(octets)?;
     Command::new(alloc, "gtpshow")
         .about("Shows GTP datagrams")
-        .after_help(EXAMPLE)
+        .version(VERSION)
+        .after_help(NOTES)
         .subcommand_required(true)
         .subcommand(decode)
 }

@@ -48,7 +48,8 @@ fn put_all_inner(out: &mut Vec<u8>, elements: &Elements) -> Result<(), AllocErro
 /// Appends a bearer context by its elements, or its octets where they are not whole elements.
 #[tactic(auto, using(crate::proofs::Appends::appending))]
 fn put_group(out: &mut Vec<u8>, view: &ElementView) -> Result<(), AllocError>
-    ensures ok { OnOk result (out.new.items ≡ out.old.items ++ group_shown (element_of view.now) (elements_of (view.now.at + 4) view.now.body.now)) }
+    ensures ok { OnOk result
+        (out.new.items ≡ out.old.items ++ group_shown (element_of view.now) (elements_of (view.now.at + 4) view.now.body.now)) }
 {
     match view.inner() {
         Ok(inner) => {
@@ -66,7 +67,8 @@ fn put_group(out: &mut Vec<u8>, view: &ElementView) -> Result<(), AllocError>
 /// Appends the lines of an element.
 #[tactic(auto, using(crate::proofs::Appends::appending))]
 fn put_element(out: &mut Vec<u8>, view: &ElementView) -> Result<(), AllocError>
-    ensures ok { OnOk result (out.new.items ≡ out.old.items ++ element_lines (element_of view.now)) }
+    ensures ok { OnOk result
+        (out.new.items ≡ out.old.items ++ element_lines (element_of view.now)) }
 {
     put_element_head(out, view)?;
     if view.kind == BEARER_CONTEXT {
@@ -78,7 +80,8 @@ fn put_element(out: &mut Vec<u8>, view: &ElementView) -> Result<(), AllocError>
 
 /// Appends the lines of elements.
 pub fn put_elements(out: &mut Vec<u8>, elements: &Elements) -> Result<(), AllocError>
-    ensures ok { OnOk result (out.new.items ≡ out.old.items ++ flat_map element_lines elements.now) }
+    ensures ok { OnOk result
+        (out.new.items ≡ out.old.items ++ flat_map element_lines elements.now) }
 {
     for view in elements.iter() {
         put_element(out, &view)?;
@@ -96,7 +99,8 @@ fn message_name(kind: u8) -> &'static str
 /// Appends a TEID, where there is one.
 #[tactic(auto, using(crate::proofs::Appends::appending))]
 fn put_some_teid(out: &mut Vec<u8>, teid: Option<Teid>) -> Result<(), AllocError>
-    ensures ok { OnOk result (out.new.items ≡ out.old.items ++ teid_shown (option_map (λ t. t.0) teid)) }
+    ensures ok { OnOk result
+        (out.new.items ≡ out.old.items ++ teid_shown (option_map (λ t. t.0) teid)) }
 {
     let Some(teid) = teid else {
         return Ok(());

@@ -24,7 +24,7 @@ pub struct Shown {
     pub faulty: bool,
 }
 
-/// Where what a message carries begins, behind a header with or without a TEID.
+/// Where what a message carries begins, after a header with or without a TEID.
 fn place(teid: Option<Teid>) -> usize
     ensures { result ≡ place_of (option_map (λ t. t.0) teid) }
 {
@@ -53,7 +53,7 @@ fn put_message(out: &mut Vec<u8>, octets: &[u8], message: &Message) -> Result<()
     Ok(())
 }
 
-/// The lines of a control datagram, or want of memory.
+/// The lines of a control datagram; `Memory` where an allocation was refused.
 fn control_lines(alloc: Global, octets: &[u8]) -> Result<Shown, Memory>
     ensures { IfOk result (λ shown. ControlLines octets.now shown.text.items shown.faulty) }
 {
@@ -74,7 +74,7 @@ fn control_lines(alloc: Global, octets: &[u8]) -> Result<Shown, Memory>
     }
 }
 
-/// The lines of a datagram of the user plane, or want of memory.
+/// The lines of a datagram of the user plane; `Memory` where an allocation was refused.
 fn user_lines(alloc: Global, octets: &[u8]) -> Result<Shown, Memory>
     ensures { IfOk result (λ shown. UserLines octets.now shown.text.items shown.faulty) }
 {
@@ -95,7 +95,7 @@ fn user_lines(alloc: Global, octets: &[u8]) -> Result<Shown, Memory>
 }
 
 /// The lines of a datagram: its message with each element in the order in which it came, or the one
-/// line of its first fault. `Memory` where a growth was refused.
+/// line of its first fault. `Memory` where an allocation was refused.
 pub fn decode_lines(alloc: Global, plane: Plane, octets: &[u8]) -> Result<Shown, Memory>
     ensures { IfOk result (λ shown. LinesOf plane octets.now shown.text.items shown.faulty) }
 {

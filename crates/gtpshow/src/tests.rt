@@ -1,6 +1,11 @@
+use crate::command::Failure;
 use crate::lines::decode_lines;
 use crate::plane::Plane;
+use crate::showing::show;
+use crate::watched::Watched;
 use std::alloc::Global;
+use std::io;
+use std::io::Write;
 use std::test::Fail;
 
 /// A Create Session Request up to its sender's end, that end, its access point name, and what follows.
@@ -278,7 +283,7 @@ fn marks_of_responses(rt: HostRuntime) -> Result<(), Fail> {
             Some("H6 type 93 instance 0 conditional"),
         ),
         ("4860000e0100000100000100020002004900", "", None),
-        // A context at fault behind one that isn't.
+        // A context at fault after one that isn't.
         (
             "4860002c0100000100000100020002001000",
             context,
@@ -311,17 +316,17 @@ fn whole_messages(rt: HostRuntime) -> Result<(), Fail> {
     let answer_lines = format!(in alloc;
         "gtpv2 type 33 create-session-response teid 01000001 seq 0\nie 2 0 cause 16\nie 87 1 fteid 7 01000001 v4 10.0.0.2\nie 79 0 paa ipv4 10.1.0.1\nie 72 0 ambr 1000 1000\nie 93 0 bearer-context\n  ie 73 0 ebi 5\n  ie 2 0 cause 16\n  ie 87 2 fteid 5 01000002 v4 10.0.0.2\n  ie 80 0 {qos}\n  ie 94 0 charging-id 16777218\nie 3 0 recovery 1\n"
     )?;
-    let wanted = format!(in alloc;
+    let bearer_request = format!(in alloc;
         "485f004a010000010000000049000100055d0039004900010000{}5700090185010000030a000002500016002009{none}5e00040001000003",
         "5400010021"
     )?;
-    let wanted_lines = format!(in alloc;
+    let bearer_request_lines = format!(in alloc;
         "gtpv2 type 95 create-bearer-request teid 01000001 seq 0\nie 73 0 ebi 5\nie 93 0 bearer-context\n  ie 73 0 ebi 0\n  ie 84 0 tft 21\n  ie 87 1 fteid 5 01000003 v4 10.0.0.2\n  ie 80 0 {qos}\n  ie 94 0 charging-id 16777219\n"
     )?;
     let rows = [
         (request.as_str(), request_lines.as_str()),
         (answer.as_str(), answer_lines.as_str()),
-        (wanted.as_str(), wanted_lines.as_str()),
+        (bearer_request.as_str(), bearer_request_lines.as_str()),
         (
             "4860003c01000001000000000200020010005d00250049000100060200020010005700090284010000030a0000015700090385010000030a0000020300010001",
             "gtpv2 type 96 create-bearer-response teid 01000001 seq 0\nie 2 0 cause 16\nie 93 0 bearer-context\n  ie 73 0 ebi 6\n  ie 2 0 cause 16\n  ie 87 2 fteid 4 01000003 v4 10.0.0.1\n  ie 87 3 fteid 5 01000003 v4 10.0.0.2\nie 3 0 recovery 1\n",
@@ -344,10 +349,9 @@ fn whole_messages(rt: HostRuntime) -> Result<(), Fail> {
     Ok(())
 }
 
-/// Eighteen contexts in each other: the message's own is shown by its elements, and the one in it as
-/// octets.
+/// Eighteen nested contexts: the message's own is shown by its elements, and the one in it as octets.
 #[test]
-fn contexts_in_each_other(rt: HostRuntime) -> Result<(), Fail> {
+fn nested_contexts(rt: HostRuntime) -> Result<(), Fail> {
     let alloc = rt.alloc();
     let mut inner = format!(in alloc; "")?;
     for depth in 0..16u8 {
@@ -374,17 +378,17 @@ fn missing_rows(rt: HostRuntime) -> Result<(), Fail> {
     let rates = "4f000500010000000048000800000003e8000003e8";
     let qos = "5000160020090000000000000000000000000000000000000000";
     let user = "5700090284010000020a000001";
-    let front = format!(in alloc; "{start}{imsi}{network}{SENDER}{NAME}8000010000")?;
+    let before = format!(in alloc; "{start}{imsi}{network}{SENDER}{NAME}8000010000")?;
     let without_subscriber = format!(in alloc;
         "48200082{start}{network}{SENDER}{NAME}8000010000{pdn_type}{rates}5d002c004900010005{qos}{user}0300010001"
     )?;
     let without_type = format!(in alloc;
-        "48200089{front}{rates}5d002c004900010005{qos}{user}0300010001"
+        "48200089{before}{rates}5d002c004900010005{qos}{user}0300010001"
     )?;
     let without_end = format!(in alloc;
-        "48200081{front}{pdn_type}{rates}5d001f004900010005{qos}0300010001"
+        "48200081{before}{pdn_type}{rates}5d001f004900010005{qos}0300010001"
     )?;
-    let without_context = format!(in alloc; "4820005e{front}{pdn_type}{rates}0300010001")?;
+    let without_context = format!(in alloc; "4820005e{before}{pdn_type}{rates}0300010001")?;
     let without_packet_end = format!(in alloc;
         "485f003d010000010000000049000100055d002c0049000100005400010021{qos}5e00040001000003"
     )?;
@@ -489,6 +493,77 @@ fn user_messages(rt: HostRuntime) -> Result<(), Fail> {
             is_shown(alloc, Plane::User, digits, line.as_str(), true)?,
             "of {digits}"
         );
+    }
+    Ok(())
+}
+
+/// Takes three octets a call, and fails at one call.
+#[derive(Drop)]
+struct Narrow {
+    held: Vec<u8>,
+    calls: u64,
+    fails_at: u64,
+}
+
+impl Write for Narrow {
+    fn write(&mut self, octets: &[u8]) -> io::Result<usize> {
+        self.calls = self.calls.saturating_add(1);
+        if self.calls == self.fails_at {
+            return Err(io::Error::from(io::ErrorKind::BrokenPipe));
+        }
+        let (taken, _) = octets.split_at(octets.len().min(3));
+        self.held.extend_from_slice(taken)?;
+        Ok(taken.len())
+    }
+
+    fn flush(&mut self) -> io::Result<()> {
+        Ok(())
+    }
+}
+
+/// What `show` answers for the digits, and what it wrote, where the writer fails at this call.
+fn shows(
+    alloc: Global,
+    digits: &str,
+    fails_at: u64,
+) -> Result<(Result<u8, Failure>, Watched<Narrow>), Fail> {
+    let mut out = Watched::new(Narrow {
+        held: Vec::with_capacity(alloc, 64)?,
+        calls: 0,
+        fails_at,
+    });
+    let status = show(alloc, &mut out, Plane::User, digits);
+    if status == Err(Failure::Memory) {
+        return Err(Failure::Memory.into());
+    }
+    Ok((status, out))
+}
+
+#[test]
+fn writers(rt: HostRuntime) -> Result<(), Fail> {
+    let alloc = rt.alloc();
+    // examples/datagrams/user/g-pdu and no-octets
+    let packet = "30ff000301000002616263";
+    let lines = "gtpu type 255 g-pdu teid 01000002\npayload 616263\n";
+    let (status, out) = shows(alloc, packet, 0)?;
+    assert!(rt; status == Ok(0) && !out.failed);
+    assert!(rt; out.inner.held.as_slice() == lines.as_bytes());
+    let (status, out) = shows(alloc, "", 0)?;
+    assert!(rt; status == Ok(1) && !out.failed);
+    assert!(rt; out.inner.held.as_slice() == "fault U1 held 0\n".as_bytes());
+    // The lines have 49 octets, so the seventeenth call is the last.
+    for fails_at in 1..18 {
+        let (status, out) = shows(alloc, packet, fails_at)?;
+        assert!(rt; status == Err(Failure::Write) && out.failed);
+        assert!(rt; lines.as_bytes().starts_with(out.inner.held.as_slice()));
+        assert_eq!(rt; out.inner.calls, fails_at);
+    }
+    let (status, out) = shows(alloc, packet, 18)?;
+    assert!(rt; status == Ok(0) && !out.failed);
+    for digits in ["3", "zz", "30ff0003010000026162 3"] {
+        let (status, out) = shows(alloc, digits, 1)?;
+        assert!(rt; status == Err(Failure::BadHex) && !out.failed);
+        assert_eq!(rt; out.inner.calls, 0);
     }
     Ok(())
 }

@@ -2,12 +2,13 @@
 
 ghost use Rattle.std.specs.Prelude.{◌≡◌, ◌++◌, [], OnOk};
 ghost use Rattle.std.specs.List.{flat_map};
-ghost use Rattle.gtp_user.specs.Message.{content_of, spoken_of};
+ghost use Rattle.gtp_user.specs.Chained.{extension_of};
+ghost use Rattle.gtp_user.specs.Message.{content_of, message_value};
 ghost use Rattle.gtpshow.specs.User.{named, user_title, target_shown, some_shown, user_head_line, extension_line, octets_line, carried_shown, user_fault_shown, user_fault_line, user_lines};
 
 use crate::text::{put, put_display, put_hex, put_octets, put_teid};
 use crate::values::put_field;
-use gtp_user::{Extensions, UserBody, UserFault, UserMessage};
+use gtp_user::{ExtensionHeader, Extensions, UserBody, UserFault, UserMessage};
 use std::alloc::AllocError;
 
 /// Appends the type of a message, by its number and its name.
@@ -64,7 +65,8 @@ fn put_some(out: &mut Vec<u8>, mark: &[u8], number: Option<u64>) -> Result<(), A
 /// Appends the first line of a message.
 #[tactic(auto, using(crate::proofs::Appends::appending))]
 fn put_head(out: &mut Vec<u8>, message: &UserMessage) -> Result<(), AllocError>
-    ensures ok { OnOk result (out.new.items ≡ out.old.items ++ user_head_line (spoken_of message.now)) }
+    ensures ok { OnOk result
+        (out.new.items ≡ out.old.items ++ user_head_line (message_value message.now)) }
 {
     put_title(out, &message.body)?;
     put_target(out, &message.body)?;
@@ -75,22 +77,24 @@ fn put_head(out: &mut Vec<u8>, message: &UserMessage) -> Result<(), AllocError>
 
 /// Appends the line of an extension header.
 #[tactic(auto, using(crate::proofs::Appends::appending))]
-fn put_extension(out: &mut Vec<u8>, kind: u8, content: &[u8]) -> Result<(), AllocError>
-    ensures ok { OnOk result (out.new.items ≡ out.old.items ++ extension_line (record { kind = kind; content = content.now })) }
+fn put_extension(out: &mut Vec<u8>, header: &ExtensionHeader) -> Result<(), AllocError>
+    ensures ok { OnOk result
+        (out.new.items ≡ out.old.items ++ extension_line (extension_of header.now)) }
 {
     put(out, b"ext ")?;
-    put_hex(out, &[kind])?;
+    put_hex(out, &[header.kind])?;
     put(out, b" ")?;
-    put_octets(out, content)?;
+    put_octets(out, header.content)?;
     put(out, b"\n")
 }
 
 /// Appends the lines of extension headers.
 fn put_extensions(out: &mut Vec<u8>, extensions: &Extensions) -> Result<(), AllocError>
-    ensures ok { OnOk result (out.new.items ≡ out.old.items ++ flat_map extension_line extensions.now) }
+    ensures ok { OnOk result
+        (out.new.items ≡ out.old.items ++ flat_map extension_line extensions.now) }
 {
-    for (kind, content) in extensions.iter() {
-        put_extension(out, kind, content)?;
+    for header in extensions {
+        put_extension(out, &header)?;
     }
     Ok(())
 }
@@ -108,7 +112,8 @@ fn put_octets_line(out: &mut Vec<u8>, mark: &[u8], octets: &[u8]) -> Result<(), 
 /// Appends what a message carries.
 #[tactic(auto, using(crate::proofs::Appends::appending))]
 fn put_carried(out: &mut Vec<u8>, body: &UserBody) -> Result<(), AllocError>
-    ensures ok { OnOk result (out.new.items ≡ out.old.items ++ carried_shown (content_of body.now)) }
+    ensures ok { OnOk result
+        (out.new.items ≡ out.old.items ++ carried_shown (content_of body.now)) }
 {
     match body {
         UserBody::ErrorIndication { teid, peer } => {
@@ -128,7 +133,8 @@ fn put_carried(out: &mut Vec<u8>, body: &UserBody) -> Result<(), AllocError>
 /// Appends the lines of a message.
 #[tactic(auto, using(crate::proofs::Appends::appending))]
 pub fn put_user_message(out: &mut Vec<u8>, message: &UserMessage) -> Result<(), AllocError>
-    ensures ok { OnOk result (out.new.items ≡ out.old.items ++ user_lines (spoken_of message.now)) }
+    ensures ok { OnOk result
+        (out.new.items ≡ out.old.items ++ user_lines (message_value message.now)) }
 {
     put_head(out, message)?;
     put_extensions(out, &message.ext)?;

@@ -15,15 +15,15 @@ returns-in_default c =
     sym c.loop-rest.invariant.found ∙ found_stop (found_of c.loop-rest.found) c.args.end c.loop-rest.rest.now some_left (sym c.in_default.ensures)
 
 pub loop-rest-smaller : goal.loop-rest-smaller
-loop-rest-smaller c = element_shorter c.loop-rest.rest.now (element_of c.in-Some.element) c.in-Some.behind.now (sym c.in-Some.ensures)
+loop-rest-smaller c = element_shorter c.loop-rest.rest.now (element_of c.in-Some.element) c.in-Some.tail.now (sym c.in-Some.ensures)
 
 pub loop-rest-preserved : goal.loop-rest-preserved
 loop-rest-preserved c =
-    let here : element_at c.loop-rest.rest.now ≡ Some (element_of c.in-Some.element, c.in-Some.behind.now) = sym c.in-Some.ensures in
-    let shorter : length c.in-Some.behind.now < length c.loop-rest.rest.now = element_shorter c.loop-rest.rest.now (element_of c.in-Some.element) c.in-Some.behind.now here in
+    let here : element_at c.loop-rest.rest.now ≡ Some (element_of c.in-Some.element, c.in-Some.tail.now) = sym c.in-Some.ensures in
+    let shorter : length c.in-Some.tail.now < length c.loop-rest.rest.now = element_shorter c.loop-rest.rest.now (element_of c.in-Some.element) c.in-Some.tail.now here in
     record {
       within = omega (arith, c.loop-rest.invariant.within);
-      found = ap (λ f. found_before f (elements_at c.args.end c.in-Some.behind.now)) c.and-found.ensures ∙ (found_on (found_of c.loop-rest.found) c.args.end c.loop-rest.rest.now (element_of c.in-Some.element) c.in-Some.behind.now here ∙ c.loop-rest.invariant.found);
+      found = ap (λ f. found_before f (elements_at c.args.end c.in-Some.tail.now)) c.and-found.ensures ∙ (found_on (found_of c.loop-rest.found) c.args.end c.loop-rest.rest.now (element_of c.in-Some.element) c.in-Some.tail.now here ∙ c.loop-rest.invariant.found);
     }
 
 pub returns : goal.returns

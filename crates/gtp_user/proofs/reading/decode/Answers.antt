@@ -1,4 +1,4 @@
-use Rattle.gtp_user.specs.Message.{spoken_of}
+use Rattle.gtp_user.specs.Message.{message_value}
 use Rattle.gtp_user.specs.Reading.{message_at}
 use Rattle.gtp_user.specs.Datagram.{IsUserMessage, IsUserFault}
 use Rattle.gtp_user.proofs.Messages.{message_decided}
@@ -8,5 +8,5 @@ use Rattle.gtp_user.proofs.reading.decode.Goals as goal
 pub returns : goal.returns
 returns c =
     let octets = c.args.octets.now in
-    let t = told spoken_of c.read_message.result (message_at octets) (IsUserMessage octets) (IsUserFault octets) c.read_message.ensures (message_decided octets) in
+    let t = told message_value c.read_message.result (message_at octets) (IsUserMessage octets) (IsUserFault octets) c.read_message.ensures (message_decided octets) in
     record { found = t.found; only = t.only; fault = t.fault; first = t.first }
