@@ -4,7 +4,7 @@ use Rattle.std.specs.FinMap.{get}
 use Rattle.gtp_values.specs.Counter.{age_of}
 use Rattle.gtp_values.specs.declared.counter.Age.{Age}
 use Rattle.gtp_values.specs.declared.counter.Age.TheVariants.{Same, Later, Earlier}
-use Rattle.gtp_machine.specs.Table.{Among}
+use Rattle.gtp_machine.specs.FiniteMap.{Among}
 use Rattle.gtp_machine.specs.Config.{Config}
 use Rattle.gtp_machine.specs.Message.{CreateSessionRequest, CreateBearerRequest, Message, Echo_request, Echo_response, Create_session_request, Create_session_response, Delete_session_request, Delete_session_response, Create_bearer_request, Create_bearer_response, Delete_bearer_request, Delete_bearer_response, Other_control, Packet_data, End_marker, Error_indication, User_echo_request, User_echo_response, Supported_extensions, Other_user}
 use Rattle.gtp_machine.specs.Node.{Role, Serving, Packet, Bearer, Arrival, Held, Node, fresh_node}
@@ -16,7 +16,7 @@ use Rattle.gtp_machine.specs.Serving.{BearerAsked, ServingTakes, ServingReads}
 use Rattle.gtp_machine.specs.Packet.{SessionAsked, PacketTakes, PacketReads}
 use Rattle.gtp_machine.specs.World.{Step}
 use Rattle.gtp_machine.specs.Once.{Done, Steps, Makes, NeverForgets, IsOnce, ActsOnce, ActsOnceInTime, HeldUntilForgotten}
-use Rattle.gtp_machine.proofs.Tables.{Among-right}
+use Rattle.gtp_machine.proofs.FiniteMaps.{Among-right}
 use Rattle.gtp_machine.proofs.Shrinking.{Shrunk-finished, Shrinks-restart}
 use Rattle.gtp_machine.proofs.Holding.{held_in, Keeps, Adds, Holds, command_held, user_held, serving_reads_holds, packet_reads_holds}
 

@@ -5,46 +5,47 @@ use Rattle.gtp_values.specs.Counter.{age_of}
 use Rattle.gtp_values.specs.declared.counter.Age.{Age}
 use Rattle.gtp_values.specs.declared.counter.Age.TheVariants.{Same, Later, Earlier}
 use Rattle.gtp_values.specs.declared.address.Endpoint.{Endpoint}
-use Rattle.gtp_machine.specs.Table.{Table, Each, Among}
+use Rattle.gtp_machine.specs.FiniteMap.{FiniteMap, Each, Among}
 use Rattle.gtp_machine.specs.Config.{control_end}
 use Rattle.gtp_machine.specs.Message.{CreateSessionRequest, CreateBearerRequest, Message, Create_session_request, Create_bearer_request, recovery_of}
-use Rattle.gtp_machine.specs.Node.{Role, Serving, Packet, Waiting, Active, Session, Bearer, Pending, Arrival, Held, Node, holding}
+use Rattle.gtp_machine.specs.Node.{Role, Serving, Packet, Pending, Active, Session, Bearer, PendingRequest, Arrival, Held, Node, holding}
 use Rattle.gtp_machine.specs.Input.{Outcome, Begun, Answered, Effect, nothing, says, messages}
 use Rattle.gtp_machine.specs.Choice.{IsFree, counter_of}
 use Rattle.gtp_machine.specs.Command.{asks}
 use Rattle.gtp_machine.specs.Answer.{answered}
 use Rattle.gtp_machine.specs.World.{other, Sent, HasSent, signed}
 use Rattle.gtp_machine.specs.Laws.{ClosesWhole}
-use Rattle.gtp_machine.proofs.Tables.{Each-insert, Each-weaker}
-use Rattle.gtp_machine.proofs.Drawing.{Grows, Grows-signed, Draws, Draws-nothing, Draws-one, IsMadeNow, sent_now}
+use Rattle.gtp_machine.proofs.FiniteMaps.{Each-insert, Each-weaker}
+use Rattle.gtp_machine.proofs.Drawing.{Extends, Extends-signed, Draws, Draws-nothing, Draws-one, IsMadeNow, sent_now}
 use Rattle.gtp_machine.proofs.Contexts.{ServingContexts, ServingContexts-later, ServingContexts-shrinks, PacketContexts, PacketContexts-later, PacketContexts-shrinks, closes-shrinks}
 use Rattle.gtp_machine.proofs.Shrinking.{NodeShrinks, Shrunk, Shrunk-itself}
 use Rattle.gtp_machine.proofs.Matching.{IsMatched, IsMatched-shrinks, IsMatched-session, IsMatched-bearer}
 use Rattle.gtp_machine.proofs.Steps.{Logs, Logs-silent, Logs-plain, Logs-repeat, IsPlain, NothingOwns}
+use Rattle.gtp_machine.proofs.Options.{none_some}
 
 -- what holds of the sessions and bearers of a gateway
-abbrev pub Contexts : Role → List Sent → Table Session → Table Bearer → Type 0
+abbrev pub Contexts : Role → List Sent → FiniteMap Session → FiniteMap Bearer → Type 0
 Contexts Serving history sessions bearers = ServingContexts history sessions bearers
 Contexts Packet history sessions bearers = PacketContexts history sessions bearers
 
-pub Contexts-later : (role : Role) (before after : List Sent) → Grows before after → (sessions : Table Session) (bearers : Table Bearer) → Contexts role before sessions bearers → Contexts role after sessions bearers
-Contexts-later Serving before after grows sessions bearers c = ServingContexts-later before after grows sessions bearers c
-Contexts-later Packet before after grows sessions bearers c = PacketContexts-later before after grows sessions bearers c
+pub Contexts-later : (role : Role) (before after : List Sent) → Extends before after → (sessions : FiniteMap Session) (bearers : FiniteMap Bearer) → Contexts role before sessions bearers → Contexts role after sessions bearers
+Contexts-later Serving before after extends sessions bearers c = ServingContexts-later before after extends sessions bearers c
+Contexts-later Packet before after extends sessions bearers c = PacketContexts-later before after extends sessions bearers c
 
 pub Contexts-shrinks : (role : Role) (history : List Sent) (old new : Node) → NodeShrinks old new → Contexts role history old.sessions old.bearers → Contexts role history new.sessions new.bearers
 Contexts-shrinks Serving history old new shrinks c = ServingContexts-shrinks history old.sessions old.bearers new.sessions new.bearers shrinks c
 Contexts-shrinks Packet history old new shrinks c = PacketContexts-shrinks history old.sessions old.bearers new.sessions new.bearers shrinks c
 
 -- a pending request was sent, and names the session that it is about
-pub record IsPending (history : List Sent) (role : Role) (number : ℕ) (p : Pending) : Type 0 where
+pub record IsPending (history : List Sent) (role : Role) (number : ℕ) (p : PendingRequest) : Type 0 where
   pub sent : HasSent history role p.request
   pub names : (q : CreateSessionRequest) → p.request ≡ Create_session_request q → p.session ≡ Some q.control.teid
 
 -- a session has a remote once it was opened, by the start of the peer that is known
 pub record IsStanding (known : Option ℕ) (t : ℕ) (s : Session) : Type 0 where
   pub current : (r : ℕ) → s.remote ≡ Some r → known ≡ Some (counter_of r)
-  pub blank : s.state ≡ Waiting → s.remote ≡ None
-  pub named : s.state ≢ Waiting → (r : ℕ) × (s.remote ≡ Some r)
+  pub blank : s.state ≡ Pending → s.remote ≡ None
+  pub named : s.state ≢ Pending → (r : ℕ) × (s.remote ≡ Some r)
 
 -- an active bearer has a remote
 abbrev pub IsReady : ℕ → Bearer → Type 0
@@ -79,10 +80,7 @@ pub record IsTold (history : List Sent) (role : Role) (counter : ℕ) : Type 0 w
   pub tells : recovery_of message ≡ Some counter
 
 pub nothing_told : (history : List Sent) (role : Role) (c : ℕ) → ◌≡◌ {A = Option ℕ} None (Some c) → IsTold history role c
-nothing_told history role c e = absurd (impossible e)
-  where
-    impossible : ◌≡◌ {A = Option ℕ} None (Some c) → ⊥
-    impossible h = cc
+nothing_told history role c e = absurd (none_some c e)
 
 -- what a step of a gateway leaves
 pub record After (role : Role) (history : List Sent) (taken : Arrival → Message → Type 0) (old : Node) (e : Effect) : Type 0 where
@@ -92,11 +90,11 @@ pub record After (role : Role) (history : List Sent) (taken : Arrival → Messag
   pub told : (c : ℕ) → e.out.heard ≡ Some c → IsTold history (other role) c
   pub logs : Logs history role taken old e
 
-pub IsPending-later : (before after : List Sent) → Grows before after → (role : Role) (number : ℕ) (p : Pending) → IsPending before role number p → IsPending after role number p
-IsPending-later before after grows role number p is = record { sent = grows.keeps role p.request is.sent; names = is.names }
+pub IsPending-later : (before after : List Sent) → Extends before after → (role : Role) (number : ℕ) (p : PendingRequest) → IsPending before role number p → IsPending after role number p
+IsPending-later before after extends role number p is = record { sent = extends.keeps role p.request is.sent; names = is.names }
 
 -- a new TEID is that of no pending request
-module _ (history : List Sent) (role : Role) (node : Node) (unowned : NothingOwns history role node) (number : ℕ) (p : Pending) (is : IsPending history role number p) (key : ℕ) (free : IsFree node key) where
+module _ (history : List Sent) (role : Role) (node : Node) (unowned : NothingOwns history role node) (number : ℕ) (p : PendingRequest) (is : IsPending history role number p) (key : ℕ) (free : IsFree node key) where
   new_session : (q : CreateSessionRequest) → p.request ≡ Create_session_request q → q.control.teid ≢ key
   new_session q e same = unowned (Create_session_request q) key (subst (λ m. HasSent history role m) e is.sent) (inl (sym same)) free
 
@@ -107,19 +105,19 @@ module _ (history : List Sent) (role : Role) (node : Node) (unowned : NothingOwn
 pub matched_session : (history : List Sent) (role : Role) (node : Node) → NothingOwns history role node → Each (IsPending history role) node.pending → (key : ℕ) (s : Session) → IsFree node key → Each (IsMatched node.sessions node.bearers) node.pending → Each (IsMatched (insert node.sessions key s) node.bearers) node.pending
 matched_session history role node unowned pending key s free each number p e = IsMatched-session node.sessions node.bearers key s number p (new_session history role node unowned number p (pending number p e) key free) (each number p e)
 
-pub matched_bearer : (history : List Sent) (role : Role) (node : Node) → NothingOwns history role node → Each (IsPending history role) node.pending → (sessions : Table Session) (key : ℕ) (b : Bearer) → IsFree node key → Each (IsMatched sessions node.bearers) node.pending → Each (IsMatched sessions (insert node.bearers key b)) node.pending
+pub matched_bearer : (history : List Sent) (role : Role) (node : Node) → NothingOwns history role node → Each (IsPending history role) node.pending → (sessions : FiniteMap Session) (key : ℕ) (b : Bearer) → IsFree node key → Each (IsMatched sessions node.bearers) node.pending → Each (IsMatched sessions (insert node.bearers key b)) node.pending
 matched_bearer history role node unowned pending sessions key b free each number p e = IsMatched-bearer sessions node.bearers key b number p (λ r is same. absurd (new_bearer history role node unowned number p (pending number p e) key free r is same)) (each number p e)
 
-pub Knows-later : (role : Role) (before after : List Sent) → Grows before after → (node : Node) → Knows role before node → Knows role after node
-Knows-later role before after grows node knows = record {
-  contexts = Contexts-later role before after grows node.sessions node.bearers knows.contexts;
+pub Knows-later : (role : Role) (before after : List Sent) → Extends before after → (node : Node) → Knows role before node → Knows role after node
+Knows-later role before after extends node knows = record {
+  contexts = Contexts-later role before after extends node.sessions node.bearers knows.contexts;
   drawn = knows.drawn;
   standing = knows.standing;
   ready = knows.ready;
   closed = knows.closed;
   matched = knows.matched;
-  pending = Each-weaker (IsPending before role) (IsPending after role) node.pending (IsPending-later before after grows role) knows.pending;
-  held = λ h among. grows.keeps role h.answer (knows.held h among);
+  pending = Each-weaker (IsPending before role) (IsPending after role) node.pending (IsPending-later before after extends role) knows.pending;
+  held = λ h among. extends.keeps role h.answer (knows.held h among);
 }
 
 -- what shrinks stays drawn, standing and ready
@@ -144,7 +142,7 @@ ready-shrinks old new shrinks ready t b e active =
 
 module _ (role : Role) (history : List Sent) (taken : Arrival → Message → Type 0) (old : Node) (knows : Knows role history old) where
   pub later : (sent : List Message) → Knows role (history ++ signed role sent) old
-  later sent = Knows-later role history (history ++ signed role sent) (Grows-signed history role sent) old knows
+  later sent = Knows-later role history (history ++ signed role sent) (Extends-signed history role sent) old knows
 
   -- what shrinks is still in what was sent
   pub knows_shrunk : (sent : List Message) (new : Node) → Shrunk old new → Knows role (history ++ signed role sent) new
@@ -202,7 +200,7 @@ module _ (role : Role) (history : List Sent) (taken : Arrival → Message → Ty
   }
 
   -- a pending request is added to what only shrinks
-  pub asks_plain : (number : ℕ) (p : Pending) (teid : Option ℕ) (new : Node) → Shrunk old new → IsPlain p.request → IsMadeNow history old (record new { pending = insert old.pending number p }) p.request → IsMatched new.sessions new.bearers number p → ((q : CreateSessionRequest) → p.request ≡ Create_session_request q → p.session ≡ Some q.control.teid) → After role history taken old (asks old number p teid new)
+  pub asks_plain : (number : ℕ) (p : PendingRequest) (teid : Option ℕ) (new : Node) → Shrunk old new → IsPlain p.request → IsMadeNow history old (record new { pending = insert old.pending number p }) p.request → IsMatched new.sessions new.bearers number p → ((q : CreateSessionRequest) → p.request ≡ Create_session_request q → p.session ≡ Some q.control.teid) → After role history taken old (asks old number p teid new)
   asks_plain number p teid new s plain made matched names =
       let m = p.request in
       let after = history ++ signed role (m ∷ []) in

@@ -1,7 +1,7 @@
 -- What a packet that leaves or comes to an active bearer names.
-use Rattle.std.proofs.Common.{◌≡◌, inl, inr, ⊎_elim, ℕ, List, Option, Some, sym, ◌∙◌, ap}
+use Rattle.std.proofs.Common.{◌≡◌, inl, inr, ⊎_elim, ℕ, List, Some, sym, ◌∙◌, ap}
 use Rattle.std.specs.FinMap.{get}
-use Rattle.gtp_machine.specs.Table.{Table}
+use Rattle.gtp_machine.specs.FiniteMap.{FiniteMap}
 use Rattle.gtp_machine.specs.Message.{CreateSessionResponse, subscriber_of}
 use Rattle.gtp_machine.specs.Node.{Role, Serving, Packet, Session, Bearer}
 use Rattle.gtp_machine.specs.Input.{Entry, entry_for}
@@ -9,15 +9,13 @@ use Rattle.gtp_machine.specs.World.{other, Sent}
 use Rattle.gtp_machine.proofs.Contexts.{IsAskedWith, IsMadeWith, ServingContexts, PacketContexts}
 use Rattle.gtp_machine.proofs.Entries.{Once, same_request, same_answer, names_in, IsFor}
 use Rattle.gtp_machine.proofs.After.{Contexts}
+use Rattle.gtp_machine.proofs.Options.{some_same}
 
 -- the entry of a packet on a bearer
 abbrev packet_of : ℕ → List ℕ → Bearer → Session → Entry
 packet_of target payload b s = entry_for target payload s.subscriber b.identity
 
-some_same : (o : Option ℕ) (s t : ℕ) → o ≡ Some s → o ≡ Some t → s ≡ t
-some_same o s t x y = cc
-
-module _ (history : List Sent) (serving_once : Once history Serving) (packet_once : Once history Packet) (sessions : Table Session) (bearers : Table Bearer) where
+module _ (history : List Sent) (serving_once : Once history Serving) (packet_once : Once history Packet) (sessions : FiniteMap Session) (bearers : FiniteMap Bearer) where
   -- a default bearer of the serving gateway and its session go back to one request
   asked_alike : ServingContexts history sessions bearers → (t : ℕ) (b : Bearer) (s : Session) → get sessions b.session ≡ Some s → (n : Session) (o : IsAskedWith history t b n) → s.subscriber ≡ subscriber_of o.request
   asked_alike c t b s stands n o =

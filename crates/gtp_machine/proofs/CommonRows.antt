@@ -5,10 +5,10 @@ use Rattle.gtp_values.specs.Counter.{age_of}
 use Rattle.gtp_values.specs.declared.counter.Age.{Age}
 use Rattle.gtp_values.specs.declared.counter.Age.TheVariants.{Same, Later, Earlier}
 use Rattle.gtp_values.specs.declared.address.Endpoint.{Endpoint}
-use Rattle.gtp_machine.specs.Table.{Among}
+use Rattle.gtp_machine.specs.FiniteMap.{Among}
 use Rattle.gtp_machine.specs.Config.{control_end, user_end}
 use Rattle.gtp_machine.specs.Message.{Echo, CreateSessionRequest, CreateBearerRequest, CreateBearerResponse, Message, Echo_request, Echo_response, Create_session_request, Create_session_response, Delete_session_request, Delete_session_response, Create_bearer_request, Create_bearer_response, Delete_bearer_request, Delete_bearer_response, Other_control, Packet_data, End_marker, Error_indication, User_echo_request, User_echo_response, Supported_extensions, Other_user, Owns, recovery_of, first_given}
-use Rattle.gtp_machine.specs.Node.{Role, Serving, Packet, Active, Closing, Session, Bearer, Pending, Arrival, Node, written}
+use Rattle.gtp_machine.specs.Node.{Role, Serving, Packet, Active, Closing, Session, Bearer, PendingRequest, Arrival, Node, written}
 use Rattle.gtp_machine.specs.Input.{UserReading, User_message, Extension_needed, User_fault, Move, Resend, Give_up, Forget, Entry, entry_for, Outcome, Moved, Gone_out, Dropped, Unknown_context, Unknown_extension, Echoed, Repeated, Effect, nothing, says, messages}
 use Rattle.gtp_machine.specs.Removal.{finished, session_closing}
 use Rattle.gtp_machine.specs.Recovery.{peer_restarted, Judges, Weighs, Hears, learned_by}
@@ -20,7 +20,7 @@ use Rattle.gtp_machine.specs.Answer.{Repeats, echoed}
 use Rattle.gtp_machine.specs.World.{other, Sent, HasSent}
 use Rattle.gtp_machine.proofs.Drawing.{Draws-nothing, Draws-one, Made-plain, IsProper}
 use Rattle.gtp_machine.proofs.Contexts.{closes-shrinks}
-use Rattle.gtp_machine.proofs.Shrinking.{Shrunk, Shrunk-itself, Shrunk-without, Shrunk-finished, Shrunk-bearer, Shrunk-closing, Shrinks-restart, restart_pending, restart_leaves_waiting, closing_same, ended_same}
+use Rattle.gtp_machine.proofs.Shrinking.{Shrunk, Shrunk-itself, Shrunk-without, Shrunk-finished, Shrunk-bearer, Shrunk-closing, Shrinks-restart, restart_pending, restart_leaves_pending, closing_same, ended_same}
 use Rattle.gtp_machine.proofs.Matching.{IsMatched-shrinks}
 use Rattle.gtp_machine.proofs.Entries.{Once, IsFor}
 use Rattle.gtp_machine.proofs.Steps.{IsHandedNow, IsAnsweredNow, at_result, IsPlain, IsHeardFrom, Draws-from, Logs-from, Heard-itself}
@@ -49,7 +49,7 @@ module _ (role : Role) (history : List Sent) (taken : Arrival → Message → Ty
   tells_plain destination m outcome new s plain none told proper = speaks role history taken old knows destination m outcome new s plain (Made-plain history old new m none told proper)
 
   -- a request that makes nothing is sent, and what it is about closes or stays
-  asks_lesser : (number : ℕ) (p : Pending) (teid : Option ℕ) (new : Node) → Shrunk old new → IsPlain p.request → IsLesser p.request → ((t : ℕ) → Owns p.request t → ⊥) → ((r : ℕ) → recovery_of p.request ≡ Some r → r ≡ old.counter) → IsProper history p.request → After role history taken old (asks old number p teid new)
+  asks_lesser : (number : ℕ) (p : PendingRequest) (teid : Option ℕ) (new : Node) → Shrunk old new → IsPlain p.request → IsLesser p.request → ((t : ℕ) → Owns p.request t → ⊥) → ((r : ℕ) → recovery_of p.request ≡ Some r → r ≡ old.counter) → IsProper history p.request → After role history taken old (asks old number p teid new)
   asks_lesser number p teid new s plain lesser none told proper =
       asks_plain role history taken old knows number p teid new s plain (Made-plain history old (record new { pending = insert old.pending number p }) p.request none told proper)
       (record { waits = λ q e. absurd (not_session q e); numbered = λ q e. absurd (not_session q e); names_bearer = λ r e. absurd (not_bearer r e); of_session = λ r e. absurd (not_bearer r e) })
@@ -148,7 +148,7 @@ module _ (role : Role) (history : List Sent) (taken : Arrival → Message → Ty
   packet_sent by bearer payload e (inr (at, inr (active, inr (goes, inr (short, r))))) = sends bearer payload at.bearer e at.stands active r
 
   -- what a pending request is about goes
-  pub finishes : (number : ℕ) (p : Pending) (outcome : Outcome) (e : Effect) → e ≡ finishing old number p outcome → After role history taken old e
+  pub finishes : (number : ℕ) (p : PendingRequest) (outcome : Outcome) (e : Effect) → e ≡ finishing old number p outcome → After role history taken old e
   finishes number p outcome e gives = at_result (After role history taken old) e _ gives (shrunk role history taken old knows (finished old number p) (Shrunk-finished old number p.session p.bearer) [] outcome)
 
   pub echo_answered : (a : Echo) (e : Effect) → EchoAnswered a old e → After role history taken old e
@@ -267,7 +267,7 @@ knows_restart role history old c knows = record {
   drawn = drawn-shrinks old (peer_restarted old c) (Shrinks-restart old c) knows.drawn;
   matched = λ number p e. IsMatched-shrinks old (peer_restarted old c) (Shrinks-restart old c) number p (knows.matched number p (restart_pending old c number p e));
   standing = λ t s e.
-      let waits = restart_leaves_waiting old c t s e in
+      let waits = restart_leaves_pending old c t s e in
       let at = standing-shrinks old (peer_restarted old c) (Shrinks-restart old c) knows.standing t s e in
       record { current = λ r is. absurd (impossible s r (at.blank waits) is); blank = at.blank; named = at.named };
   ready = ready-shrinks old (peer_restarted old c) (Shrinks-restart old c) knows.ready;

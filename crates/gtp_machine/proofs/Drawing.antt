@@ -1,6 +1,6 @@
 -- TEIDs are drawn once, over all restarts, and counters tell the start that they are of.
 use Rattle.std.proofs.Common.{◌≡◌, ◌⊎◌, inl, inr, ⊎_elim, ℕ, ◌+◌, ◌%◌, ◌<◌, ◌≤◌, List, [], ◌∷◌, ◌++◌, Some, refl, sym, ◌∙◌, ap, subst, arith}
-use Rattle.gtp_machine.specs.Table.{Among}
+use Rattle.gtp_machine.specs.FiniteMap.{Among}
 use Rattle.gtp_machine.specs.Element.{IsAccepting, teid_in}
 use Rattle.gtp_machine.specs.Message.{Message, CreateSessionResponse, GivenBearer, CreateBearerResponse, Create_session_request, Create_session_response, Create_bearer_response, Owns, recovery_of, first_created, first_given}
 use Rattle.gtp_machine.specs.Node.{Arrival, Role, Serving, Packet, Node}
@@ -8,10 +8,10 @@ use Rattle.gtp_machine.specs.Input.{Effect, messages}
 use Rattle.gtp_machine.specs.Choice.{IsFree, counter_of}
 use Rattle.gtp_machine.specs.World.{other, Sent, Side, HasSent, signed, restarted, stepped}
 use Rattle.gtp_machine.specs.Laws.{IsOfStart, AnswersSession, AnswersBearer}
-use Rattle.gtp_machine.proofs.Tables.{Among-left, Among-right, Among-cases}
+use Rattle.gtp_machine.proofs.FiniteMaps.{Among-left, Among-right, Among-cases}
 
 -- nothing that was sent is lost
-pub record Grows (before after : List Sent) : Type 0 where
+pub record Extends (before after : List Sent) : Type 0 where
   pub keeps : (role : Role) (m : Message) → HasSent before role m → HasSent after role m
 
 -- the counter of an earlier start of the gateway
@@ -66,7 +66,7 @@ pub record IsMadeNow (history : List Sent) (old new : Node) (m : Message) : Type
 pub record Draws (history : List Sent) (role : Role) (old new : Node) (sent : List Message) : Type 0 where
   pub config : new.config ≡ old.config
   pub counter : new.counter ≡ old.counter
-  pub grows : (t : ℕ) → Among t old.drawn → Among t new.drawn
+  pub extends : (t : ℕ) → Among t old.drawn → Among t new.drawn
   pub present : (t : ℕ) → Among t new.drawn → Among t old.drawn ⊎ (counter_of t ≡ old.counter)
   pub each : (m : Message) → Among m sent → HasSent history role m ⊎ IsMadeNow history old new m
   pub one : (m n : Message) → Among m sent → Among n sent → m ≡ n
@@ -88,8 +88,8 @@ among_signed role (x ∷ sent) m (inr there) = inr (among_signed role sent m the
 pub sent_before : (history : List Sent) (role by : Role) (sent : List Message) (m : Message) → HasSent history role m → HasSent (history ++ signed by sent) role m
 sent_before history role by sent m h = Among-left _ history (signed by sent) h
 
-pub Grows-signed : (history : List Sent) (role : Role) (sent : List Message) → Grows history (history ++ signed role sent)
-Grows-signed history role sent = record { keeps = λ r m. sent_before history r role sent m }
+pub Extends-signed : (history : List Sent) (role : Role) (sent : List Message) → Extends history (history ++ signed role sent)
+Extends-signed history role sent = record { keeps = λ r m. sent_before history r role sent m }
 
 pub sent_now : (history : List Sent) (role : Role) (sent : List Message) (m : Message) → Among m sent → HasSent (history ++ signed role sent) role m
 sent_now history role sent m h = Among-right _ history (signed role sent) (among_signed role sent m h)
@@ -106,10 +106,10 @@ pub sent_by_other : (history : List Sent) (role : Role) (sent : List Message) (m
 sent_by_other history role sent m h = ⊎_elim (λ l. l) (λ r. absurd (not_other role r.0)) (sent_cases history role (other role) sent m h)
 
 -- a proper response stays one
-pub IsProper-later : (before after : List Sent) → Grows before after → (m : Message) → IsProper before m → IsProper after m
-IsProper-later before after grows (Create_session_response a) p = record { answers = record { request = p.answers.request; sent = grows.keeps Serving _ p.answers.sent; number = p.answers.number; header = p.answers.header }; control = p.control; user = p.user }
-IsProper-later before after grows (Create_bearer_response x) p = record { answers = record { request = p.answers.request; sent = grows.keeps Packet _ p.answers.sent; number = p.answers.number; returned = p.answers.returned }; user = p.user }
-IsProper-later before after grows _ p = tt
+pub IsProper-later : (before after : List Sent) → Extends before after → (m : Message) → IsProper before m → IsProper after m
+IsProper-later before after extends (Create_session_response a) p = record { answers = record { request = p.answers.request; sent = extends.keeps Serving _ p.answers.sent; number = p.answers.number; header = p.answers.header }; control = p.control; user = p.user }
+IsProper-later before after extends (Create_bearer_response x) p = record { answers = record { request = p.answers.request; sent = extends.keeps Packet _ p.answers.sent; number = p.answers.number; returned = p.answers.returned }; user = p.user }
+IsProper-later before after extends _ p = tt
 
 module _ (side : Side) (role : Role) (history : List Sent) (drawing : Drawing side role history) where
   -- nothing that was sent owns what may be drawn now
@@ -128,14 +128,14 @@ module _ (side : Side) (role : Role) (history : List Sent) (drawing : Drawing si
     once = λ m n t m_has n_has m_owns n_owns. same m n t m_owns n_owns (cases m m_has) (cases n n_has);
     told = λ m r has tells. ⊎_elim (λ was. at_start r (drawing.told m r was tells)) (λ now. record { start = side.restarts; by_now = omega arith; is = now.1.told r tells ∙ drawing.counter }) (cases m has);
     dated = λ m t has is owns. ⊎_elim (λ was. drawing.dated m t was is owns) (λ now. now.1.tells t is owns ∙ ap (λ c. Some c) (sym (now.1.free t owns).counted)) (cases m has);
-    proper = λ m has. IsProper-later history (history ++ signed role (messages e.out.sent)) (Grows-signed history role (messages e.out.sent)) m (⊎_elim (λ was. drawing.proper m was) (λ now. now.1.proper) (cases m has));
+    proper = λ m has. IsProper-later history (history ++ signed role (messages e.out.sent)) (Extends-signed history role (messages e.out.sent)) m (⊎_elim (λ was. drawing.proper m was) (λ now. now.1.proper) (cases m has));
   }
     where
       at_start : (r : ℕ) → IsOfStart side r → IsOfStart (stepped side e) r
       at_start r s = record { start = s.start; by_now = s.by_now; is = s.is }
 
       before : (m : Message) (t : ℕ) → HasSent history role m → Owns m t → Among t e.node.drawn ⊎ IsEarlier (stepped side e) (counter_of t)
-      before m t was owns = ⊎_elim (λ drawn. inl (draws.grows t drawn)) (λ earlier. inr (record { start = earlier.start; before = earlier.before; is = earlier.is })) (drawing.drawn m t was owns)
+      before m t was owns = ⊎_elim (λ drawn. inl (draws.extends t drawn)) (λ earlier. inr (record { start = earlier.start; before = earlier.before; is = earlier.is })) (drawing.drawn m t was owns)
 
       cases : (m : Message) → HasSent (history ++ signed role (messages e.out.sent)) role m → HasSent history role m ⊎ (Among m (messages e.out.sent) × IsMadeNow history side.node e.node m)
       cases m has = elim (sent_cases history role role (messages e.out.sent) m has) [
@@ -158,7 +158,7 @@ module _ (side : Side) (role : Role) (history : List Sent) (drawing : Drawing si
     once = λ m n t m_has n_has. drawing.once m n t (sent_by_other history role sent m m_has) (sent_by_other history role sent n n_has);
     told = λ m r has. drawing.told m r (sent_by_other history role sent m has);
     dated = λ m t has. drawing.dated m t (sent_by_other history role sent m has);
-    proper = λ m has. IsProper-later history (history ++ signed (other role) sent) (Grows-signed history (other role) sent) m (drawing.proper m (sent_by_other history role sent m has));
+    proper = λ m has. IsProper-later history (history ++ signed (other role) sent) (Extends-signed history (other role) sent) m (drawing.proper m (sent_by_other history role sent m has));
   }
 
   pub Drawing-restart : side.restarts < 127 → Drawing (restarted side) role history
@@ -196,7 +196,7 @@ pub Draws-nothing : (history : List Sent) (role : Role) (old new : Node) → new
 Draws-nothing history role old new config counter same = record {
   config = config;
   counter = counter;
-  grows = λ t was. subst (Among t) (sym same) was;
+  extends = λ t was. subst (Among t) (sym same) was;
   present = λ t now. inl (subst (Among t) same now);
   each = λ m none. absurd none;
   one = λ m n none. absurd none;
@@ -207,7 +207,7 @@ pub Draws-one : (history : List Sent) (role : Role) (old new : Node) (m : Messag
 Draws-one history role old new m config counter same is = record {
   config = config;
   counter = counter;
-  grows = λ t was. subst (Among t) (sym same) was;
+  extends = λ t was. subst (Among t) (sym same) was;
   present = λ t now. inl (subst (Among t) same now);
   each = only;
   one = only_one m;
@@ -219,10 +219,10 @@ Draws-one history role old new m config counter same is = record {
 
 -- a step that draws some TEIDs and sends one message, which owns no other
 pub Draws-new : (history : List Sent) (role : Role) (old new : Node) (m : Message) → new.config ≡ old.config → new.counter ≡ old.counter → ((t : ℕ) → Among t old.drawn → Among t new.drawn) → ((t : ℕ) → Among t new.drawn → Among t old.drawn ⊎ (counter_of t ≡ old.counter)) → IsMadeNow history old new m → Draws history role old new (m ∷ [])
-Draws-new history role old new m config counter grows present is = record {
+Draws-new history role old new m config counter extends present is = record {
   config = config;
   counter = counter;
-  grows = grows;
+  extends = extends;
   present = present;
   each = only;
   one = only_one m;

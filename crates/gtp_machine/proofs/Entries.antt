@@ -1,11 +1,12 @@
 -- A TEID stands for one subscriber and one bearer.
-use Rattle.std.proofs.Common.{◌≡◌, ◌⊎◌, inl, inr, ℕ, List, Option, Some, refl, sym, ◌∙◌, ap}
+use Rattle.std.proofs.Common.{◌≡◌, ◌⊎◌, inl, inr, ℕ, List, Some, refl, sym, ◌∙◌, ap}
 use Rattle.gtp_machine.specs.Element.{Subscriber, teid_in}
 use Rattle.gtp_machine.specs.Message.{CreateSessionRequest, CreateSessionResponse, CreateBearerRequest, CreateBearerResponse, Message, Create_session_request, Create_session_response, Create_bearer_request, Create_bearer_response, Owns, subscriber_of, first_created, first_given, first_returned, first_identity}
 use Rattle.gtp_machine.specs.Node.{Role, Serving, Packet}
 use Rattle.gtp_machine.specs.Input.{Entry}
 use Rattle.gtp_machine.specs.World.{Sent, HasSent}
-use Rattle.gtp_machine.proofs.Drawing.{Grows}
+use Rattle.gtp_machine.proofs.Drawing.{Extends}
+use Rattle.gtp_machine.proofs.Options.{some_same}
 
 -- each TEID stands as the sender's own in one message and its repeats
 abbrev pub Once : List Sent → Role → Type 0
@@ -103,20 +104,16 @@ abbrev pub IsFor : List Sent → Role → Entry → Type 0
 IsFor history Serving e = ToServingDefault history e ⊎ ToServingDedicated history e
 IsFor history Packet e = ToPacketDefault history e ⊎ ToPacketDedicated history e
 
-module _ (before after : List Sent) (grows : Grows before after) where
+module _ (before after : List Sent) (extends : Extends before after) where
   pub IsFor-later : (role : Role) (e : Entry) → IsFor before role e → IsFor after role e
-  IsFor-later Serving e (inl d) = inl (record { request = d.request; asked = grows.keeps Serving _ d.asked; target = d.target; subscriber = d.subscriber; identity = d.identity })
-  IsFor-later Serving e (inr d) = inr (record { answer = d.answer; answered = grows.keeps Serving _ d.answered; target = d.target; identity = d.identity; wanted = d.wanted; sent = grows.keeps Packet _ d.sent; echoed = d.echoed; request = d.request; asked = grows.keeps Serving _ d.asked; header = d.header; subscriber = d.subscriber })
-  IsFor-later Packet e (inl d) = inl (record { answer = d.answer; answered = grows.keeps Packet _ d.answered; target = d.target; request = d.request; asked = grows.keeps Serving _ d.asked; header = d.header; subscriber = d.subscriber; identity = d.identity })
-  IsFor-later Packet e (inr d) = inr (record { wanted = d.wanted; sent = grows.keeps Packet _ d.sent; target = d.target; answer = d.answer; answered = grows.keeps Serving _ d.answered; given = d.given; gives = d.gives; echoed = d.echoed; identity = d.identity; request = d.request; asked = grows.keeps Serving _ d.asked; header = d.header; subscriber = d.subscriber })
+  IsFor-later Serving e (inl d) = inl (record { request = d.request; asked = extends.keeps Serving _ d.asked; target = d.target; subscriber = d.subscriber; identity = d.identity })
+  IsFor-later Serving e (inr d) = inr (record { answer = d.answer; answered = extends.keeps Serving _ d.answered; target = d.target; identity = d.identity; wanted = d.wanted; sent = extends.keeps Packet _ d.sent; echoed = d.echoed; request = d.request; asked = extends.keeps Serving _ d.asked; header = d.header; subscriber = d.subscriber })
+  IsFor-later Packet e (inl d) = inl (record { answer = d.answer; answered = extends.keeps Packet _ d.answered; target = d.target; request = d.request; asked = extends.keeps Serving _ d.asked; header = d.header; subscriber = d.subscriber; identity = d.identity })
+  IsFor-later Packet e (inr d) = inr (record { wanted = d.wanted; sent = extends.keeps Packet _ d.sent; target = d.target; answer = d.answer; answered = extends.keeps Serving _ d.answered; given = d.given; gives = d.gives; echoed = d.echoed; identity = d.identity; request = d.request; asked = extends.keeps Serving _ d.asked; header = d.header; subscriber = d.subscriber })
 
 -- the same subscriber and the same identity
 abbrev IsAlike : Entry → Entry → Type 0
 IsAlike d e = (names_of d ≡ names_of e) × (d.identity ≡ e.identity)
-
--- one value, where two are the same with Some
-some_same : (o : Option ℕ) (s t : ℕ) → o ≡ Some s → o ≡ Some t → s ≡ t
-some_same o s t x y = cc
 
 module _ (history : List Sent) (serving_once : Once history Serving) (packet_once : Once history Packet) (answered_once : AnsweredOnce history) where
   -- what names the same TEID is for the same subscriber and bearer

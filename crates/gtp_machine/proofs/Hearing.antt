@@ -1,6 +1,6 @@
 -- What is known of the peer is the latest counter that was heard.
 use Rattle.std.proofs.Common.{◌≡◌, inl, inr, ℕ, ◌+◌, ◌%◌, ◌<◌, ◌≤◌, List, ◌∷◌, Option, Some, None, refl, sym, ◌∙◌, ap, subst, arith}
-use Rattle.gtp_machine.specs.Table.{Among}
+use Rattle.gtp_machine.specs.FiniteMap.{Among}
 use Rattle.gtp_values.specs.Counter.{age_of}
 use Rattle.gtp_values.specs.declared.counter.Age.{Age}
 use Rattle.gtp_values.specs.declared.counter.Age.TheVariants.{Same, Later, Earlier}
@@ -34,29 +34,23 @@ module _ (peer : Side) (few : peer.restarts ≤ 127) where
       let starts = same_start peer.first l.start o.start k c (omega (arith, l.by_now)) (omega (arith, o.by_now)) l.is o.is e in
       l.is ∙ ap (λ n. (peer.first + n) % 256) (sym starts) ∙ sym o.is
 
+  -- what was known stays so, where the counter is of no later start
+  known_stays : (seen : List ℕ) (k c : ℕ) (l : IsLatest peer seen k) (start : ℕ) → start ≤ l.start → c ≡ (peer.first + start) % 256 → IsLatest peer (c ∷ seen) k
+  known_stays seen k c l start no_later is = record { start = l.start; by_now = l.by_now; is = l.is; heard = inr l.heard; others = others }
+    where
+      others : (r : ℕ) → Among r (c ∷ seen) → IsByStart peer l.start r
+      others r (inl same) = record { start = start; no_later = no_later; is = same ∙ is }
+      others r (inr there) = l.others r there
+
   by_age : (seen : List ℕ) (k c : ℕ) (new : Option ℕ) → Hearing peer (Some k) seen → IsOfStart peer c → (a : Age) → age_of k c ≡ a → KnownBy a k c new → Hearing peer new (c ∷ seen)
   by_age seen k c new h o Same e is =
       let l = h.latest k refl in
       let starts = same_start peer.first l.start o.start k c (omega (arith, l.by_now)) (omega (arith, o.by_now)) l.is o.is e in
-      subst (λ n. Hearing peer n (c ∷ seen)) (sym is) (record { none = λ none. absurd (cc none); latest = λ j some. subst (IsLatest peer (c ∷ seen)) (let same : k ≡ j = cc some in same) (known_stays l o.start (omega (arith, starts)) o.is) })
-    where
-      known_stays : (l : IsLatest peer seen k) (start : ℕ) → start ≤ l.start → c ≡ (peer.first + start) % 256 → IsLatest peer (c ∷ seen) k
-      known_stays l start no_later is = record { start = l.start; by_now = l.by_now; is = l.is; heard = inr l.heard; others = others }
-        where
-          others : (r : ℕ) → Among r (c ∷ seen) → IsByStart peer l.start r
-          others r (inl same) = record { start = start; no_later = no_later; is = same ∙ is }
-          others r (inr there) = l.others r there
+      subst (λ n. Hearing peer n (c ∷ seen)) (sym is) (record { none = λ none. absurd (cc none); latest = λ j some. subst (IsLatest peer (c ∷ seen)) (let same : k ≡ j = cc some in same) (known_stays seen k c l o.start (omega (arith, starts)) o.is) })
   by_age seen k c new h o Earlier e is =
       let l = h.latest k refl in
       let starts = earlier_start peer.first l.start o.start k c (omega (arith, l.by_now)) (omega (arith, o.by_now)) l.is o.is e in
-      subst (λ n. Hearing peer n (c ∷ seen)) (sym is) (record { none = λ none. absurd (cc none); latest = λ j some. subst (IsLatest peer (c ∷ seen)) (let same : k ≡ j = cc some in same) (known_stays l o.start (omega (arith, starts)) o.is) })
-    where
-      known_stays : (l : IsLatest peer seen k) (start : ℕ) → start ≤ l.start → c ≡ (peer.first + start) % 256 → IsLatest peer (c ∷ seen) k
-      known_stays l start no_later is = record { start = l.start; by_now = l.by_now; is = l.is; heard = inr l.heard; others = others }
-        where
-          others : (r : ℕ) → Among r (c ∷ seen) → IsByStart peer l.start r
-          others r (inl same) = record { start = start; no_later = no_later; is = same ∙ is }
-          others r (inr there) = l.others r there
+      subst (λ n. Hearing peer n (c ∷ seen)) (sym is) (record { none = λ none. absurd (cc none); latest = λ j some. subst (IsLatest peer (c ∷ seen)) (let same : k ≡ j = cc some in same) (known_stays seen k c l o.start (omega (arith, starts)) o.is) })
   by_age seen k c new h o Later e is =
       let l = h.latest k refl in
       let starts = later_start peer.first l.start o.start k c (omega (arith, l.by_now)) (omega (arith, o.by_now)) l.is o.is e in

@@ -7,7 +7,7 @@ use Rattle.gtp_values.specs.declared.counter.Age.TheVariants.{Same, Later, Earli
 use Rattle.gtp_values.specs.declared.qos.Qos.{Qos}
 use Rattle.gtp_machine.specs.Element.{cause_of}
 use Rattle.gtp_machine.specs.Message.{Message, DeleteBearerRequest, Echo_request, Echo_response, Create_session_request, Create_session_response, Delete_session_request, Delete_session_response, Create_bearer_request, Create_bearer_response, Delete_bearer_request, Delete_bearer_response, Other_control, Packet_data, End_marker, Error_indication, User_echo_request, User_echo_response, Supported_extensions, Other_user, recovery_of}
-use Rattle.gtp_machine.specs.Node.{Role, Serving, Packet, Session, Pending, Arrival, Held, Node, written}
+use Rattle.gtp_machine.specs.Node.{Role, Serving, Packet, Session, PendingRequest, Arrival, Held, Node, written}
 use Rattle.gtp_machine.specs.Input.{Command, Create_session, Delete_session, Create_bearer, Delete_bearer, Release_session, Mark_end, Send_echo, Send_user, RequestKind, Of_create_session, Of_delete_session, Of_create_bearer, Of_delete_bearer, FaultyRequest, ControlReading, Control_message, Faulty, Control_fault, UserReading, User_message, Extension_needed, User_fault, Outcome, Effect}
 use Rattle.gtp_machine.specs.Recovery.{Judges, Weighs, Hears}
 use Rattle.gtp_machine.specs.Response.{EchoAnswered, finishing}
@@ -148,7 +148,7 @@ module _ (request : Arrival) (old : Node) (e : Effect) where
   drops : (f : Effect) → e ≡ f → f.node.held ≡ old.held → Holds request old e
   drops f gives same = inl (ap held_in gives ∙ same)
 
-  ends : (number : ℕ) (p : Pending) (outcome : Outcome) → e ≡ finishing old number p outcome → Holds request old e
+  ends : (number : ℕ) (p : PendingRequest) (outcome : Outcome) → e ≡ finishing old number p outcome → Holds request old e
   ends number p outcome gives = inl (ap held_in gives ∙ (Shrunk-finished old number p.session p.bearer).held)
 
   answers : (m : Message) (f : Effect) → e ≡ f → f.node.held ≡ record { request = request; answer = m } ∷ old.held → Holds request old e

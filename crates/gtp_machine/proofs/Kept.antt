@@ -1,6 +1,6 @@
 -- What the world keeps of each gateway: packets, and answers to requests for bearers.
 use Rattle.std.proofs.Common.{◌≡◌, ◌⊎◌, inl, inr, ⊎_elim, ℕ, List, [], ◌∷◌, ◌++◌, Some, refl, sym, ◌∙◌, ap, subst, arith}
-use Rattle.gtp_machine.specs.Table.{Each, Among}
+use Rattle.gtp_machine.specs.FiniteMap.{Each, Among}
 use Rattle.gtp_machine.specs.Message.{Message, CreateBearerRequest, CreateBearerResponse, Create_bearer_request, Create_bearer_response, Packet_data, first_given, first_returned}
 use Rattle.gtp_machine.specs.Node.{Role, Serving, Packet, Session, Arrival}
 use Rattle.gtp_machine.specs.Input.{Entry, Effect, messages}
@@ -8,8 +8,8 @@ use Rattle.gtp_machine.specs.Choice.{counter_of}
 use Rattle.gtp_machine.specs.Answer.{IsNew}
 use Rattle.gtp_machine.specs.World.{other, Side, Sent, HasSent, signed, stepped, restarted}
 use Rattle.gtp_machine.specs.Laws.{AtMostOnce}
-use Rattle.gtp_machine.proofs.Tables.{Among-left, Among-right, Among-cases}
-use Rattle.gtp_machine.proofs.Drawing.{Drawing, Draws, IsEarlier, Grows, Grows-signed, sent_cases, sent_by_other, starts_apart}
+use Rattle.gtp_machine.proofs.FiniteMaps.{Among-left, Among-right, Among-cases}
+use Rattle.gtp_machine.proofs.Drawing.{Drawing, Draws, IsEarlier, Extends, Extends-signed, sent_cases, sent_by_other, starts_apart}
 use Rattle.gtp_machine.proofs.Entries.{Once, AnsweredOnce, same_bearer_request, IsFor, IsFor-later}
 use Rattle.gtp_machine.proofs.Steps.{IsAnsweredNow, MakesFor, Logs}
 
@@ -31,7 +31,7 @@ Packets-step history role side taken e p logs = record {
     | inl was ↦ old t payload was
     | inr now ↦ ⊎_elim (λ was. old t payload was) (λ is. record { entry = is.entry; among = Among-left is.entry e.out.handed side.handed is.handed; names = is.names; carries = is.carries }) (logs.packets t payload now.1)
   ];
-  each = λ n among. IsFor-later history (history ++ signed role (messages e.out.sent)) (Grows-signed history role (messages e.out.sent)) (other role) n (⊎_elim (λ now. logs.handed n now) (λ was. p.each n was) (Among-cases n e.out.handed side.handed among));
+  each = λ n among. IsFor-later history (history ++ signed role (messages e.out.sent)) (Extends-signed history role (messages e.out.sent)) (other role) n (⊎_elim (λ now. logs.handed n now) (λ was. p.each n was) (Among-cases n e.out.handed side.handed among));
 }
   where
     old : (t : ℕ) (payload : List ℕ) → HasSent history role (Packet_data t payload) → IsHanded (e.out.handed ++ side.handed) t payload
@@ -40,7 +40,7 @@ Packets-step history role side taken e p logs = record {
 pub Packets-elsewhere : (history : List Sent) (role : Role) (handed : List Entry) (sent : List Message) → Packets history role handed → Packets (history ++ signed (other role) sent) role handed
 Packets-elsewhere history role handed sent p = record {
   sent = λ t payload has. p.sent t payload (sent_by_other history role sent (Packet_data t payload) has);
-  each = λ e among. IsFor-later history (history ++ signed (other role) sent) (Grows-signed history (other role) sent) (other role) e (p.each e among);
+  each = λ e among. IsFor-later history (history ++ signed (other role) sent) (Extends-signed history (other role) sent) (other role) e (p.each e among);
 }
 
 -- a response that gives a bearer is held, or was given up, or its request is of an earlier start; `key` says how a request comes
@@ -53,11 +53,11 @@ pub record IsRemembered (history : List Sent) (key : Message → Arrival) (side 
 abbrev pub Remembers : List Sent → (Message → Arrival) → Side → Type 0
 Remembers history key side = (x : CreateBearerResponse) (t : ℕ) → HasSent history Serving (Create_bearer_response x) → first_given x.contexts ≡ Some t → IsRemembered history key side x
 
-remembered_later : (before after : List Sent) → Grows before after → (key : Message → Arrival) (side : Side) (x : CreateBearerResponse) → IsRemembered before key side x → IsRemembered after key side x
-remembered_later before after grows key side x r = record { request = r.request; sent = grows.keeps Packet (Create_bearer_request r.request) r.sent; echoed = r.echoed; where_now = r.where_now }
+remembered_later : (before after : List Sent) → Extends before after → (key : Message → Arrival) (side : Side) (x : CreateBearerResponse) → IsRemembered before key side x → IsRemembered after key side x
+remembered_later before after extends key side x r = record { request = r.request; sent = extends.keeps Packet (Create_bearer_request r.request) r.sent; echoed = r.echoed; where_now = r.where_now }
 
 pub Remembers-elsewhere : (history : List Sent) (key : Message → Arrival) (side : Side) (sent : List Message) → Remembers history key side → Remembers (history ++ signed Packet sent) key side
-Remembers-elsewhere history key side sent r x t has gives = remembered_later history (history ++ signed Packet sent) (Grows-signed history Packet sent) key side x (r x t (sent_by_other history Serving sent (Create_bearer_response x) has) gives)
+Remembers-elsewhere history key side sent r x t has gives = remembered_later history (history ++ signed Packet sent) (Extends-signed history Packet sent) key side x (r x t (sent_by_other history Serving sent (Create_bearer_response x) has) gives)
 
 pub Remembers-restart : (history : List Sent) (key : Message → Arrival) (side : Side) → Drawing side Serving history → Remembers history key side → Remembers history key (restarted side)
 Remembers-restart history key side drawing r x t has gives =
@@ -76,7 +76,7 @@ module _ (history : List Sent) (key : Message → Arrival) (side : Side) (taken 
   answered_counter x is = drawing.present is.request.header (drawn is.request.header is.session is.stands)
 
   pub Remembers-step : Remembers (history ++ signed Serving (messages e.out.sent)) key (stepped side e)
-  Remembers-step x t has gives = remembered_later history (history ++ signed Serving (messages e.out.sent)) (Grows-signed history Serving (messages e.out.sent)) key (stepped side e) x (elim (sent_cases history Serving Serving (messages e.out.sent) (Create_bearer_response x) has) [
+  Remembers-step x t has gives = remembered_later history (history ++ signed Serving (messages e.out.sent)) (Extends-signed history Serving (messages e.out.sent)) key (stepped side e) x (elim (sent_cases history Serving Serving (messages e.out.sent) (Create_bearer_response x) has) [
     | inl was ↦ old was
     | inr now ↦ ⊎_elim old fresh (logs.answers x t now.1 gives)
   ])

@@ -1,4 +1,5 @@
-pub mod Tables
+pub mod FiniteMaps
+pub mod Options
 pub mod Ages
 pub mod Drawing
 pub mod Contexts
@@ -10,6 +11,7 @@ pub mod After
 pub mod Carrying
 pub mod CommonRows
 pub mod Taking
+pub mod ControlRows
 pub mod ServingRows
 pub mod PacketRows
 pub mod Hearing

@@ -1,20 +1,20 @@
 -- A pending request matches the session or bearer that it is about.
 use Rattle.std.proofs.Common.{◌≡◌, ◌≢◌, ⊎_elim, ℕ, Some, sym, ◌∙◌, ap}
 use Rattle.std.specs.FinMap.{get, insert}
-use Rattle.gtp_machine.specs.Table.{Table}
+use Rattle.gtp_machine.specs.FiniteMap.{FiniteMap}
 use Rattle.gtp_machine.specs.Message.{CreateSessionRequest, CreateBearerRequest, Create_session_request, Create_bearer_request}
-use Rattle.gtp_machine.specs.Node.{Waiting, Session, Bearer, Pending, Node}
-use Rattle.gtp_machine.proofs.Tables.{found-insert}
+use Rattle.gtp_machine.specs.Node.{Pending, Session, Bearer, PendingRequest, Node}
+use Rattle.gtp_machine.proofs.FiniteMaps.{found-insert}
 use Rattle.gtp_machine.proofs.Shrinking.{NodeShrinks}
 
--- the session of a Create Session Request waits, and the bearer of a Create Bearer Request is of its session
-pub record IsMatched (sessions : Table Session) (bearers : Table Bearer) (number : ℕ) (p : Pending) : Type 0 where
-  pub waits : (q : CreateSessionRequest) → p.request ≡ Create_session_request q → (s : Session) → get sessions q.control.teid ≡ Some s → s.state ≡ Waiting
+-- the session of a Create Session Request is pending, and the bearer of a Create Bearer Request is of its session
+pub record IsMatched (sessions : FiniteMap Session) (bearers : FiniteMap Bearer) (number : ℕ) (p : PendingRequest) : Type 0 where
+  pub waits : (q : CreateSessionRequest) → p.request ≡ Create_session_request q → (s : Session) → get sessions q.control.teid ≡ Some s → s.state ≡ Pending
   pub numbered : (q : CreateSessionRequest) → p.request ≡ Create_session_request q → q.number ≡ number
   pub names_bearer : (r : CreateBearerRequest) → p.request ≡ Create_bearer_request r → p.bearer ≡ Some r.context.user.teid
   pub of_session : (r : CreateBearerRequest) → p.request ≡ Create_bearer_request r → (b : Bearer) → get bearers r.context.user.teid ≡ Some b → p.session ≡ Some b.session
 
-pub IsMatched-shrinks : (old new : Node) → NodeShrinks old new → (number : ℕ) (p : Pending) → IsMatched old.sessions old.bearers number p → IsMatched new.sessions new.bearers number p
+pub IsMatched-shrinks : (old new : Node) → NodeShrinks old new → (number : ℕ) (p : PendingRequest) → IsMatched old.sessions old.bearers number p → IsMatched new.sessions new.bearers number p
 IsMatched-shrinks old new shrinks number p m = record {
   waits = λ q is s stands. let was = shrinks.sessions q.control.teid s stands in was.same.waited (m.waits q is was.before was.stood);
   numbered = m.numbered;
@@ -23,7 +23,7 @@ IsMatched-shrinks old new shrinks number p m = record {
 }
 
 -- a session that comes or changes under another TEID
-pub IsMatched-session : (sessions : Table Session) (bearers : Table Bearer) (key : ℕ) (s : Session) (number : ℕ) (p : Pending) → ((q : CreateSessionRequest) → p.request ≡ Create_session_request q → q.control.teid ≢ key) → IsMatched sessions bearers number p → IsMatched (insert sessions key s) bearers number p
+pub IsMatched-session : (sessions : FiniteMap Session) (bearers : FiniteMap Bearer) (key : ℕ) (s : Session) (number : ℕ) (p : PendingRequest) → ((q : CreateSessionRequest) → p.request ≡ Create_session_request q → q.control.teid ≢ key) → IsMatched sessions bearers number p → IsMatched (insert sessions key s) bearers number p
 IsMatched-session sessions bearers key s number p apart m = record {
   waits = λ q is x stands. ⊎_elim (λ same. absurd (apart q is same.0)) (λ old. m.waits q is x old.1) (found-insert sessions key s q.control.teid x stands);
   numbered = m.numbered;
@@ -32,7 +32,7 @@ IsMatched-session sessions bearers key s number p apart m = record {
 }
 
 -- a bearer that comes under another TEID, or changes and stays with its session
-pub IsMatched-bearer : (sessions : Table Session) (bearers : Table Bearer) (key : ℕ) (b : Bearer) (number : ℕ) (p : Pending) → ((r : CreateBearerRequest) → p.request ≡ Create_bearer_request r → r.context.user.teid ≡ key → p.session ≡ Some b.session) → IsMatched sessions bearers number p → IsMatched sessions (insert bearers key b) number p
+pub IsMatched-bearer : (sessions : FiniteMap Session) (bearers : FiniteMap Bearer) (key : ℕ) (b : Bearer) (number : ℕ) (p : PendingRequest) → ((r : CreateBearerRequest) → p.request ≡ Create_bearer_request r → r.context.user.teid ≡ key → p.session ≡ Some b.session) → IsMatched sessions bearers number p → IsMatched sessions (insert bearers key b) number p
 IsMatched-bearer sessions bearers key b number p stays m = record {
   waits = m.waits;
   numbered = m.numbered;

@@ -5,9 +5,9 @@ use Rattle.gtp_values.specs.declared.address.Endpoint.{Endpoint}
 use Rattle.gtp_values.specs.declared.counter.Age.{Age}
 use Rattle.gtp_values.specs.declared.counter.Age.TheVariants.{Same, Later, Earlier}
 use Rattle.gtp_values.specs.declared.qos.Qos.{Qos}
-use Rattle.gtp_machine.specs.Table.{Each, Among}
+use Rattle.gtp_machine.specs.FiniteMap.{Each, Among}
 use Rattle.gtp_machine.specs.Message.{Message, CreateSessionRequest, CreateBearerRequest, DeleteBearerRequest, DeleteSessionRequest, Echo_request, Echo_response, Create_session_request, Create_session_response, Delete_session_request, Delete_session_response, Create_bearer_request, Create_bearer_response, Delete_bearer_request, Delete_bearer_response, Other_control, Packet_data, End_marker, Error_indication, User_echo_request, User_echo_response, Supported_extensions, Other_user, recovery_of}
-use Rattle.gtp_machine.specs.Node.{Role, Serving, Packet, Session, Bearer, Pending, Arrival, Held, Node, written}
+use Rattle.gtp_machine.specs.Node.{Role, Serving, Packet, Session, Bearer, PendingRequest, Arrival, Held, Node, written}
 use Rattle.gtp_machine.specs.Input.{Specification, Command, Create_session, Delete_session, Create_bearer, Delete_bearer, Release_session, Mark_end, Send_echo, Send_user, ControlReading, Control_message, Faulty, Control_fault, UserReading, User_message, Extension_needed, User_fault, Move, Resend, Give_up, Forget, Input, Commanded, Control_came, User_came, Moves_on, Effect, messages}
 use Rattle.gtp_machine.specs.Recovery.{Judges, Weighs, Hears, peer_restarted}
 use Rattle.gtp_machine.specs.Response.{EchoAnswered}
@@ -19,8 +19,8 @@ use Rattle.gtp_machine.specs.Serving.{SessionAnswered, DeletionAnswered, BearerA
 use Rattle.gtp_machine.specs.Packet.{SessionAsked, DeletionAsked, BearerAnswered, RemovalAnswered, PacketTakes, PacketReads}
 use Rattle.gtp_machine.specs.World.{Step, other, Sent, HasSent, signed}
 use Rattle.gtp_machine.specs.Laws.{IsFrom, NamesBack, EachNamesBack}
-use Rattle.gtp_machine.proofs.Tables.{Among-cases}
-use Rattle.gtp_machine.proofs.Drawing.{Grows, Grows-signed, signed_among}
+use Rattle.gtp_machine.proofs.FiniteMaps.{Among-cases}
+use Rattle.gtp_machine.proofs.Drawing.{Extends, Extends-signed, signed_among}
 use Rattle.gtp_machine.proofs.After.{Knows}
 use Rattle.gtp_machine.proofs.Shrinking.{Shrinks-restart, restart_pending}
 use Rattle.gtp_machine.proofs.Stepping.{Carried}
@@ -33,7 +33,7 @@ IsThere history role remote = (r : ℕ) → remote ≡ Some r → IsFrom history
 pub record Back (history : List Sent) (role : Role) (node : Node) : Type 0 where
   pub sessions : Each (λ t (s : Session). IsThere history role s.remote) node.sessions
   pub bearers : Each (λ t (b : Bearer). IsThere history role b.remote) node.bearers
-  pub pending : Each (λ number (p : Pending). HasSent history role p.request) node.pending
+  pub pending : Each (λ number (p : PendingRequest). HasSent history role p.request) node.pending
   pub held : (h : Held) → Among h node.held → HasSent history role h.answer
 
 -- what a step sends was sent before, or names what goes back
@@ -382,9 +382,9 @@ back_of history Packet node knows = record {
   held = knows.held;
 }
 
-module _ (before after : List Sent) (grows : Grows before after) where
+module _ (before after : List Sent) (extends : Extends before after) where
   from_later : (role : Role) (t : ℕ) → IsFrom before role t → IsFrom after role t
-  from_later role t from = record { message = from.message; sent = grows.keeps role from.message from.sent; owns = from.owns }
+  from_later role t from = record { message = from.message; sent = extends.keeps role from.message from.sent; owns = from.owns }
 
   names_later : (role : Role) (m : Message) → NamesBack before role m → NamesBack after role m
   names_later role (Packet_data target payload) back = λ not. from_later (other role) target (back not)
@@ -395,10 +395,10 @@ module _ (before after : List Sent) (grows : Grows before after) where
 -- what a step sends names what goes back too
 pub Names-step : (history : List Sent) (role : Role) (e : Effect) → EachNamesBack history → Told history role e → EachNamesBack (history ++ signed role (messages e.out.sent))
 Names-step history role e named told by m has =
-    let grows = Grows-signed history role (messages e.out.sent) in
+    let extends = Extends-signed history role (messages e.out.sent) in
     ⊎_elim
-    (λ was. names_later history _ grows by m (named by m was))
+    (λ was. names_later history _ extends by m (named by m was))
     (λ now.
     let is = signed_among by role (messages e.out.sent) m now in
-    subst (λ k. NamesBack (history ++ signed role (messages e.out.sent)) k m) (sym is.0) (names_later history _ grows role m (⊎_elim (λ was. named role m was) (λ back. back) (told m is.1))))
+    subst (λ k. NamesBack (history ++ signed role (messages e.out.sent)) k m) (sym is.0) (names_later history _ extends role m (⊎_elim (λ was. named role m was) (λ back. back) (told m is.1))))
     (Among-cases (record { sender = by; message = m }) history (signed role (messages e.out.sent)) has)

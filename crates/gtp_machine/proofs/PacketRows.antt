@@ -3,18 +3,18 @@ use Rattle.std.proofs.Common.{◌≡◌, ◌⊎◌, inl, inr, ⊎_elim, ℕ, ◌
 use Rattle.std.specs.FinMap.{get, insert, remove}
 use Rattle.gtp_values.specs.declared.cause.Cause.{Cause}
 use Rattle.gtp_values.specs.declared.qos.Qos.{Qos}
-use Rattle.gtp_machine.specs.Table.{Table, Each, Among}
+use Rattle.gtp_machine.specs.FiniteMap.{FiniteMap, Each, Among}
 use Rattle.gtp_machine.specs.Element.{IsAccepting, cause_of, cause_at, teid_in}
 use Rattle.gtp_machine.specs.Message.{CreateSessionRequest, CreateSessionResponse, DeleteSessionRequest, DeleteSessionResponse, CreateBearerRequest, CreateBearerResponse, DeleteBearerResponse, Message, Echo_request, Echo_response, Create_session_request, Create_session_response, Delete_session_request, Delete_session_response, Create_bearer_request, Create_bearer_response, Delete_bearer_request, Delete_bearer_response, Other_control, Packet_data, End_marker, Error_indication, User_echo_request, User_echo_response, Supported_extensions, Other_user, Owns, recovery_of, first_returned}
-use Rattle.gtp_machine.specs.Node.{Serving, Packet, State, Waiting, Active, Closing, Session, Bearer, Pending, Arrival, Node, holding, written}
-use Rattle.gtp_machine.specs.Input.{ControlReading, Control_message, Faulty, Control_fault, Begun, Opened, Answered, Effect}
+use Rattle.gtp_machine.specs.Node.{Serving, Packet, State, Pending, Active, Closing, Session, Bearer, PendingRequest, Arrival, Node, holding, written}
+use Rattle.gtp_machine.specs.Input.{ControlReading, Control_message, Begun, Opened, Answered, Effect}
 use Rattle.gtp_machine.specs.Choice.{IsFree, HasPending, counter_of}
 use Rattle.gtp_machine.specs.Removal.{without_session}
-use Rattle.gtp_machine.specs.Command.{bearer_request, waiting_dedicated, BeginsBearer, BearerBegun}
+use Rattle.gtp_machine.specs.Command.{bearer_request, pending_dedicated, BeginsBearer, BearerBegun}
 use Rattle.gtp_machine.specs.Answer.{IsNew, answered, ControlStep}
-use Rattle.gtp_machine.specs.Packet.{session_cause, session_response, made_session, made_bearer, session_made, MakesSession, session_refused, SessionAsked, DeletionAsked, FitsBearer, DescribesBearer, CanOpen, opened_dedicated, OpensBearer, BearerAnswered, RemovalAnswered, PacketTakes, PacketReads}
+use Rattle.gtp_machine.specs.Packet.{session_cause, session_response, made_session, made_bearer, session_made, MakesSession, session_refused, SessionAsked, DeletionAsked, FitsBearer, DescribesBearer, CanOpen, opened_dedicated, OpensBearer, BearerAnswered, RemovalAnswered, PacketTakes, packet_takes, PacketFaulted, PacketReads}
 use Rattle.gtp_machine.specs.World.{Sent, HasSent, signed}
-use Rattle.gtp_machine.proofs.Tables.{Each-insert, Each-remove, found-remove, get-insert_same, get-insert_other}
+use Rattle.gtp_machine.proofs.FiniteMaps.{Each-insert, Each-remove, found-remove, get-insert_same, get-insert_other}
 use Rattle.gtp_machine.proofs.Drawing.{Draws-nothing, Draws-new, TellsStart, IsProper, sent_before, sent_now, sent_cases}
 use Rattle.gtp_machine.proofs.Contexts.{IsMade, IsWanted, IsAtPacket, closes-session, closes-bearer}
 use Rattle.gtp_machine.proofs.Shrinking.{Shrunk, Shrunk-itself, Shrunk-without}
@@ -22,8 +22,10 @@ use Rattle.gtp_machine.proofs.Matching.{IsMatched, IsMatched-bearer}
 use Rattle.gtp_machine.proofs.Entries.{Once, answer_not_request}
 use Rattle.gtp_machine.proofs.Steps.{Logs-silent, Logs-plain, at_result, NothingOwns, NothingOwns-from}
 use Rattle.gtp_machine.proofs.After.{IsPending, IsStanding, IsReady, Knows, After, nothing_told, later, held_now, matched_session, matched_bearer}
-use Rattle.gtp_machine.proofs.CommonRows.{unchanged, repeats, SameIs, hears}
-use Rattle.gtp_machine.proofs.Taking.{Took, took, drops, ends, gives_answer, takes_echo, takes_echo_response, some_same, none_some}
+use Rattle.gtp_machine.proofs.CommonRows.{unchanged}
+use Rattle.gtp_machine.proofs.Taking.{Took, took, drops, ends, gives_answer, takes_echo, takes_echo_response}
+use Rattle.gtp_machine.proofs.Options.{some_same, none_some}
+use Rattle.gtp_machine.proofs.ControlRows.{ControlCarried, control_came}
 
 module _ (history : List Sent) (taken : Arrival → Message → Type 0) (serving_once : Once history Serving) (packet_once : Once history Packet) (old : Node) (knows : Knows Packet history old) where
   was_later : (sent : List Message) → Knows Packet (history ++ signed Packet sent) old
@@ -38,17 +40,17 @@ module _ (history : List Sent) (taken : Arrival → Message → Type 0) (serving
         origin = at.origin;
       }
 
-  active_not_waiting : Active ≡ Waiting → ⊥
-  active_not_waiting e = cc
+  active_not_pending : Active ≡ Pending → ⊥
+  active_not_pending e = cc
 
-  waiting_not_active : Waiting ≡ Active → ⊥
-  waiting_not_active e = cc
+  pending_not_active : Pending ≡ Active → ⊥
+  pending_not_active e = cc
 
   active_not_closing : (state : State) → state ≡ Active → state ≡ Closing → ⊥
   active_not_closing state is c = cc
 
   -- a session that stands there and is active is not closing
-  stands_active : (sessions : Table Session) (key : ℕ) (at : Session) → get sessions key ≡ Some at → at.state ≡ Active → (s : Session) → get sessions key ≡ Some s → s.state ≡ Closing → ⊥
+  stands_active : (sessions : FiniteMap Session) (key : ℕ) (at : Session) → get sessions key ≡ Some at → at.state ≡ Active → (s : Session) → get sessions key ≡ Some s → s.state ≡ Closing → ⊥
   stands_active sessions key at at_stands active s s_stands closing =
       let is : at ≡ s = cc (at_stands, s_stands) in
       active_not_closing at.state active (ap (λ (k : Session). k.state) is ∙ closing)
@@ -56,18 +58,18 @@ module _ (history : List Sent) (taken : Arrival → Message → Type 0) (serving
   begins : (unowned : NothingOwns history Packet old) (session : ℕ) (at : Session) (tft : List ℕ) (qos : Qos) (e : Effect) → get old.sessions session ≡ Some at → at.state ≡ Active → BeginsBearer old session at tft qos e → After Packet history taken old e
   begins unowned session at tft qos e stands active r =
       let q = bearer_request old at tft qos r.user r.number in
-      let p : Pending = record { session = Some session; bearer = Some r.user; request = Create_bearer_request q } in
+      let p : PendingRequest = record { session = Some session; bearer = Some r.user; request = Create_bearer_request q } in
       let m = Create_bearer_request q in
       let after = history ++ signed Packet (m ∷ []) in
       let was = was_later (m ∷ []) in
       let now : HasSent after Packet m = sent_now history Packet (m ∷ []) m (inl refl) in
       let made = was.contexts.sessions_made session at stands in
-      let new_node : Node = record old { drawn = r.user ∷ old.drawn; bearers = insert old.bearers r.user (waiting_dedicated session); pending = insert old.pending r.number p } in
+      let new_node : Node = record old { drawn = r.user ∷ old.drawn; bearers = insert old.bearers r.user (pending_dedicated session); pending = insert old.pending r.number p } in
       at_result (After Packet history taken old) e _ r.gives (record {
         knows = record {
           contexts = record {
             sessions_made = was.contexts.sessions_made;
-            bearers_made = Each-insert (IsAtPacket after old.sessions) old.bearers r.user (waiting_dedicated session)
+            bearers_made = Each-insert (IsAtPacket after old.sessions) old.bearers r.user (pending_dedicated session)
                 (record {
                   session = at;
                   stands = stands;
@@ -75,13 +77,13 @@ module _ (history : List Sent) (taken : Arrival → Message → Type 0) (serving
                 })
                 was.contexts.bearers_made;
           };
-          matched = Each-insert (IsMatched old.sessions (insert old.bearers r.user (waiting_dedicated session))) old.pending r.number p
+          matched = Each-insert (IsMatched old.sessions (insert old.bearers r.user (pending_dedicated session))) old.pending r.number p
               (record { waits = λ k e. absurd (not_session q k e); numbered = λ k e. absurd (not_session q k e); names_bearer = λ k e. let same : q ≡ k = cc e in ap (λ (k : CreateBearerRequest). Some k.context.user.teid) same; of_session = of_session q })
-              (matched_bearer history Packet old unowned knows.pending old.sessions r.user (waiting_dedicated session) r.user_free knows.matched);
+              (matched_bearer history Packet old unowned knows.pending old.sessions r.user (pending_dedicated session) r.user_free knows.matched);
           drawn = λ t s e. inr (knows.drawn t s e);
           standing = knows.standing;
-          ready = Each-insert IsReady old.bearers r.user (waiting_dedicated session) (λ a. absurd (waiting_not_active a)) knows.ready;
-          closed = closes-bearer old.sessions old.bearers r.user (waiting_dedicated session) (stands_active old.sessions session at stands active) knows.closed;
+          ready = Each-insert IsReady old.bearers r.user (pending_dedicated session) (λ a. absurd (pending_not_active a)) knows.ready;
+          closed = closes-bearer old.sessions old.bearers r.user (pending_dedicated session) (stands_active old.sessions session at stands active) knows.closed;
           pending = Each-insert (IsPending after Packet) old.pending r.number p (record { sent = now; names = λ k e. absurd (not_session q k e) }) was.pending;
           held = was.held;
         };
@@ -91,11 +93,11 @@ module _ (history : List Sent) (taken : Arrival → Message → Type 0) (serving
         logs = Logs-plain history Packet taken old new_node (Begun (Some r.user)) (λ h stood. stood) _ m tt;
       })
     where
-      of_session : (q k : CreateBearerRequest) → Create_bearer_request q ≡ Create_bearer_request k → (b : Bearer) → get (insert old.bearers q.context.user.teid (waiting_dedicated session)) k.context.user.teid ≡ Some b → Some session ≡ Some b.session
+      of_session : (q k : CreateBearerRequest) → Create_bearer_request q ≡ Create_bearer_request k → (b : Bearer) → get (insert old.bearers q.context.user.teid (pending_dedicated session)) k.context.user.teid ≡ Some b → Some session ≡ Some b.session
       of_session q k e b stands =
           let same : q ≡ k = cc e in
-          let here : get (insert old.bearers q.context.user.teid (waiting_dedicated session)) k.context.user.teid ≡ Some (waiting_dedicated session) = ap (λ (k : CreateBearerRequest). get (insert old.bearers q.context.user.teid (waiting_dedicated session)) k.context.user.teid) (sym same) ∙ get-insert_same old.bearers q.context.user.teid (waiting_dedicated session) in
-          let is : waiting_dedicated session ≡ b = cc (here, stands) in
+          let here : get (insert old.bearers q.context.user.teid (pending_dedicated session)) k.context.user.teid ≡ Some (pending_dedicated session) = ap (λ (k : CreateBearerRequest). get (insert old.bearers q.context.user.teid (pending_dedicated session)) k.context.user.teid) (sym same) ∙ get-insert_same old.bearers q.context.user.teid (pending_dedicated session) in
+          let is : pending_dedicated session ≡ b = cc (here, stands) in
           ap (λ (k : Bearer). Some k.session) is
 
       not_session : (q : CreateBearerRequest) (k : CreateSessionRequest) → Create_bearer_request q ≡ Create_session_request k → ⊥
@@ -134,7 +136,7 @@ module _ (history : List Sent) (taken : Arrival → Message → Type 0) (serving
             };
             matched = matched_bearer history Packet old unowned knows.pending (insert old.sessions r.control s) r.user b r.user_free (matched_session history Packet old unowned knows.pending r.control s r.control_free knows.matched);
             drawn = Each-insert (λ t (x : Session). Among t (r.user ∷ r.control ∷ old.drawn)) old.sessions r.control s (inr (inl refl)) (λ t x e. inr (inr (knows.drawn t x e)));
-            standing = Each-insert (IsStanding old.known) old.sessions r.control s (record { current = λ x is. told (counter_of x) (dated (Create_session_request q) x came tt (inl (let same : x ≡ q.control.teid = cc is in same))); blank = λ w. absurd (active_not_waiting w); named = λ h. (q.control.teid, refl) }) knows.standing;
+            standing = Each-insert (IsStanding old.known) old.sessions r.control s (record { current = λ x is. told (counter_of x) (dated (Create_session_request q) x came tt (inl (let same : x ≡ q.control.teid = cc is in same))); blank = λ w. absurd (active_not_pending w); named = λ h. (q.control.teid, refl) }) knows.standing;
             ready = Each-insert IsReady old.bearers r.user b (λ active. (q.context.user.teid, refl)) knows.ready;
             closed = closes-bearer (insert old.sessions r.control s) old.bearers r.user b (stands_active (insert old.sessions r.control s) r.control s (get-insert_same old.sessions r.control s) refl) (closes-session old.sessions old.bearers r.control s (active_not_closing Active refl) knows.closed);
             pending = was.pending;
@@ -323,22 +325,9 @@ module _ (history : List Sent) (taken : Arrival → Message → Type 0) (serving
     takes unowned request (Supported_extensions t) e came is told r = drops Packet history taken old knows _ e r
     takes unowned request (Other_user t) e came is told r = drops Packet history taken old knows _ e r
 
--- what was read on the control plane was sent by the serving gateway; no fault is answered, since what it sent reads
-abbrev pub PacketCarried : List Sent → Node → ControlReading → Type 0
-PacketCarried history old (Control_message m) = HasSent history Serving m × SameIs old m
-PacketCarried history old (Faulty f) = ⊥
-PacketCarried history old (Control_fault fault) = Unit {0}
-
 module _ (history : List Sent) (serving_once : Once history Serving) (packet_once : Once history Packet) (old : Node) (unowned : NothingOwns history Packet old)
     (dated : (m : Message) (t : ℕ) → HasSent history Serving m → TellsStart m → Owns m t → recovery_of m ≡ Some (counter_of t)) (proper : (m : Message) → HasSent history Serving m → IsProper history m) (knows : Knows Packet history old) (request : Arrival) (taken : Arrival → Message → Type 0) where
-  packet_reads : (reading : ControlReading) (e : Effect) → PacketCarried history old reading → ((m : Message) → reading ≡ Control_message m → taken request m) → PacketReads reading request old e → After Packet history taken old e
-  packet_reads (Control_message m) e came is (inl f) = unchanged Packet history taken serving_once packet_once old knows _ e f.1
-  packet_reads (Control_message m) e came is (inr (kind, r)) =
-      hears Packet history taken serving_once packet_once m came.0 (PacketTakes request m) old (λ mid from mid_knows told f rows. takes history taken serving_once packet_once mid mid_knows dated proper (NothingOwns-from history Packet old mid from unowned) request m f came.0 (is m refl) told rows) knows (recovery_of m) e refl came.1 r
-  packet_reads (Faulty f) e came is r = absurd came
-  packet_reads (Control_fault fault) e came is r = unchanged Packet history taken serving_once packet_once old knows _ e r
-
-  pub packet_control : (reading : ControlReading) (e : Effect) → PacketCarried history old reading → (IsNew old request → (m : Message) → reading ≡ Control_message m → taken request m) → ControlStep (PacketReads reading) request old e → After Packet history taken old e
-  packet_control reading e came is (inl f) = unchanged Packet history taken serving_once packet_once old knows _ e f.1
-  packet_control reading e came is (inr (peer, inl r)) = repeats Packet history taken serving_once packet_once old knows request e r
-  packet_control reading e came is (inr (peer, inr r)) = packet_reads reading e came (is r.0) r.1
+  pub packet_control : (reading : ControlReading) (e : Effect) → ControlCarried Packet history old reading → (IsNew old request → (m : Message) → reading ≡ Control_message m → taken request m) → ControlStep (PacketReads reading) request old e → After Packet history taken old e
+  packet_control =
+      control_came Packet history taken serving_once packet_once old knows packet_takes PacketTakes PacketFaulted request
+      (λ m came is mid from mid_knows told e rows. takes history taken serving_once packet_once mid mid_knows dated proper (NothingOwns-from history Packet old mid from unowned) request m e came is told rows)

@@ -9,16 +9,16 @@ use Rattle.gtp_values.specs.declared.qos.Rates.{Rates}
 use Rattle.gtp_machine.specs.Config.{Config, user_end}
 use Rattle.gtp_machine.specs.Element.{cause_of, tunnel_end}
 use Rattle.gtp_machine.specs.Message.{Message, CreateSessionRequest, CreateSessionResponse, CreateBearerRequest, CreateBearerResponse, Create_session_request, Create_session_response, Create_bearer_request, Create_bearer_response, Packet_data, subscriber_of}
-use Rattle.gtp_machine.specs.Node.{Role, Serving, Packet, Session, Bearer, Pending, Arrival, Held, Node}
+use Rattle.gtp_machine.specs.Node.{Role, Serving, Packet, Session, Bearer, PendingRequest, Arrival, Held, Node}
 use Rattle.gtp_machine.specs.Input.{Specification, Create_session, Create_bearer, Send_user, Commanded, Opened, Accepted, Gone_out, Entry, Effect, entry_for, nothing, says}
 use Rattle.gtp_machine.specs.Choice.{IsFreeAddress, IsFreeIdentity, IsUnused}
-use Rattle.gtp_machine.specs.Command.{asks, session_request, session_begun, waiting_session, waiting_bearer, bearer_request, waiting_dedicated}
+use Rattle.gtp_machine.specs.Command.{asks, session_request, session_begun, pending_session, pending_bearer, bearer_request, pending_dedicated}
 use Rattle.gtp_machine.specs.Answer.{making, IsNew}
 use Rattle.gtp_machine.specs.Serving.{opened_session, opened_bearer, bearer_response, granted_bearer}
 use Rattle.gtp_machine.specs.Packet.{session_response, session_made, made_session, made_bearer, opened_dedicated, CanOpen}
 use Rattle.gtp_machine.specs.World.{World, Does, Deliver, Moves, Delivers, moved, noted, note_of, Came_to, start, arrival}
 use Rattle.gtp_machine.specs.Laws.{IsFaithful, GetsThrough, ARunIsPossible}
-use Rattle.gtp_machine.proofs.Tables.{get-insert_same, found-insert, found-empty}
+use Rattle.gtp_machine.proofs.FiniteMaps.{get-insert_same, found-insert, found-empty}
 
 abbrev serving_ip : Ip
 serving_ip = V4 (10 ∷ 0 ∷ 0 ∷ 1 ∷ [])
@@ -53,8 +53,8 @@ dedicated = 16777219
 no_sessions : len (empty {X = Session} {R = nat_cmp}) < 1000
 no_sessions = subst (λ k. k < 1000) (sym (len-empty nat_cmp Session)) (omega arith)
 
-none_pending : len (empty {X = Pending} {R = nat_cmp}) < 256
-none_pending = subst (λ k. k < 256) (sym (len-empty nat_cmp Pending)) (omega arith)
+none_pending : len (empty {X = PendingRequest} {R = nat_cmp}) < 256
+none_pending = subst (λ k. k < 256) (sym (len-empty nat_cmp PendingRequest)) (omega arith)
 
 user_not_dedicated : user ≢ dedicated
 user_not_dedicated e = omega arith
@@ -117,10 +117,10 @@ module _ (spelled : Message → List ℕ) (faithful : IsFaithful spelled) where
   serving_heard = record w2.serving.node { known = Some 1 }
 
   abbrev at_serving : Session
-  at_serving = opened_session (waiting_session q) a 7
+  at_serving = opened_session (pending_session q) a 7
 
   abbrev opened : Effect
-  opened = record { out = nothing; outcome = Opened; node = record serving_heard { sessions = insert serving_heard.sessions control at_serving; bearers = insert serving_heard.bearers user (opened_bearer (waiting_bearer control q) a); pending = remove serving_heard.pending 0 } }
+  opened = record { out = nothing; outcome = Opened; node = record serving_heard { sessions = insert serving_heard.sessions control at_serving; bearers = insert serving_heard.bearers user (opened_bearer (pending_bearer control q) a); pending = remove serving_heard.pending 0 } }
 
   abbrev w3 : World
   w3 = after w2 Serving (heard opened)
@@ -133,7 +133,7 @@ module _ (spelled : Message → List ℕ) (faithful : IsFaithful spelled) where
   r = bearer_request w3.packet.node at_packet (33 ∷ []) plain_qos dedicated 0
 
   abbrev e4 : Effect
-  e4 = asks w3.packet.node 0 (record { session = Some control; bearer = Some dedicated; request = Create_bearer_request r }) (Some dedicated) (record w3.packet.node { drawn = dedicated ∷ w3.packet.node.drawn; bearers = insert w3.packet.node.bearers dedicated (waiting_dedicated control) })
+  e4 = asks w3.packet.node 0 (record { session = Some control; bearer = Some dedicated; request = Create_bearer_request r }) (Some dedicated) (record w3.packet.node { drawn = dedicated ∷ w3.packet.node.drawn; bearers = insert w3.packet.node.bearers dedicated (pending_dedicated control) })
 
   abbrev w4 : World
   w4 = after w3 Packet e4
@@ -153,7 +153,7 @@ module _ (spelled : Message → List ℕ) (faithful : IsFaithful spelled) where
 
   -- the Create Bearer Response comes
   abbrev at_packet_bearer : Bearer
-  at_packet_bearer = opened_dedicated (waiting_dedicated control) x
+  at_packet_bearer = opened_dedicated (pending_dedicated control) x
 
   abbrev given : Effect
   given = record { out = nothing; outcome = Opened; node = record w5.packet.node { bearers = insert w5.packet.node.bearers dedicated at_packet_bearer; pending = remove w5.packet.node.pending 0 } }
@@ -278,11 +278,11 @@ module _ (spelled : Message → List ℕ) (faithful : IsFaithful spelled) where
                   inr (
                     record { low = omega arith; high = omega arith },
                     inr (
-                      record { at = record { session = waiting_session q; stands = get-insert_same empty control (waiting_session q) }; context = record { identity = 5; cause = cause_of 16; user = Some (tunnel_end 5 user packet_ip); qos = Some plain_qos; charging = Some user }; alone = refl; default = refl; address = 7; given = refl },
+                      record { at = record { session = pending_session q; stands = get-insert_same empty control (pending_session q) }; context = record { identity = 5; cause = cause_of 16; user = Some (tunnel_end 5 user packet_ip); qos = Some plain_qos; charging = Some user }; alone = refl; default = refl; address = 7; given = refl },
                       inr (
                         record { low = omega arith; high = omega arith },
                         record {
-                          default = record { bearer = waiting_bearer control q; stands = get-insert_same empty user (waiting_bearer control q) };
+                          default = record { bearer = pending_bearer control q; stands = get-insert_same empty user (pending_bearer control q) };
                           gives = refl;
                         },
                       ),
@@ -331,15 +331,15 @@ module _ (spelled : Message → List ℕ) (faithful : IsFaithful spelled) where
 
   -- the session at the serving gateway
   serving_stands : get w4.serving.node.sessions control ≡ Some at_serving
-  serving_stands = get-insert_same (insert empty control (waiting_session q)) control at_serving
+  serving_stands = get-insert_same (insert empty control (pending_session q)) control at_serving
 
   free_identity : IsFreeIdentity w4.serving.node control 6
   free_identity = record { range = record { low = omega arith; high = omega arith }; unused = unused }
     where
       unused : IsUnused w4.serving.node control 6
-      unused t b stands of is = elim (found-insert (insert empty user (waiting_bearer control q)) user (opened_bearer (waiting_bearer control q) a) t b stands) [
+      unused t b stands of is = elim (found-insert (insert empty user (pending_bearer control q)) user (opened_bearer (pending_bearer control q) a) t b stands) [
         | inl same ↦ five_not_six (ap (λ (k : Bearer). k.identity) same.1 ∙ is)
-        | inr old ↦ elim (found-insert empty user (waiting_bearer control q) t b old.1) [
+        | inr old ↦ elim (found-insert empty user (pending_bearer control q) t b old.1) [
           | inl same ↦ five_not_six (ap (λ (k : Bearer). k.identity) same.1 ∙ is)
           | inr older ↦ found-empty t b older.1
         ]
@@ -410,7 +410,7 @@ module _ (spelled : Message → List ℕ) (faithful : IsFaithful spelled) where
   }
     where
       unused : IsUnused w5.packet.node control 6
-      unused t b stands of is = elim (found-insert (insert empty user (made_bearer q control)) dedicated (waiting_dedicated control) t b stands) [
+      unused t b stands of is = elim (found-insert (insert empty user (made_bearer q control)) dedicated (pending_dedicated control) t b stands) [
         | inl same ↦ none_not_six (ap (λ (k : Bearer). k.identity) same.1 ∙ is)
         | inr old ↦ elim (found-insert empty user (made_bearer q control) t b old.1) [
           | inl same ↦ five_not_six (ap (λ (k : Bearer). k.identity) same.1 ∙ is)
@@ -446,7 +446,7 @@ module _ (spelled : Message → List ℕ) (faithful : IsFaithful spelled) where
                           inr (
                             can_open,
                             record {
-                              at = record { bearer = waiting_dedicated control; stands = get-insert_same (insert empty user (made_bearer q control)) dedicated (waiting_dedicated control) };
+                              at = record { bearer = pending_dedicated control; stands = get-insert_same (insert empty user (made_bearer q control)) dedicated (pending_dedicated control) };
                               gives = refl;
                             },
                           ),

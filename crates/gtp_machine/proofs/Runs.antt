@@ -1,6 +1,6 @@
 -- What holds of the world at each moment of a run.
-use Rattle.std.proofs.Common.{◌≡◌, inl, inr, ⊎_elim, ℕ, zero, suc, ◌<◌, ◌≤◌, ◌+◌, List, [], ◌∷◌, ◌++◌, Option, Some, None, refl, sym, ◌∙◌, ap, subst, arith, slice_get}
-use Rattle.gtp_machine.specs.Table.{Among}
+use Rattle.std.proofs.Common.{◌≡◌, inl, inr, ⊎_elim, ℕ, zero, suc, ◌<◌, ◌≤◌, ◌+◌, List, [], ◌∷◌, ◌++◌, Some, None, refl, sym, ◌∙◌, ap, subst, arith, slice_get}
+use Rattle.gtp_machine.specs.FiniteMap.{Among}
 use Rattle.gtp_machine.specs.Config.{Addresses, Config}
 use Rattle.gtp_machine.specs.Message.{Message, Create_bearer_response, Plane, Control, User, plane_of}
 use Rattle.gtp_machine.specs.Node.{Role, Serving, Packet, Arrival, Node, fresh_node}
@@ -8,16 +8,18 @@ use Rattle.gtp_machine.specs.Input.{Move, Input, Commanded, Control_came, Moves_
 use Rattle.gtp_machine.specs.Answer.{IsNew}
 use Rattle.gtp_machine.specs.World.{World, other, Side, Sent, HasSent, signed, side_of, with_side, stepped, moved, Note, noted, Moves, Ticks, Event, Does, Tick, Deliver, Cut, Restart, Happens, Delivers, arrival, late_once, delivered_on, cut_on, IsLateOn, restarted, Run, begun, start, Step}
 use Rattle.gtp_machine.specs.Laws.{EachOwed, EachNamesBack}
-use Rattle.gtp_machine.proofs.Tables.{Each-empty, found-empty, Among-cases, Among-right}
-use Rattle.gtp_machine.proofs.Drawing.{Drawing, Drawing-step, Drawing-elsewhere, Drawing-restart, Drawing-marked, Grows-signed, sent_by_other, unowned}
+use Rattle.gtp_machine.proofs.FiniteMaps.{Each-empty, found-empty, Among-cases, Among-right}
+use Rattle.gtp_machine.proofs.Drawing.{Drawing, Drawing-step, Drawing-elsewhere, Drawing-restart, Drawing-marked, Extends-signed, sent_by_other, unowned}
 use Rattle.gtp_machine.proofs.Entries.{Once, AnsweredOnce, same_entry}
 use Rattle.gtp_machine.proofs.Steps.{Logs}
-use Rattle.gtp_machine.proofs.After.{Knows, Knows-later, After}
+use Rattle.gtp_machine.proofs.After.{Knows, Knows-later, After, Contexts}
 use Rattle.gtp_machine.proofs.CommonRows.{SameIs}
 use Rattle.gtp_machine.proofs.Naming.{step_told, back_of, Names-step}
-use Rattle.gtp_machine.proofs.Stepping.{Carried, Taken, serving_step, packet_step}
+use Rattle.gtp_machine.proofs.Stepping.{Carried, Taken, step_after}
 use Rattle.gtp_machine.proofs.Hearing.{Hearing, Hearing-step, Hearing-peer, same_counter}
 use Rattle.gtp_machine.proofs.Kept.{Packets, Packets-step, Packets-elsewhere, Remembers, Remembers-step, Remembers-elsewhere, Remembers-restart, AnsweredOnce-step, Making, Making-step, Making-fresh, Making-late}
+use Rattle.gtp_machine.proofs.Options.{none_some}
+use Rattle.std.specs.FinMap.{empty}
 
 -- what holds of one gateway of the world
 pub record SideInvariant (history : List Sent) (role : Role) (side peer : Side) : Type 0 where
@@ -51,7 +53,7 @@ side_step history role side peer taken e inv there after is_new marked = record 
 side_elsewhere : (history : List Sent) (role : Role) (side peer peer_after : Side) (sent : List Message) → peer_after.first ≡ peer.first → peer.restarts ≤ peer_after.restarts → SideInvariant history role side peer → SideInvariant (history ++ signed (other role) sent) role side peer_after
 side_elsewhere history role side peer peer_after sent first more inv = record {
   draws = Drawing-elsewhere side role history inv.draws sent;
-  knows = Knows-later role history (history ++ signed (other role) sent) (Grows-signed history (other role) sent) side.node inv.knows;
+  knows = Knows-later role history (history ++ signed (other role) sent) (Extends-signed history (other role) sent) side.node inv.knows;
   hearing = Hearing-peer peer peer_after first more side.node.known side.seen inv.hearing;
   packets = Packets-elsewhere history role side.handed sent inv.packets;
   making = inv.making;
@@ -87,7 +89,7 @@ module _ (spelled : Message → List ℕ) (own : Addresses) where
       let so = inv.serving.draws.once in
       let po = inv.packet.draws.once in
       let taken = Taken w.serving.node input in
-      let after : After Serving w.history taken w.serving.node e = serving_step w.history so po w.serving.node (unowned w.serving Serving w.history inv.serving.draws) inv.packet.draws.dated inv.packet.draws.proper inv.serving.knows input e carried step in
+      let after : After Serving w.history taken w.serving.node e = step_after w.history so po w.serving.node Serving (unowned w.serving Serving w.history inv.serving.draws) inv.packet.draws.dated inv.packet.draws.proper inv.serving.knows input e carried step in
       record {
         serving = side_step w.history Serving w.serving w.packet taken e inv.serving inv.packet.draws after (λ a m t. t.1) (λ a m t. marked a m t.0);
         packet = side_elsewhere w.history Packet w.packet w.serving (stepped w.serving e) (messages e.out.sent) refl (omega arith) inv.packet;
@@ -110,7 +112,7 @@ module _ (spelled : Message → List ℕ) (own : Addresses) where
       let so = inv.serving.draws.once in
       let po = inv.packet.draws.once in
       let taken = Taken w.packet.node input in
-      let after : After Packet w.history taken w.packet.node e = packet_step w.history so po w.packet.node (unowned w.packet Packet w.history inv.packet.draws) inv.serving.draws.dated inv.serving.draws.proper inv.packet.knows input e carried step in
+      let after : After Packet w.history taken w.packet.node e = step_after w.history so po w.packet.node Packet (unowned w.packet Packet w.history inv.packet.draws) inv.serving.draws.dated inv.serving.draws.proper inv.packet.knows input e carried step in
       record {
         serving = side_elsewhere w.history Serving w.serving w.packet (stepped w.packet e) (messages e.out.sent) refl (omega arith) inv.serving;
         packet = side_step w.history Packet w.packet w.serving taken e inv.packet inv.serving.draws after (λ a m t. t.1) (λ a m t. marked a m t.0);
@@ -264,24 +266,16 @@ module _ (spelled : Message → List ℕ) (own : Addresses) where
   cut_quiet User from m count fault = tt
 
   cut_carried : (role : Role) (p : Plane) (from : Addresses) (m : Message) (count fault : ℕ) (history : List Sent) (node : Node) → Carried role history node (cut_on p spelled from m count fault)
-  cut_carried Serving Control from m count fault history node = tt
-  cut_carried Serving User from m count fault history node = tt
-  cut_carried Packet Control from m count fault history node = tt
-  cut_carried Packet User from m count fault history node = tt
+  cut_carried role Control from m count fault history node = tt
+  cut_carried role User from m count fault history node = tt
+
+fresh_contexts : (history : List Sent) (role : Role) → Contexts role history empty empty
+fresh_contexts history Serving = record { sessions_asked = Each-empty _; bearers_asked = Each-empty _ }
+fresh_contexts history Packet = record { sessions_made = Each-empty _; bearers_made = Each-empty _ }
 
 fresh_knows : (history : List Sent) (role : Role) (config : Config) (counter : ℕ) → Knows role history (fresh_node config counter)
-fresh_knows history Serving config counter = record {
-  contexts = record { sessions_asked = Each-empty _; bearers_asked = Each-empty _ };
-  matched = Each-empty _;
-  drawn = Each-empty _;
-  standing = Each-empty _;
-  ready = Each-empty _;
-  closed = λ t b s none. absurd (found-empty t b none);
-  pending = Each-empty _;
-  held = λ h none. absurd none;
-}
-fresh_knows history Packet config counter = record {
-  contexts = record { sessions_made = Each-empty _; bearers_made = Each-empty _ };
+fresh_knows history role config counter = record {
+  contexts = fresh_contexts history role;
   matched = Each-empty _;
   drawn = Each-empty _;
   standing = Each-empty _;
@@ -292,10 +286,7 @@ fresh_knows history Packet config counter = record {
 }
 
 nothing_heard : (peer : Side) → Hearing peer None []
-nothing_heard peer = record { none = λ e r none. none; latest = λ k e. absurd (impossible k e) }
-  where
-    impossible : (k : ℕ) → ◌≡◌ {A = Option ℕ} None (Some k) → ⊥
-    impossible k e = cc
+nothing_heard peer = record { none = λ e r none. none; latest = λ k e. absurd (none_some k e) }
 
 side_restart : (history : List Sent) (role : Role) (side peer : Side) → side.restarts < 127 → SideInvariant history role side peer → SideInvariant history role (restarted side) peer
 side_restart history role side peer room inv = record {
@@ -366,7 +357,7 @@ module _ (spelled : Message → List ℕ) (own : Addresses) where
   happens w inv (Deliver number) new (inr (found, d)) = delivers spelled own w inv found.sent.sender found.sent.message (found_sent spelled own w.history number found.sent found.is) new d
   happens w inv (Cut number count) new (inl none) = noted_new w _ new inv none.1
   happens w inv (Cut number count) new (inr (found, inl long)) = noted_new w _ new inv long.1
-  happens w inv (Cut number count) new (inr (found, inr (short, c))) = moves_quietly spelled own w inv (other found.sent.sender) _ (cut_quiet spelled own (plane_of found.sent.message) _ found.sent.message count c.fault) (cut_carried spelled own (other found.sent.sender) (plane_of found.sent.message) _ found.sent.message count c.fault w.history _) new c.moves
+  happens w inv (Cut number count) new (inr (found, inr (short, c))) = moves_quietly spelled own w inv (other found.sent.sender) _ (cut_quiet spelled own (plane_of found.sent.message) _ found.sent.message count c.fault) (cut_carried spelled own (other found.sent.sender) (plane_of found.sent.message) _ found.sent.message count c.fault w.history (side_of w (other found.sent.sender)).node) new c.moves
   happens w inv (Restart role) new (inl used) = noted_new w _ new inv used.1
   happens w inv (Restart role) new (inr (few, is)) = noted_new (with_side w role (restarted (side_of w role))) _ new (restarts w inv role few) is
 

@@ -3,7 +3,7 @@ use Rattle.std.proofs.Common.{◌≡◌, ◌≢◌, inl, inr, ⊎_elim, ℕ, ◌
 use Rattle.std.specs.FinMap.{get}
 use Rattle.gtp_machine.specs.Element.{Subscriber, ipv4_of, teid_in}
 use Rattle.gtp_machine.specs.Message.{CreateSessionRequest, CreateSessionResponse, CreateBearerResponse, Message, Create_session_request, Create_session_response, Create_bearer_request, Create_bearer_response, Owns, recovery_of, subscriber_of, first_identity}
-use Rattle.gtp_machine.specs.Node.{Role, Serving, Packet, Waiting, Active, Session, Bearer}
+use Rattle.gtp_machine.specs.Node.{Role, Serving, Packet, Pending, Active, Session, Bearer}
 use Rattle.gtp_machine.specs.Config.{Addresses}
 use Rattle.gtp_machine.specs.Choice.{counter_of}
 use Rattle.gtp_machine.specs.World.{World, Side, Sent, HasSent, side_of}
@@ -13,6 +13,7 @@ use Rattle.gtp_machine.proofs.Contexts.{IsAskedWith, IsGranted, IsMadeWith, IsWa
 use Rattle.gtp_machine.proofs.Entries.{Once, same_request, same_user_request, same_answer, same_user_answer, same_bearer_answer, answer_not_request}
 use Rattle.gtp_machine.proofs.Hearing.{Hearing, none_later}
 use Rattle.gtp_machine.proofs.Runs.{SideInvariant, Invariant, always}
+use Rattle.gtp_machine.proofs.Options.{some_same}
 
 module _ (spelled : Message → List ℕ) (own : Addresses) (w : World) (inv : Invariant spelled own w) where
   so : Once w.history Serving
@@ -41,9 +42,6 @@ module _ (spelled : Message → List ℕ) (own : Addresses) (w : World) (inv : I
 
   -- Bearers that name each other agree, and so do their sessions.
   module _ (c d : ℕ) (b e : Bearer) (m : MutualBearers w c d b e) where
-    some_same : (o : Option ℕ) (s t : ℕ) → o ≡ Some s → o ≡ Some t → s ≡ t
-    some_same o s t x y = cc
-
     both_default : (s n : Session) → get w.serving.node.sessions b.session ≡ Some s → get w.packet.node.sessions e.session ≡ Some n → IsAskedWith w.history c b s → IsMadeWith w.history d e → AgreeBearers w b e
     both_default s n s_stands n_stands o p =
         let opened = o.opened d m.there in
@@ -211,11 +209,11 @@ always_opened spelled serving packet sc pc events w r = record { named = named; 
     inv : Invariant spelled packet.own w
     inv = always spelled serving packet sc pc events w r
 
-    named : (role : Role) (t : ℕ) (s : Session) → get (side_of w role).node.sessions t ≡ Some s → s.state ≢ Waiting → (remote : ℕ) × (s.remote ≡ Some remote)
+    named : (role : Role) (t : ℕ) (s : Session) → get (side_of w role).node.sessions t ≡ Some s → s.state ≢ Pending → (remote : ℕ) × (s.remote ≡ Some remote)
     named Serving t s stands = (inv.serving.knows.standing t s stands).named
     named Packet t s stands = (inv.packet.knows.standing t s stands).named
 
-    blank : (role : Role) (t : ℕ) (s : Session) → get (side_of w role).node.sessions t ≡ Some s → s.state ≡ Waiting → s.remote ≡ None
+    blank : (role : Role) (t : ℕ) (s : Session) → get (side_of w role).node.sessions t ≡ Some s → s.state ≡ Pending → s.remote ≡ None
     blank Serving t s stands = (inv.serving.knows.standing t s stands).blank
     blank Packet t s stands = (inv.packet.knows.standing t s stands).blank
 

@@ -2,18 +2,18 @@
 use Rattle.std.proofs.Common.{◌≡◌, ◌≢◌, ◌⊎◌, inl, inr, ⊎_elim, ℕ, ◌<◌, eqb, false, List, [], ◌∷◌, ◌++◌, Option, Some, None, refl, sym, ◌∙◌, ap, subst, arith}
 use Rattle.std.proofs.lemmas.Bool.{cases_eq}
 use Rattle.std.specs.FinMap.{get, insert, remove}
-use Rattle.gtp_machine.specs.Table.{Each, Among}
+use Rattle.gtp_machine.specs.FiniteMap.{Each, Among}
 use Rattle.gtp_machine.specs.Element.{IsAccepting, cause_of, ipv4_of}
 use Rattle.gtp_machine.specs.Message.{CreateSessionRequest, CreateSessionResponse, DeleteSessionResponse, CreateBearerRequest, GivenBearer, CreateBearerResponse, DeleteBearerRequest, DeleteBearerResponse, Message, Echo_request, Echo_response, Create_session_request, Create_session_response, Delete_session_request, Delete_session_response, Create_bearer_request, Create_bearer_response, Delete_bearer_request, Delete_bearer_response, Other_control, Packet_data, End_marker, Error_indication, User_echo_request, User_echo_response, Supported_extensions, Other_user, Owns, recovery_of, first_given}
-use Rattle.gtp_machine.specs.Node.{Serving, Packet, State, Waiting, Active, Closing, Session, Bearer, Pending, Arrival, Node, holding, written}
-use Rattle.gtp_machine.specs.Input.{Specification, ControlReading, Control_message, Faulty, Control_fault, Of_create_bearer, Begun, Opened, Effect}
+use Rattle.gtp_machine.specs.Node.{Serving, Packet, State, Pending, Active, Closing, Session, Bearer, PendingRequest, Arrival, Node, holding, written}
+use Rattle.gtp_machine.specs.Input.{Specification, ControlReading, Control_message, Of_create_bearer, Begun, Opened, Effect}
 use Rattle.gtp_machine.specs.Choice.{IsFree, HasPending, HasSession, counter_of}
 use Rattle.gtp_machine.specs.Removal.{without_session}
-use Rattle.gtp_machine.specs.Command.{session_request, waiting_session, waiting_bearer, session_begun, BeginsSession, SessionBegun}
+use Rattle.gtp_machine.specs.Command.{session_request, pending_session, pending_bearer, session_begun, BeginsSession, SessionBegun}
 use Rattle.gtp_machine.specs.Answer.{answered, refusing, IsNew, ControlStep}
-use Rattle.gtp_machine.specs.Serving.{FitsSession, DescribesSession, opened_session, opened_bearer, OpensSession, SessionAnswered, DeletionAnswered, bearer_response, granted_bearer, MakesBearer, no_resources, BearerAsked, RemovalTaken, RemovalAsked, ServingTakes, ServingReads, removal_cause}
+use Rattle.gtp_machine.specs.Serving.{FitsSession, DescribesSession, opened_session, opened_bearer, OpensSession, SessionAnswered, DeletionAnswered, bearer_response, granted_bearer, MakesBearer, no_resources, BearerAsked, RemovalTaken, RemovalAsked, ServingTakes, serving_takes, ServingFaulted, ServingReads, removal_cause}
 use Rattle.gtp_machine.specs.World.{Sent, HasSent, signed}
-use Rattle.gtp_machine.proofs.Tables.{Each-insert, Each-remove, found-remove, get-insert_same, get-insert_other}
+use Rattle.gtp_machine.proofs.FiniteMaps.{Each-insert, Each-remove, found-remove, get-insert_same, get-insert_other}
 use Rattle.gtp_machine.proofs.Drawing.{Draws-nothing, Draws-new, TellsStart, IsProper, sent_before, sent_now}
 use Rattle.gtp_machine.proofs.Contexts.{IsAsked, IsAtServing, closes-session, closes-bearer}
 use Rattle.gtp_machine.proofs.Shrinking.{Shrunk, Shrunk-itself, Shrunk-without, removes_each}
@@ -21,8 +21,10 @@ use Rattle.gtp_machine.proofs.Matching.{IsMatched, IsMatched-session, IsMatched-
 use Rattle.gtp_machine.proofs.Entries.{Once, same_request, same_user_request, request_not_answer}
 use Rattle.gtp_machine.proofs.Steps.{IsAnsweredNow, Logs-silent, Logs-plain, at_result, NothingOwns, NothingOwns-from}
 use Rattle.gtp_machine.proofs.After.{IsPending, IsStanding, IsReady, Knows, After, nothing_told, later, held_now, matched_session, matched_bearer}
-use Rattle.gtp_machine.proofs.CommonRows.{unchanged, repeats, SameIs, hears}
-use Rattle.gtp_machine.proofs.Taking.{Took, took, drops, ends, gives_answer, takes_echo, takes_echo_response, named_written, some_same, none_some}
+use Rattle.gtp_machine.proofs.CommonRows.{unchanged}
+use Rattle.gtp_machine.proofs.Taking.{Took, took, drops, ends, gives_answer, takes_echo, takes_echo_response, named_written}
+use Rattle.gtp_machine.proofs.Options.{some_same, none_some}
+use Rattle.gtp_machine.proofs.ControlRows.{ControlCarried, control_came}
 
 module _ (history : List Sent) (taken : Arrival → Message → Type 0) (serving_once : Once history Serving) (packet_once : Once history Packet) (old : Node) (knows : Knows Serving history old) where
   was_later : (sent : List Message) → Knows Serving (history ++ signed Serving sent) old
@@ -41,7 +43,7 @@ module _ (history : List Sent) (taken : Arrival → Message → Type 0) (serving
   begins : (unowned : NothingOwns history Serving old) (spec : Specification) (e : Effect) → BeginsSession old spec e → After Serving history taken old e
   begins unowned spec e r =
       let q = session_request old spec r.control r.user r.number in
-      let p : Pending = record { session = Some r.control; bearer = None; request = Create_session_request q } in
+      let p : PendingRequest = record { session = Some r.control; bearer = None; request = Create_session_request q } in
       let m = Create_session_request q in
       let after = history ++ signed Serving (m ∷ []) in
       let was = was_later (m ∷ []) in
@@ -50,27 +52,27 @@ module _ (history : List Sent) (taken : Arrival → Message → Type 0) (serving
       at_result (After Serving history taken old) e _ r.gives (record {
         knows = record {
           contexts = record {
-            sessions_asked = Each-insert (IsAsked after) old.sessions r.control (waiting_session q) (record { request = q; sent = now; control = refl; subscriber = refl; opened = λ x none. absurd (none_some x none) }) was.contexts.sessions_asked;
-            bearers_asked = Each-insert (IsAtServing after (insert old.sessions r.control (waiting_session q))) old.bearers r.user (waiting_bearer r.control q)
+            sessions_asked = Each-insert (IsAsked after) old.sessions r.control (pending_session q) (record { request = q; sent = now; control = refl; subscriber = refl; opened = λ x none. absurd (none_some x none) }) was.contexts.sessions_asked;
+            bearers_asked = Each-insert (IsAtServing after (insert old.sessions r.control (pending_session q))) old.bearers r.user (pending_bearer r.control q)
                 (record {
-                  session = waiting_session q;
-                  stands = get-insert_same old.sessions r.control (waiting_session q);
+                  session = pending_session q;
+                  stands = get-insert_same old.sessions r.control (pending_session q);
                   origin = inl (record { kind = refl; request = q; sent = now; user = refl; control = refl; identity = refl; opened = λ x none. absurd (none_some x none) });
                 })
-                (with_new_session after r.control (waiting_session q) r.control_free.undrawn was.contexts.bearers_asked);
+                (with_new_session after r.control (pending_session q) r.control_free.undrawn was.contexts.bearers_asked);
           };
-          matched = Each-insert (IsMatched (insert old.sessions r.control (waiting_session q)) (insert old.bearers r.user (waiting_bearer r.control q))) old.pending r.number p
+          matched = Each-insert (IsMatched (insert old.sessions r.control (pending_session q)) (insert old.bearers r.user (pending_bearer r.control q))) old.pending r.number p
               (record {
                 waits = λ k e s stands. waits q k (let same : q ≡ k = cc e in same) s stands;
                 numbered = λ k e. let same : q ≡ k = cc e in ap (λ (k : CreateSessionRequest). k.number) (sym same);
                 names_bearer = λ b e. absurd (not_bearer q b e);
                 of_session = λ b e. absurd (not_bearer q b e);
               })
-              (matched_bearer history Serving old unowned knows.pending (insert old.sessions r.control (waiting_session q)) r.user (waiting_bearer r.control q) r.user_free (matched_session history Serving old unowned knows.pending r.control (waiting_session q) r.control_free knows.matched));
-          drawn = Each-insert (λ t (s : Session). Among t (r.user ∷ r.control ∷ old.drawn)) old.sessions r.control (waiting_session q) (inr (inl refl)) (λ t s e. inr (inr (knows.drawn t s e)));
-          standing = Each-insert (IsStanding old.known) old.sessions r.control (waiting_session q) (record { current = λ x none. absurd (none_some x none); blank = λ w. refl; named = λ h. absurd (h refl) }) knows.standing;
-          ready = Each-insert IsReady old.bearers r.user (waiting_bearer r.control q) (λ a. absurd (waiting_not_active a)) knows.ready;
-          closed = closes-bearer (insert old.sessions r.control (waiting_session q)) old.bearers r.user (waiting_bearer r.control q) (λ s stands closing. not_closing q s stands closing) (closes-session old.sessions old.bearers r.control (waiting_session q) waiting_not_closing knows.closed);
+              (matched_bearer history Serving old unowned knows.pending (insert old.sessions r.control (pending_session q)) r.user (pending_bearer r.control q) r.user_free (matched_session history Serving old unowned knows.pending r.control (pending_session q) r.control_free knows.matched));
+          drawn = Each-insert (λ t (s : Session). Among t (r.user ∷ r.control ∷ old.drawn)) old.sessions r.control (pending_session q) (inr (inl refl)) (λ t s e. inr (inr (knows.drawn t s e)));
+          standing = Each-insert (IsStanding old.known) old.sessions r.control (pending_session q) (record { current = λ x none. absurd (none_some x none); blank = λ w. refl; named = λ h. absurd (h refl) }) knows.standing;
+          ready = Each-insert IsReady old.bearers r.user (pending_bearer r.control q) (λ a. absurd (pending_not_active a)) knows.ready;
+          closed = closes-bearer (insert old.sessions r.control (pending_session q)) old.bearers r.user (pending_bearer r.control q) (λ s stands closing. not_closing q s stands closing) (closes-session old.sessions old.bearers r.control (pending_session q) pending_not_closing knows.closed);
           pending = Each-insert (IsPending after Serving) old.pending r.number p (record { sent = now; names = λ k e. let same : q ≡ k = cc e in ap (λ (k : CreateSessionRequest). Some k.control.teid) same }) was.pending;
           held = was.held;
         };
@@ -80,21 +82,21 @@ module _ (history : List Sent) (taken : Arrival → Message → Type 0) (serving
         logs = Logs-plain history Serving taken old new_node (Begun (Some r.control)) (λ h stood. stood) _ m tt;
       })
     where
-      waiting_not_active : Waiting ≡ Active → ⊥
-      waiting_not_active e = cc
+      pending_not_active : Pending ≡ Active → ⊥
+      pending_not_active e = cc
 
-      waiting_not_closing : Waiting ≡ Closing → ⊥
-      waiting_not_closing e = cc
+      pending_not_closing : Pending ≡ Closing → ⊥
+      pending_not_closing e = cc
 
-      not_closing : (q : CreateSessionRequest) (s : Session) → get (insert old.sessions r.control (waiting_session q)) r.control ≡ Some s → s.state ≡ Closing → ⊥
+      not_closing : (q : CreateSessionRequest) (s : Session) → get (insert old.sessions r.control (pending_session q)) r.control ≡ Some s → s.state ≡ Closing → ⊥
       not_closing q s stands closing =
-          let is : waiting_session q ≡ s = cc (get-insert_same old.sessions r.control (waiting_session q), stands) in
-          waiting_not_closing (ap (λ (k : Session). k.state) is ∙ closing)
+          let is : pending_session q ≡ s = cc (get-insert_same old.sessions r.control (pending_session q), stands) in
+          pending_not_closing (ap (λ (k : Session). k.state) is ∙ closing)
 
-      waits : (q k : CreateSessionRequest) → q ≡ k → (s : Session) → get (insert old.sessions q.control.teid (waiting_session q)) k.control.teid ≡ Some s → s.state ≡ Waiting
+      waits : (q k : CreateSessionRequest) → q ≡ k → (s : Session) → get (insert old.sessions q.control.teid (pending_session q)) k.control.teid ≡ Some s → s.state ≡ Pending
       waits q k same s stands =
-          let here : get (insert old.sessions q.control.teid (waiting_session q)) k.control.teid ≡ Some (waiting_session q) = ap (λ (k : CreateSessionRequest). get (insert old.sessions q.control.teid (waiting_session q)) k.control.teid) (sym same) ∙ get-insert_same old.sessions q.control.teid (waiting_session q) in
-          let is : waiting_session q ≡ s = cc (here, stands) in
+          let here : get (insert old.sessions q.control.teid (pending_session q)) k.control.teid ≡ Some (pending_session q) = ap (λ (k : CreateSessionRequest). get (insert old.sessions q.control.teid (pending_session q)) k.control.teid) (sym same) ∙ get-insert_same old.sessions q.control.teid (pending_session q) in
+          let is : pending_session q ≡ s = cc (here, stands) in
           ap (λ (k : Session). k.state) (sym is)
 
       not_bearer : (q : CreateSessionRequest) (b : CreateBearerRequest) → Create_session_request q ≡ Create_bearer_request b → ⊥
@@ -134,31 +136,31 @@ module _ (history : List Sent) (taken : Arrival → Message → Type 0) (serving
       control : fits.request.control.teid ≡ fits.session
       control = some_same at.pending.session fits.request.control.teid fits.session ((knows.pending a.number at.pending at.waits).names fits.request fits.asked) fits.about
 
-      -- its pending request says that the session waits
-      session_waits : new.at.session.state ≡ Waiting
-      session_waits = (knows.matched a.number at.pending at.waits).waits fits.request fits.asked new.at.session (ap (λ k. get old.sessions k) control ∙ new.at.stands)
+      -- its pending request says that the session is pending
+      session_pending : new.at.session.state ≡ Pending
+      session_pending = (knows.matched a.number at.pending at.waits).waits fits.request fits.asked new.at.session (ap (λ k. get old.sessions k) control ∙ new.at.stands)
 
       abbrev now : Session
       now = opened_session new.at.session a new.address
 
-      active_not_waiting : Active ≡ Waiting → ⊥
-      active_not_waiting e = cc
+      active_not_pending : Active ≡ Pending → ⊥
+      active_not_pending e = cc
 
       at_new : (t : ℕ) → t ≡ fits.session → get (insert old.sessions fits.session now) t ≡ Some now
       at_new t is = ap (λ k. get (insert old.sessions fits.session now) k) is ∙ get-insert_same old.sessions fits.session now
 
-      -- each other bearer of the session waits
+      -- each other bearer of the session is pending
       rest : (t : ℕ) (b : Bearer) (was : IsAtServing (history ++ []) old.sessions t b) → (b.session ≡ fits.session) ⊎ (b.session ≢ fits.session) → IsAtServing (history ++ []) (insert old.sessions fits.session now) t b
       rest t b was (inr elsewhere) = record { session = was.session; stands = get-insert_other old.sessions fits.session now b.session elsewhere ∙ was.stands; origin = was.origin }
       rest t b was (inl here) =
           let session : was.session ≡ new.at.session = cc (ap (λ k. get old.sessions k) here, new.at.stands, was.stands) in
-          let waits : was.session.state ≡ Waiting = ap (λ (k : Session). k.state) session ∙ session_waits in
+          let waits : was.session.state ≡ Pending = ap (λ (k : Session). k.state) session ∙ session_pending in
           record {
             session = now;
             stands = at_new b.session here;
             origin = ⊎_elim
-                (λ o. inl (record { kind = o.kind; request = o.request; sent = o.sent; user = o.user; control = o.control; identity = o.identity; opened = λ r e. absurd ((o.opened r e).not_waiting waits) }))
-                (λ g. absurd (g.not_waiting waits))
+                (λ o. inl (record { kind = o.kind; request = o.request; sent = o.sent; user = o.user; control = o.control; identity = o.identity; opened = λ r e. absurd ((o.opened r e).not_pending waits) }))
+                (λ g. absurd (g.not_pending waits))
                 was.origin;
           }
 
@@ -184,7 +186,7 @@ module _ (history : List Sent) (taken : Arrival → Message → Type 0) (serving
               };
               matched = matched;
               drawn = Each-insert (λ t (s : Session). Among t old.drawn) old.sessions fits.session now (knows.drawn fits.session new.at.session new.at.stands) knows.drawn;
-              standing = Each-insert (IsStanding old.known) old.sessions fits.session now (record { current = λ x is. told (counter_of x) (dated (Create_session_response a) x came tt (inl is)); blank = λ w. absurd (active_not_waiting w); named = λ h. (proper (Create_session_response a) came).control accepts }) knows.standing;
+              standing = Each-insert (IsStanding old.known) old.sessions fits.session now (record { current = λ x is. told (counter_of x) (dated (Create_session_response a) x came tt (inl is)); blank = λ w. absurd (active_not_pending w); named = λ h. (proper (Create_session_response a) came).control accepts }) knows.standing;
               ready = Each-insert IsReady old.bearers q.context.user.teid opened (λ active. (proper (Create_session_response a) came).user accepts) knows.ready;
               closed = closes-bearer (insert old.sessions fits.session now) old.bearers q.context.user.teid opened not_closing (closes-session old.sessions old.bearers fits.session now active_not_closing knows.closed);
               pending = Each-remove (IsPending after Serving) old.pending a.number was.pending;
@@ -245,7 +247,7 @@ module _ (history : List Sent) (taken : Arrival → Message → Type 0) (serving
                   user = o.user;
                   control = o.control;
                   identity = o.identity;
-                  opened = λ x is. record { answer = a; sent = came_after; header = header ∙ sym session_is; control = refl; user = refl; not_waiting = active_not_waiting };
+                  opened = λ x is. record { answer = a; sent = came_after; header = header ∙ sym session_is; control = refl; user = refl; not_pending = active_not_pending };
                 });
               })
               (λ g. absurd (request_not_answer history serving_once fits.request g.answer q_sent g.answered g.user))
@@ -272,7 +274,7 @@ module _ (history : List Sent) (taken : Arrival → Message → Type 0) (serving
         let was = was_later (m ∷ []) in
         let now : HasSent after Serving m = sent_now history Serving (m ∷ []) m (inl refl) in
         let new : Node = record old { drawn = r.user ∷ old.drawn; bearers = insert old.bearers r.user (granted_bearer q r.identity) } in
-        let remote = (knows.standing q.header at.session at.stands).named (active_not_waiting at.session.state active) in
+        let remote = (knows.standing q.header at.session at.stands).named (active_not_pending at.session.state active) in
         took Serving history taken old knows e _ r.gives refl (record {
           knows = held_now Serving history taken old knows request m new (record {
             contexts = record {
@@ -293,7 +295,7 @@ module _ (history : List Sent) (taken : Arrival → Message → Type 0) (serving
                       echoed = refl;
                       identity = refl;
                       header = named_written at.session.remote remote.0 remote.1;
-                      not_waiting = active_not_waiting at.session.state active;
+                      not_pending = active_not_pending at.session.state active;
                     });
                   })
                   was.contexts.bearers_asked;
@@ -325,8 +327,8 @@ module _ (history : List Sent) (taken : Arrival → Message → Type 0) (serving
           };
         })
       where
-        active_not_waiting : (state : State) → state ≡ Active → state ≡ Waiting → ⊥
-        active_not_waiting state is w = cc
+        active_not_pending : (state : State) → state ≡ Active → state ≡ Pending → ⊥
+        active_not_pending state is w = cc
 
         active_not_closing : (state : State) → state ≡ Active → state ≡ Closing → ⊥
         active_not_closing state is c = cc
@@ -408,22 +410,9 @@ module _ (history : List Sent) (taken : Arrival → Message → Type 0) (serving
     takes unowned request (Supported_extensions t) e came is told r = drops Serving history taken old knows _ e r
     takes unowned request (Other_user t) e came is told r = drops Serving history taken old knows _ e r
 
--- what was read on the control plane was sent by the packet gateway; no fault is answered, since what it sent reads
-abbrev pub ServingCarried : List Sent → Node → ControlReading → Type 0
-ServingCarried history old (Control_message m) = HasSent history Packet m × SameIs old m
-ServingCarried history old (Faulty f) = ⊥
-ServingCarried history old (Control_fault fault) = Unit {0}
-
 module _ (history : List Sent) (serving_once : Once history Serving) (packet_once : Once history Packet) (old : Node) (unowned : NothingOwns history Serving old)
     (dated : (m : Message) (t : ℕ) → HasSent history Packet m → TellsStart m → Owns m t → recovery_of m ≡ Some (counter_of t)) (proper : (m : Message) → HasSent history Packet m → IsProper history m) (knows : Knows Serving history old) (request : Arrival) (taken : Arrival → Message → Type 0) where
-  serving_reads : (reading : ControlReading) (e : Effect) → ServingCarried history old reading → ((m : Message) → reading ≡ Control_message m → taken request m) → ServingReads reading request old e → After Serving history taken old e
-  serving_reads (Control_message m) e came is (inl f) = unchanged Serving history taken serving_once packet_once old knows _ e f.1
-  serving_reads (Control_message m) e came is (inr (kind, r)) =
-      hears Serving history taken serving_once packet_once m came.0 (ServingTakes request m) old (λ mid from mid_knows told f rows. takes history taken serving_once packet_once mid mid_knows dated proper (NothingOwns-from history Serving old mid from unowned) request m f came.0 (is m refl) told rows) knows (recovery_of m) e refl came.1 r
-  serving_reads (Faulty f) e came is r = absurd came
-  serving_reads (Control_fault fault) e came is r = unchanged Serving history taken serving_once packet_once old knows _ e r
-
-  pub serving_control : (reading : ControlReading) (e : Effect) → ServingCarried history old reading → (IsNew old request → (m : Message) → reading ≡ Control_message m → taken request m) → ControlStep (ServingReads reading) request old e → After Serving history taken old e
-  serving_control reading e came is (inl f) = unchanged Serving history taken serving_once packet_once old knows _ e f.1
-  serving_control reading e came is (inr (peer, inl r)) = repeats Serving history taken serving_once packet_once old knows request e r
-  serving_control reading e came is (inr (peer, inr r)) = serving_reads reading e came (is r.0) r.1
+  pub serving_control : (reading : ControlReading) (e : Effect) → ControlCarried Serving history old reading → (IsNew old request → (m : Message) → reading ≡ Control_message m → taken request m) → ControlStep (ServingReads reading) request old e → After Serving history taken old e
+  serving_control =
+      control_came Serving history taken serving_once packet_once old knows serving_takes ServingTakes ServingFaulted request
+      (λ m came is mid from mid_knows told e rows. takes history taken serving_once packet_once mid mid_knows dated proper (NothingOwns-from history Serving old mid from unowned) request m e came is told rows)

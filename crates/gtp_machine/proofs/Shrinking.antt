@@ -3,14 +3,14 @@ use Rattle.std.proofs.Common.{◌≡◌, ◌≢◌, ◌⊎◌, inl, inr, ⊎_eli
 use Rattle.std.specs.FinMap.{get, insert}
 use Rattle.std.proofs.lemmas.Bool.{cases_eq}
 use Rattle.std.proofs.lemmas.Bool.Decides.{nat_tests}
-use Rattle.gtp_machine.specs.Table.{Table, kept}
-use Rattle.gtp_machine.specs.Node.{State, Waiting, Active, Closing, Session, Bearer, Pending, Node}
-use Rattle.gtp_machine.specs.Removal.{on, without, without_bearer, finished_about, closing_session, closing_bearer, session_closing, is_waiting, is_opened}
+use Rattle.gtp_machine.specs.FiniteMap.{FiniteMap, kept}
+use Rattle.gtp_machine.specs.Node.{State, Pending, Active, Closing, Session, Bearer, PendingRequest, Node}
+use Rattle.gtp_machine.specs.Removal.{on, without, without_bearer, finished_about, closing_session, closing_bearer, session_closing, is_pending, is_opened}
 use Rattle.gtp_machine.specs.Recovery.{peer_restarted}
 use Rattle.gtp_machine.specs.Message.{RemovedBearer}
 use Rattle.gtp_machine.specs.User.{ended_bearer}
 use Rattle.gtp_machine.specs.Serving.{RemovesEach}
-use Rattle.gtp_machine.proofs.Tables.{found-insert, found-remove, found-kept, found-changed, get-kept, get-insert_same, get-insert_other}
+use Rattle.gtp_machine.proofs.FiniteMaps.{found-insert, found-remove, found-kept, found-changed, get-kept, get-insert_same, get-insert_other}
 use Rattle.gtp_machine.proofs.Contexts.{IsSame, IsSameBearer, IsSame-itself, IsSameBearer-itself, WasSession, StaysSession, Shrinks}
 
 -- the change of one node into another only shrinks its sessions and bearers
@@ -25,12 +25,12 @@ pub record Shrunk (old new : Node) : Type 0 where
   pub drawn : new.drawn ≡ old.drawn
   pub known : new.known ≡ old.known
   pub held : new.held ≡ old.held
-  pub pending : (number : ℕ) (p : Pending) → get new.pending number ≡ Some p → get old.pending number ≡ Some p
+  pub pending : (number : ℕ) (p : PendingRequest) → get new.pending number ≡ Some p → get old.pending number ≡ Some p
 
-was_itself : (old : Table Session) (t : ℕ) (s : Session) → get old t ≡ Some s → WasSession old t s
+was_itself : (old : FiniteMap Session) (t : ℕ) (s : Session) → get old t ≡ Some s → WasSession old t s
 was_itself old t s e = record { before = s; stood = e; same = IsSame-itself s }
 
-stays_itself : (new : Table Session) (t : ℕ) (s : Session) → get new t ≡ Some s → StaysSession new t s
+stays_itself : (new : FiniteMap Session) (t : ℕ) (s : Session) → get new t ≡ Some s → StaysSession new t s
 stays_itself new t s e = record { after = s; stands = e; same = IsSame-itself s }
 
 pub Shrinks-itself : (node : Node) → NodeShrinks node node
@@ -72,7 +72,7 @@ Shrunk-without session_goes bearer_goes node = record {
   drawn = refl;
   known = refl;
   held = refl;
-  pending = λ number p e. (found-kept (λ k (x : Pending). not (on session_goes x.session || on bearer_goes x.bearer)) node.pending number p e).1;
+  pending = λ number p e. (found-kept (λ k (x : PendingRequest). not (on session_goes x.session || on bearer_goes x.bearer)) node.pending number p e).1;
 }
 
 -- what a finished request was about goes
@@ -132,19 +132,19 @@ Shrunk-then a b c x y = record {
 pub Shrinks-restart : (node : Node) (counter : ℕ) → NodeShrinks node (peer_restarted node counter)
 Shrinks-restart node counter = Shrinks-without (λ t. is_opened (get node.sessions t)) (λ t. false) (record node { known = Some counter })
 
-pub restart_pending : (node : Node) (counter number : ℕ) (p : Pending) → get (peer_restarted node counter).pending number ≡ Some p → get node.pending number ≡ Some p
+pub restart_pending : (node : Node) (counter number : ℕ) (p : PendingRequest) → get (peer_restarted node counter).pending number ≡ Some p → get node.pending number ≡ Some p
 restart_pending node counter number p e = (Shrunk-without (λ t. is_opened (get node.sessions t)) (λ t. false) (record node { known = Some counter })).pending number p e
 
-is_waiting_is : (state : State) → not (not (is_waiting state)) ≡ true → state ≡ Waiting
-is_waiting_is Waiting e = refl
-is_waiting_is Active e = absurd (cc e)
-is_waiting_is Closing e = absurd (cc e)
+is_pending_is : (state : State) → not (not (is_pending state)) ≡ true → state ≡ Pending
+is_pending_is Pending e = refl
+is_pending_is Active e = absurd (cc e)
+is_pending_is Closing e = absurd (cc e)
 
--- what is left waits
-pub restart_leaves_waiting : (node : Node) (counter t : ℕ) (s : Session) → get (peer_restarted node counter).sessions t ≡ Some s → s.state ≡ Waiting
-restart_leaves_waiting node counter t s e =
+-- what is left is pending
+pub restart_leaves_pending : (node : Node) (counter t : ℕ) (s : Session) → get (peer_restarted node counter).sessions t ≡ Some s → s.state ≡ Pending
+restart_leaves_pending node counter t s e =
     let found = found-kept (λ k (x : Session). not (is_opened (get node.sessions k))) node.sessions t s e in
-    is_waiting_is s.state (subst (λ o. not (is_opened o) ≡ true) found.1 found.0)
+    is_pending_is s.state (subst (λ o. not (is_opened o) ≡ true) found.1 found.0)
 
 -- a bearer changes, but stays the same
 pub Shrunk-bearer : (node : Node) (key : ℕ) (b n : Bearer) → get node.bearers key ≡ Some b → IsSameBearer b n → Shrunk node (record node { bearers = insert node.bearers key n })
@@ -175,13 +175,13 @@ pub ended_same : (b : Bearer) → IsSameBearer b (ended_bearer b)
 ended_same b = record { remote = refl; session = refl; identity = refl; kind = refl; active = λ h. h; closing = λ h. h }
 
 closing_waited : (s : Session) → s.state ≡ Active → IsSame s (closing_session s)
-closing_waited s active = record { remote = refl; subscriber = refl; address = refl; waits = λ h. absurd (closing_not_waiting h); waited = λ h. absurd (active_not_waiting s.state active h) }
+closing_waited s active = record { remote = refl; subscriber = refl; address = refl; waits = λ h. absurd (closing_not_pending h); waited = λ h. absurd (active_not_pending s.state active h) }
   where
-    closing_not_waiting : Closing ≡ Waiting → ⊥
-    closing_not_waiting e = cc
+    closing_not_pending : Closing ≡ Pending → ⊥
+    closing_not_pending e = cc
 
-    active_not_waiting : (state : State) → state ≡ Active → state ≡ Waiting → ⊥
-    active_not_waiting state a w = cc
+    active_not_pending : (state : State) → state ≡ Active → state ≡ Pending → ⊥
+    active_not_pending state a w = cc
 
 same_if : (test : Bool) (b : Bearer) → IsSameBearer b (cond test (record b { state = Closing }) b)
 same_if true b = closing_same b

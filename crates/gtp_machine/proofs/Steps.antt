@@ -2,7 +2,7 @@
 use Rattle.std.proofs.Common.{◌≡◌, ◌⊎◌, inl, inr, ⊎_elim, ℕ, List, [], ◌∷◌, Option, Some, None, refl, sym, ◌∙◌, subst}
 use Rattle.std.specs.FinMap.{get}
 use Rattle.gtp_values.specs.declared.address.Endpoint.{Endpoint}
-use Rattle.gtp_machine.specs.Table.{Among}
+use Rattle.gtp_machine.specs.FiniteMap.{Among}
 use Rattle.gtp_machine.specs.Message.{Message, CreateBearerRequest, CreateBearerResponse, Create_bearer_request, Create_bearer_response, Packet_data, Owns, recovery_of, first_given, first_returned}
 use Rattle.gtp_machine.specs.Node.{Role, Packet, Session, Arrival, Held, Node}
 use Rattle.gtp_machine.specs.Input.{Entry, Out, Outcome, Effect, nothing, says, messages}
@@ -10,6 +10,7 @@ use Rattle.gtp_machine.specs.Choice.{IsFree}
 use Rattle.gtp_machine.specs.World.{other, Sent, HasSent}
 use Rattle.gtp_machine.proofs.Drawing.{Draws, IsMadeNow}
 use Rattle.gtp_machine.proofs.Entries.{IsFor}
+use Rattle.gtp_machine.proofs.Options.{none_some}
 
 -- a packet that was handed in in this step
 pub record IsHandedNow (out : Out) (target : ℕ) (payload : List ℕ) : Type 0 where
@@ -52,9 +53,6 @@ abbrev pub IsPlain : Message → Type 0
 IsPlain (Packet_data target payload) = ⊥
 IsPlain (Create_bearer_response x) = first_given x.contexts ≡ None
 IsPlain _ = Unit {0}
-
-none_some : (t : ℕ) → ◌≡◌ {A = Option ℕ} None (Some t) → ⊥
-none_some t e = cc
 
 module _ (history : List Sent) (role : Role) (taken : Arrival → Message → Type 0) (old new : Node) (outcome : Outcome) (held : (h : Held) → Among h old.held → Among h new.held) where
   pub Logs-silent : (gave_up : List ℕ) → Logs history role taken old (record { out = record nothing { gave_up = gave_up }; outcome = outcome; node = new })
@@ -120,7 +118,7 @@ pub Draws-from : (history : List Sent) (role : Role) (old mid new : Node) (sent 
 Draws-from history role old mid new sent from d = record {
   config = d.config ∙ from.config;
   counter = d.counter ∙ from.counter;
-  grows = λ t was. d.grows t (subst (Among t) (sym from.drawn) was);
+  extends = λ t was. d.extends t (subst (Among t) (sym from.drawn) was);
   present = λ t now. ⊎_elim (λ was. inl (subst (Among t) from.drawn was)) (λ is. inr (is ∙ from.counter)) (d.present t now);
   each = λ m among. ⊎_elim (λ was. inl was) (λ is. inr (made m is)) (d.each m among);
   one = d.one;

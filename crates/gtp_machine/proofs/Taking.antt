@@ -1,7 +1,7 @@
 -- What a gateway does with a control message leaves what each knows, and tells no counter.
 use Rattle.std.proofs.Common.{◌≡◌, inl, inr, ℕ, List, [], Option, Some, None, refl, sym, ◌∙◌, ap}
 use Rattle.gtp_machine.specs.Message.{Echo, Message, Echo_response, Owns, recovery_of}
-use Rattle.gtp_machine.specs.Node.{Role, Pending, Arrival, Node, holding, written}
+use Rattle.gtp_machine.specs.Node.{Role, PendingRequest, Arrival, Node, holding, written}
 use Rattle.gtp_machine.specs.Input.{Drop, Outcome, Echoed, Effect, dropped}
 use Rattle.gtp_machine.specs.Removal.{finished}
 use Rattle.gtp_machine.specs.Response.{EchoAnswered, finishing}
@@ -16,12 +16,6 @@ use Rattle.gtp_machine.proofs.After.{Knows, After, shrunk, stays, speaks, answer
 pub named_written : (o : Option ℕ) (r : ℕ) → o ≡ Some r → o ≡ Some (written o)
 named_written o r e = e ∙ ap (λ k. Some (written k)) (sym e)
 
-pub some_same : (o : Option ℕ) (s t : ℕ) → o ≡ Some s → o ≡ Some t → s ≡ t
-some_same o s t x y = cc
-
-pub none_some : (t : ℕ) → ◌≡◌ {A = Option ℕ} None (Some t) → ⊥
-none_some t e = cc
-
 -- what a control message leaves, and no counter was told
 abbrev pub Took : Role → List Sent → (Arrival → Message → Type 0) → Node → Effect → Type 0
 Took role history taken old e = After role history taken old e × (e.out.heard ≡ None)
@@ -33,7 +27,7 @@ module _ (role : Role) (history : List Sent) (taken : Arrival → Message → Ty
   pub drops : (why : Drop) (e : Effect) → e ≡ dropped old why → Took role history taken old e
   drops why e gives = took e _ gives refl (stays role history taken old knows _)
 
-  pub ends : (number : ℕ) (p : Pending) (outcome : Outcome) (e : Effect) → e ≡ finishing old number p outcome → Took role history taken old e
+  pub ends : (number : ℕ) (p : PendingRequest) (outcome : Outcome) (e : Effect) → e ≡ finishing old number p outcome → Took role history taken old e
   ends number p outcome e gives = took e _ gives refl (shrunk role history taken old knows (finished old number p) (Shrunk-finished old number p.session p.bearer) [] outcome)
 
   pub gives_answer : (request : Arrival) (m : Message) (cause : ℕ) (new : Node) (e : Effect) → e ≡ answered request m cause new → Shrunk old new → IsPlain m → ((t : ℕ) → Owns m t → ⊥) → ((r : ℕ) → recovery_of m ≡ Some r → r ≡ old.counter) → IsProper history m → Took role history taken old e

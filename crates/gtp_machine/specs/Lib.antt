@@ -1,5 +1,5 @@
 pub mod Ordered
-pub mod Table
+pub mod FiniteMap
 pub mod Element
 pub mod Message
 pub mod Config
