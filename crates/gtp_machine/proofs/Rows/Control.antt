@@ -5,11 +5,11 @@ use Rattle.gtp_machine.specs.Node.{Role, Serving, Packet, Arrival, Node}
 use Rattle.gtp_machine.specs.Input.{ControlReading, Control_message, Faulty, Control_fault, RequestKind, FaultyRequest, Effect}
 use Rattle.gtp_machine.specs.Answer.{IsNew, TakesReading, ControlStep}
 use Rattle.gtp_machine.specs.World.{other, Sent, HasSent}
-use Rattle.gtp_machine.proofs.Entries.{Once}
-use Rattle.gtp_machine.proofs.Steps.{IsHeardFrom}
-use Rattle.gtp_machine.proofs.After.{Knows, After}
-use Rattle.gtp_machine.proofs.CommonRows.{unchanged, repeats, SameIs, hears}
-use Rattle.gtp_machine.proofs.Taking.{Took}
+use Rattle.gtp_machine.proofs.Origins.Entries.{Once}
+use Rattle.gtp_machine.proofs.Changes.Steps.{IsHeardFrom}
+use Rattle.gtp_machine.proofs.Changes.After.{Knows, After}
+use Rattle.gtp_machine.proofs.Rows.Common.{unchanged, repeats, SameIs, hears}
+use Rattle.gtp_machine.proofs.Rows.Taking.{Took}
 
 -- what was read was sent by the other gateway; no fault is answered, since what it sent reads
 abbrev pub ControlCarried : Role → List Sent → Node → ControlReading → Type 0

@@ -6,8 +6,8 @@ use Rattle.gtp_values.specs.declared.counter.Age.{Age}
 use Rattle.gtp_values.specs.declared.counter.Age.TheVariants.{Same, Later, Earlier}
 use Rattle.gtp_machine.specs.World.{Side, with_heard}
 use Rattle.gtp_machine.specs.Laws.{IsOfStart}
-use Rattle.gtp_machine.proofs.Ages.{same_start, later_start, earlier_start}
-use Rattle.gtp_machine.proofs.After.{KnownBy, KnownAfter}
+use Rattle.gtp_machine.proofs.Basics.Ages.{same_start, later_start, earlier_start}
+use Rattle.gtp_machine.proofs.Changes.After.{KnownBy, KnownAfter}
 
 -- a counter of the peer, of no later start than this one
 pub record IsByStart (peer : Side) (latest counter : ℕ) : Type 0 where

@@ -15,7 +15,7 @@ use Rattle.gtp_machine.specs.User.{PacketCame, EndCame, ErrorCame, UserTaken, Us
 use Rattle.gtp_machine.specs.Command.{SessionBegun, SessionDeleted, BearerBegun, BearerDeleted, SessionReleased, EndMarked, EchoBegun, PacketSent, CommandStep}
 use Rattle.gtp_machine.specs.Serving.{SessionAnswered, DeletionAnswered, BearerAsked, RemovalTaken, RemovalAsked, removal_cause, ServingTakes, ServingFaulted, ServingReads}
 use Rattle.gtp_machine.specs.Packet.{SessionAsked, DeletionAsked, BearerAnswered, RemovalAnswered, PacketTakes, PacketFaulted, PacketReads}
-use Rattle.gtp_machine.proofs.Shrinking.{Shrunk-finished, removes_each}
+use Rattle.gtp_machine.proofs.Changes.Shrinking.{Shrunk-finished, removes_each}
 
 -- what is held after a step
 abbrev pub held_in : Effect → List Held

@@ -6,10 +6,10 @@ use Rattle.gtp_machine.specs.Message.{CreateSessionResponse, subscriber_of}
 use Rattle.gtp_machine.specs.Node.{Role, Serving, Packet, Session, Bearer}
 use Rattle.gtp_machine.specs.Input.{Entry, entry_for}
 use Rattle.gtp_machine.specs.World.{other, Sent}
-use Rattle.gtp_machine.proofs.Contexts.{IsAskedWith, IsMadeWith, ServingContexts, PacketContexts}
-use Rattle.gtp_machine.proofs.Entries.{Once, same_request, same_answer, names_in, IsFor}
-use Rattle.gtp_machine.proofs.After.{Contexts}
-use Rattle.gtp_machine.proofs.Options.{some_same}
+use Rattle.gtp_machine.proofs.Origins.Contexts.{IsAskedWith, IsMadeWith, ServingContexts, PacketContexts}
+use Rattle.gtp_machine.proofs.Origins.Entries.{Once, same_request, same_answer, names_in, IsFor}
+use Rattle.gtp_machine.proofs.Changes.After.{Contexts}
+use Rattle.gtp_machine.proofs.Basics.Options.{some_same}
 
 -- the entry of a packet on a bearer
 abbrev packet_of : ℕ → List ℕ → Bearer → Session → Entry

@@ -10,8 +10,8 @@ use Rattle.gtp_machine.specs.Recovery.{peer_restarted}
 use Rattle.gtp_machine.specs.Message.{RemovedBearer}
 use Rattle.gtp_machine.specs.User.{ended_bearer}
 use Rattle.gtp_machine.specs.Serving.{RemovesEach}
-use Rattle.gtp_machine.proofs.FiniteMaps.{found-insert, found-remove, found-kept, found-changed, get-kept, get-insert_same, get-insert_other}
-use Rattle.gtp_machine.proofs.Contexts.{IsSame, IsSameBearer, IsSame-itself, IsSameBearer-itself, WasSession, StaysSession, Shrinks}
+use Rattle.gtp_machine.proofs.Basics.FiniteMaps.{found-insert, found-remove, found-kept, found-changed, get-kept, get-insert_same, get-insert_other}
+use Rattle.gtp_machine.proofs.Origins.Contexts.{IsSame, IsSameBearer, IsSame-itself, IsSameBearer-itself, WasSession, StaysSession, Shrinks}
 
 -- the change of one node into another only shrinks its sessions and bearers
 abbrev pub NodeShrinks : Node → Node → Type 0

@@ -18,14 +18,14 @@ use Rattle.gtp_machine.specs.User.{Accepts, PacketCame, ended_bearer, EndCame, d
 use Rattle.gtp_machine.specs.Command.{ClosesSession, ReleasesSession, ClosesBearer, SendsEcho, SendsPacket, SessionDeleted, SessionReleased, BearerDeleted, EndMarked, EchoBegun, PacketSent, asks}
 use Rattle.gtp_machine.specs.Answer.{Repeats, echoed}
 use Rattle.gtp_machine.specs.World.{other, Sent, HasSent}
-use Rattle.gtp_machine.proofs.Drawing.{Draws-nothing, Draws-one, Made-plain, IsProper}
-use Rattle.gtp_machine.proofs.Contexts.{closes-shrinks}
-use Rattle.gtp_machine.proofs.Shrinking.{Shrunk, Shrunk-itself, Shrunk-without, Shrunk-finished, Shrunk-bearer, Shrunk-closing, Shrinks-restart, restart_pending, restart_leaves_pending, closing_same, ended_same}
-use Rattle.gtp_machine.proofs.Matching.{IsMatched-shrinks}
-use Rattle.gtp_machine.proofs.Entries.{Once, IsFor}
-use Rattle.gtp_machine.proofs.Steps.{IsHandedNow, IsAnsweredNow, at_result, IsPlain, IsHeardFrom, Draws-from, Logs-from, Heard-itself}
-use Rattle.gtp_machine.proofs.After.{Contexts-shrinks, Knows, KnownBy, KnownAfter, IsTold, nothing_told, After, drawn-shrinks, standing-shrinks, ready-shrinks, later, shrunk, stays, speaks, asks_plain, repeated}
-use Rattle.gtp_machine.proofs.Carrying.{leaves_for, comes_for}
+use Rattle.gtp_machine.proofs.Origins.Drawing.{Draws-nothing, Draws-one, Made-plain, IsProper}
+use Rattle.gtp_machine.proofs.Origins.Contexts.{closes-shrinks}
+use Rattle.gtp_machine.proofs.Changes.Shrinking.{Shrunk, Shrunk-itself, Shrunk-without, Shrunk-finished, Shrunk-bearer, Shrunk-closing, Shrinks-restart, restart_pending, restart_leaves_pending, closing_same, ended_same}
+use Rattle.gtp_machine.proofs.Changes.Matching.{IsMatched-shrinks}
+use Rattle.gtp_machine.proofs.Origins.Entries.{Once, IsFor}
+use Rattle.gtp_machine.proofs.Changes.Steps.{IsHandedNow, IsAnsweredNow, at_result, IsPlain, IsHeardFrom, Draws-from, Logs-from, Heard-itself}
+use Rattle.gtp_machine.proofs.Changes.After.{Contexts-shrinks, Knows, KnownBy, KnownAfter, IsTold, nothing_told, After, drawn-shrinks, standing-shrinks, ready-shrinks, later, shrunk, stays, speaks, asks_plain, repeated}
+use Rattle.gtp_machine.proofs.Changes.Carrying.{leaves_for, comes_for}
 
 -- a request that asks for no session and no bearer matches whatever it is about
 abbrev IsLesser : Message → Type 0

@@ -13,18 +13,18 @@ use Rattle.gtp_machine.specs.Command.{session_request, pending_session, pending_
 use Rattle.gtp_machine.specs.Answer.{answered, refusing, IsNew, ControlStep}
 use Rattle.gtp_machine.specs.Serving.{FitsSession, DescribesSession, opened_session, opened_bearer, OpensSession, SessionAnswered, DeletionAnswered, bearer_response, granted_bearer, MakesBearer, no_resources, BearerAsked, RemovalTaken, RemovalAsked, ServingTakes, serving_takes, ServingFaulted, ServingReads, removal_cause}
 use Rattle.gtp_machine.specs.World.{Sent, HasSent, signed}
-use Rattle.gtp_machine.proofs.FiniteMaps.{Each-insert, Each-remove, found-remove, get-insert_same, get-insert_other}
-use Rattle.gtp_machine.proofs.Drawing.{Draws-nothing, Draws-new, TellsStart, IsProper, sent_before, sent_now}
-use Rattle.gtp_machine.proofs.Contexts.{IsAsked, IsAtServing, closes-session, closes-bearer}
-use Rattle.gtp_machine.proofs.Shrinking.{Shrunk, Shrunk-itself, Shrunk-without, removes_each}
-use Rattle.gtp_machine.proofs.Matching.{IsMatched, IsMatched-session, IsMatched-bearer}
-use Rattle.gtp_machine.proofs.Entries.{Once, same_request, same_user_request, request_not_answer}
-use Rattle.gtp_machine.proofs.Steps.{IsAnsweredNow, Logs-silent, Logs-plain, at_result, NothingOwns, NothingOwns-from}
-use Rattle.gtp_machine.proofs.After.{IsPending, IsStanding, IsReady, Knows, After, nothing_told, later, held_now, matched_session, matched_bearer}
-use Rattle.gtp_machine.proofs.CommonRows.{unchanged}
-use Rattle.gtp_machine.proofs.Taking.{Took, took, drops, ends, gives_answer, takes_echo, takes_echo_response, named_written}
-use Rattle.gtp_machine.proofs.Options.{some_same, none_some}
-use Rattle.gtp_machine.proofs.ControlRows.{ControlCarried, control_came}
+use Rattle.gtp_machine.proofs.Basics.FiniteMaps.{Each-insert, Each-remove, found-remove, get-insert_same, get-insert_other}
+use Rattle.gtp_machine.proofs.Origins.Drawing.{Draws-nothing, Draws-new, TellsStart, IsProper, sent_before, sent_now}
+use Rattle.gtp_machine.proofs.Origins.Contexts.{IsAsked, IsAtServing, closes-session, closes-bearer}
+use Rattle.gtp_machine.proofs.Changes.Shrinking.{Shrunk, Shrunk-itself, Shrunk-without, removes_each}
+use Rattle.gtp_machine.proofs.Changes.Matching.{IsMatched, IsMatched-session, IsMatched-bearer}
+use Rattle.gtp_machine.proofs.Origins.Entries.{Once, same_request, same_user_request, request_not_answer}
+use Rattle.gtp_machine.proofs.Changes.Steps.{IsAnsweredNow, Logs-silent, Logs-plain, at_result, NothingOwns, NothingOwns-from}
+use Rattle.gtp_machine.proofs.Changes.After.{IsPending, IsStanding, IsReady, Knows, After, nothing_told, later, held_now, matched_session, matched_bearer}
+use Rattle.gtp_machine.proofs.Rows.Common.{unchanged}
+use Rattle.gtp_machine.proofs.Rows.Taking.{Took, took, drops, ends, gives_answer, takes_echo, takes_echo_response, named_written}
+use Rattle.gtp_machine.proofs.Basics.Options.{some_same, none_some}
+use Rattle.gtp_machine.proofs.Rows.Control.{ControlCarried, control_came}
 
 module _ (history : List Sent) (taken : Arrival → Message → Type 0) (serving_once : Once history Serving) (packet_once : Once history Packet) (old : Node) (knows : Knows Serving history old) where
   was_later : (sent : List Message) → Knows Serving (history ++ signed Serving sent) old

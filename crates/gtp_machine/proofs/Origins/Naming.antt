@@ -19,11 +19,11 @@ use Rattle.gtp_machine.specs.Serving.{SessionAnswered, DeletionAnswered, BearerA
 use Rattle.gtp_machine.specs.Packet.{SessionAsked, DeletionAsked, BearerAnswered, RemovalAnswered, PacketTakes, PacketReads}
 use Rattle.gtp_machine.specs.World.{Step, other, Sent, HasSent, signed}
 use Rattle.gtp_machine.specs.Laws.{IsFrom, NamesBack, EachNamesBack}
-use Rattle.gtp_machine.proofs.FiniteMaps.{Among-cases}
-use Rattle.gtp_machine.proofs.Drawing.{Extends, Extends-signed, signed_among}
-use Rattle.gtp_machine.proofs.After.{Knows}
-use Rattle.gtp_machine.proofs.Shrinking.{Shrinks-restart, restart_pending}
-use Rattle.gtp_machine.proofs.Stepping.{Carried}
+use Rattle.gtp_machine.proofs.Basics.FiniteMaps.{Among-cases}
+use Rattle.gtp_machine.proofs.Origins.Drawing.{Extends, Extends-signed, signed_among}
+use Rattle.gtp_machine.proofs.Changes.After.{Knows}
+use Rattle.gtp_machine.proofs.Changes.Shrinking.{Shrinks-restart, restart_pending}
+use Rattle.gtp_machine.proofs.Rows.Stepping.{Carried}
 
 -- a remote TEID goes back to a draw by the other gateway
 abbrev pub IsThere : List Sent → Role → Option ℕ → Type 0

@@ -4,8 +4,8 @@ use Rattle.std.specs.FinMap.{get, insert}
 use Rattle.gtp_machine.specs.FiniteMap.{FiniteMap}
 use Rattle.gtp_machine.specs.Message.{CreateSessionRequest, CreateBearerRequest, Create_session_request, Create_bearer_request}
 use Rattle.gtp_machine.specs.Node.{Pending, Session, Bearer, PendingRequest, Node}
-use Rattle.gtp_machine.proofs.FiniteMaps.{found-insert}
-use Rattle.gtp_machine.proofs.Shrinking.{NodeShrinks}
+use Rattle.gtp_machine.proofs.Basics.FiniteMaps.{found-insert}
+use Rattle.gtp_machine.proofs.Changes.Shrinking.{NodeShrinks}
 
 -- the session of a Create Session Request is pending, and the bearer of a Create Bearer Request is of its session
 pub record IsMatched (sessions : FiniteMap Session) (bearers : FiniteMap Bearer) (number : ℕ) (p : PendingRequest) : Type 0 where

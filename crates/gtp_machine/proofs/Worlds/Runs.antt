@@ -8,17 +8,17 @@ use Rattle.gtp_machine.specs.Input.{Move, Input, Commanded, Control_came, Moves_
 use Rattle.gtp_machine.specs.Answer.{IsNew}
 use Rattle.gtp_machine.specs.World.{World, other, Side, Sent, HasSent, signed, side_of, with_side, stepped, moved, Note, noted, Moves, Ticks, Event, Does, Tick, Deliver, Cut, Restart, Happens, Delivers, arrival, late_once, delivered_on, cut_on, IsLateOn, restarted, Run, begun, start, Step}
 use Rattle.gtp_machine.specs.Laws.{EachOwed, EachNamesBack}
-use Rattle.gtp_machine.proofs.FiniteMaps.{Each-empty, found-empty, Among-cases, Among-right}
-use Rattle.gtp_machine.proofs.Drawing.{Drawing, Drawing-step, Drawing-elsewhere, Drawing-restart, Drawing-marked, Extends-signed, sent_by_other, unowned}
-use Rattle.gtp_machine.proofs.Entries.{Once, AnsweredOnce, same_entry}
-use Rattle.gtp_machine.proofs.Steps.{Logs}
-use Rattle.gtp_machine.proofs.After.{Knows, Knows-later, After, Contexts}
-use Rattle.gtp_machine.proofs.CommonRows.{SameIs}
-use Rattle.gtp_machine.proofs.Naming.{step_told, back_of, Names-step}
-use Rattle.gtp_machine.proofs.Stepping.{Carried, Taken, step_after}
-use Rattle.gtp_machine.proofs.Hearing.{Hearing, Hearing-step, Hearing-peer, same_counter}
-use Rattle.gtp_machine.proofs.Kept.{Packets, Packets-step, Packets-elsewhere, Remembers, Remembers-step, Remembers-elsewhere, Remembers-restart, AnsweredOnce-step, Making, Making-step, Making-fresh, Making-late}
-use Rattle.gtp_machine.proofs.Options.{none_some}
+use Rattle.gtp_machine.proofs.Basics.FiniteMaps.{Each-empty, found-empty, Among-cases, Among-right}
+use Rattle.gtp_machine.proofs.Origins.Drawing.{Drawing, Drawing-step, Drawing-elsewhere, Drawing-restart, Drawing-marked, Extends-signed, sent_by_other, unowned}
+use Rattle.gtp_machine.proofs.Origins.Entries.{Once, AnsweredOnce, same_entry}
+use Rattle.gtp_machine.proofs.Changes.Steps.{Logs}
+use Rattle.gtp_machine.proofs.Changes.After.{Knows, Knows-later, After, Contexts}
+use Rattle.gtp_machine.proofs.Rows.Common.{SameIs}
+use Rattle.gtp_machine.proofs.Origins.Naming.{step_told, back_of, Names-step}
+use Rattle.gtp_machine.proofs.Rows.Stepping.{Carried, Taken, step_after}
+use Rattle.gtp_machine.proofs.Worlds.Hearing.{Hearing, Hearing-step, Hearing-peer, same_counter}
+use Rattle.gtp_machine.proofs.Worlds.Kept.{Packets, Packets-step, Packets-elsewhere, Remembers, Remembers-step, Remembers-elsewhere, Remembers-restart, AnsweredOnce-step, Making, Making-step, Making-fresh, Making-late}
+use Rattle.gtp_machine.proofs.Basics.Options.{none_some}
 use Rattle.std.specs.FinMap.{empty}
 
 -- what holds of one gateway of the world

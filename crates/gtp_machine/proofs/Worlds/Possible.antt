@@ -18,7 +18,7 @@ use Rattle.gtp_machine.specs.Serving.{opened_session, opened_bearer, bearer_resp
 use Rattle.gtp_machine.specs.Packet.{session_response, session_made, made_session, made_bearer, opened_dedicated, CanOpen}
 use Rattle.gtp_machine.specs.World.{World, Does, Deliver, Moves, Delivers, moved, noted, note_of, Came_to, start, arrival}
 use Rattle.gtp_machine.specs.Laws.{IsFaithful, GetsThrough, ARunIsPossible}
-use Rattle.gtp_machine.proofs.FiniteMaps.{get-insert_same, found-insert, found-empty}
+use Rattle.gtp_machine.proofs.Basics.FiniteMaps.{get-insert_same, found-insert, found-empty}
 
 abbrev serving_ip : Ip
 serving_ip = V4 (10 ∷ 0 ∷ 0 ∷ 1 ∷ [])

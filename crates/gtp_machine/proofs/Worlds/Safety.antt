@@ -8,12 +8,12 @@ use Rattle.gtp_machine.specs.Config.{Addresses}
 use Rattle.gtp_machine.specs.Choice.{counter_of}
 use Rattle.gtp_machine.specs.World.{World, Side, Sent, HasSent, side_of}
 use Rattle.gtp_machine.specs.Laws.{Always, Agree, SessionsAgree, MutualBearers, AgreeBearers, BearersAgree, IsOver, NoneOver, EachOwed, OneMessage, GoesBack, EachGoesBack, NamesGoBack, ResponsesGoBack, IsOfStart, NoneAhead, IsLatestHeard, KnownIsLatest, BearersOnce, EachOpened, EachClosesWhole, MadeOnce}
-use Rattle.gtp_machine.proofs.Drawing.{Drawing}
-use Rattle.gtp_machine.proofs.Contexts.{IsAskedWith, IsGranted, IsMadeWith, IsWanted}
-use Rattle.gtp_machine.proofs.Entries.{Once, same_request, same_user_request, same_answer, same_user_answer, same_bearer_answer, answer_not_request}
-use Rattle.gtp_machine.proofs.Hearing.{Hearing, none_later}
-use Rattle.gtp_machine.proofs.Runs.{SideInvariant, Invariant, always}
-use Rattle.gtp_machine.proofs.Options.{some_same}
+use Rattle.gtp_machine.proofs.Origins.Drawing.{Drawing}
+use Rattle.gtp_machine.proofs.Origins.Contexts.{IsAskedWith, IsGranted, IsMadeWith, IsWanted}
+use Rattle.gtp_machine.proofs.Origins.Entries.{Once, same_request, same_user_request, same_answer, same_user_answer, same_bearer_answer, answer_not_request}
+use Rattle.gtp_machine.proofs.Worlds.Hearing.{Hearing, none_later}
+use Rattle.gtp_machine.proofs.Worlds.Runs.{SideInvariant, Invariant, always}
+use Rattle.gtp_machine.proofs.Basics.Options.{some_same}
 
 module _ (spelled : Message → List ℕ) (own : Addresses) (w : World) (inv : Invariant spelled own w) where
   so : Once w.history Serving

@@ -8,14 +8,14 @@ use Rattle.gtp_machine.specs.Choice.{counter_of}
 use Rattle.gtp_machine.specs.Answer.{IsNew}
 use Rattle.gtp_machine.specs.Command.{SessionBegun, BearerBegun, CommandStep}
 use Rattle.gtp_machine.specs.World.{Step, other, Sent, HasSent}
-use Rattle.gtp_machine.proofs.Drawing.{TellsStart, IsProper}
-use Rattle.gtp_machine.proofs.Entries.{Once}
-use Rattle.gtp_machine.proofs.Steps.{NothingOwns}
-use Rattle.gtp_machine.proofs.After.{Knows, After}
-use Rattle.gtp_machine.proofs.CommonRows.{unchanged, session_deleted, session_released, bearer_deleted, end_marked, echo_begun, packet_sent, moves, UserCarried, user_step}
-use Rattle.gtp_machine.proofs.ServingRows.{session_begun_here, serving_control}
-use Rattle.gtp_machine.proofs.PacketRows.{bearer_begun_here, packet_control}
-use Rattle.gtp_machine.proofs.ControlRows.{ControlCarried}
+use Rattle.gtp_machine.proofs.Origins.Drawing.{TellsStart, IsProper}
+use Rattle.gtp_machine.proofs.Origins.Entries.{Once}
+use Rattle.gtp_machine.proofs.Changes.Steps.{NothingOwns}
+use Rattle.gtp_machine.proofs.Changes.After.{Knows, After}
+use Rattle.gtp_machine.proofs.Rows.Common.{unchanged, session_deleted, session_released, bearer_deleted, end_marked, echo_begun, packet_sent, moves, UserCarried, user_step}
+use Rattle.gtp_machine.proofs.Rows.Serving.{session_begun_here, serving_control}
+use Rattle.gtp_machine.proofs.Rows.Packet.{bearer_begun_here, packet_control}
+use Rattle.gtp_machine.proofs.Rows.Control.{ControlCarried}
 
 -- what a gateway takes was sent by the other
 abbrev pub Carried : Role → List Sent → Node → Input → Type 0

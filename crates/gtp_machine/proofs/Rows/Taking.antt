@@ -7,10 +7,10 @@ use Rattle.gtp_machine.specs.Removal.{finished}
 use Rattle.gtp_machine.specs.Response.{EchoAnswered, finishing}
 use Rattle.gtp_machine.specs.Answer.{answered, echoed}
 use Rattle.gtp_machine.specs.World.{Sent}
-use Rattle.gtp_machine.proofs.Drawing.{Made-plain, IsProper}
-use Rattle.gtp_machine.proofs.Shrinking.{Shrunk, Shrunk-itself, Shrunk-finished}
-use Rattle.gtp_machine.proofs.Steps.{at_result, IsPlain}
-use Rattle.gtp_machine.proofs.After.{Knows, After, shrunk, stays, speaks, answers}
+use Rattle.gtp_machine.proofs.Origins.Drawing.{Made-plain, IsProper}
+use Rattle.gtp_machine.proofs.Changes.Shrinking.{Shrunk, Shrunk-itself, Shrunk-finished}
+use Rattle.gtp_machine.proofs.Changes.Steps.{at_result, IsPlain}
+use Rattle.gtp_machine.proofs.Changes.After.{Knows, After, shrunk, stays, speaks, answers}
 
 -- a TEID that is there, as it is written
 pub named_written : (o : Option ℕ) (r : ℕ) → o ≡ Some r → o ≡ Some (written o)

@@ -8,7 +8,7 @@ use Rattle.gtp_machine.specs.Input.{Effect, messages}
 use Rattle.gtp_machine.specs.Choice.{IsFree, counter_of}
 use Rattle.gtp_machine.specs.World.{other, Sent, Side, HasSent, signed, restarted, stepped}
 use Rattle.gtp_machine.specs.Laws.{IsOfStart, AnswersSession, AnswersBearer}
-use Rattle.gtp_machine.proofs.FiniteMaps.{Among-left, Among-right, Among-cases}
+use Rattle.gtp_machine.proofs.Basics.FiniteMaps.{Among-left, Among-right, Among-cases}
 
 -- nothing that was sent is lost
 pub record Extends (before after : List Sent) : Type 0 where

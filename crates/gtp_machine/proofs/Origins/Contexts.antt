@@ -7,8 +7,8 @@ use Rattle.gtp_machine.specs.Message.{CreateSessionRequest, CreateSessionRespons
 use Rattle.gtp_machine.specs.Node.{Serving, Packet, Pending, Active, Closing, Session, Bearer, Default, Dedicated}
 use Rattle.gtp_machine.specs.World.{Sent, HasSent}
 use Rattle.gtp_machine.specs.Laws.{ClosesWhole}
-use Rattle.gtp_machine.proofs.FiniteMaps.{Each-weaker, found-insert}
-use Rattle.gtp_machine.proofs.Drawing.{Extends}
+use Rattle.gtp_machine.proofs.Basics.FiniteMaps.{Each-weaker, found-insert}
+use Rattle.gtp_machine.proofs.Origins.Drawing.{Extends}
 
 -- the response that opened a session of the serving gateway
 pub record IsOpened (history : List Sent) (t : ℕ) (s : Session) : Type 0 where

@@ -15,13 +15,13 @@ use Rattle.gtp_machine.specs.Command.{asks}
 use Rattle.gtp_machine.specs.Answer.{answered}
 use Rattle.gtp_machine.specs.World.{other, Sent, HasSent, signed}
 use Rattle.gtp_machine.specs.Laws.{ClosesWhole}
-use Rattle.gtp_machine.proofs.FiniteMaps.{Each-insert, Each-weaker}
-use Rattle.gtp_machine.proofs.Drawing.{Extends, Extends-signed, Draws, Draws-nothing, Draws-one, IsMadeNow, sent_now}
-use Rattle.gtp_machine.proofs.Contexts.{ServingContexts, ServingContexts-later, ServingContexts-shrinks, PacketContexts, PacketContexts-later, PacketContexts-shrinks, closes-shrinks}
-use Rattle.gtp_machine.proofs.Shrinking.{NodeShrinks, Shrunk, Shrunk-itself}
-use Rattle.gtp_machine.proofs.Matching.{IsMatched, IsMatched-shrinks, IsMatched-session, IsMatched-bearer}
-use Rattle.gtp_machine.proofs.Steps.{Logs, Logs-silent, Logs-plain, Logs-repeat, IsPlain, NothingOwns}
-use Rattle.gtp_machine.proofs.Options.{none_some}
+use Rattle.gtp_machine.proofs.Basics.FiniteMaps.{Each-insert, Each-weaker}
+use Rattle.gtp_machine.proofs.Origins.Drawing.{Extends, Extends-signed, Draws, Draws-nothing, Draws-one, IsMadeNow, sent_now}
+use Rattle.gtp_machine.proofs.Origins.Contexts.{ServingContexts, ServingContexts-later, ServingContexts-shrinks, PacketContexts, PacketContexts-later, PacketContexts-shrinks, closes-shrinks}
+use Rattle.gtp_machine.proofs.Changes.Shrinking.{NodeShrinks, Shrunk, Shrunk-itself}
+use Rattle.gtp_machine.proofs.Changes.Matching.{IsMatched, IsMatched-shrinks, IsMatched-session, IsMatched-bearer}
+use Rattle.gtp_machine.proofs.Changes.Steps.{Logs, Logs-silent, Logs-plain, Logs-repeat, IsPlain, NothingOwns}
+use Rattle.gtp_machine.proofs.Basics.Options.{none_some}
 
 -- what holds of the sessions and bearers of a gateway
 abbrev pub Contexts : Role → List Sent → FiniteMap Session → FiniteMap Bearer → Type 0

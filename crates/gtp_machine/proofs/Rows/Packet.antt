@@ -14,18 +14,18 @@ use Rattle.gtp_machine.specs.Command.{bearer_request, pending_dedicated, BeginsB
 use Rattle.gtp_machine.specs.Answer.{IsNew, answered, ControlStep}
 use Rattle.gtp_machine.specs.Packet.{session_cause, session_response, made_session, made_bearer, session_made, MakesSession, session_refused, SessionAsked, DeletionAsked, FitsBearer, DescribesBearer, CanOpen, opened_dedicated, OpensBearer, BearerAnswered, RemovalAnswered, PacketTakes, packet_takes, PacketFaulted, PacketReads}
 use Rattle.gtp_machine.specs.World.{Sent, HasSent, signed}
-use Rattle.gtp_machine.proofs.FiniteMaps.{Each-insert, Each-remove, found-remove, get-insert_same, get-insert_other}
-use Rattle.gtp_machine.proofs.Drawing.{Draws-nothing, Draws-new, TellsStart, IsProper, sent_before, sent_now, sent_cases}
-use Rattle.gtp_machine.proofs.Contexts.{IsMade, IsWanted, IsAtPacket, closes-session, closes-bearer}
-use Rattle.gtp_machine.proofs.Shrinking.{Shrunk, Shrunk-itself, Shrunk-without}
-use Rattle.gtp_machine.proofs.Matching.{IsMatched, IsMatched-bearer}
-use Rattle.gtp_machine.proofs.Entries.{Once, answer_not_request}
-use Rattle.gtp_machine.proofs.Steps.{Logs-silent, Logs-plain, at_result, NothingOwns, NothingOwns-from}
-use Rattle.gtp_machine.proofs.After.{IsPending, IsStanding, IsReady, Knows, After, nothing_told, later, held_now, matched_session, matched_bearer}
-use Rattle.gtp_machine.proofs.CommonRows.{unchanged}
-use Rattle.gtp_machine.proofs.Taking.{Took, took, drops, ends, gives_answer, takes_echo, takes_echo_response}
-use Rattle.gtp_machine.proofs.Options.{some_same, none_some}
-use Rattle.gtp_machine.proofs.ControlRows.{ControlCarried, control_came}
+use Rattle.gtp_machine.proofs.Basics.FiniteMaps.{Each-insert, Each-remove, found-remove, get-insert_same, get-insert_other}
+use Rattle.gtp_machine.proofs.Origins.Drawing.{Draws-nothing, Draws-new, TellsStart, IsProper, sent_before, sent_now, sent_cases}
+use Rattle.gtp_machine.proofs.Origins.Contexts.{IsMade, IsWanted, IsAtPacket, closes-session, closes-bearer}
+use Rattle.gtp_machine.proofs.Changes.Shrinking.{Shrunk, Shrunk-itself, Shrunk-without}
+use Rattle.gtp_machine.proofs.Changes.Matching.{IsMatched, IsMatched-bearer}
+use Rattle.gtp_machine.proofs.Origins.Entries.{Once, answer_not_request}
+use Rattle.gtp_machine.proofs.Changes.Steps.{Logs-silent, Logs-plain, at_result, NothingOwns, NothingOwns-from}
+use Rattle.gtp_machine.proofs.Changes.After.{IsPending, IsStanding, IsReady, Knows, After, nothing_told, later, held_now, matched_session, matched_bearer}
+use Rattle.gtp_machine.proofs.Rows.Common.{unchanged}
+use Rattle.gtp_machine.proofs.Rows.Taking.{Took, took, drops, ends, gives_answer, takes_echo, takes_echo_response}
+use Rattle.gtp_machine.proofs.Basics.Options.{some_same, none_some}
+use Rattle.gtp_machine.proofs.Rows.Control.{ControlCarried, control_came}
 
 module _ (history : List Sent) (taken : Arrival → Message → Type 0) (serving_once : Once history Serving) (packet_once : Once history Packet) (old : Node) (knows : Knows Packet history old) where
   was_later : (sent : List Message) → Knows Packet (history ++ signed Packet sent) old

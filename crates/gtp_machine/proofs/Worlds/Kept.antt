@@ -8,10 +8,10 @@ use Rattle.gtp_machine.specs.Choice.{counter_of}
 use Rattle.gtp_machine.specs.Answer.{IsNew}
 use Rattle.gtp_machine.specs.World.{other, Side, Sent, HasSent, signed, stepped, restarted}
 use Rattle.gtp_machine.specs.Laws.{AtMostOnce}
-use Rattle.gtp_machine.proofs.FiniteMaps.{Among-left, Among-right, Among-cases}
-use Rattle.gtp_machine.proofs.Drawing.{Drawing, Draws, IsEarlier, Extends, Extends-signed, sent_cases, sent_by_other, starts_apart}
-use Rattle.gtp_machine.proofs.Entries.{Once, AnsweredOnce, same_bearer_request, IsFor, IsFor-later}
-use Rattle.gtp_machine.proofs.Steps.{IsAnsweredNow, MakesFor, Logs}
+use Rattle.gtp_machine.proofs.Basics.FiniteMaps.{Among-left, Among-right, Among-cases}
+use Rattle.gtp_machine.proofs.Origins.Drawing.{Drawing, Draws, IsEarlier, Extends, Extends-signed, sent_cases, sent_by_other, starts_apart}
+use Rattle.gtp_machine.proofs.Origins.Entries.{Once, AnsweredOnce, same_bearer_request, IsFor, IsFor-later}
+use Rattle.gtp_machine.proofs.Changes.Steps.{IsAnsweredNow, MakesFor, Logs}
 
 -- a packet that was handed in
 pub record IsHanded (handed : List Entry) (target : ℕ) (payload : List ℕ) : Type 0 where

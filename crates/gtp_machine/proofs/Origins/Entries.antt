@@ -5,8 +5,8 @@ use Rattle.gtp_machine.specs.Message.{CreateSessionRequest, CreateSessionRespons
 use Rattle.gtp_machine.specs.Node.{Role, Serving, Packet}
 use Rattle.gtp_machine.specs.Input.{Entry}
 use Rattle.gtp_machine.specs.World.{Sent, HasSent}
-use Rattle.gtp_machine.proofs.Drawing.{Extends}
-use Rattle.gtp_machine.proofs.Options.{some_same}
+use Rattle.gtp_machine.proofs.Origins.Drawing.{Extends}
+use Rattle.gtp_machine.proofs.Basics.Options.{some_same}
 
 -- each TEID stands as the sender's own in one message and its repeats
 abbrev pub Once : List Sent → Role → Type 0

@@ -16,9 +16,9 @@ use Rattle.gtp_machine.specs.Serving.{BearerAsked, ServingTakes, ServingReads}
 use Rattle.gtp_machine.specs.Packet.{SessionAsked, PacketTakes, PacketReads}
 use Rattle.gtp_machine.specs.World.{Step}
 use Rattle.gtp_machine.specs.Once.{Done, Steps, Makes, NeverForgets, IsOnce, ActsOnce, ActsOnceInTime, HeldUntilForgotten}
-use Rattle.gtp_machine.proofs.FiniteMaps.{Among-right}
-use Rattle.gtp_machine.proofs.Shrinking.{Shrunk-finished, Shrinks-restart}
-use Rattle.gtp_machine.proofs.Holding.{held_in, Keeps, Adds, Holds, command_held, user_held, serving_reads_holds, packet_reads_holds}
+use Rattle.gtp_machine.proofs.Basics.FiniteMaps.{Among-right}
+use Rattle.gtp_machine.proofs.Changes.Shrinking.{Shrunk-finished, Shrinks-restart}
+use Rattle.gtp_machine.proofs.Requests.Holding.{held_in, Keeps, Adds, Holds, command_held, user_held, serving_reads_holds, packet_reads_holds}
 
 -- at most one answer is held for a request
 pub record HeldOnce (node : Node) : Type 0 where
