@@ -4,3 +4,4 @@ pub mod Matching
 pub mod Steps
 pub mod After
 pub mod Carrying
+pub mod Forgetting

@@ -5,3 +5,4 @@ pub mod Rows
 pub mod Worlds
 pub mod Requests
 pub mod Octets
+pub mod Sound

@@ -19,3 +19,4 @@ pub mod Packet
 pub mod World
 pub mod Laws
 pub mod Once
+pub mod Sound

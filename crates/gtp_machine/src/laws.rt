@@ -20,6 +20,7 @@ ghost use Rattle.gtp_machine.specs.Laws.{
 };
 ghost use Rattle.gtp_machine.specs.Reading.{ControlReadsOnce, KeepsSession, KeepsSubscriber, UserReadsOnce};
 ghost use Rattle.gtp_machine.specs.Once.{ActsOnce, ActsOnceInTime, HeldUntilForgotten};
+ghost use Rattle.gtp_machine.specs.Sound.{AlwaysSteps, ReachedIsSound, ReadsWhole, StartsSound, StaysSound};
 
 /// Tunnel safety: what holds at the end of each run, whatever is lost, cut, repeated, held back or delivered in another
 /// order, and whenever a gateway restarts.
@@ -87,6 +88,24 @@ pub fn acts_once()
 /// No law is empty: there is a run to sessions and dedicated bearers that name each other, and to an accepted packet.
 pub fn a_run_is_possible()
     ensures { ARunIsPossible }
+{}
+
+/// What holds of one gateway alone, whatever comes to it.
+pub fn sound_nodes()
+    // A gateway that has just started is sound.
+    ensures starts { StartsSound }
+
+    // Each step from a sound gateway leaves it sound.
+    ensures stays { StaysSound }
+
+    // So a gateway that is reached from a start is sound.
+    ensures reached { ReachedIsSound }
+
+    // Whatever comes to a sound gateway, there is an effect.
+    ensures steps { AlwaysSteps }
+
+    // What is read from octets names the F-TEIDs that its table asks for.
+    ensures whole { ReadsWhole }
 {}
 
 /// How datagrams read.

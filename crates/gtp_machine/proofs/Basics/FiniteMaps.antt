@@ -99,3 +99,6 @@ found-changed {X = X} f m q y e = was (get m q) refl (sym (get-changed f m q) �
     was : (o : Option X) → get m q ≡ o → changed_at f o ≡ Some y → WasChanged f m q y
     was None is h = absurd (cc h)
     was (Some x) is h = record { before = x; stood = is; is = cc }
+
+pub get-changed_some : {X : Type 0} (f : X → X) (m : FiniteMap X) (q : ℕ) (x : X) → get m q ≡ Some x → get (changed f m) q ≡ Some (f x)
+get-changed_some f m q x e = get-changed f m q ∙ ap (changed_at f) e

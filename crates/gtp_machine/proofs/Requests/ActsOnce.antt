@@ -19,6 +19,7 @@ use Rattle.gtp_machine.specs.Once.{Done, Steps, Makes, NeverForgets, IsOnce, Act
 use Rattle.gtp_machine.proofs.Basics.FiniteMaps.{Among-right}
 use Rattle.gtp_machine.proofs.Changes.Shrinking.{Shrunk-finished, Shrinks-restart}
 use Rattle.gtp_machine.proofs.Requests.Holding.{held_in, Keeps, Adds, Holds, command_held, user_held, serving_reads_holds, packet_reads_holds}
+use Rattle.gtp_machine.proofs.Changes.Forgetting.{leaves}
 
 -- at most one answer is held for a request
 pub record HeldOnce (node : Node) : Type 0 where
@@ -53,9 +54,9 @@ control_held Reads request old e holds (inr (peer, inl r)) = keeps old e (ap hel
 control_held Reads request old e holds (inr (peer, inr r)) = ⊎_elim (λ same. keeps old e same) (λ a. adds request old e r.0 a) (holds r.1)
 
 forgets : (request : Arrival) (old : Node) (e : Effect) → Forgets old request e → HeldStep old e
-forgets request old e r = record {
-  stays = λ h was. ⊎_elim (λ stays. inl (subst (Among h) (sym (ap held_in r.gives)) stays)) (λ same. inr (subst (Among h.request) (sym (ap (λ (f : Effect). f.out.forgot) r.gives)) (inl same))) (r.others h was);
-  once = λ o. record { once = λ g h x y. o.once g h (r.only g (subst (Among g) (ap held_in r.gives) x)) (r.only h (subst (Among h) (ap held_in r.gives) y)) };
+forgets request old e r = let l = leaves request old.held r.rest r.left in record {
+  stays = λ h was. ⊎_elim (λ stays. inl (subst (Among h) (sym (ap held_in r.gives)) stays)) (λ same. inr (subst (Among h.request) (sym (ap (λ (f : Effect). f.out.forgot) r.gives)) (inl same))) (l.others h was);
+  once = λ o. record { once = λ g h x y. o.once g h (l.only g (subst (Among g) (ap held_in r.gives) x)) (l.only h (subst (Among h) (ap held_in r.gives) y)) };
 }
 
 step_held : (role : Role) (old : Node) (input : Input) (e : Effect) → Step role old input e → HeldStep old e

@@ -26,6 +26,7 @@ use Rattle.gtp_machine.proofs.Origins.Entries.{Once, IsFor}
 use Rattle.gtp_machine.proofs.Changes.Steps.{IsHandedNow, IsAnsweredNow, at_result, IsPlain, IsHeardFrom, Draws-from, Logs-from, Heard-itself}
 use Rattle.gtp_machine.proofs.Changes.After.{Contexts-shrinks, Knows, KnownBy, KnownAfter, IsTold, nothing_told, After, drawn-shrinks, standing-shrinks, ready-shrinks, later, shrunk, stays, speaks, asks_plain, repeated}
 use Rattle.gtp_machine.proofs.Changes.Carrying.{leaves_for, comes_for}
+use Rattle.gtp_machine.proofs.Changes.Forgetting.{leaves}
 
 -- a request that asks for no session and no bearer matches whatever it is about
 abbrev IsLesser : Message → Type 0
@@ -165,13 +166,14 @@ module _ (role : Role) (history : List Sent) (taken : Arrival → Message → Ty
   forgets : (request : Arrival) (e : Effect) → Forgets old request e → After role history taken old e
   forgets request e r =
       let k = later role history taken old knows [] in
+      let l = leaves request old.held r.rest r.left in
       at_result (After role history taken old) e _ r.gives (record {
-        knows = record { contexts = k.contexts; matched = k.matched; drawn = k.drawn; standing = k.standing; ready = k.ready; closed = k.closed; pending = k.pending; held = λ h among. k.held h (r.only h among) };
+        knows = record { contexts = k.contexts; matched = k.matched; drawn = k.drawn; standing = k.standing; ready = k.ready; closed = k.closed; pending = k.pending; held = λ h among. k.held h (l.only h among) };
         known = refl;
         told = nothing_told history (other role);
         draws = Draws-nothing history role old (record old { held = r.rest }) refl refl refl;
         logs = record {
-          held_stays = λ h was. ⊎_elim (λ stays. inl stays) (λ same. inr (inl same)) (r.others h was);
+          held_stays = λ h was. ⊎_elim (λ stays. inl stays) (λ same. inr (inl same)) (l.others h was);
           packets = λ target payload none. absurd none;
           handed = λ e none. absurd none;
           accepted = λ e none. absurd none;
