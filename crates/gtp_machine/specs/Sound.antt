@@ -6,7 +6,7 @@ use Rattle.gtp_machine.specs.Element.{IsAccepting, teid_in}
 use Rattle.gtp_machine.specs.Message.{Echo, CreateSessionRequest, DeleteSessionRequest, CreateBearerRequest, DeleteBearerRequest, Message, Echo_request, Create_session_request, Create_session_response, Delete_session_request, Create_bearer_request, Create_bearer_response, Delete_bearer_request, CreatedBearer, GivenBearer}
 use Rattle.gtp_machine.specs.Node.{Role, Serving, Packet, State, Pending, Active, Closing, Kind, Default, Dedicated, Session, Bearer, PendingRequest, Held, Arrival, Node, fresh_node}
 use Rattle.gtp_machine.specs.Config.{Config}
-use Rattle.gtp_machine.specs.Input.{Input, Control_came, Moves_on, ControlReading, Control_message, Move, Resend, Give_up, Forget, Effect}
+use Rattle.gtp_machine.specs.Input.{Create_session, Input, Commanded, Control_came, Moves_on, ControlReading, Control_message, Move, Resend, Give_up, Forget, Effect}
 use Rattle.gtp_machine.specs.Choice.{IsIdentity, HasPending}
 use Rattle.gtp_machine.specs.World.{Step}
 use Rattle.gtp_machine.specs.Reading.{ControlReads}
@@ -33,13 +33,13 @@ pub record IsSoundSession (drawn : List ℕ) (t : ℕ) (s : Session) : Type 0 wh
   pub blank : s.state ≡ Pending → s.remote ≡ None
 
 -- a bearer: its TEID was drawn, and its session stands; it has a remote where it is active, and none while it is pending;
--- its identity is 5 to 15, but for a default bearer's at the serving gateway, which is what the command says
-pub record IsSoundBearer (role : Role) (drawn : List ℕ) (sessions : FiniteMap Session) (t : ℕ) (b : Bearer) : Type 0 where
+-- its identity is 5 to 15
+pub record IsSoundBearer (drawn : List ℕ) (sessions : FiniteMap Session) (t : ℕ) (b : Bearer) : Type 0 where
   pub own : Among t drawn
   pub of : (s : Session) × (get sessions b.session ≡ Some s)
   pub named : b.state ≡ Active → (remote : ℕ) × (b.remote ≡ Some remote)
   pub blank : b.state ≡ Pending → b.remote ≡ None
-  pub range : (identity : ℕ) → b.identity ≡ Some identity → IsIdentity identity ⊎ ((role ≡ Serving) × (b.kind ≡ Default))
+  pub range : (identity : ℕ) → b.identity ≡ Some identity → IsIdentity identity
 
 -- no two bearers of a session have one identity
 abbrev pub AreApart : FiniteMap Bearer → Type 0
@@ -128,9 +128,9 @@ pub record IsWithin (sessions : FiniteMap Session) (pending : FiniteMap PendingR
   pub drawn_few : length drawn ≤ 16777215
 
 -- sessions and bearers that are sound
-pub record AreSoundContexts (role : Role) (drawn : List ℕ) (sessions : FiniteMap Session) (bearers : FiniteMap Bearer) : Type 0 where
+pub record AreSoundContexts (drawn : List ℕ) (sessions : FiniteMap Session) (bearers : FiniteMap Bearer) : Type 0 where
   pub each_session : Each (IsSoundSession drawn) sessions
-  pub each_bearer : Each (IsSoundBearer role drawn sessions) bearers
+  pub each_bearer : Each (IsSoundBearer drawn sessions) bearers
   pub apart : AreApart bearers
 
 -- pending requests that are sound
@@ -140,7 +140,7 @@ pub record AreSoundRequests (role : Role) (sessions : FiniteMap Session) (bearer
 
 -- A gateway that is sound.
 pub record IsSound (role : Role) (node : Node) : Type 0 where
-  pub contexts : AreSoundContexts role node.drawn node.sessions node.bearers
+  pub contexts : AreSoundContexts node.drawn node.sessions node.bearers
   pub requests : AreSoundRequests role node.sessions node.bearers node.pending
   pub within : IsWithin node.sessions node.pending node.held node.drawn
 
@@ -150,14 +150,15 @@ IsWhole (Create_session_response a) = IsAccepting a.cause → ((t : ℕ) × (tei
 IsWhole (Create_bearer_response x) = IsAccepting x.cause → (c : GivenBearer) → Among c x.contexts → IsAccepting c.cause → (t : ℕ) × (teid_in c.serving_user ≡ Some t)
 IsWhole _ = Unit {0}
 
--- what comes was read from octets, whoever sent them
-abbrev pub IsRead : Input → Type 0
-IsRead (Control_came request (Control_message message)) = IsWhole message
-IsRead _ = Unit {0}
+-- what comes was read from octets, whoever sent them, and a command names an identity of 5 to 15 for the default bearer
+abbrev pub IsWellFormed : Input → Type 0
+IsWellFormed (Commanded (Create_session spec)) = IsIdentity spec.subscriber.identity
+IsWellFormed (Control_came request (Control_message message)) = IsWhole message
+IsWellFormed _ = Unit {0}
 
 -- Each step from a sound gateway leaves it sound.
 abbrev pub StaysSound : Type 0
-StaysSound = (role : Role) (old : Node) (input : Input) (effect : Effect) → IsSound role old → IsRead input → Step role old input effect → IsSound role effect.node
+StaysSound = (role : Role) (old : Node) (input : Input) (effect : Effect) → IsSound role old → IsWellFormed input → Step role old input effect → IsSound role effect.node
 
 -- a gateway that has just started is sound
 abbrev pub StartsSound : Type 0
@@ -182,15 +183,15 @@ IsNotEmpty {X} P = ((x : X) → P x → ⊥) → ⊥
 abbrev pub AlwaysSteps : Type 0
 AlwaysSteps = (role : Role) (old : Node) (input : Input) → IsSound role old → CanCome old input → IsNotEmpty (λ effect. Step role old input effect)
 
--- each step takes what was read from octets
-abbrev pub AreRead : List Done → Type 0
-AreRead [] = Unit {0}
-AreRead (done ∷ log) = IsRead done.input × AreRead log
+-- each step takes what is well formed
+abbrev pub AreWellFormed : List Done → Type 0
+AreWellFormed [] = Unit {0}
+AreWellFormed (done ∷ log) = IsWellFormed done.input × AreWellFormed log
 
 -- A gateway that is reached from a start is sound.
 abbrev pub ReachedIsSound : Type 0
-ReachedIsSound = (role : Role) (config : Config) (counter : ℕ) (log : List Done) (node : Node) → Steps role (fresh_node config counter) log node → AreRead log → IsSound role node
+ReachedIsSound = (role : Role) (config : Config) (counter : ℕ) (log : List Done) (node : Node) → Steps role (fresh_node config counter) log node → AreWellFormed log → IsSound role node
 
 -- What is read from octets is whole.
 abbrev pub ReadsWhole : Type 0
-ReadsWhole = (request : Arrival) (reading : ControlReading) → ControlReads request.octets reading → IsRead (Control_came request reading)
+ReadsWhole = (request : Arrival) (reading : ControlReading) → ControlReads request.octets reading → IsWellFormed (Control_came request reading)

@@ -6,3 +6,6 @@ some_same o s t x y = cc
 
 pub none_some : (t : ℕ) → ◌≡◌ {A = Option ℕ} None (Some t) → ⊥
 none_some t e = cc
+
+pub some_is : (a b : ℕ) → ◌≡◌ {A = Option ℕ} (Some a) (Some b) → a ≡ b
+some_is a b e = cc

@@ -164,9 +164,9 @@ module _ (role : Role) where
     free_opened key m q t free e o same = free.undrawn (subst (λ k. Among k old.drawn) same (opened_drawn role old.drawn old.sessions old.bearers m q t sound.contexts (sound.requests.each m q e) o))
 
     -- a session comes with its default bearer, under free TEIDs
-    pub session_comes : (control user : ℕ) (s : Session) (b : Bearer) → IsFree old control → IsFree old user → b.session ≡ control → len old.sessions < 1000 → length old.drawn + 2 ≤ 16777215 → IsSoundSession (user ∷ control ∷ old.drawn) control s → IsSoundBearer role (user ∷ control ∷ old.drawn) (insert old.sessions control s) user b → IsSound role (record old { drawn = user ∷ control ∷ old.drawn; sessions = insert old.sessions control s; bearers = insert old.bearers user b })
+    pub session_comes : (control user : ℕ) (s : Session) (b : Bearer) → IsFree old control → IsFree old user → b.session ≡ control → len old.sessions < 1000 → length old.drawn + 2 ≤ 16777215 → IsSoundSession (user ∷ control ∷ old.drawn) control s → IsSoundBearer (user ∷ control ∷ old.drawn) (insert old.sessions control s) user b → IsSound role (record old { drawn = user ∷ control ∷ old.drawn; sessions = insert old.sessions control s; bearers = insert old.bearers user b })
     session_comes control user s b control_free user_free of room draws at_session at_bearer = record {
-      contexts = contexts_bearer role (user ∷ control ∷ old.drawn) (insert old.sessions control s) old.bearers user b at_bearer (λ t a i e other same ia ib. free_session control a.session (sound.contexts.each_bearer t a e).of.0 control_free (sound.contexts.each_bearer t a e).of.1 (same ∙ of)) (contexts_session role (user ∷ control ∷ old.drawn) old.sessions old.bearers control s at_session (contexts_drawn role old.drawn (user ∷ control ∷ old.drawn) old.sessions old.bearers (λ t was. inr (inr was)) sound.contexts));
+      contexts = contexts_bearer (user ∷ control ∷ old.drawn) (insert old.sessions control s) old.bearers user b at_bearer (λ t a i e other same ia ib. free_session control a.session (sound.contexts.each_bearer t a e).of.0 control_free (sound.contexts.each_bearer t a e).of.1 (same ∙ of)) (contexts_session (user ∷ control ∷ old.drawn) old.sessions old.bearers control s at_session (contexts_drawn old.drawn (user ∷ control ∷ old.drawn) old.sessions old.bearers (λ t was. inr (inr was)) sound.contexts));
       requests = requests_follow role old.sessions (insert old.sessions control s) old.bearers (insert old.bearers user b) old.pending (λ m q e. follows_all old.sessions (insert old.sessions control s) old.bearers (insert old.bearers user b) q
           (λ t st n at. at_insert old.sessions control s (IsInState st) t (λ y same e is. absurd (free_session control t y control_free e same)) at)
           (λ t c k st n at. at_insert old.bearers user b (IsBearerOf c k st) t (λ y same e is. absurd (free_bearer user t y user_free e same)) at)) sound.requests;
@@ -180,9 +180,9 @@ module _ (role : Role) where
     }
 
     -- a dedicated bearer comes under a free TEID
-    pub bearer_comes : (user : ℕ) (b : Bearer) → IsFree old user → length old.drawn + 1 ≤ 16777215 → IsSoundBearer role (user ∷ old.drawn) old.sessions user b → ((t : ℕ) (a : Bearer) (identity : ℕ) → get old.bearers t ≡ Some a → a.session ≡ b.session → a.identity ≡ Some identity → b.identity ≡ Some identity → ⊥) → IsSound role (record old { drawn = user ∷ old.drawn; bearers = insert old.bearers user b })
+    pub bearer_comes : (user : ℕ) (b : Bearer) → IsFree old user → length old.drawn + 1 ≤ 16777215 → IsSoundBearer (user ∷ old.drawn) old.sessions user b → ((t : ℕ) (a : Bearer) (identity : ℕ) → get old.bearers t ≡ Some a → a.session ≡ b.session → a.identity ≡ Some identity → b.identity ≡ Some identity → ⊥) → IsSound role (record old { drawn = user ∷ old.drawn; bearers = insert old.bearers user b })
     bearer_comes user b free draws at unused = record {
-      contexts = contexts_bearer role (user ∷ old.drawn) old.sessions old.bearers user b at (λ t a i e other. unused t a i e) (contexts_drawn role old.drawn (user ∷ old.drawn) old.sessions old.bearers (λ t was. inr was) sound.contexts);
+      contexts = contexts_bearer (user ∷ old.drawn) old.sessions old.bearers user b at (λ t a i e other. unused t a i e) (contexts_drawn old.drawn (user ∷ old.drawn) old.sessions old.bearers (λ t was. inr was) sound.contexts);
       requests = requests_follow role old.sessions old.sessions old.bearers (insert old.bearers user b) old.pending (λ m q e. follows_all old.sessions old.sessions old.bearers (insert old.bearers user b) q
           (λ t st n at. at)
           (λ t c k st n at. at_insert old.bearers user b (IsBearerOf c k st) t (λ y same e is. absurd (free_bearer user t y free e same)) at)) sound.requests;
@@ -194,12 +194,12 @@ module _ (role : Role) where
     bearer_changes key b n stands active session identity kind remote not_pending =
         let at = sound.contexts.each_bearer key b stands in
         record {
-          contexts = contexts_same role old.drawn old.sessions old.bearers key b n stands session identity (record {
+          contexts = contexts_same old.drawn old.sessions old.bearers key b n stands session identity (record {
             own = at.own;
             of = (at.of.0, ap (λ k. get old.sessions k) session ∙ at.of.1);
             named = λ a. let r = at.named active in (r.0, remote ∙ r.1);
             blank = λ w. absurd (not_pending w);
-            range = λ i e. ⊎_elim (λ r. inl r) (λ d. inr (d.0, kind ∙ d.1)) (at.range i (sym identity ∙ e));
+            range = λ i e. at.range i (sym identity ∙ e);
           }) sound.contexts;
           requests = requests_follow role old.sessions old.sessions old.bearers (insert old.bearers key n) old.pending (λ m q e. follows_all old.sessions old.sessions old.bearers (insert old.bearers key n) q
               (λ t st no at. at)
@@ -214,7 +214,7 @@ module _ (role : Role) where
         each_session = Each-insert (IsSoundSession old.drawn) old.sessions session (closing_session s) closed_session sound.contexts.each_session;
         each_bearer = λ t b e.
             let was = found-changed (closing_bearer session) old.bearers t b e in
-            subst (λ k. IsSoundBearer role old.drawn (insert old.sessions session (closing_session s)) t k) (sym was.is) (closed_bearer (eqb was.before.session session) t was.before (sound.contexts.each_bearer t was.before was.stood));
+            subst (λ k. IsSoundBearer old.drawn (insert old.sessions session (closing_session s)) t k) (sym was.is) (closed_bearer (eqb was.before.session session) t was.before (sound.contexts.each_bearer t was.before was.stood));
         apart = λ m n a b i x y same ia ib.
             let first = found-changed (closing_bearer session) old.bearers m a x in
             let second = found-changed (closing_bearer session) old.bearers n b y in
@@ -232,7 +232,7 @@ module _ (role : Role) where
         closed_session : IsSoundSession old.drawn session (closing_session s)
         closed_session = let at = sound.contexts.each_session session s stands in record { own = at.own; named = λ n. at.named (λ w. waiting_active s.state w active); blank = λ w. absurd (cc w) }
 
-        closed_bearer : (test : Bool) (t : ℕ) (x : Bearer) → IsSoundBearer role old.drawn old.sessions t x → IsSoundBearer role old.drawn (insert old.sessions session (closing_session s)) t (cond test (record x { state = Closing }) x)
+        closed_bearer : (test : Bool) (t : ℕ) (x : Bearer) → IsSoundBearer old.drawn old.sessions t x → IsSoundBearer old.drawn (insert old.sessions session (closing_session s)) t (cond test (record x { state = Closing }) x)
         closed_bearer true t x at = record { own = at.own; of = there_insert old.sessions session (closing_session s) x.session at.of; named = λ a. absurd (cc a); blank = λ w. absurd (cc w); range = at.range }
         closed_bearer false t x at = record { own = at.own; of = there_insert old.sessions session (closing_session s) x.session at.of; named = at.named; blank = at.blank; range = at.range }
 
@@ -304,15 +304,15 @@ module _ (role : Role) where
         let u = a.request.context.user.teid in
         let at = sound.contexts.each_bearer u a.default.0 a.default.1 in
         record {
-          contexts = contexts_same role old.drawn (insert old.sessions c now) old.bearers u a.default.0 opened a.default.1 session identity
+          contexts = contexts_same old.drawn (insert old.sessions c now) old.bearers u a.default.0 opened a.default.1 session identity
               (record {
                 own = at.own;
                 of = there_insert old.sessions c now opened.session (at.of.0, ap (λ k. get old.sessions k) session ∙ at.of.1);
                 named = λ x. opened_remote;
                 blank = λ w. absurd (waiting_active opened.state w opened_active);
-                range = λ i e. ⊎_elim (λ r. inl r) (λ d. inr (d.0, kind ∙ d.1)) (at.range i (sym identity ∙ e));
+                range = λ i e. at.range i (sym identity ∙ e);
               })
-              (contexts_session role old.drawn old.sessions old.bearers c now (record { own = (sound.contexts.each_session c a.waits.0 a.waits.1).own; named = λ n. remote; blank = λ w. absurd (waiting_active now.state w active) }) sound.contexts);
+              (contexts_session old.drawn old.sessions old.bearers c now (record { own = (sound.contexts.each_session c a.waits.0 a.waits.1).own; named = λ n. remote; blank = λ w. absurd (waiting_active now.state w active) }) sound.contexts);
           requests = requests_follow role old.sessions (insert old.sessions c now) old.bearers (insert old.bearers u opened) (remove old.pending number) (λ m q e. follows m q (found-remove old.pending number m q e)) (requests_fewer role old.sessions old.bearers old.pending (remove old.pending number) (λ m q e. (found-remove old.pending number m q e).1) sound.requests);
           within = record {
             sessions_few = omega (arith, len-insert_same old.sessions c now a.waits.0 a.waits.1, sound.within.sessions_few);
@@ -341,12 +341,12 @@ module _ (role : Role) where
         let u = r.context.user.teid in
         let was = sound.contexts.each_bearer u b at in
         record {
-          contexts = contexts_bearer role old.drawn old.sessions old.bearers u n (record {
+          contexts = contexts_bearer old.drawn old.sessions old.bearers u n (record {
             own = was.own;
             of = (was.of.0, ap (λ k. get old.sessions k) session ∙ was.of.1);
             named = λ x. remote;
             blank = λ w. absurd (waiting_active n.state w active);
-            range = λ i e. inl (range i e);
+            range = range;
           }) (λ t a i e other. unused t a i e) sound.contexts;
           requests = requests_follow role old.sessions old.sessions old.bearers (insert old.bearers u n) (remove old.pending number) (λ m q e. follows m q (found-remove old.pending number m q e)) (requests_fewer role old.sessions old.bearers old.pending (remove old.pending number) (λ m q e. (found-remove old.pending number m q e).1) sound.requests);
           within = record {

@@ -107,7 +107,7 @@ module _ (role : Role) where
       ]
 
   -- what a pending request opens was drawn
-  pub opened_drawn : (drawn : List ℕ) (S : FiniteMap Session) (B : FiniteMap Bearer) (number : ℕ) (p : PendingRequest) (t : ℕ) → AreSoundContexts role drawn S B → IsAbout role S B number p → opened_by p.request ≡ Some t → Among t drawn
+  pub opened_drawn : (drawn : List ℕ) (S : FiniteMap Session) (B : FiniteMap Bearer) (number : ℕ) (p : PendingRequest) (t : ℕ) → AreSoundContexts drawn S B → IsAbout role S B number p → opened_by p.request ≡ Some t → Among t drawn
   opened_drawn drawn S B number p t c (inl e) o = let n = sym (ap opened_by e.asked) ∙ o in absurd (cc n)
   opened_drawn drawn S B number p t c (inr (inl a)) o = let same : a.request.control.teid ≡ t = cc (sym (ap opened_by a.asked) ∙ o) in subst (λ k. Among k drawn) same (c.each_session a.request.control.teid a.waits.0 a.waits.1).own
   opened_drawn drawn S B number p t c (inr (inr (inl d))) o = absurd (no_deletion role number p.request t d.asked o)
@@ -116,38 +116,38 @@ module _ (role : Role) where
       subst (λ k. Among k drawn) same (⊎_elim (λ w. (c.each_bearer a.request.context.user.teid w.0 w.1).own) (λ w. (c.each_bearer a.request.context.user.teid w.0.0 w.0.1).own) a.wanted)
   opened_drawn drawn S B number p t c (inr (inr (inr (inr d)))) o = let n = sym (ap opened_by d.asked) ∙ o in absurd (cc n)
 
-  -- more TEIDs are drawn
-  pub contexts_drawn : (drawn more : List ℕ) (S : FiniteMap Session) (B : FiniteMap Bearer) → ((t : ℕ) → Among t drawn → Among t more) → AreSoundContexts role drawn S B → AreSoundContexts role more S B
-  contexts_drawn drawn more S B extends c = record {
-    each_session = λ t s e. let at = c.each_session t s e in record { own = extends t at.own; named = at.named; blank = at.blank };
-    each_bearer = λ t b e. let at = c.each_bearer t b e in record { own = extends t at.own; of = at.of; named = at.named; blank = at.blank; range = at.range };
-    apart = c.apart;
-  }
+-- more TEIDs are drawn
+pub contexts_drawn : (drawn more : List ℕ) (S : FiniteMap Session) (B : FiniteMap Bearer) → ((t : ℕ) → Among t drawn → Among t more) → AreSoundContexts drawn S B → AreSoundContexts more S B
+contexts_drawn drawn more S B extends c = record {
+  each_session = λ t s e. let at = c.each_session t s e in record { own = extends t at.own; named = at.named; blank = at.blank };
+  each_bearer = λ t b e. let at = c.each_bearer t b e in record { own = extends t at.own; of = at.of; named = at.named; blank = at.blank; range = at.range };
+  apart = c.apart;
+}
 
-  -- a session comes or is replaced
-  pub contexts_session : (drawn : List ℕ) (S : FiniteMap Session) (B : FiniteMap Bearer) (key : ℕ) (s : Session) → IsSoundSession drawn key s → AreSoundContexts role drawn S B → AreSoundContexts role drawn (insert S key s) B
-  contexts_session drawn S B key s is c = record {
-    each_session = Each-insert (IsSoundSession drawn) S key s is c.each_session;
-    each_bearer = λ t b e. let at = c.each_bearer t b e in record { own = at.own; of = there_insert S key s b.session at.of; named = at.named; blank = at.blank; range = at.range };
-    apart = c.apart;
-  }
+-- a session comes or is replaced
+pub contexts_session : (drawn : List ℕ) (S : FiniteMap Session) (B : FiniteMap Bearer) (key : ℕ) (s : Session) → IsSoundSession drawn key s → AreSoundContexts drawn S B → AreSoundContexts drawn (insert S key s) B
+contexts_session drawn S B key s is c = record {
+  each_session = Each-insert (IsSoundSession drawn) S key s is c.each_session;
+  each_bearer = λ t b e. let at = c.each_bearer t b e in record { own = at.own; of = there_insert S key s b.session at.of; named = at.named; blank = at.blank; range = at.range };
+  apart = c.apart;
+}
 
-  -- a bearer comes or is replaced
-  pub contexts_bearer : (drawn : List ℕ) (S : FiniteMap Session) (B : FiniteMap Bearer) (key : ℕ) (b : Bearer) → IsSoundBearer role drawn S key b → ((t : ℕ) (a : Bearer) (identity : ℕ) → get B t ≡ Some a → t ≢ key → a.session ≡ b.session → a.identity ≡ Some identity → b.identity ≡ Some identity → ⊥) → AreSoundContexts role drawn S B → AreSoundContexts role drawn S (insert B key b)
-  contexts_bearer drawn S B key b is unused c = record { each_session = c.each_session; each_bearer = Each-insert (IsSoundBearer role drawn S) B key b is c.each_bearer; apart = apart }
-    where
-      apart : AreApart (insert B key b)
-      apart s t x y i ex ey same ix iy = elim (found-insert B key b s x ex) [
-        | inl first ↦ elim (found-insert B key b t y ey) [
-          | inl second ↦ first.0 ∙ sym second.0
-          | inr second ↦ absurd (unused t y i second.1 second.0 (sym same ∙ sym (ap (λ (k : Bearer). k.session) first.1)) iy (ap (λ (k : Bearer). k.identity) first.1 ∙ ix))
-        ]
-        | inr first ↦ elim (found-insert B key b t y ey) [
-          | inl second ↦ absurd (unused s x i first.1 first.0 (same ∙ sym (ap (λ (k : Bearer). k.session) second.1)) ix (ap (λ (k : Bearer). k.identity) second.1 ∙ iy))
-          | inr second ↦ c.apart s t x y i first.1 second.1 same ix iy
-        ]
+-- a bearer comes or is replaced
+pub contexts_bearer : (drawn : List ℕ) (S : FiniteMap Session) (B : FiniteMap Bearer) (key : ℕ) (b : Bearer) → IsSoundBearer drawn S key b → ((t : ℕ) (a : Bearer) (identity : ℕ) → get B t ≡ Some a → t ≢ key → a.session ≡ b.session → a.identity ≡ Some identity → b.identity ≡ Some identity → ⊥) → AreSoundContexts drawn S B → AreSoundContexts drawn S (insert B key b)
+contexts_bearer drawn S B key b is unused c = record { each_session = c.each_session; each_bearer = Each-insert (IsSoundBearer drawn S) B key b is c.each_bearer; apart = apart }
+  where
+    apart : AreApart (insert B key b)
+    apart s t x y i ex ey same ix iy = elim (found-insert B key b s x ex) [
+      | inl first ↦ elim (found-insert B key b t y ey) [
+        | inl second ↦ first.0 ∙ sym second.0
+        | inr second ↦ absurd (unused t y i second.1 second.0 (sym same ∙ sym (ap (λ (k : Bearer). k.session) first.1)) iy (ap (λ (k : Bearer). k.identity) first.1 ∙ ix))
       ]
+      | inr first ↦ elim (found-insert B key b t y ey) [
+        | inl second ↦ absurd (unused s x i first.1 first.0 (same ∙ sym (ap (λ (k : Bearer). k.session) second.1)) ix (ap (λ (k : Bearer). k.identity) second.1 ∙ iy))
+        | inr second ↦ c.apart s t x y i first.1 second.1 same ix iy
+      ]
+    ]
 
-  -- a bearer is replaced by one of its session with its identity
-  pub contexts_same : (drawn : List ℕ) (S : FiniteMap Session) (B : FiniteMap Bearer) (key : ℕ) (b n : Bearer) → get B key ≡ Some b → n.session ≡ b.session → n.identity ≡ b.identity → IsSoundBearer role drawn S key n → AreSoundContexts role drawn S B → AreSoundContexts role drawn S (insert B key n)
-  contexts_same drawn S B key b n stands session identity is c = contexts_bearer drawn S B key n is (λ t a i e other same ia ib. other (c.apart t key a b i e stands (same ∙ session) ia (sym identity ∙ ib))) c
+-- a bearer is replaced by one of its session with its identity
+pub contexts_same : (drawn : List ℕ) (S : FiniteMap Session) (B : FiniteMap Bearer) (key : ℕ) (b n : Bearer) → get B key ≡ Some b → n.session ≡ b.session → n.identity ≡ b.identity → IsSoundBearer drawn S key n → AreSoundContexts drawn S B → AreSoundContexts drawn S (insert B key n)
+contexts_same drawn S B key b n stands session identity is c = contexts_bearer drawn S B key n is (λ t a i e other same ia ib. other (c.apart t key a b i e stands (same ∙ session) ia (sym identity ∙ ib))) c

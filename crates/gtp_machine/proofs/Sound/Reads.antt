@@ -35,7 +35,7 @@ use Rattle.gtp_v2.specs.declared.fault.V2Fault.{V2Fault}
 use Rattle.gtp_v2.specs.declared.fault.V2Fault.TheVariants as faults
 use Rattle.gtp_machine.specs.Input.{Control_came, RequestKind, Defect, Too_short, Out_of_range}
 use Rattle.gtp_machine.specs.Reading.{created_bearer, given_bearer, body_message, session_request_of, bearer_request_of, control_fault, element_fault, defect_in, request_kind, missing_in, header_in}
-use Rattle.gtp_machine.specs.Sound.{IsWhole, IsRead, ReadsWhole}
+use Rattle.gtp_machine.specs.Sound.{IsWhole, IsWellFormed, ReadsWhole}
 
 -- an element that is needed is there
 enough : (o : Option TunnelEnd) (b : Bool) → b ≡ true → IsEnough (need_where b) (option_to_list (option_map OfFTeid o)) → (t : ℕ) × (teid_in o ≡ Some t)
@@ -108,11 +108,11 @@ whole_body header number (bodies.DeleteBearerRequest m) marked = tt
 whole_body header number (bodies.DeleteBearerResponse m) marked = tt
 whole_body header number (bodies.Other kind octets) marked = tt
 
-defect_read : (request : Arrival) (kind : Option RequestKind) (head : Head) (defect : Defect) (element instance : ℕ) → IsRead (Control_came request (defect_in kind head defect element instance))
+defect_read : (request : Arrival) (kind : Option RequestKind) (head : Head) (defect : Defect) (element instance : ℕ) → IsWellFormed (Control_came request (defect_in kind head defect element instance))
 defect_read request None head defect element instance = tt
 defect_read request (Some kind) head defect element instance = tt
 
-element_read : (request : Arrival) (head : Head) (fault : IeFault) → IsRead (Control_came request (element_fault head fault))
+element_read : (request : Arrival) (head : Head) (fault : IeFault) → IsWellFormed (Control_came request (element_fault head fault))
 element_read request head (elements.Truncated at) = tt
 element_read request head (elements.ShortValue kind instance at) = defect_read request (request_kind head.kind) head Too_short kind instance
 element_read request head (elements.BadValue kind instance at) = defect_read request (request_kind head.kind) head Out_of_range kind instance
@@ -120,7 +120,7 @@ element_read request head elements.Memory = tt
 element_read request head elements.TooLong = tt
 
 -- a fault is no message
-fault_read : (request : Arrival) (fault : V2Fault) → IsRead (Control_came request (control_fault fault))
+fault_read : (request : Arrival) (fault : V2Fault) → IsWellFormed (Control_came request (control_fault fault))
 fault_read request (faults.Short held) = tt
 fault_read request (faults.Version version) = tt
 fault_read request faults.Piggyback = tt
@@ -132,5 +132,5 @@ fault_read request faults.Memory = tt
 fault_read request faults.TooLong = tt
 
 pub reads_whole : ReadsWhole
-reads_whole request reading (inl found) = subst (λ r. IsRead (Control_came request r)) (sym found.2) (whole_body (header_in found.0.teid) found.0.seq found.0.body (_, message_marked request.octets (spoken_of found.0) found.1))
-reads_whole request reading (inr fault) = subst (λ r. IsRead (Control_came request r)) (sym fault.2) (fault_read request fault.0)
+reads_whole request reading (inl found) = subst (λ r. IsWellFormed (Control_came request r)) (sym found.2) (whole_body (header_in found.0.teid) found.0.seq found.0.body (_, message_marked request.octets (spoken_of found.0) found.1))
+reads_whole request reading (inr fault) = subst (λ r. IsWellFormed (Control_came request r)) (sym fault.2) (fault_read request fault.0)

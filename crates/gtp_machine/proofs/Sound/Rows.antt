@@ -22,17 +22,12 @@ use Rattle.gtp_machine.specs.Answer.{ControlStep}
 use Rattle.gtp_machine.specs.Serving.{FitsSession, DescribesSession, opened_session, opened_bearer, OpensSession, SessionAnswered, DeletionAnswered, granted_bearer, BearerAsked, RemovesEach, RemovalTaken, RemovalAsked, ServingTakes, ServingFaulted, ServingReads}
 use Rattle.gtp_machine.specs.Packet.{made_session, made_bearer, session_made, SessionAsked, DeletionAsked, FitsBearer, DescribesBearer, CanOpen, opened_dedicated, OpensBearer, BearerAnswered, RemovalAnswered, PacketTakes, PacketFaulted, PacketReads}
 use Rattle.gtp_machine.specs.Once.{Done, Steps}
-use Rattle.gtp_machine.specs.Sound.{At, IsInState, IsBearerOf, IsSound, IsWhole, IsRead, AreRead, StaysSound, ReachedIsSound}
+use Rattle.gtp_machine.specs.Sound.{At, IsInState, IsBearerOf, IsSound, IsWhole, IsWellFormed, AreWellFormed, StaysSound, ReachedIsSound}
 use Rattle.gtp_machine.proofs.Basics.FiniteMaps.{get-insert_same}
 use Rattle.gtp_machine.proofs.Sound.Parts.{one_value, waiting_active, at_here}
 use Rattle.gtp_machine.proofs.Sound.Changes.{fresh, without_sound, without_session_sound, without_bearer_sound, finished_sound, holding_sound, known_sound, asks_sound, free_opened, session_comes, bearer_comes, bearer_changes, closing_sound, is_session, is_bearer, session_opens, bearer_opens}
 use Rattle.gtp_machine.proofs.Changes.Forgetting.{leaves}
-
-pub some_is : (a b : ℕ) → ◌≡◌ {A = Option ℕ} (Some a) (Some b) → a ≡ b
-some_is a b e = cc
-
-none_is : (t : ℕ) → ◌≡◌ {A = Option ℕ} None (Some t) → ⊥
-none_is t e = cc
+use Rattle.gtp_machine.proofs.Basics.Options.{some_is, none_some}
 
 module _ (role : Role) where
   -- what a row says of its effect
@@ -40,13 +35,13 @@ module _ (role : Role) where
   by_row e f gives s = subst (λ (k : Effect). IsSound role k.node) (sym gives) s
 
 module _ (old : Node) where
-  begins : IsSound Serving old → (spec : Specification) (e : Effect) → len old.sessions < 1000 → length old.drawn + 2 ≤ 16777215 → len old.pending < 256 → BeginsSession old spec e → IsSound Serving e.node
-  begins sound spec e room draws few r =
+  begins : IsSound Serving old → (spec : Specification) → IsIdentity spec.subscriber.identity → (e : Effect) → len old.sessions < 1000 → length old.drawn + 2 ≤ 16777215 → len old.pending < 256 → BeginsSession old spec e → IsSound Serving e.node
+  begins sound spec identity e room draws few r =
       let q = session_request old spec r.control r.user r.number in
       by_row Serving e _ r.gives (asks_sound Serving old sound (session_begun old r.control r.user q) r.number _
       (session_comes Serving old sound r.control r.user (pending_session q) (pending_bearer r.control q) r.control_free r.user_free refl room draws
       (record { own = inr (inl refl); named = λ n. absurd (n refl); blank = λ w. refl })
-      (record { own = inl refl; of = (pending_session q, get-insert_same old.sessions r.control (pending_session q)); named = λ a. absurd (cc a); blank = λ w. refl; range = λ i e. inr (refl, refl) }))
+      (record { own = inl refl; of = (pending_session q, get-insert_same old.sessions r.control (pending_session q)); named = λ a. absurd (cc a); blank = λ w. refl; range = λ i e. subst IsIdentity (some_is spec.subscriber.identity i e) identity }))
       refl few r.number_free.small
       (inr (inl (record {
         by = refl;
@@ -63,18 +58,18 @@ module _ (old : Node) where
   closes : IsSound Serving old → (session : ℕ) (at : Session) (e : Effect) → get old.sessions session ≡ Some at → at.state ≡ Active → len old.pending < 256 → ClosesSession old session at e → IsSound Serving e.node
   closes sound session at e stands active few r = by_row Serving e _ r.gives (asks_sound Serving old sound (session_closing old session at) r.number _ (closing_sound Serving old sound session at stands active) refl few r.number_free.small
       (inr (inr (inl (record { asked = (_, refl, refl); about = session; session = refl; bearer = refl; closes = at_here old.sessions session (closing_session at) (IsInState Closing) session refl refl }))))
-      (λ m p t at o same. none_is t same))
+      (λ m p t at o same. none_some t same))
 
   releases : IsSound Packet old → (session : ℕ) (at : Session) (e : Effect) → get old.sessions session ≡ Some at → at.state ≡ Active → len old.pending < 256 → ReleasesSession old session at e → IsSound Packet e.node
   releases sound session at e stands active few r = by_row Packet e _ r.gives (asks_sound Packet old sound (session_closing old session at) r.number _ (closing_sound Packet old sound session at stands active) refl few r.number_free.small
       (inr (inr (inl (record { asked = (_, refl, refl, refl); about = session; session = refl; bearer = refl; closes = at_here old.sessions session (closing_session at) (IsInState Closing) session refl refl }))))
-      (λ m p t at o same. none_is t same))
+      (λ m p t at o same. none_some t same))
 
   begins_bearer : IsSound Packet old → (session : ℕ) (at : Session) (tft : List ℕ) (qos : Qos) (e : Effect) → get old.sessions session ≡ Some at → length old.drawn + 1 ≤ 16777215 → len old.pending < 256 → BeginsBearer old session at tft qos e → IsSound Packet e.node
   begins_bearer sound session at tft qos e stands draws few r = by_row Packet e _ r.gives (asks_sound Packet old sound (record old { drawn = r.user ∷ old.drawn; bearers = insert old.bearers r.user (pending_dedicated session) }) r.number _
       (bearer_comes Packet old sound r.user (pending_dedicated session) r.user_free draws
-      (record { own = inl refl; of = (at, stands); named = λ a. absurd (cc a); blank = λ w. refl; range = λ i e. absurd (none_is i e) })
-      (λ t a i e same ia ib. none_is i ib))
+      (record { own = inl refl; of = (at, stands); named = λ a. absurd (cc a); blank = λ w. refl; range = λ i e. absurd (none_some i e) })
+      (λ t a i e same ia ib. none_some i ib))
       refl few r.number_free.small
       (inr (inr (inr (inl (record {
         by = refl;
@@ -104,51 +99,51 @@ module _ (old : Node) where
         bearer = refl;
         closes = at_here old.bearers bearer (record b { state = Closing }) (IsBearerOf session Dedicated Closing) bearer refl (record { of = of; is_kind = dedicated; in_state = refl });
       })))))
-      (λ m p t at o same. none_is t same))
+      (λ m p t at o same. none_some t same))
 
   ends_bearer : (role : Role) → IsSound role old → (key : ℕ) (b : Bearer) → get old.bearers key ≡ Some b → b.state ≡ Active → IsSound role (record old { bearers = insert old.bearers key (ended_bearer b) })
   ends_bearer role sound key b stands active = bearer_changes role old sound key b (ended_bearer b) stands active refl refl refl refl (λ w. waiting_active b.state w active)
 
-  command : (role : Role) → IsSound role old → (c : Command) (e : Effect) → CommandStep role c old e → IsSound role e.node
-  command Packet sound (Create_session spec) e r = by_row Packet e _ r sound
-  command Serving sound (Create_session spec) e (inl f) = by_row Serving e _ f.1 sound
-  command Serving sound (Create_session spec) e (inr (room, inl f)) = by_row Serving e _ f.1 sound
-  command Serving sound (Create_session spec) e (inr (room, inr (draws, inl f))) = by_row Serving e _ f.1 sound
-  command Serving sound (Create_session spec) e (inr (room, inr (draws, inr (few, r)))) = begins sound spec e room.few draws.left few.few r
-  command Packet sound (Delete_session session) e r = by_row Packet e _ r sound
-  command Serving sound (Delete_session session) e (inl f) = by_row Serving e _ f.1 sound
-  command Serving sound (Delete_session session) e (inr (at, inl f)) = by_row Serving e _ f.1 sound
-  command Serving sound (Delete_session session) e (inr (at, inr (active, inl f))) = by_row Serving e _ f.1 sound
-  command Serving sound (Delete_session session) e (inr (at, inr (active, inr (few, r)))) = closes sound session at.session e at.stands active few.few r
-  command Serving sound (Create_bearer session tft qos) e r = by_row Serving e _ r sound
-  command Packet sound (Create_bearer session tft qos) e (inl f) = by_row Packet e _ f.1 sound
-  command Packet sound (Create_bearer session tft qos) e (inr (at, inl f)) = by_row Packet e _ f.1 sound
-  command Packet sound (Create_bearer session tft qos) e (inr (at, inr (active, inl f))) = by_row Packet e _ f.1 sound
-  command Packet sound (Create_bearer session tft qos) e (inr (at, inr (active, inr (draws, inl f)))) = by_row Packet e _ f.1 sound
-  command Packet sound (Create_bearer session tft qos) e (inr (at, inr (active, inr (draws, inr (few, r))))) = begins_bearer sound session at.session tft qos e at.stands draws.left few.few r
-  command Serving sound (Delete_bearer session identity) e r = by_row Serving e _ r sound
-  command Packet sound (Delete_bearer session identity) e (inl f) = by_row Packet e _ f.1 sound
-  command Packet sound (Delete_bearer session identity) e (inr (at, inl f)) = by_row Packet e _ f.1 sound
-  command Packet sound (Delete_bearer session identity) e (inr (at, inr (named, inl f))) = by_row Packet e _ f.1 sound
-  command Packet sound (Delete_bearer session identity) e (inr (at, inr (named, inr (active, inl f)))) = by_row Packet e _ f.1 sound
-  command Packet sound (Delete_bearer session identity) e (inr (at, inr (named, inr (active, inr (few, r))))) = closes_bearer sound session at.session identity named.key named.at.bearer e named.at.stands active.1 named.of named.dedicated few.few r
-  command Serving sound (Release_session session) e r = by_row Serving e _ r sound
-  command Packet sound (Release_session session) e (inl f) = by_row Packet e _ f.1 sound
-  command Packet sound (Release_session session) e (inr (at, inl f)) = by_row Packet e _ f.1 sound
-  command Packet sound (Release_session session) e (inr (at, inr (active, inl f))) = by_row Packet e _ f.1 sound
-  command Packet sound (Release_session session) e (inr (at, inr (active, inr (few, r)))) = releases sound session at.session e at.stands active few.few r
-  command Serving sound (Mark_end bearer) e r = by_row Serving e _ r sound
-  command Packet sound (Mark_end bearer) e (inl f) = by_row Packet e _ f.1 sound
-  command Packet sound (Mark_end bearer) e (inr (at, inl f)) = by_row Packet e _ f.1 sound
-  command Packet sound (Mark_end bearer) e (inr (at, inr (active, inl f))) = by_row Packet e _ f.1 sound
-  command Packet sound (Mark_end bearer) e (inr (at, inr (active, inr (before, gives)))) = by_row Packet e _ gives (ends_bearer Packet sound bearer at.bearer at.stands active)
-  command role sound Send_echo e (inl f) = by_row role e _ f.1 sound
-  command role sound Send_echo e (inr (few, r)) = by_row role e _ r.gives (asks_sound role old sound old r.number _ sound refl few.few r.number_free.small (inl (record { request = _; asked = refl; numbered = refl; session = refl; bearer = refl })) (λ m p t at o same. none_is t same))
-  command role sound (Send_user bearer payload) e (inl f) = by_row role e _ f.1 sound
-  command role sound (Send_user bearer payload) e (inr (at, inl f)) = by_row role e _ f.1 sound
-  command role sound (Send_user bearer payload) e (inr (at, inr (active, inl f))) = by_row role e _ f.1 sound
-  command role sound (Send_user bearer payload) e (inr (at, inr (active, inr (goes, inl f)))) = by_row role e _ f.1 sound
-  command role sound (Send_user bearer payload) e (inr (at, inr (active, inr (goes, inr (short, r))))) = by_row role e _ r.gives sound
+  command : (role : Role) → IsSound role old → (c : Command) → IsWellFormed (Commanded c) → (e : Effect) → CommandStep role c old e → IsSound role e.node
+  command Packet sound (Create_session spec) formed e r = by_row Packet e _ r sound
+  command Serving sound (Create_session spec) formed e (inl f) = by_row Serving e _ f.1 sound
+  command Serving sound (Create_session spec) formed e (inr (room, inl f)) = by_row Serving e _ f.1 sound
+  command Serving sound (Create_session spec) formed e (inr (room, inr (draws, inl f))) = by_row Serving e _ f.1 sound
+  command Serving sound (Create_session spec) formed e (inr (room, inr (draws, inr (few, r)))) = begins sound spec formed e room.few draws.left few.few r
+  command Packet sound (Delete_session session) formed e r = by_row Packet e _ r sound
+  command Serving sound (Delete_session session) formed e (inl f) = by_row Serving e _ f.1 sound
+  command Serving sound (Delete_session session) formed e (inr (at, inl f)) = by_row Serving e _ f.1 sound
+  command Serving sound (Delete_session session) formed e (inr (at, inr (active, inl f))) = by_row Serving e _ f.1 sound
+  command Serving sound (Delete_session session) formed e (inr (at, inr (active, inr (few, r)))) = closes sound session at.session e at.stands active few.few r
+  command Serving sound (Create_bearer session tft qos) formed e r = by_row Serving e _ r sound
+  command Packet sound (Create_bearer session tft qos) formed e (inl f) = by_row Packet e _ f.1 sound
+  command Packet sound (Create_bearer session tft qos) formed e (inr (at, inl f)) = by_row Packet e _ f.1 sound
+  command Packet sound (Create_bearer session tft qos) formed e (inr (at, inr (active, inl f))) = by_row Packet e _ f.1 sound
+  command Packet sound (Create_bearer session tft qos) formed e (inr (at, inr (active, inr (draws, inl f)))) = by_row Packet e _ f.1 sound
+  command Packet sound (Create_bearer session tft qos) formed e (inr (at, inr (active, inr (draws, inr (few, r))))) = begins_bearer sound session at.session tft qos e at.stands draws.left few.few r
+  command Serving sound (Delete_bearer session identity) formed e r = by_row Serving e _ r sound
+  command Packet sound (Delete_bearer session identity) formed e (inl f) = by_row Packet e _ f.1 sound
+  command Packet sound (Delete_bearer session identity) formed e (inr (at, inl f)) = by_row Packet e _ f.1 sound
+  command Packet sound (Delete_bearer session identity) formed e (inr (at, inr (named, inl f))) = by_row Packet e _ f.1 sound
+  command Packet sound (Delete_bearer session identity) formed e (inr (at, inr (named, inr (active, inl f)))) = by_row Packet e _ f.1 sound
+  command Packet sound (Delete_bearer session identity) formed e (inr (at, inr (named, inr (active, inr (few, r))))) = closes_bearer sound session at.session identity named.key named.at.bearer e named.at.stands active.1 named.of named.dedicated few.few r
+  command Serving sound (Release_session session) formed e r = by_row Serving e _ r sound
+  command Packet sound (Release_session session) formed e (inl f) = by_row Packet e _ f.1 sound
+  command Packet sound (Release_session session) formed e (inr (at, inl f)) = by_row Packet e _ f.1 sound
+  command Packet sound (Release_session session) formed e (inr (at, inr (active, inl f))) = by_row Packet e _ f.1 sound
+  command Packet sound (Release_session session) formed e (inr (at, inr (active, inr (few, r)))) = releases sound session at.session e at.stands active few.few r
+  command Serving sound (Mark_end bearer) formed e r = by_row Serving e _ r sound
+  command Packet sound (Mark_end bearer) formed e (inl f) = by_row Packet e _ f.1 sound
+  command Packet sound (Mark_end bearer) formed e (inr (at, inl f)) = by_row Packet e _ f.1 sound
+  command Packet sound (Mark_end bearer) formed e (inr (at, inr (active, inl f))) = by_row Packet e _ f.1 sound
+  command Packet sound (Mark_end bearer) formed e (inr (at, inr (active, inr (before, gives)))) = by_row Packet e _ gives (ends_bearer Packet sound bearer at.bearer at.stands active)
+  command role sound Send_echo formed e (inl f) = by_row role e _ f.1 sound
+  command role sound Send_echo formed e (inr (few, r)) = by_row role e _ r.gives (asks_sound role old sound old r.number _ sound refl few.few r.number_free.small (inl (record { request = _; asked = refl; numbered = refl; session = refl; bearer = refl })) (λ m p t at o same. none_some t same))
+  command role sound (Send_user bearer payload) formed e (inl f) = by_row role e _ f.1 sound
+  command role sound (Send_user bearer payload) formed e (inr (at, inl f)) = by_row role e _ f.1 sound
+  command role sound (Send_user bearer payload) formed e (inr (at, inr (active, inl f))) = by_row role e _ f.1 sound
+  command role sound (Send_user bearer payload) formed e (inr (at, inr (active, inr (goes, inl f)))) = by_row role e _ f.1 sound
+  command role sound (Send_user bearer payload) formed e (inr (at, inr (active, inr (goes, inr (short, r))))) = by_row role e _ r.gives sound
 
   -- bearers with that remote go, and no pending one has it
   broken_sound : (role : Role) → IsSound role old → (remote : ℕ) → (session_goes : ℕ → Bool) → IsSound role (without session_goes (λ t. bearer_is_to remote (get old.bearers t)) old)
@@ -252,7 +247,7 @@ module _ (old : Node) where
     bearer_asked request q e (inr (room, inr (at, inr (active, inr (one, inr (linked, inr (free, r))))))) =
         by_row Serving e _ r.gives (holding_sound Serving (record old { drawn = r.user ∷ old.drawn; bearers = insert old.bearers r.user (granted_bearer q r.identity) })
         (bearer_comes Serving old sound r.user (granted_bearer q r.identity) r.user_free free.1.left
-        (record { own = inl refl; of = (at.session, at.stands); named = λ a. (q.context.user.teid, refl); blank = λ w. absurd (cc w); range = λ i e. inl (subst IsIdentity (some_is r.identity i e) r.identity_free.range) })
+        (record { own = inl refl; of = (at.session, at.stands); named = λ a. (q.context.user.teid, refl); blank = λ w. absurd (cc w); range = λ i e. subst IsIdentity (some_is r.identity i e) r.identity_free.range })
         (λ t a i e same ia ib. r.identity_free.unused t a e same (ia ∙ sym ib)))
         request _ room.few)
 
@@ -309,7 +304,7 @@ module _ (old : Node) where
         by_row Packet e _ r.gives (holding_sound Packet (session_made old q r.control r.user r.address)
         (session_comes Packet old sound r.control r.user (made_session q r.address) (made_bearer q r.control) r.control_free r.user_free refl few.0.few few.1.left
         (record { own = inr (inl refl); named = λ n. (q.control.teid, refl); blank = λ w. absurd (cc w) })
-        (record { own = inl refl; of = (made_session q r.address, get-insert_same old.sessions r.control (made_session q r.address)); named = λ a. (q.context.user.teid, refl); blank = λ w. absurd (cc w); range = λ i e. inl (subst IsIdentity (some_is q.context.identity i e) identity) }))
+        (record { own = inl refl; of = (made_session q r.address, get-insert_same old.sessions r.control (made_session q r.address)); named = λ a. (q.context.user.teid, refl); blank = λ w. absurd (cc w); range = λ i e. subst IsIdentity (some_is q.context.identity i e) identity }))
         request _ room.few)
 
     deletion_asked : (request : Arrival) (d : DeleteSessionRequest) (e : Effect) → DeletionAsked request d old e → IsSound Packet e.node
@@ -389,7 +384,7 @@ module _ (role : Role) (Takes : Node → Effect → Type 0) (takes : (node : Nod
   hears None e r = takes old sound e r
   hears (Some counter) e r = by_row role e _ r.2 (weighs counter old.known r.0 r.1)
 
-serving_reads : (old : Node) → IsSound Serving old → (request : Arrival) (reading : ControlReading) → IsRead (Control_came request reading) → (e : Effect) → ServingReads reading request old e → IsSound Serving e.node
+serving_reads : (old : Node) → IsSound Serving old → (request : Arrival) (reading : ControlReading) → IsWellFormed (Control_came request reading) → (e : Effect) → ServingReads reading request old e → IsSound Serving e.node
 serving_reads old sound request (Control_message m) whole e (inl f) = by_row Serving e _ f.1 sound
 serving_reads old sound request (Control_message m) whole e (inr (taken, r)) = hears Serving (ServingTakes request m) (λ node s f rows. serving_takes node s request m whole f rows) old sound (recovery_of m) e r
 serving_reads old sound request (Faulty f) whole e r = faulted f.kind r
@@ -401,7 +396,7 @@ serving_reads old sound request (Faulty f) whole e r = faulted f.kind r
     faulted Of_delete_bearer r = by_row Serving e _ r sound
 serving_reads old sound request (Control_fault fault) whole e r = by_row Serving e _ r sound
 
-packet_reads : (old : Node) → IsSound Packet old → (request : Arrival) (reading : ControlReading) → IsRead (Control_came request reading) → (e : Effect) → PacketReads reading request old e → IsSound Packet e.node
+packet_reads : (old : Node) → IsSound Packet old → (request : Arrival) (reading : ControlReading) → IsWellFormed (Control_came request reading) → (e : Effect) → PacketReads reading request old e → IsSound Packet e.node
 packet_reads old sound request (Control_message m) whole e (inl f) = by_row Packet e _ f.1 sound
 packet_reads old sound request (Control_message m) whole e (inr (taken, r)) = hears Packet (PacketTakes request m) (λ node s f rows. packet_takes node s request m whole f rows) old sound (recovery_of m) e r
 packet_reads old sound request (Faulty f) whole e r = faulted f.kind r
@@ -419,13 +414,13 @@ control role old sound Reads request e reads (inr (peer, inl r)) = by_row role e
 control role old sound Reads request e reads (inr (peer, inr r)) = reads r.1
 
 pub stays_sound : StaysSound
-stays_sound role old (Commanded c) e sound read r = command old role sound c e r
+stays_sound role old (Commanded c) e sound read r = command old role sound c read e r
 stays_sound Serving old (Control_came request reading) e sound read r = control Serving old sound (ServingReads reading) request e (serving_reads old sound request reading read e) r
 stays_sound Packet old (Control_came request reading) e sound read r = control Packet old sound (PacketReads reading) request e (packet_reads old sound request reading read e) r
 stays_sound role old (User_came source reading) e sound read r = user_step old role sound source reading e r
 stays_sound role old (Moves_on move) e sound read r = moves old role sound move e r
 
-reached_from : (role : Role) (old : Node) (log : List Done) (node : Node) → IsSound role old → Steps role old log node → AreRead log → IsSound role node
+reached_from : (role : Role) (old : Node) (log : List Done) (node : Node) → IsSound role old → Steps role old log node → AreWellFormed log → IsSound role node
 reached_from role old [] node sound steps read = subst (λ n. IsSound role n) (sym steps) sound
 reached_from role old (done ∷ log) node sound steps read = reached_from role done.effect.node log node (stays_sound role old done.input done.effect sound read.0 steps.1) steps.2 read.1
 

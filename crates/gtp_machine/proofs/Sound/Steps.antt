@@ -21,7 +21,8 @@ use Rattle.gtp_machine.specs.Serving.{SessionAnswered, BearerAsked, RemovesEach,
 use Rattle.gtp_machine.specs.Packet.{SessionAsked, BearerAnswered, PacketTakes, PacketFaulted, PacketReads}
 use Rattle.gtp_machine.specs.Sound.{IsSound, CanMove, IsNotEmpty, AlwaysSteps}
 use Rattle.gtp_machine.proofs.Sound.Changes.{known_sound, is_session, is_bearer}
-use Rattle.gtp_machine.proofs.Sound.Rows.{restarted_sound, some_is}
+use Rattle.gtp_machine.proofs.Sound.Rows.{restarted_sound}
+use Rattle.gtp_machine.proofs.Basics.Options.{some_is}
 use Rattle.gtp_machine.proofs.Sound.Free.{free_teid, free_key}
 
 -- the row gives this effect
