@@ -3,3 +3,4 @@ pub mod FiniteMaps
 pub mod Options
 pub mod Counting
 pub mod Ages
+pub mod Kinds

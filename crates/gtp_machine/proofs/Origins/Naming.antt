@@ -24,6 +24,7 @@ use Rattle.gtp_machine.proofs.Origins.Drawing.{Extends, Extends-signed, signed_a
 use Rattle.gtp_machine.proofs.Changes.After.{Knows}
 use Rattle.gtp_machine.proofs.Changes.Shrinking.{Shrinks-restart, restart_pending}
 use Rattle.gtp_machine.proofs.Rows.Stepping.{Carried}
+use Rattle.gtp_machine.proofs.Basics.Kinds.{by_serving, by_packet}
 
 -- a remote TEID goes back to a draw by the other gateway
 abbrev pub IsThere : List Sent → Role → Option ℕ → Type 0
@@ -254,24 +255,15 @@ module _ (history : List Sent) where
     removal_asked request d e (inr (a, inr (b, inr (c, r)))) = removal_taken request d d.linked b.session (back.sessions d.header b.session b.stands) e r
 
   serving_takes : (request : Arrival) (m : Message) (old : Node) → Back history Serving old → (e : Effect) → ServingTakes request m old e → Told history Serving e
-  serving_takes request (Echo_request q) old back e r = at history Serving e _ r (one history Serving _ (none_named history Serving))
-  serving_takes request (Echo_response a) old back e r = echo_answered history Serving old back a e r
-  serving_takes request (Create_session_response a) old back e r = session_answered old back a e r
-  serving_takes request (Delete_session_response d) old back e r = deletion_answered old back d e r
-  serving_takes request (Create_bearer_request q) old back e r = bearer_asked old back request q e r
-  serving_takes request (Delete_bearer_request d) old back e r = removal_asked old back request d e r
-  serving_takes request (Create_session_request q) old back e r = at history Serving e _ r (silent history Serving)
-  serving_takes request (Delete_session_request q) old back e r = at history Serving e _ r (silent history Serving)
-  serving_takes request (Create_bearer_response q) old back e r = at history Serving e _ r (silent history Serving)
-  serving_takes request (Delete_bearer_response q) old back e r = at history Serving e _ r (silent history Serving)
-  serving_takes request (Other_control q) old back e r = at history Serving e _ r (silent history Serving)
-  serving_takes request (Packet_data q payload) old back e r = at history Serving e _ r (silent history Serving)
-  serving_takes request (End_marker q) old back e r = at history Serving e _ r (silent history Serving)
-  serving_takes request (Error_indication q address) old back e r = at history Serving e _ r (silent history Serving)
-  serving_takes request (User_echo_request q) old back e r = at history Serving e _ r (silent history Serving)
-  serving_takes request (User_echo_response q) old back e r = at history Serving e _ r (silent history Serving)
-  serving_takes request (Supported_extensions q) old back e r = at history Serving e _ r (silent history Serving)
-  serving_takes request (Other_user q) old back e r = at history Serving e _ r (silent history Serving)
+  serving_takes request =
+      by_serving (λ m. (old : Node) → Back history Serving old → (e : Effect) → ServingTakes request m old e → Told history Serving e)
+      (λ q old back e r. at history Serving e _ r (one history Serving _ (none_named history Serving)))
+      (λ a old back e r. echo_answered history Serving old back a e r)
+      (λ a old back e r. session_answered old back a e r)
+      (λ d old back e r. deletion_answered old back d e r)
+      (λ q old back e r. bearer_asked old back request q e r)
+      (λ d old back e r. removal_asked old back request d e r)
+      (λ m drops old back e r. at history Serving e _ (drops.only request old e r) (silent history Serving))
 
   module _ (old : Node) (back : Back history Packet old) where
     session_asked : (request : Arrival) (q : CreateSessionRequest) → HasSent history Serving (Create_session_request q) → (e : Effect) → SessionAsked request q old e → Told history Packet e
@@ -306,24 +298,15 @@ module _ (history : List Sent) where
     removal_answered d e (inr (a, inr (b, r))) = at history Packet e _ r (silent history Packet)
 
   packet_takes : (request : Arrival) (m : Message) → HasSent history Serving m → (old : Node) → Back history Packet old → (e : Effect) → PacketTakes request m old e → Told history Packet e
-  packet_takes request (Echo_request q) came old back e r = at history Packet e _ r (one history Packet _ (none_named history Packet))
-  packet_takes request (Echo_response a) came old back e r = echo_answered history Packet old back a e r
-  packet_takes request (Create_session_request q) came old back e r = session_asked old back request q came e r
-  packet_takes request (Delete_session_request d) came old back e r = deletion_asked old back request d e r
-  packet_takes request (Create_bearer_response x) came old back e r = bearer_answered old back x e r
-  packet_takes request (Delete_bearer_response d) came old back e r = removal_answered old back d e r
-  packet_takes request (Create_session_response q) came old back e r = at history Packet e _ r (silent history Packet)
-  packet_takes request (Delete_session_response q) came old back e r = at history Packet e _ r (silent history Packet)
-  packet_takes request (Create_bearer_request q) came old back e r = at history Packet e _ r (silent history Packet)
-  packet_takes request (Delete_bearer_request q) came old back e r = at history Packet e _ r (silent history Packet)
-  packet_takes request (Other_control q) came old back e r = at history Packet e _ r (silent history Packet)
-  packet_takes request (Packet_data q payload) came old back e r = at history Packet e _ r (silent history Packet)
-  packet_takes request (End_marker q) came old back e r = at history Packet e _ r (silent history Packet)
-  packet_takes request (Error_indication q address) came old back e r = at history Packet e _ r (silent history Packet)
-  packet_takes request (User_echo_request q) came old back e r = at history Packet e _ r (silent history Packet)
-  packet_takes request (User_echo_response q) came old back e r = at history Packet e _ r (silent history Packet)
-  packet_takes request (Supported_extensions q) came old back e r = at history Packet e _ r (silent history Packet)
-  packet_takes request (Other_user q) came old back e r = at history Packet e _ r (silent history Packet)
+  packet_takes request =
+      by_packet (λ m. HasSent history Serving m → (old : Node) → Back history Packet old → (e : Effect) → PacketTakes request m old e → Told history Packet e)
+      (λ q came old back e r. at history Packet e _ r (one history Packet _ (none_named history Packet)))
+      (λ a came old back e r. echo_answered history Packet old back a e r)
+      (λ q came old back e r. session_asked old back request q came e r)
+      (λ d came old back e r. deletion_asked old back request d e r)
+      (λ x came old back e r. bearer_answered old back x e r)
+      (λ d came old back e r. removal_answered old back d e r)
+      (λ m drops came old back e r. at history Packet e _ (drops.only request old e r) (silent history Packet))
 
   serving_reads : (reading : ControlReading) (request : Arrival) (old : Node) → Back history Serving old → (e : Effect) → Carried Serving history old (Control_came request reading) → ServingReads reading request old e → Told history Serving e
   serving_reads (Control_message m) request old back e came (inl f) = at history Serving e _ f.1 (silent history Serving)

@@ -16,6 +16,7 @@ use Rattle.gtp_machine.specs.Command.{SessionBegun, SessionDeleted, BearerBegun,
 use Rattle.gtp_machine.specs.Serving.{SessionAnswered, DeletionAnswered, BearerAsked, RemovalTaken, RemovalAsked, removal_cause, ServingTakes, ServingFaulted, ServingReads}
 use Rattle.gtp_machine.specs.Packet.{SessionAsked, DeletionAsked, BearerAnswered, RemovalAnswered, PacketTakes, PacketFaulted, PacketReads}
 use Rattle.gtp_machine.proofs.Changes.Shrinking.{Shrunk-finished, removes_each}
+use Rattle.gtp_machine.proofs.Basics.Kinds.{by_serving, by_packet}
 
 -- what is held after a step
 abbrev pub held_in : Effect → List Held
@@ -227,44 +228,26 @@ module _ (request : Arrival) (old : Node) (e : Effect) where
   removal_answered_holds d (inr (b, inr (c, r))) = ends _ b.pending _ r
 
   serving_holds : (m : Message) → ServingTakes request m old e → Holds request old e
-  serving_holds (Echo_request q) r = drops _ r refl
-  serving_holds (Echo_response a) r = echo_answered_holds a r
-  serving_holds (Create_session_response a) r = session_answered_holds a r
-  serving_holds (Delete_session_response d) r = deletion_answered_holds d r
-  serving_holds (Create_bearer_request q) r = bearer_asked_holds q r
-  serving_holds (Delete_bearer_request d) r = removal_asked_holds d r
-  serving_holds (Create_session_request q) r = drops _ r refl
-  serving_holds (Delete_session_request q) r = drops _ r refl
-  serving_holds (Create_bearer_response q) r = drops _ r refl
-  serving_holds (Delete_bearer_response q) r = drops _ r refl
-  serving_holds (Other_control q) r = drops _ r refl
-  serving_holds (Packet_data t p) r = drops _ r refl
-  serving_holds (End_marker t) r = drops _ r refl
-  serving_holds (Error_indication t p) r = drops _ r refl
-  serving_holds (User_echo_request t) r = drops _ r refl
-  serving_holds (User_echo_response t) r = drops _ r refl
-  serving_holds (Supported_extensions t) r = drops _ r refl
-  serving_holds (Other_user t) r = drops _ r refl
+  serving_holds =
+      by_serving (λ m. ServingTakes request m old e → Holds request old e)
+      (λ q r. drops _ r refl)
+      echo_answered_holds
+      session_answered_holds
+      deletion_answered_holds
+      bearer_asked_holds
+      removal_asked_holds
+      (λ m dropped r. drops _ (dropped.only request old e r) refl)
 
   packet_holds : (m : Message) → PacketTakes request m old e → Holds request old e
-  packet_holds (Echo_request q) r = drops _ r refl
-  packet_holds (Echo_response a) r = echo_answered_holds a r
-  packet_holds (Create_session_request q) r = session_asked_holds q r
-  packet_holds (Delete_session_request d) r = deletion_asked_holds d r
-  packet_holds (Create_bearer_response x) r = bearer_answered_holds x r
-  packet_holds (Delete_bearer_response d) r = removal_answered_holds d r
-  packet_holds (Create_session_response q) r = drops _ r refl
-  packet_holds (Delete_session_response q) r = drops _ r refl
-  packet_holds (Create_bearer_request q) r = drops _ r refl
-  packet_holds (Delete_bearer_request q) r = drops _ r refl
-  packet_holds (Other_control q) r = drops _ r refl
-  packet_holds (Packet_data t p) r = drops _ r refl
-  packet_holds (End_marker t) r = drops _ r refl
-  packet_holds (Error_indication t p) r = drops _ r refl
-  packet_holds (User_echo_request t) r = drops _ r refl
-  packet_holds (User_echo_response t) r = drops _ r refl
-  packet_holds (Supported_extensions t) r = drops _ r refl
-  packet_holds (Other_user t) r = drops _ r refl
+  packet_holds =
+      by_packet (λ m. PacketTakes request m old e → Holds request old e)
+      (λ q r. drops _ r refl)
+      echo_answered_holds
+      session_asked_holds
+      deletion_asked_holds
+      bearer_answered_holds
+      removal_answered_holds
+      (λ m dropped r. drops _ (dropped.only request old e r) refl)
 
   serving_faulted_holds : (f : FaultyRequest) (kind : RequestKind) → ServingFaulted request f kind old e → Holds request old e
   serving_faulted_holds f Of_create_session r = drops _ r refl

@@ -5,7 +5,7 @@ use Rattle.gtp_values.specs.declared.cause.Cause.{Cause}
 use Rattle.gtp_values.specs.declared.qos.Qos.{Qos}
 use Rattle.gtp_machine.specs.FiniteMap.{FiniteMap, Each, Among}
 use Rattle.gtp_machine.specs.Element.{IsAccepting, cause_of, cause_at, teid_in}
-use Rattle.gtp_machine.specs.Message.{CreateSessionRequest, CreateSessionResponse, DeleteSessionRequest, DeleteSessionResponse, CreateBearerRequest, CreateBearerResponse, DeleteBearerResponse, Message, Echo_request, Echo_response, Create_session_request, Create_session_response, Delete_session_request, Delete_session_response, Create_bearer_request, Create_bearer_response, Delete_bearer_request, Delete_bearer_response, Other_control, Packet_data, End_marker, Error_indication, User_echo_request, User_echo_response, Supported_extensions, Other_user, Owns, recovery_of, first_returned}
+use Rattle.gtp_machine.specs.Message.{CreateSessionRequest, CreateSessionResponse, DeleteSessionRequest, DeleteSessionResponse, CreateBearerRequest, CreateBearerResponse, DeleteBearerResponse, Message, Create_session_request, Create_session_response, Delete_session_response, Create_bearer_request, Create_bearer_response, Packet_data, Owns, recovery_of, first_returned}
 use Rattle.gtp_machine.specs.Node.{Serving, Packet, State, Pending, Active, Closing, Session, Bearer, PendingRequest, Arrival, Node, holding, written}
 use Rattle.gtp_machine.specs.Input.{ControlReading, Control_message, Begun, Opened, Answered, Effect}
 use Rattle.gtp_machine.specs.Choice.{IsFree, HasPending, counter_of}
@@ -26,6 +26,7 @@ use Rattle.gtp_machine.proofs.Rows.Common.{unchanged}
 use Rattle.gtp_machine.proofs.Rows.Taking.{Took, took, drops, ends, gives_answer, takes_echo, takes_echo_response}
 use Rattle.gtp_machine.proofs.Basics.Options.{some_same, none_some}
 use Rattle.gtp_machine.proofs.Rows.Control.{ControlCarried, control_came}
+use Rattle.gtp_machine.proofs.Basics.Kinds.{by_packet}
 
 module _ (history : List Sent) (taken : Arrival → Message → Type 0) (serving_once : Once history Serving) (packet_once : Once history Packet) (old : Node) (knows : Knows Packet history old) where
   was_later : (sent : List Message) → Knows Packet (history ++ signed Packet sent) old
@@ -306,24 +307,15 @@ module _ (history : List Sent) (taken : Arrival → Message → Type 0) (serving
     removal_answered d e (inr (at, inr (fits, gives))) = ends Packet history taken old knows d.number at.pending _ e gives
 
     takes : (unowned : NothingOwns history Packet old) (request : Arrival) (m : Message) (e : Effect) → HasSent history Serving m → taken request m → ((c : ℕ) → recovery_of m ≡ Some c → old.known ≡ Some c) → PacketTakes request m old e → Took Packet history taken old e
-    takes unowned request (Echo_request q) e came is told r = takes_echo Packet history taken old knows request q e r
-    takes unowned request (Echo_response a) e came is told r = takes_echo_response Packet history taken old knows a e r
-    takes unowned request (Create_session_request q) e came is told r = session_asked unowned request q e came is told r
-    takes unowned request (Delete_session_request d) e came is told r = deletion_asked request d e r
-    takes unowned request (Create_bearer_response x) e came is told r = bearer_answered x e came r
-    takes unowned request (Delete_bearer_response d) e came is told r = removal_answered d e r
-    takes unowned request (Create_session_response q) e came is told r = drops Packet history taken old knows _ e r
-    takes unowned request (Delete_session_response q) e came is told r = drops Packet history taken old knows _ e r
-    takes unowned request (Create_bearer_request q) e came is told r = drops Packet history taken old knows _ e r
-    takes unowned request (Delete_bearer_request q) e came is told r = drops Packet history taken old knows _ e r
-    takes unowned request (Other_control q) e came is told r = drops Packet history taken old knows _ e r
-    takes unowned request (Packet_data t p) e came is told r = drops Packet history taken old knows _ e r
-    takes unowned request (End_marker t) e came is told r = drops Packet history taken old knows _ e r
-    takes unowned request (Error_indication t p) e came is told r = drops Packet history taken old knows _ e r
-    takes unowned request (User_echo_request t) e came is told r = drops Packet history taken old knows _ e r
-    takes unowned request (User_echo_response t) e came is told r = drops Packet history taken old knows _ e r
-    takes unowned request (Supported_extensions t) e came is told r = drops Packet history taken old knows _ e r
-    takes unowned request (Other_user t) e came is told r = drops Packet history taken old knows _ e r
+    takes unowned request =
+        by_packet (λ m. (e : Effect) → HasSent history Serving m → taken request m → ((c : ℕ) → recovery_of m ≡ Some c → old.known ≡ Some c) → PacketTakes request m old e → Took Packet history taken old e)
+        (λ q e came is told r. takes_echo Packet history taken old knows request q e r)
+        (λ a e came is told r. takes_echo_response Packet history taken old knows a e r)
+        (λ q e came is told r. session_asked unowned request q e came is told r)
+        (λ d e came is told r. deletion_asked request d e r)
+        (λ x e came is told r. bearer_answered x e came r)
+        (λ d e came is told r. removal_answered d e r)
+        (λ m dropped e came is told r. drops Packet history taken old knows _ e (dropped.only request old e r))
 
 module _ (history : List Sent) (serving_once : Once history Serving) (packet_once : Once history Packet) (old : Node) (unowned : NothingOwns history Packet old)
     (dated : (m : Message) (t : ℕ) → HasSent history Serving m → TellsStart m → Owns m t → recovery_of m ≡ Some (counter_of t)) (proper : (m : Message) → HasSent history Serving m → IsProper history m) (knows : Knows Packet history old) (request : Arrival) (taken : Arrival → Message → Type 0) where

@@ -4,7 +4,7 @@ use Rattle.std.proofs.lemmas.Bool.{cases_eq}
 use Rattle.std.specs.FinMap.{get, insert, remove}
 use Rattle.gtp_machine.specs.FiniteMap.{Each, Among}
 use Rattle.gtp_machine.specs.Element.{IsAccepting, cause_of, ipv4_of}
-use Rattle.gtp_machine.specs.Message.{CreateSessionRequest, CreateSessionResponse, DeleteSessionResponse, CreateBearerRequest, GivenBearer, CreateBearerResponse, DeleteBearerRequest, DeleteBearerResponse, Message, Echo_request, Echo_response, Create_session_request, Create_session_response, Delete_session_request, Delete_session_response, Create_bearer_request, Create_bearer_response, Delete_bearer_request, Delete_bearer_response, Other_control, Packet_data, End_marker, Error_indication, User_echo_request, User_echo_response, Supported_extensions, Other_user, Owns, recovery_of, first_given}
+use Rattle.gtp_machine.specs.Message.{CreateSessionRequest, CreateSessionResponse, DeleteSessionResponse, CreateBearerRequest, GivenBearer, CreateBearerResponse, DeleteBearerRequest, DeleteBearerResponse, Message, Create_session_request, Create_session_response, Create_bearer_request, Create_bearer_response, Delete_bearer_response, Packet_data, Owns, recovery_of, first_given}
 use Rattle.gtp_machine.specs.Node.{Serving, Packet, State, Pending, Active, Closing, Session, Bearer, PendingRequest, Arrival, Node, holding, written}
 use Rattle.gtp_machine.specs.Input.{Specification, ControlReading, Control_message, Of_create_bearer, Begun, Opened, Effect}
 use Rattle.gtp_machine.specs.Choice.{IsFree, HasPending, HasSession, counter_of}
@@ -25,6 +25,7 @@ use Rattle.gtp_machine.proofs.Rows.Common.{unchanged}
 use Rattle.gtp_machine.proofs.Rows.Taking.{Took, took, drops, ends, gives_answer, takes_echo, takes_echo_response, named_written}
 use Rattle.gtp_machine.proofs.Basics.Options.{some_same, none_some}
 use Rattle.gtp_machine.proofs.Rows.Control.{ControlCarried, control_came}
+use Rattle.gtp_machine.proofs.Basics.Kinds.{by_serving}
 
 module _ (history : List Sent) (taken : Arrival → Message → Type 0) (serving_once : Once history Serving) (packet_once : Once history Packet) (old : Node) (knows : Knows Serving history old) where
   was_later : (sent : List Message) → Knows Serving (history ++ signed Serving sent) old
@@ -391,24 +392,15 @@ module _ (history : List Sent) (taken : Arrival → Message → Type 0) (serving
     removal_asked request d e (inr (room, inr (at, inr (opened, r)))) = removal_taken request d d.linked at.session e r
 
     takes : (unowned : NothingOwns history Serving old) (request : Arrival) (m : Message) (e : Effect) → HasSent history Packet m → taken request m → ((c : ℕ) → recovery_of m ≡ Some c → old.known ≡ Some c) → ServingTakes request m old e → Took Serving history taken old e
-    takes unowned request (Echo_request q) e came is told r = takes_echo Serving history taken old knows request q e r
-    takes unowned request (Echo_response a) e came is told r = takes_echo_response Serving history taken old knows a e r
-    takes unowned request (Create_session_response a) e came is told r = session_answered a e came told r
-    takes unowned request (Delete_session_response d) e came is told r = deletion_answered d e r
-    takes unowned request (Create_bearer_request q) e came is told r = bearer_asked unowned request q e came is r
-    takes unowned request (Delete_bearer_request d) e came is told r = removal_asked request d e r
-    takes unowned request (Create_session_request q) e came is told r = drops Serving history taken old knows _ e r
-    takes unowned request (Delete_session_request q) e came is told r = drops Serving history taken old knows _ e r
-    takes unowned request (Create_bearer_response q) e came is told r = drops Serving history taken old knows _ e r
-    takes unowned request (Delete_bearer_response q) e came is told r = drops Serving history taken old knows _ e r
-    takes unowned request (Other_control q) e came is told r = drops Serving history taken old knows _ e r
-    takes unowned request (Packet_data t p) e came is told r = drops Serving history taken old knows _ e r
-    takes unowned request (End_marker t) e came is told r = drops Serving history taken old knows _ e r
-    takes unowned request (Error_indication t p) e came is told r = drops Serving history taken old knows _ e r
-    takes unowned request (User_echo_request t) e came is told r = drops Serving history taken old knows _ e r
-    takes unowned request (User_echo_response t) e came is told r = drops Serving history taken old knows _ e r
-    takes unowned request (Supported_extensions t) e came is told r = drops Serving history taken old knows _ e r
-    takes unowned request (Other_user t) e came is told r = drops Serving history taken old knows _ e r
+    takes unowned request =
+        by_serving (λ m. (e : Effect) → HasSent history Packet m → taken request m → ((c : ℕ) → recovery_of m ≡ Some c → old.known ≡ Some c) → ServingTakes request m old e → Took Serving history taken old e)
+        (λ q e came is told r. takes_echo Serving history taken old knows request q e r)
+        (λ a e came is told r. takes_echo_response Serving history taken old knows a e r)
+        (λ a e came is told r. session_answered a e came told r)
+        (λ d e came is told r. deletion_answered d e r)
+        (λ q e came is told r. bearer_asked unowned request q e came is r)
+        (λ d e came is told r. removal_asked request d e r)
+        (λ m dropped e came is told r. drops Serving history taken old knows _ e (dropped.only request old e r))
 
 module _ (history : List Sent) (serving_once : Once history Serving) (packet_once : Once history Packet) (old : Node) (unowned : NothingOwns history Serving old)
     (dated : (m : Message) (t : ℕ) → HasSent history Packet m → TellsStart m → Owns m t → recovery_of m ≡ Some (counter_of t)) (proper : (m : Message) → HasSent history Packet m → IsProper history m) (knows : Knows Serving history old) (request : Arrival) (taken : Arrival → Message → Type 0) where

@@ -28,6 +28,7 @@ use Rattle.gtp_machine.proofs.Sound.Parts.{one_value, waiting_active, at_here}
 use Rattle.gtp_machine.proofs.Sound.Changes.{fresh, without_sound, without_session_sound, without_bearer_sound, finished_sound, holding_sound, known_sound, asks_sound, free_opened, session_comes, bearer_comes, bearer_changes, closing_sound, is_session, is_bearer, session_opens, bearer_opens}
 use Rattle.gtp_machine.proofs.Changes.Forgetting.{leaves}
 use Rattle.gtp_machine.proofs.Basics.Options.{some_is, none_some}
+use Rattle.gtp_machine.proofs.Basics.Kinds.{by_serving, by_packet}
 
 module _ (role : Role) where
   -- what a row says of its effect
@@ -272,24 +273,15 @@ module _ (old : Node) where
     removal_asked request d e (inr (room, inr (at, inr (opened, r)))) = removal_taken request d d.linked at.session e room.few r
 
     serving_takes : (request : Arrival) (m : Message) → IsWhole m → (e : Effect) → ServingTakes request m old e → IsSound Serving e.node
-    serving_takes request (Echo_request q) whole e r = by_row Serving e _ r sound
-    serving_takes request (Echo_response a) whole e r = echo_answered Serving sound a e r
-    serving_takes request (Create_session_response a) whole e r = session_answered sound a whole e r
-    serving_takes request (Delete_session_response d) whole e r = deletion_answered sound d e r
-    serving_takes request (Create_bearer_request q) whole e r = bearer_asked sound request q e r
-    serving_takes request (Delete_bearer_request d) whole e r = removal_asked request d e r
-    serving_takes request (Create_session_request q) whole e r = by_row Serving e _ r sound
-    serving_takes request (Delete_session_request q) whole e r = by_row Serving e _ r sound
-    serving_takes request (Create_bearer_response q) whole e r = by_row Serving e _ r sound
-    serving_takes request (Delete_bearer_response q) whole e r = by_row Serving e _ r sound
-    serving_takes request (Other_control q) whole e r = by_row Serving e _ r sound
-    serving_takes request (Packet_data t p) whole e r = by_row Serving e _ r sound
-    serving_takes request (End_marker t) whole e r = by_row Serving e _ r sound
-    serving_takes request (Error_indication t p) whole e r = by_row Serving e _ r sound
-    serving_takes request (User_echo_request t) whole e r = by_row Serving e _ r sound
-    serving_takes request (User_echo_response t) whole e r = by_row Serving e _ r sound
-    serving_takes request (Supported_extensions t) whole e r = by_row Serving e _ r sound
-    serving_takes request (Other_user t) whole e r = by_row Serving e _ r sound
+    serving_takes request =
+        by_serving (λ m. IsWhole m → (e : Effect) → ServingTakes request m old e → IsSound Serving e.node)
+        (λ q whole e r. by_row Serving e _ r sound)
+        (λ a whole e r. echo_answered Serving sound a e r)
+        (λ a whole e r. session_answered sound a whole e r)
+        (λ d whole e r. deletion_answered sound d e r)
+        (λ q whole e r. bearer_asked sound request q e r)
+        (λ d whole e r. removal_asked request d e r)
+        (λ m drops whole e r. by_row Serving e _ (drops.only request old e r) sound)
 
   module _ (sound : IsSound Packet old) where
     session_asked : (request : Arrival) (q : CreateSessionRequest) (e : Effect) → SessionAsked request q old e → IsSound Packet e.node
@@ -350,24 +342,15 @@ module _ (old : Node) where
     removal_answered d e (inr (at, inr (fits, gives))) = by_row Packet e _ gives (ends Packet sound d.number at)
 
     packet_takes : (request : Arrival) (m : Message) → IsWhole m → (e : Effect) → PacketTakes request m old e → IsSound Packet e.node
-    packet_takes request (Echo_request q) whole e r = by_row Packet e _ r sound
-    packet_takes request (Echo_response a) whole e r = echo_answered Packet sound a e r
-    packet_takes request (Create_session_request q) whole e r = session_asked request q e r
-    packet_takes request (Delete_session_request d) whole e r = deletion_asked request d e r
-    packet_takes request (Create_bearer_response x) whole e r = bearer_answered x whole e r
-    packet_takes request (Delete_bearer_response d) whole e r = removal_answered d e r
-    packet_takes request (Create_session_response q) whole e r = by_row Packet e _ r sound
-    packet_takes request (Delete_session_response q) whole e r = by_row Packet e _ r sound
-    packet_takes request (Create_bearer_request q) whole e r = by_row Packet e _ r sound
-    packet_takes request (Delete_bearer_request q) whole e r = by_row Packet e _ r sound
-    packet_takes request (Other_control q) whole e r = by_row Packet e _ r sound
-    packet_takes request (Packet_data t p) whole e r = by_row Packet e _ r sound
-    packet_takes request (End_marker t) whole e r = by_row Packet e _ r sound
-    packet_takes request (Error_indication t p) whole e r = by_row Packet e _ r sound
-    packet_takes request (User_echo_request t) whole e r = by_row Packet e _ r sound
-    packet_takes request (User_echo_response t) whole e r = by_row Packet e _ r sound
-    packet_takes request (Supported_extensions t) whole e r = by_row Packet e _ r sound
-    packet_takes request (Other_user t) whole e r = by_row Packet e _ r sound
+    packet_takes request =
+        by_packet (λ m. IsWhole m → (e : Effect) → PacketTakes request m old e → IsSound Packet e.node)
+        (λ q whole e r. by_row Packet e _ r sound)
+        (λ a whole e r. echo_answered Packet sound a e r)
+        (λ q whole e r. session_asked request q e r)
+        (λ d whole e r. deletion_asked request d e r)
+        (λ x whole e r. bearer_answered x whole e r)
+        (λ d whole e r. removal_answered d e r)
+        (λ m drops whole e r. by_row Packet e _ (drops.only request old e r) sound)
 
 -- a counter is heard, and then the message is taken
 module _ (role : Role) (Takes : Node → Effect → Type 0) (takes : (node : Node) → IsSound role node → (e : Effect) → Takes node e → IsSound role e.node) (old : Node) (sound : IsSound role old) where

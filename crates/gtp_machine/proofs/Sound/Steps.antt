@@ -24,6 +24,7 @@ use Rattle.gtp_machine.proofs.Sound.Changes.{known_sound, is_session, is_bearer}
 use Rattle.gtp_machine.proofs.Sound.Rows.{restarted_sound}
 use Rattle.gtp_machine.proofs.Basics.Options.{some_is}
 use Rattle.gtp_machine.proofs.Sound.Free.{free_teid, free_key}
+use Rattle.gtp_machine.proofs.Basics.Kinds.{by_serving, by_packet}
 
 -- the row gives this effect
 gives : (f : Effect) → IsNotEmpty (λ (e : Effect). e ≡ f)
@@ -158,44 +159,26 @@ module _ (old : Node) where
   echo_answered a = tries _ _ _ (gives _) (λ at. tries _ _ _ (gives _) (λ fits. gives _))
 
   serving_takes : IsSound Serving old → (request : Arrival) (m : Message) → IsNotEmpty (λ e. ServingTakes request m old e)
-  serving_takes sound request (Echo_request q) = gives _
-  serving_takes sound request (Echo_response a) = echo_answered a
-  serving_takes sound request (Create_session_response a) = session_answered old sound a
-  serving_takes sound request (Delete_session_response d) = tries _ _ _ (gives _) (λ at. tries _ _ _ (gives _) (λ fits. gives _))
-  serving_takes sound request (Create_bearer_request q) = bearer_asked old request q
-  serving_takes sound request (Delete_bearer_request d) = removal_asked request d
-  serving_takes sound request (Create_session_request q) = gives _
-  serving_takes sound request (Delete_session_request q) = gives _
-  serving_takes sound request (Create_bearer_response q) = gives _
-  serving_takes sound request (Delete_bearer_response q) = gives _
-  serving_takes sound request (Other_control q) = gives _
-  serving_takes sound request (Packet_data t p) = gives _
-  serving_takes sound request (End_marker t) = gives _
-  serving_takes sound request (Error_indication t p) = gives _
-  serving_takes sound request (User_echo_request t) = gives _
-  serving_takes sound request (User_echo_response t) = gives _
-  serving_takes sound request (Supported_extensions t) = gives _
-  serving_takes sound request (Other_user t) = gives _
+  serving_takes sound request =
+      by_serving (λ m. IsNotEmpty (λ e. ServingTakes request m old e))
+      (λ q. gives _)
+      echo_answered
+      (session_answered old sound)
+      (λ d. tries _ _ _ (gives _) (λ at. tries _ _ _ (gives _) (λ fits. gives _)))
+      (bearer_asked old request)
+      (removal_asked request)
+      (λ m drops none. none _ (drops.so request old _ refl))
 
   packet_takes : IsSound Packet old → (request : Arrival) (m : Message) → IsNotEmpty (λ e. PacketTakes request m old e)
-  packet_takes sound request (Echo_request q) = gives _
-  packet_takes sound request (Echo_response a) = echo_answered a
-  packet_takes sound request (Create_session_request q) = session_asked old request q
-  packet_takes sound request (Delete_session_request d) = tries _ _ _ (gives _) (λ room. tries _ _ _ (gives _) (λ at. tries _ _ _ (gives _) (λ linked. gives _)))
-  packet_takes sound request (Create_bearer_response x) = bearer_answered old sound x
-  packet_takes sound request (Delete_bearer_response d) = tries _ _ _ (gives _) (λ at. tries _ _ _ (gives _) (λ fits. gives _))
-  packet_takes sound request (Create_session_response q) = gives _
-  packet_takes sound request (Delete_session_response q) = gives _
-  packet_takes sound request (Create_bearer_request q) = gives _
-  packet_takes sound request (Delete_bearer_request q) = gives _
-  packet_takes sound request (Other_control q) = gives _
-  packet_takes sound request (Packet_data t p) = gives _
-  packet_takes sound request (End_marker t) = gives _
-  packet_takes sound request (Error_indication t p) = gives _
-  packet_takes sound request (User_echo_request t) = gives _
-  packet_takes sound request (User_echo_response t) = gives _
-  packet_takes sound request (Supported_extensions t) = gives _
-  packet_takes sound request (Other_user t) = gives _
+  packet_takes sound request =
+      by_packet (λ m. IsNotEmpty (λ e. PacketTakes request m old e))
+      (λ q. gives _)
+      echo_answered
+      (session_asked old request)
+      (λ d. tries _ _ _ (gives _) (λ room. tries _ _ _ (gives _) (λ at. tries _ _ _ (gives _) (λ linked. gives _))))
+      (bearer_answered old sound)
+      (λ d. tries _ _ _ (gives _) (λ at. tries _ _ _ (gives _) (λ fits. gives _)))
+      (λ m drops none. none _ (drops.so request old _ refl))
 
 module _ (role : Role) (Takes : Node → Effect → Type 0) (takes : (node : Node) → IsSound role node → IsNotEmpty (λ e. Takes node e)) (old : Node) (sound : IsSound role old) where
   judges : (counter : ℕ) (a : Age) → IsNotEmpty (λ e. Judges Takes old counter a e)
