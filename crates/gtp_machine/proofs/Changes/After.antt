@@ -1,6 +1,6 @@
 -- What a step of a gateway leaves, and the steps by which sessions and bearers only go or close.
 use Rattle.std.proofs.Common.{◌≡◌, ◌≢◌, inl, inr, ℕ, List, [], ◌∷◌, ◌++◌, Option, Some, None, refl, sym, ◌∙◌, subst}
-use Rattle.std.specs.FinMap.{insert}
+use Rattle.std.specs.FinMap.{insert, get}
 use Rattle.gtp_values.specs.Counter.{age_of}
 use Rattle.gtp_values.specs.declared.counter.Age.{Age}
 use Rattle.gtp_values.specs.declared.counter.Age.TheVariants.{Same, Later, Earlier}
@@ -15,7 +15,7 @@ use Rattle.gtp_machine.specs.Command.{asks}
 use Rattle.gtp_machine.specs.Answer.{answered}
 use Rattle.gtp_machine.specs.World.{other, Sent, HasSent, signed}
 use Rattle.gtp_machine.specs.Laws.{ClosesWhole}
-use Rattle.gtp_machine.proofs.Basics.FiniteMaps.{Each-insert, Each-weaker}
+use Rattle.gtp_machine.proofs.Basics.FiniteMaps.{Each-insert, Each-weaker, get-insert_other}
 use Rattle.gtp_machine.proofs.Origins.Drawing.{Extends, Extends-signed, Draws, Draws-nothing, Draws-one, IsMadeNow, sent_now}
 use Rattle.gtp_machine.proofs.Origins.Contexts.{ServingContexts, ServingContexts-later, ServingContexts-shrinks, PacketContexts, PacketContexts-later, PacketContexts-shrinks, closes-shrinks}
 use Rattle.gtp_machine.proofs.Changes.Shrinking.{NodeShrinks, Shrunk, Shrunk-itself}
@@ -104,6 +104,10 @@ module _ (history : List Sent) (role : Role) (node : Node) (unowned : NothingOwn
 -- pending requests still match once a session or a bearer comes under a new TEID
 pub matched_session : (history : List Sent) (role : Role) (node : Node) → NothingOwns history role node → Each (IsPending history role) node.pending → (key : ℕ) (s : Session) → IsFree node key → Each (IsMatched node.sessions node.bearers) node.pending → Each (IsMatched (insert node.sessions key s) node.bearers) node.pending
 matched_session history role node unowned pending key s free each number p e = IsMatched-session node.sessions node.bearers key s number p (new_session history role node unowned number p (pending number p e) key free) (each number p e)
+
+-- a session that is put under a new TEID leaves each other where it stands
+pub still_stands : (history : List Sent) (role : Role) (node : Node) → Knows role history node → (key : ℕ) (new : Session) → (Among key node.drawn → ⊥) → (t : ℕ) (s : Session) → get node.sessions t ≡ Some s → get (insert node.sessions key new) t ≡ Some s
+still_stands history role node knows key new undrawn t s stands = get-insert_other node.sessions key new t (λ same. undrawn (subst (λ k. Among k node.drawn) same (knows.drawn t s stands))) ∙ stands
 
 pub matched_bearer : (history : List Sent) (role : Role) (node : Node) → NothingOwns history role node → Each (IsPending history role) node.pending → (sessions : FiniteMap Session) (key : ℕ) (b : Bearer) → IsFree node key → Each (IsMatched sessions node.bearers) node.pending → Each (IsMatched sessions (insert node.bearers key b)) node.pending
 matched_bearer history role node unowned pending sessions key b free each number p e = IsMatched-bearer sessions node.bearers key b number p (λ r is same. absurd (new_bearer history role node unowned number p (pending number p e) key free r is same)) (each number p e)

@@ -65,8 +65,9 @@ module _ (history : List Sent) (role : Role) (taken : Arrival → Message → Ty
     made = inl refl;
   }
 
-  pub Logs-plain : (destination : Endpoint) (m : Message) → IsPlain m → Logs history role taken old (record { out = says destination m; outcome = outcome; node = new })
-  Logs-plain destination m plain = record {
+  -- one message is said, and what it says of packets and bearers was said before
+  Logs-one : (destination : Endpoint) (m : Message) → ((target : ℕ) (payload : List ℕ) → Packet_data target payload ≡ m → HasSent history role (Packet_data target payload)) → ((x : CreateBearerResponse) (t : ℕ) → Create_bearer_response x ≡ m → first_given x.contexts ≡ Some t → HasSent history role (Create_bearer_response x)) → Logs history role taken old (record { out = says destination m; outcome = outcome; node = new })
+  Logs-one destination m packet answer = record {
     held_stays = λ h was. inl (held h was);
     packets = packets;
     handed = λ e none. absurd none;
@@ -76,30 +77,18 @@ module _ (history : List Sent) (role : Role) (taken : Arrival → Message → Ty
   }
     where
       packets : (target : ℕ) (payload : List ℕ) → Among (Packet_data target payload) (m ∷ []) → HasSent history role (Packet_data target payload) ⊎ IsHandedNow (says destination m) target payload
-      packets target payload (inl is) = absurd (subst IsPlain (sym is) plain)
+      packets target payload (inl is) = inl (packet target payload is)
       packets target payload (inr none) = absurd none
 
       answers : (x : CreateBearerResponse) (t : ℕ) → Among (Create_bearer_response x) (m ∷ []) → first_given x.contexts ≡ Some t → HasSent history role (Create_bearer_response x) ⊎ IsAnsweredNow history old new taken x
-      answers x t (inl is) gives = absurd (none_some t (sym (subst IsPlain (sym is) plain) ∙ gives))
+      answers x t (inl is) gives = inl (answer x t is gives)
       answers x t (inr none) gives = absurd none
+
+  pub Logs-plain : (destination : Endpoint) (m : Message) → IsPlain m → Logs history role taken old (record { out = says destination m; outcome = outcome; node = new })
+  Logs-plain destination m plain = Logs-one destination m (λ target payload is. absurd (subst IsPlain (sym is) plain)) (λ x t is gives. absurd (none_some t (sym (subst IsPlain (sym is) plain) ∙ gives)))
 
   pub Logs-repeat : (destination : Endpoint) (m : Message) → HasSent history role m → Logs history role taken old (record { out = says destination m; outcome = outcome; node = new })
-  Logs-repeat destination m was = record {
-    held_stays = λ h stood. inl (held h stood);
-    packets = packets;
-    handed = λ e none. absurd none;
-    accepted = λ e none. absurd none;
-    answers = answers;
-    made = inl refl;
-  }
-    where
-      packets : (target : ℕ) (payload : List ℕ) → Among (Packet_data target payload) (m ∷ []) → HasSent history role (Packet_data target payload) ⊎ IsHandedNow (says destination m) target payload
-      packets target payload (inl is) = inl (subst (λ k. HasSent history role k) (sym is) was)
-      packets target payload (inr none) = absurd none
-
-      answers : (x : CreateBearerResponse) (t : ℕ) → Among (Create_bearer_response x) (m ∷ []) → first_given x.contexts ≡ Some t → HasSent history role (Create_bearer_response x) ⊎ IsAnsweredNow history old new taken x
-      answers x t (inl is) gives = inl (subst (λ k. HasSent history role k) (sym is) was)
-      answers x t (inr none) gives = absurd none
+  Logs-repeat destination m was = Logs-one destination m (λ target payload is. subst (λ k. HasSent history role k) (sym is) was) (λ x t is gives. subst (λ k. HasSent history role k) (sym is) was)
 
 -- a result of a row, from what the row says of it
 pub at_result : (P : Effect → Type 0) (e f : Effect) → e ≡ f → P f → P e

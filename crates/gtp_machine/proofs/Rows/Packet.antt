@@ -14,14 +14,14 @@ use Rattle.gtp_machine.specs.Command.{bearer_request, pending_dedicated, BeginsB
 use Rattle.gtp_machine.specs.Answer.{IsNew, answered, ControlStep}
 use Rattle.gtp_machine.specs.Packet.{session_cause, session_response, made_session, made_bearer, session_made, MakesSession, session_refused, SessionAsked, DeletionAsked, FitsBearer, DescribesBearer, CanOpen, opened_dedicated, OpensBearer, BearerAnswered, RemovalAnswered, PacketTakes, packet_takes, PacketFaulted, PacketReads}
 use Rattle.gtp_machine.specs.World.{Sent, HasSent, signed}
-use Rattle.gtp_machine.proofs.Basics.FiniteMaps.{Each-insert, Each-remove, found-remove, get-insert_same, get-insert_other}
+use Rattle.gtp_machine.proofs.Basics.FiniteMaps.{Each-insert, Each-remove, found-remove, get-insert_same}
 use Rattle.gtp_machine.proofs.Origins.Drawing.{Draws-nothing, Draws-new, TellsStart, IsProper, sent_before, sent_now, sent_cases}
 use Rattle.gtp_machine.proofs.Origins.Contexts.{IsMade, IsWanted, IsAtPacket, closes-session, closes-bearer}
 use Rattle.gtp_machine.proofs.Changes.Shrinking.{Shrunk, Shrunk-itself, Shrunk-without}
 use Rattle.gtp_machine.proofs.Changes.Matching.{IsMatched, IsMatched-bearer}
 use Rattle.gtp_machine.proofs.Origins.Entries.{Once, answer_not_request}
 use Rattle.gtp_machine.proofs.Changes.Steps.{Logs-silent, Logs-plain, at_result, NothingOwns, NothingOwns-from}
-use Rattle.gtp_machine.proofs.Changes.After.{IsPending, IsStanding, IsReady, Knows, After, nothing_told, later, held_now, matched_session, matched_bearer}
+use Rattle.gtp_machine.proofs.Changes.After.{IsPending, IsStanding, IsReady, Knows, After, nothing_told, later, held_now, matched_session, matched_bearer, still_stands}
 use Rattle.gtp_machine.proofs.Rows.Common.{unchanged}
 use Rattle.gtp_machine.proofs.Rows.Taking.{Took, took, drops, ends, gives_answer, takes_echo, takes_echo_response}
 use Rattle.gtp_machine.proofs.Basics.Options.{some_same, none_some}
@@ -33,13 +33,7 @@ module _ (history : List Sent) (taken : Arrival → Message → Type 0) (serving
   was_later sent = later Packet history taken old knows sent
 
   with_new_session : (after : List Sent) (key : ℕ) (s : Session) → (Among key old.drawn → ⊥) → Each (IsAtPacket after old.sessions) old.bearers → Each (IsAtPacket after (insert old.sessions key s)) old.bearers
-  with_new_session after key s undrawn each t b e =
-      let at = each t b e in
-      record {
-        session = at.session;
-        stands = get-insert_other old.sessions key s b.session (λ same. undrawn (subst (λ k. Among k old.drawn) same (knows.drawn b.session at.session at.stands))) ∙ at.stands;
-        origin = at.origin;
-      }
+  with_new_session after key s undrawn each t b e = let at = each t b e in record { session = at.session; stands = still_stands history Packet old knows key s undrawn b.session at.session at.stands; origin = at.origin }
 
   active_not_pending : Active ≡ Pending → ⊥
   active_not_pending e = cc

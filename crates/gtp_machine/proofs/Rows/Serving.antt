@@ -20,7 +20,7 @@ use Rattle.gtp_machine.proofs.Changes.Shrinking.{Shrunk, Shrunk-itself, Shrunk-w
 use Rattle.gtp_machine.proofs.Changes.Matching.{IsMatched, IsMatched-session, IsMatched-bearer}
 use Rattle.gtp_machine.proofs.Origins.Entries.{Once, same_request, same_user_request, request_not_answer}
 use Rattle.gtp_machine.proofs.Changes.Steps.{IsAnsweredNow, Logs-silent, Logs-plain, at_result, NothingOwns, NothingOwns-from}
-use Rattle.gtp_machine.proofs.Changes.After.{IsPending, IsStanding, IsReady, Knows, After, nothing_told, later, held_now, matched_session, matched_bearer}
+use Rattle.gtp_machine.proofs.Changes.After.{IsPending, IsStanding, IsReady, Knows, After, nothing_told, later, held_now, matched_session, matched_bearer, still_stands}
 use Rattle.gtp_machine.proofs.Rows.Common.{unchanged}
 use Rattle.gtp_machine.proofs.Rows.Taking.{Took, took, drops, ends, gives_answer, takes_echo, takes_echo_response, named_written}
 use Rattle.gtp_machine.proofs.Basics.Options.{some_same, none_some}
@@ -33,13 +33,7 @@ module _ (history : List Sent) (taken : Arrival → Message → Type 0) (serving
 
   -- a session that is begun under a new TEID leaves each bearer with its session
   with_new_session : (after : List Sent) (key : ℕ) (s : Session) → (Among key old.drawn → ⊥) → Each (IsAtServing after old.sessions) old.bearers → Each (IsAtServing after (insert old.sessions key s)) old.bearers
-  with_new_session after key s undrawn each t b e =
-      let at = each t b e in
-      record {
-        session = at.session;
-        stands = get-insert_other old.sessions key s b.session (λ same. undrawn (subst (λ k. Among k old.drawn) same (knows.drawn b.session at.session at.stands))) ∙ at.stands;
-        origin = at.origin;
-      }
+  with_new_session after key s undrawn each t b e = let at = each t b e in record { session = at.session; stands = still_stands history Serving old knows key s undrawn b.session at.session at.stands; origin = at.origin }
 
   begins : (unowned : NothingOwns history Serving old) (spec : Specification) (e : Effect) → BeginsSession old spec e → After Serving history taken old e
   begins unowned spec e r =

@@ -12,7 +12,7 @@ use Rattle.gtp_machine.specs.Choice.{IsFree, IsIdentity, HasPending}
 use Rattle.gtp_machine.specs.Response.{Named}
 use Rattle.gtp_machine.specs.Serving.{FitsSession}
 use Rattle.gtp_machine.specs.Packet.{FitsBearer}
-use Rattle.gtp_machine.specs.Sound.{At, IsInState, IsBearerOf, IsSoundSession, IsSoundBearer, AsksSession, AsksBearer, IsAbout, opened_by, AreSoundRequests, IsSound}
+use Rattle.gtp_machine.specs.Sound.{At, IsInState, IsBearerOf, IsSoundSession, IsSoundBearer, AsksSession, AsksBearer, IsAbout, opened_by, AreSoundRequests, IsSound, IsWithin}
 use Rattle.gtp_machine.proofs.Basics.FiniteMaps.{found-remove, found-empty, found-kept, found-changed, get-changed_some, get-kept, Each-insert}
 use Rattle.gtp_machine.proofs.Basics.Counting.{len-insert_most, len-insert_same, len-remove_most, len-kept_most}
 use Rattle.gtp_machine.proofs.Sound.Parts.{one_value, waiting_active, waiting_closing, default_dedicated, at_here, at_insert, there_insert, Follows, follows_all, no_deletion, requests_follow, requests_fewer, requests_add, opened_drawn, contexts_drawn, contexts_session, contexts_bearer, contexts_same}
@@ -95,17 +95,20 @@ module _ (role : Role) where
     pub without_bearer_sound : (key : ℕ) (b : Bearer) → get old.bearers key ≡ Some b → b.kind ≡ Dedicated → IsSound role (without_bearer old key)
     without_bearer_sound key b stands dedicated = without_sound (λ t. false) (λ t. eqb t key) (λ t x e default w. eqb_other t key (λ same. default_dedicated x.kind default (ap (λ (k : Bearer). k.kind) (one_value (get old.bearers key) x b (ap (λ k. get old.bearers k) (sym same) ∙ e) stands) ∙ dedicated)))
 
+    removed_within : (number : ℕ) → IsWithin old.sessions (remove old.pending number) old.held old.drawn
+    removed_within number = record {
+      sessions_few = sound.within.sessions_few;
+      pending_few = omega (arith, len-remove_most old.pending number, sound.within.pending_few);
+      numbers = λ m q e. sound.within.numbers m q (found-remove old.pending number m q e).1;
+      held_few = sound.within.held_few;
+      drawn_few = sound.within.drawn_few;
+    }
+
     pub removed_sound : (number : ℕ) → IsSound role (record old { pending = remove old.pending number })
     removed_sound number = record {
       contexts = sound.contexts;
       requests = requests_fewer role old.sessions old.bearers old.pending (remove old.pending number) (λ m q e. (found-remove old.pending number m q e).1) sound.requests;
-      within = record {
-        sessions_few = sound.within.sessions_few;
-        pending_few = omega (arith, len-remove_most old.pending number, sound.within.pending_few);
-        numbers = λ m q e. sound.within.numbers m q (found-remove old.pending number m q e).1;
-        held_few = sound.within.held_few;
-        drawn_few = sound.within.drawn_few;
-      };
+      within = removed_within number;
     }
 
     -- a pending request is finished, and what it was about goes
@@ -349,13 +352,7 @@ module _ (role : Role) where
             range = range;
           }) (λ t a i e other. unused t a i e) sound.contexts;
           requests = requests_follow role old.sessions old.sessions old.bearers (insert old.bearers u n) (remove old.pending number) (λ m q e. follows m q (found-remove old.pending number m q e)) (requests_fewer role old.sessions old.bearers old.pending (remove old.pending number) (λ m q e. (found-remove old.pending number m q e).1) sound.requests);
-          within = record {
-            sessions_few = sound.within.sessions_few;
-            pending_few = omega (arith, len-remove_most old.pending number, sound.within.pending_few);
-            numbers = λ m q e. sound.within.numbers m q (found-remove old.pending number m q e).1;
-            held_few = sound.within.held_few;
-            drawn_few = sound.within.drawn_few;
-          };
+          within = removed_within number;
         }
       where
         is_it : (t : ℕ) (y : Bearer) → t ≡ r.context.user.teid → get old.bearers t ≡ Some y → y ≡ b

@@ -65,6 +65,11 @@ control_not_user e = omega arith
 control_not_dedicated : control ≢ dedicated
 control_not_dedicated e = omega arith
 
+dedicated_undrawn : (dedicated ≡ user) ⊎ ((dedicated ≡ control) ⊎ ⊥) → ⊥
+dedicated_undrawn (inl e) = user_not_dedicated (sym e)
+dedicated_undrawn (inr (inl e)) = control_not_dedicated (sym e)
+dedicated_undrawn (inr (inr none)) = none
+
 five_not_six : ◌≡◌ {A = Option ℕ} (Some 5) (Some 6) → ⊥
 five_not_six e = different 5 6 e (omega arith)
   where
@@ -313,7 +318,7 @@ module _ (spelled : Message → List ℕ) (faithful : IsFaithful spelled) where
             record {
               user = dedicated;
               number = 0;
-              user_free = record { counted = refl; numbered = omega arith; undrawn = undrawn };
+              user_free = record { counted = refl; numbered = omega arith; undrawn = dedicated_undrawn };
               number_free = record { unused = get-empty nat_cmp 0; small = omega arith };
               gives = refl;
             },
@@ -323,11 +328,6 @@ module _ (spelled : Message → List ℕ) (faithful : IsFaithful spelled) where
     );
     becomes = refl;
   }
-    where
-      undrawn : (dedicated ≡ user) ⊎ ((dedicated ≡ control) ⊎ ⊥) → ⊥
-      undrawn (inl e) = user_not_dedicated (sym e)
-      undrawn (inr (inl e)) = control_not_dedicated (sym e)
-      undrawn (inr (inr none)) = none
 
   -- the session at the serving gateway
   serving_stands : get w4.serving.node.sessions control ≡ Some at_serving
@@ -371,7 +371,7 @@ module _ (spelled : Message → List ℕ) (faithful : IsFaithful spelled) where
                         record {
                           user = dedicated;
                           identity = 6;
-                          user_free = record { counted = refl; numbered = omega arith; undrawn = undrawn };
+                          user_free = record { counted = refl; numbered = omega arith; undrawn = dedicated_undrawn };
                           identity_free = free_identity;
                           gives = refl;
                         },
@@ -387,11 +387,6 @@ module _ (spelled : Message → List ℕ) (faithful : IsFaithful spelled) where
       becomes = refl;
     },
   )
-    where
-      undrawn : (dedicated ≡ user) ⊎ ((dedicated ≡ control) ⊎ ⊥) → ⊥
-      undrawn (inl e) = user_not_dedicated (sym e)
-      undrawn (inr (inl e)) = control_not_dedicated (sym e)
-      undrawn (inr (inr none)) = none
 
   -- its answer to the Create Session Request is held for that alone
   new_to_packet : IsNew w5.packet.node (arrival spelled serving_config.own (Create_bearer_response x))
