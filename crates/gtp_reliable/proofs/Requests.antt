@@ -122,8 +122,9 @@ resend_more t3 n3 ws i w so_far now r before lt is again pushed s t o =
     ∙ sym (filter_map_some (sent_again t3 n3) ws i w (message w.seq w.to w.octets) lt (ap (sent_again t3 n3) (sym is) ∙ sent_again_is t3 n3 w SentAgain again)))))
 
 -- one that is not
-pub resend_none : {P : Type 0} (t3 n3 : ℕ) (ws : List (Waiting P)) (i : ℕ) (w : Waiting P) (n : NextTick) → i < length ws → w ≡ get_or ws i w → n ≡ next_tick t3 n3 w → sent_again_by n w ≡ None → filter_map (sent_again t3 n3) (take i ws) ≡ filter_map (sent_again t3 n3) (take (i + 1) ws)
-resend_none t3 n3 ws i w n lt is by none = sym (filter_map_none (sent_again t3 n3) ws i w lt (ap (sent_again t3 n3) (sym is) ∙ (sent_again_is t3 n3 w n by ∙ none)))
+pub resend_none : {P : Type 0} (t3 n3 : ℕ) (ws : List (Waiting P)) (i : ℕ) (w : Waiting P) (n : NextTick) (so_far now : List Resend) → now ≡ so_far → map message_of so_far ≡ filter_map (sent_again t3 n3) (take i ws) → i < length ws → w ≡ get_or ws i w → n ≡ next_tick t3 n3 w → sent_again_by n w ≡ None
+    → map message_of now ≡ filter_map (sent_again t3 n3) (take (i + 1) ws)
+resend_none t3 n3 ws i w n so_far now same before lt is by none = ap (map message_of) same ∙ (before ∙ sym (filter_map_none (sent_again t3 n3) ws i w lt (ap (sent_again t3 n3) (sym is) ∙ (sent_again_is t3 n3 w n by ∙ none))))
 
 -- one more that is given up
 pub given_more : {P : Type 0} (t3 n3 : ℕ) (ws : List (Waiting P)) (i : ℕ) (w : Waiting P) (so_far now : List (ℕ × P)) (seq : ℕ) (purpose : P) → so_far ≡ filter_map (given_up t3 n3) (take i ws) → i < length ws → w ≡ get_or ws i w → GivenUp ≡ next_tick t3 n3 w
@@ -136,8 +137,9 @@ given_more {P} t3 n3 ws i w so_far now seq purpose before lt is over pushed s p 
     ∙ sym (filter_map_some (given_up t3 n3) ws i w (w.seq, w.purpose) lt (ap (given_up t3 n3) (sym is) ∙ given_up_is t3 n3 w GivenUp over)))))
 
 -- one that is not
-pub given_none : {P : Type 0} (t3 n3 : ℕ) (ws : List (Waiting P)) (i : ℕ) (w : Waiting P) (n : NextTick) → i < length ws → w ≡ get_or ws i w → n ≡ next_tick t3 n3 w → given_up_by n w ≡ None → filter_map (given_up t3 n3) (take i ws) ≡ filter_map (given_up t3 n3) (take (i + 1) ws)
-given_none t3 n3 ws i w n lt is by none = sym (filter_map_none (given_up t3 n3) ws i w lt (ap (given_up t3 n3) (sym is) ∙ (given_up_is t3 n3 w n by ∙ none)))
+pub given_none : {P : Type 0} (t3 n3 : ℕ) (ws : List (Waiting P)) (i : ℕ) (w : Waiting P) (n : NextTick) (so_far now : List (ℕ × P)) → now ≡ so_far → so_far ≡ filter_map (given_up t3 n3) (take i ws) → i < length ws → w ≡ get_or ws i w → n ≡ next_tick t3 n3 w → given_up_by n w ≡ None
+    → now ≡ filter_map (given_up t3 n3) (take (i + 1) ws)
+given_none t3 n3 ws i w n so_far now same before lt is by none = same ∙ (before ∙ sym (filter_map_none (given_up t3 n3) ws i w lt (ap (given_up t3 n3) (sym is) ∙ (given_up_is t3 n3 w n by ∙ none))))
 
 -- where fewer than t3 ticks will have passed, the request waits on
 waits : {P : Type 0} (t3 n3 : ℕ) (w : Waiting P) → w.waited + 1 < t3 → next_tick t3 n3 w ≡ WaitsOn

@@ -4,8 +4,8 @@ use Rattle.gtp_values.specs.declared.address.Endpoint.{Endpoint}
 use Rattle.gtp_reliable.specs.declared.waiting.NextTick.{NextTick}
 use Rattle.gtp_reliable.specs.declared.waiting.NextTick.TheVariants.{WaitsOn, SentAgain, GivenUp}
 
--- its number, the place that it was sent to, its octets, what it is for, the ticks since it was sent
--- last, and how often it was sent again
+-- its number, the place that it was sent to, its octets, what it is for, the ticks since it was
+-- sent last, and how often it was sent again
 pub record Waiting (P : Type 0) : Type 0 where
   pub seq : ℕ
   pub to : Endpoint

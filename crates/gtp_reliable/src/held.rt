@@ -18,15 +18,15 @@ use std::marker::Model;
 const MOST: usize = 4096;
 
 /// A request: where it came from, and its octets.
-#[derive(Debug, Drop, PartialEq, Eq)]
+#[derive(Clone, Debug, Drop, PartialEq, Eq)]
 pub struct Request {
     pub source: Endpoint,
     pub octets: Vec<u8>,
 }
 
-/// Answers that are held for requests which come again, in order of keeping. An answer is held until
-/// the `hold`-th tick after it was kept; a look-up doesn't prolong that, and only a tick drops a pair.
-/// At most 4,096 are held, one for a request from a source.
+/// Answers that are held for requests which come again, in order of keeping. An answer is held
+/// until the `hold`-th tick after it was kept; a look-up doesn't prolong that, and only a tick
+/// drops a pair. At most 4,096 are held, one for a request from a source.
 #[derive(Debug, Drop)]
 pub struct Held {
     alloc: Global,
@@ -58,7 +58,8 @@ impl Model for Held {
 /// The requests that the next tick forgets. Takes no memory where there is none.
 fn forgotten_by_tick(alloc: Global, pairs: &[Pair], hold: u32) -> Result<Vec<Request>, AllocError>
     requires { 1 ≤ hold }
-    ensures list { IfOk result (λ v. map question_of v.items ≡ filter_map (forgotten hold) pairs.now) }
+    ensures list { IfOk result (λ v.
+        map question_of v.items ≡ filter_map (forgotten hold) pairs.now) }
     ensures quiet { All (λ p. p.age + 1 < hold) pairs.now → IsOk result }
 {
     let mut requests = Vec::new(alloc);
@@ -111,7 +112,8 @@ impl Held {
 
     /// The answer that is held for a request from this source with these octets, all of them.
     pub fn lookup(&self, source: Endpoint, request: &[u8]) -> Option<&[u8]>
-        ensures found { IfSome result (λ answer. HasAnswer source request.now answer.now self.now.pairs) }
+        ensures found { IfSome result (λ answer.
+            HasAnswer source request.now answer.now self.now.pairs) }
         ensures only { (a : List ℕ) → HasAnswer source request.now a self.now.pairs
             → IsSomeAnd result (λ answer. answer.now ≡ a) }
         ensures none { IfNone result (IsHeld source request.now self.now.pairs → ⊥) }
@@ -126,13 +128,14 @@ impl Held {
         self.pairs.len() >= MOST
     }
 
-    /// Room for one more answer; nothing else changes. After an error all is as before: each part of
-    /// the value that contracts see, `has_room` among them.
+    /// Room for one more answer; nothing else changes. After an error all is as before: each part
+    /// of the value that contracts see, `has_room` among them.
     pub fn prepare(&mut self) -> Result<(), ReliableFault>
         ensures ready { OnOk result (IsReady self.new) }
         ensures room { OnOk result (self.new ≡ record self.old { has_room = true }) }
         ensures full { (result ≡ Err ReliableFault.HeldFull) ↔ (4096 ≤ length self.old.pairs) }
-        ensures fault { IfErr result (λ f. (f ≡ ReliableFault.HeldFull) ⊎ (f ≡ ReliableFault.Memory)) }
+        ensures fault { IfErr result (λ f.
+            (f ≡ ReliableFault.HeldFull) ⊎ (f ≡ ReliableFault.Memory)) }
         ensures memory { result ≡ Err ReliableFault.Memory → self.old.has_room ≡ false }
         ensures err { OnErr result (self.new ≡ self.old) }
     {
@@ -147,7 +150,8 @@ impl Held {
     pub fn keep(&mut self, source: Endpoint, request: Vec<u8>, answer: Vec<u8>)
         requires ready { IsReady self.old }
         requires free { IsHeld source request.items self.old.pairs → ⊥ }
-        ensures pairs { self.new.pairs ≡ self.old.pairs ++ just_kept source request.items answer.items ∷ [] }
+        ensures pairs { self.new.pairs
+            ≡ self.old.pairs ++ just_kept source request.items answer.items ∷ [] }
         ensures hold { self.new.hold ≡ self.old.hold }
     {
         if self.pairs.push(Pair::new(source, request, answer)).is_err() {

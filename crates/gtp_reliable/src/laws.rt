@@ -7,10 +7,11 @@ ghost use Rattle.gtp_reliable.specs.Held.{HeldPair, just_kept, forgotten};
 ghost use Rattle.gtp_reliable.specs.Ticks.{after_ticks, held_after};
 
 /// A request was sent again `r` times, at most `n3`, where `t3` ticks passed so often, and it waits
-/// for the `k` ticks since, fewer than `t3`. After `t3` ticks more than those of the last time it is
-/// given up.
+/// for the `k` ticks since, fewer than `t3`. After `t3` ticks more than those of the last time it
+/// is given up.
 pub fn requests_are_sent_again_on_time<P: Copy>()
-    ensures waits { (t3 n3 r k seq : ℕ) (to : Place) (octets : List ℕ) (purpose : P) → r ≤ n3 → k < t3
+    ensures waits { (t3 n3 r k seq : ℕ) (to : Place) (octets : List ℕ) (purpose : P)
+        → r ≤ n3 → k < t3
         → after_ticks t3 n3 (r * t3 + k) (just_sent seq to octets purpose)
         ≡ Some (record (just_sent seq to octets purpose) { waited = k; resent = r }) }
     ensures ends { (t3 n3 seq : ℕ) (to : Place) (octets : List ℕ) (purpose : P) → 0 < t3
@@ -42,5 +43,6 @@ pub fn answers_are_held_on_time()
     // The tick of that number forgets the request, and none before.
     ensures forgets { (hold : ℕ) (pair : HeldPair) → pair.age + 1 ≡ hold
         → forgotten hold pair ≡ Some (record { source = pair.source; octets = pair.request }) }
-    ensures quiet { (hold : ℕ) (pair : HeldPair) → pair.age + 1 < hold → forgotten hold pair ≡ None }
+    ensures quiet { (hold : ℕ) (pair : HeldPair) → pair.age + 1 < hold
+        → forgotten hold pair ≡ None }
 {}

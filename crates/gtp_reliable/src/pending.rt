@@ -24,7 +24,7 @@ const MOST: usize = 256;
 const LAST: u32 = 8_388_607;
 
 /// A request to be sent again: the same octets to the same place.
-#[derive(Debug, Drop, PartialEq, Eq)]
+#[derive(Clone, Debug, Drop, PartialEq, Eq)]
 pub struct Resend {
     pub seq: Seq,
     pub to: Endpoint,
@@ -40,10 +40,10 @@ pub struct Due<P: Copy> {
     pub gave_up: Vec<(Seq, P)>,
 }
 
-/// Requests that wait for their answers, in order of beginning, each with a purpose. A request waits
-/// `t3` ticks (T3-RESPONSE); then it is sent again, at most `n3` times (N3-REQUESTS), and then given
-/// up. Numbers rise by one from 0, or from where they were told to, to 8,388,607, and then from 0
-/// again; one that is pending is passed over. At most 256 requests are pending.
+/// Requests that wait for their answers, in order of beginning, each with a purpose. A request
+/// waits `t3` ticks (T3-RESPONSE); then it is sent again, at most `n3` times (N3-REQUESTS), and
+/// then given up. Numbers rise by one from 0, or from where they were told to, to 8,388,607, and then
+/// from 0 again; one that is pending is passed over. At most 256 requests are pending.
 #[derive(Debug, Drop)]
 pub struct Pending<P: Copy> {
     alloc: Global,
@@ -119,7 +119,8 @@ fn due_of<P: Copy>(
     requires { 1 ≤ t3 }
     ensures resend { IfOk result (λ due.
         map message_of due.resend.items ≡ filter_map (sent_again t3 n3) waiting.now) }
-    ensures gave_up { IfOk result (λ due. due.gave_up.items ≡ filter_map (given_up t3 n3) waiting.now) }
+    ensures gave_up { IfOk result (λ due.
+        due.gave_up.items ≡ filter_map (given_up t3 n3) waiting.now) }
     ensures quiet { All (λ w. w.waited + 1 < t3) waiting.now → IsOk result }
 {
     let mut resend = Vec::new(alloc);
@@ -211,7 +212,8 @@ impl<P: Copy> Pending<P> {
         ensures prepared { IfOk result (IsPrepared self.new) }
         ensures room { OnOk result (self.new ≡ record self.old { has_room = true }) }
         ensures full { (result ≡ Err ReliableFault.PendingFull) ↔ (256 ≤ length self.old.waiting) }
-        ensures fault { IfErr result (λ f. (f ≡ ReliableFault.PendingFull) ⊎ (f ≡ ReliableFault.Memory)) }
+        ensures fault { IfErr result (λ f.
+            (f ≡ ReliableFault.PendingFull) ⊎ (f ≡ ReliableFault.Memory)) }
         ensures memory { result ≡ Err ReliableFault.Memory → self.old.has_room ≡ false }
         ensures err { OnErr result (self.new ≡ self.old) }
     {
@@ -225,7 +227,8 @@ impl<P: Copy> Pending<P> {
     /// Begins the request that was prepared, which is sent now.
     pub fn begin(&mut self, seq: Seq, to: Endpoint, octets: Vec<u8>, purpose: P)
         requires { IsPrepared self.old seq }
-        ensures waiting { self.new.waiting ≡ self.old.waiting ++ just_sent seq to octets.items purpose ∷ [] }
+        ensures waiting { self.new.waiting
+            ≡ self.old.waiting ++ just_sent seq to octets.items purpose ∷ [] }
         ensures next { self.new.next ≡ number_after seq }
         ensures times { SameTimes self.old self.new }
     {
@@ -261,8 +264,8 @@ impl<P: Copy> Pending<P> {
         drop_number(&mut self.waiting, seq.number());
     }
 
-    /// All requests whose purpose meets the test wait no longer. Takes no memory. `meets` is what the
-    /// test answers; the caller picks it.
+    /// All requests whose purpose meets the test wait no longer. Takes no memory. `meets` is what
+    /// the test answers; the caller picks it.
     pub fn finish_where<F: Fn(&P) -> bool>(&mut self, test: F)
         ghost meets: { P → Bool }
         requires callable { F.IsAlwaysCallable test }
@@ -287,7 +290,8 @@ impl<P: Copy> Pending<P> {
 
     /// A tick passes: what is due is sent again, by who asked, or given up.
     pub fn tick(&mut self)
-        ensures waiting { self.new.waiting ≡ filter_map (after_tick self.old.t3 self.old.n3) self.old.waiting }
+        ensures waiting { self.new.waiting
+            ≡ filter_map (after_tick self.old.t3 self.old.n3) self.old.waiting }
         ensures next { self.new.next ≡ self.old.next }
         ensures times { SameTimes self.old self.new }
     {

@@ -78,6 +78,8 @@ fn order_of_beginning(rt: HostRuntime) -> Result<(), Fail> {
     let due = pending.due()?;
     assert_eq!(rt; due.resend.len(), 1);
     assert!(rt; due.resend[0].seq == first);
+    let again = due.resend[0].clone()?;
+    assert!(rt; again == due.resend[0]);
     pending.tick();
     let due = pending.due()?;
     assert_eq!(rt; due.resend.len(), 1);
@@ -206,6 +208,8 @@ fn held_ticks(rt: HostRuntime) -> Result<(), Fail> {
     let due = held.due()?;
     assert_eq!(rt; due.len(), 1);
     assert!(rt; due[0].source == place(1) && due[0].octets.as_slice() == b"ask".as_slice());
+    let same = due[0].clone()?;
+    assert!(rt; same == due[0]);
     held.tick();
     assert!(rt; held.lookup(place(1), b"ask").is_none());
     Ok(())
