@@ -280,11 +280,11 @@ module _ (role : Role) where
         opens = ap opened_by asked
 
         by : IsAbout role old.sessions old.bearers number p → (a : AsksSession role old.sessions old.bearers number p) × (a.request ≡ q)
-        by (inl e) = absurd (cc (sym (ap opened_by e.asked) ∙ opens))
+        by (inl e) = absurd (cc (e.asked, asked))
         by (inr (inl a)) = (a, let same : a.request ≡ q = cc (a.asked, asked) in same)
         by (inr (inr (inl d))) = absurd (no_deletion role number p.request q.control.teid d.asked opens)
         by (inr (inr (inr (inl a)))) = absurd (cc (a.asked, asked))
-        by (inr (inr (inr (inr d)))) = absurd (cc (sym (ap opened_by d.asked) ∙ opens))
+        by (inr (inr (inr (inr d)))) = absurd (cc (d.asked, asked))
 
     -- what a pending Create Bearer Request is about
     pub is_bearer : (number : ℕ) (p : PendingRequest) (r : CreateBearerRequest) → get old.pending number ≡ Some p → p.request ≡ Create_bearer_request r → (a : AsksBearer role old.sessions old.bearers number p) × (a.request ≡ r)
@@ -294,11 +294,11 @@ module _ (role : Role) where
         opens = ap opened_by asked
 
         by : IsAbout role old.sessions old.bearers number p → (a : AsksBearer role old.sessions old.bearers number p) × (a.request ≡ r)
-        by (inl e) = absurd (cc (sym (ap opened_by e.asked) ∙ opens))
+        by (inl e) = absurd (cc (e.asked, asked))
         by (inr (inl a)) = absurd (cc (a.asked, asked))
         by (inr (inr (inl d))) = absurd (no_deletion role number p.request r.context.user.teid d.asked opens)
         by (inr (inr (inr (inl a)))) = (a, let same : a.request ≡ r = cc (a.asked, asked) in same)
-        by (inr (inr (inr (inr d)))) = absurd (cc (sym (ap opened_by d.asked) ∙ opens))
+        by (inr (inr (inr (inr d)))) = absurd (cc (d.asked, asked))
 
     -- a pending session opens with its default bearer, and its request is finished
     pub session_opens : (number : ℕ) (p : PendingRequest) (a : AsksSession role old.sessions old.bearers number p) → get old.pending number ≡ Some p → (now : Session) (opened : Bearer) → now.state ≡ Active → (r : ℕ) × (now.remote ≡ Some r) → opened.session ≡ a.default.0.session → opened.identity ≡ a.default.0.identity → opened.kind ≡ a.default.0.kind → opened.state ≡ Active → (r : ℕ) × (opened.remote ≡ Some r) → IsSound role (record old { sessions = insert old.sessions a.request.control.teid now; bearers = insert old.bearers a.request.context.user.teid opened; pending = remove old.pending number })
