@@ -1,13 +1,14 @@
 -- Answers that a gateway gives (TS 29.274, 7.6 and 7.7), and the place where requests come in.
-use Rattle.std.specs.Prelude.{◌≡◌, ◌⊎◌, ℕ, [], ◌∷◌, Option, Some, None}
+use Rattle.std.specs.Prelude.{◌≡◌, ◌⊎◌, ℕ, [], ◌∷◌, Option, Some, None, Bool, true}
 use Rattle.std.specs.FinMap.{get}
 use Rattle.gtp_values.specs.declared.cause.Cause.{Cause}
-use Rattle.gtp_machine.specs.Table.{Among}
+use Rattle.gtp_machine.specs.FiniteMap.{Among}
 use Rattle.gtp_machine.specs.Ordered.{Unless}
 use Rattle.gtp_machine.specs.Element.{cause_at, teid_in}
-use Rattle.gtp_machine.specs.Message.{Message, Echo, Echo_response, Create_session_response, Delete_session_response, Create_bearer_response, Delete_bearer_response}
-use Rattle.gtp_machine.specs.Node.{Waiting, Active, Closing, State, Session, Arrival, Held, Node, holding, written}
-use Rattle.gtp_machine.specs.Input.{RequestKind, Of_create_session, Of_delete_session, Of_create_bearer, Of_delete_bearer, Defect, Mandatory_missing, Conditional_missing, Too_short, Out_of_range, FaultyRequest, Effect, Answered, Echoed, Repeated, says, dropped, Not_peer}
+use Rattle.gtp_machine.specs.Message.{Message, Echo, Echo_response, Create_session_response, Delete_session_response, Create_bearer_response, Delete_bearer_response, recovery_of}
+use Rattle.gtp_machine.specs.Node.{Pending, Active, Closing, State, Session, Arrival, Held, Node, holding, written}
+use Rattle.gtp_machine.specs.Input.{RequestKind, Of_create_session, Of_delete_session, Of_create_bearer, Of_delete_bearer, Defect, Mandatory_missing, Conditional_missing, Too_short, Out_of_range, FaultyRequest, Effect, Answered, Echoed, Repeated, says, dropped, Not_peer, ControlReading, Control_message, Faulty, Control_fault, Undecodable, Unexpected}
+use Rattle.gtp_machine.specs.Recovery.{Hears}
 
 -- an answer goes to where the request came from, and is held
 abbrev pub answered : Arrival → Message → ℕ → Node → Effect
@@ -48,7 +49,7 @@ defect_cause Out_of_range = 69
 
 -- the remote as it is written, and 0 while the session is pending
 abbrev pub remote_by : State → Option ℕ → ℕ
-remote_by Waiting remote = 0
+remote_by Pending remote = 0
 remote_by Active remote = written remote
 remote_by Closing remote = written remote
 
@@ -74,6 +75,15 @@ refusing Of_delete_bearer header number cause counter = Delete_bearer_response (
 -- a faulty request is answered with the element at fault (7.7.6 to 7.7.8); the answer is not held, and nothing changes
 abbrev pub faulted : Arrival → FaultyRequest → Node → Effect
 faulted request f old = record { out = says request.source (refusing f.kind (faulty_header old f.kind f) f.number (cause_at (defect_cause f.defect) f.element f.instance) old.counter); outcome = Answered (defect_cause f.defect); node = old }
+
+-- What was read, where the gateway takes such kinds, does so with a message and does so with a faulty request: a message of another kind is
+-- dropped before its counter is heard.
+abbrev pub TakesReading : (Message → Bool) → (Arrival → Message → Node → Effect → Type 0) → (Arrival → FaultyRequest → RequestKind → Node → Effect → Type 0) → ControlReading → Arrival → Node → Effect → Type 0
+TakesReading takes Takes Faulted (Control_message message) request old e =
+    Unless (takes message ≡ true) (e ≡ dropped old Unexpected) (λ taken.
+    Hears (Takes request message) old (recovery_of message) e)
+TakesReading takes Takes Faulted (Faulty f) request old e = Faulted request f f.kind old e
+TakesReading takes Takes Faulted (Control_fault fault) request old e = e ≡ dropped old (Undecodable fault)
 
 -- A control plane datagram: first its source address is looked at, then the answers that are held, then what was read.
 abbrev pub ControlStep : (Arrival → Node → Effect → Type 0) → Arrival → Node → Effect → Type 0

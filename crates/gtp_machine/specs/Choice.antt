@@ -1,8 +1,8 @@
 -- What is free to be chosen, and what is full.
 use Rattle.std.specs.Prelude.{◌≡◌, ◌≢◌, ℕ, ◌+◌, ◌/◌, ◌%◌, ◌^◌, ◌<◌, ◌≤◌, Some, None, length}
 use Rattle.std.specs.FinMap.{get, len}
-use Rattle.gtp_machine.specs.Table.{Among}
-use Rattle.gtp_machine.specs.Node.{Session, Bearer, Pending, Node}
+use Rattle.gtp_machine.specs.FiniteMap.{Among}
+use Rattle.gtp_machine.specs.Node.{Session, Bearer, PendingRequest, Node}
 
 -- the restart counter in a TEID, its first octet
 abbrev pub counter_of : ℕ → ℕ
@@ -78,5 +78,5 @@ pub record HasBearer (node : Node) (t : ℕ) : Type 0 where
 
 -- a request waits under this number
 pub record HasPending (node : Node) (number : ℕ) : Type 0 where
-  pub pending : Pending
+  pub pending : PendingRequest
   pub waits : get node.pending number ≡ Some pending

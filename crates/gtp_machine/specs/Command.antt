@@ -6,14 +6,14 @@ use Rattle.gtp_machine.specs.Ordered.{Unless}
 use Rattle.gtp_machine.specs.Config.{control_end, user_end}
 use Rattle.gtp_machine.specs.Element.{Ipv4, tunnel_end}
 use Rattle.gtp_machine.specs.Message.{CreateSessionRequest, CreateBearerRequest, Echo_request, Create_session_request, Delete_session_request, Create_bearer_request, Delete_bearer_request, Packet_data, End_marker, subscriber_of}
-use Rattle.gtp_machine.specs.Node.{Role, Serving, Packet, Waiting, Active, Closing, Session, Default, Dedicated, Bearer, Pending, Node, written}
+use Rattle.gtp_machine.specs.Node.{Role, Serving, Packet, Pending, Active, Closing, Session, Default, Dedicated, Bearer, PendingRequest, Node, written}
 use Rattle.gtp_machine.specs.Input.{Specification, Command, Create_session, Delete_session, Create_bearer, Delete_bearer, Release_session, Mark_end, Send_echo, Send_user, Effect, Begun, Gone_out, entry_for, says, refused, No_such_context, Not_active, Wrong_role, Sessions_full, Teids_used, Pending_full, Bearer_ended, Packet_too_long}
 use Rattle.gtp_machine.specs.Choice.{IsFree, HasDraws, IsFreeNumber, HasSessionRoom, HasPendingRoom, HasSession, HasBearer}
 use Rattle.gtp_machine.specs.Removal.{session_closing}
 use Rattle.gtp_machine.specs.User.{ended_bearer}
 
 -- a request is sent to the peer, and waits for its answer
-abbrev pub asks : Node → ℕ → Pending → Option ℕ → Node → Effect
+abbrev pub asks : Node → ℕ → PendingRequest → Option ℕ → Node → Effect
 asks old number pending teid new = record { out = says (control_end old.config.peer.control) pending.request; outcome = Begun teid; node = record new { pending = insert old.pending number pending } }
 
 -- the Create Session Request for a specification, with these TEIDs and this number
@@ -37,20 +37,20 @@ session_request node spec control user number =
     }
 
 -- a session that is pending
-abbrev pub waiting_session : CreateSessionRequest → Session
-waiting_session q = record { remote = None; subscriber = subscriber_of q; address = None; state = Waiting }
+abbrev pub pending_session : CreateSessionRequest → Session
+pending_session q = record { remote = None; subscriber = subscriber_of q; address = None; state = Pending }
 
 -- its default bearer
-abbrev pub waiting_bearer : ℕ → CreateSessionRequest → Bearer
-waiting_bearer control q = record { remote = None; session = control; identity = Some q.context.identity; kind = Default; state = Waiting; ended = false }
+abbrev pub pending_bearer : ℕ → CreateSessionRequest → Bearer
+pending_bearer control q = record { remote = None; session = control; identity = Some q.context.identity; kind = Default; state = Pending; ended = false }
 
 -- two draws, and a pending session with its default bearer
 abbrev pub session_begun : Node → ℕ → ℕ → CreateSessionRequest → Node
 session_begun old control user q =
     record old {
       drawn = user ∷ control ∷ old.drawn;
-      sessions = insert old.sessions control (waiting_session q);
-      bearers = insert old.bearers user (waiting_bearer control q);
+      sessions = insert old.sessions control (pending_session q);
+      bearers = insert old.bearers user (pending_bearer control q);
     }
 
 -- A session is begun (7.2.1): any two free TEIDs and any free number, and the request.
@@ -89,8 +89,8 @@ bearer_request node s tft qos user number =
     }
 
 -- a dedicated bearer that is pending: it has no identity and no remote
-abbrev pub waiting_dedicated : ℕ → Bearer
-waiting_dedicated session = record { remote = None; session = session; identity = None; kind = Dedicated; state = Waiting; ended = false }
+abbrev pub pending_dedicated : ℕ → Bearer
+pending_dedicated session = record { remote = None; session = session; identity = None; kind = Dedicated; state = Pending; ended = false }
 
 -- A dedicated bearer is begun (7.2.3): any free TEID and any free number, and the request.
 pub record BeginsBearer (old : Node) (session : ℕ) (at : Session) (tft : List ℕ) (qos : Qos) (e : Effect) : Type 0 where
@@ -98,7 +98,7 @@ pub record BeginsBearer (old : Node) (session : ℕ) (at : Session) (tft : List 
   pub number : ℕ
   pub user_free : IsFree old user
   pub number_free : IsFreeNumber old number
-  pub gives : e ≡ asks old number (record { session = Some session; bearer = Some user; request = Create_bearer_request (bearer_request old at tft qos user number) }) (Some user) (record old { drawn = user ∷ old.drawn; bearers = insert old.bearers user (waiting_dedicated session) })
+  pub gives : e ≡ asks old number (record { session = Some session; bearer = Some user; request = Create_bearer_request (bearer_request old at tft qos user number) }) (Some user) (record old { drawn = user ∷ old.drawn; bearers = insert old.bearers user (pending_dedicated session) })
 
 -- the session's dedicated bearer with this identity
 pub record NamesBearer (node : Node) (session identity : ℕ) : Type 0 where

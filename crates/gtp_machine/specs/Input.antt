@@ -9,7 +9,7 @@ use Rattle.gtp_machine.specs.Element.{Subscriber}
 use Rattle.gtp_machine.specs.Message.{Message}
 use Rattle.gtp_machine.specs.Node.{Arrival, Node}
 
--- what a session is to be made with
+-- what a session is to be made with; where a command is well formed (Sound) the identity of its default bearer is 5 to 15
 pub record Specification : Type 0 where
   pub subscriber : Subscriber
   pub rat : ℕ

@@ -3,10 +3,10 @@ use Rattle.std.specs.Prelude.{◌≡◌, ◌≢◌, ℕ, ◌+◌, ◌%◌, ◌�
 use Rattle.std.specs.FinMap.{get}
 use Rattle.gtp_values.specs.Counter.{age_of}
 use Rattle.gtp_values.specs.declared.counter.Age.TheVariants.{Later}
-use Rattle.gtp_machine.specs.Table.{Table, Among}
+use Rattle.gtp_machine.specs.FiniteMap.{FiniteMap, Among}
 use Rattle.gtp_machine.specs.Config.{Config}
 use Rattle.gtp_machine.specs.Message.{CreateSessionRequest, CreateSessionResponse, CreateBearerRequest, CreateBearerResponse, Message, Create_session_request, Create_session_response, Create_bearer_request, Create_bearer_response, Packet_data, End_marker, Error_indication, Owns, header_of, recovery_of, first_given, first_returned}
-use Rattle.gtp_machine.specs.Node.{Arrival, Role, Serving, Packet, Waiting, Active, Closing, Session, Bearer, Dedicated}
+use Rattle.gtp_machine.specs.Node.{Arrival, Role, Serving, Packet, Pending, Active, Closing, Session, Bearer, Dedicated}
 use Rattle.gtp_machine.specs.Input.{Entry}
 use Rattle.gtp_machine.specs.Choice.{counter_of}
 use Rattle.gtp_machine.specs.World.{World, Event, Run, start, other, side_of, Side, Sent, HasSent}
@@ -167,12 +167,12 @@ MadeOnce w = (role : Role) (request : Arrival) → (Among request (side_of w rol
 
 -- a context has a remote once it is active, and a pending session has none
 pub record EachOpened (w : World) : Type 0 where
-  pub named : (role : Role) (t : ℕ) (s : Session) → get (side_of w role).node.sessions t ≡ Some s → s.state ≢ Waiting → (remote : ℕ) × (s.remote ≡ Some remote)
-  pub blank : (role : Role) (t : ℕ) (s : Session) → get (side_of w role).node.sessions t ≡ Some s → s.state ≡ Waiting → s.remote ≡ None
+  pub named : (role : Role) (t : ℕ) (s : Session) → get (side_of w role).node.sessions t ≡ Some s → s.state ≢ Pending → (remote : ℕ) × (s.remote ≡ Some remote)
+  pub blank : (role : Role) (t : ℕ) (s : Session) → get (side_of w role).node.sessions t ≡ Some s → s.state ≡ Pending → s.remote ≡ None
   pub bearers : (role : Role) (t : ℕ) (b : Bearer) → get (side_of w role).node.bearers t ≡ Some b → b.state ≡ Active → (remote : ℕ) × (b.remote ≡ Some remote)
 
 -- the bearers of a closing session are closing
-abbrev pub ClosesWhole : Table Session → Table Bearer → Type 0
+abbrev pub ClosesWhole : FiniteMap Session → FiniteMap Bearer → Type 0
 ClosesWhole sessions bearers = (t : ℕ) (b : Bearer) (s : Session) → get bearers t ≡ Some b → get sessions b.session ≡ Some s → s.state ≡ Closing → b.state ≡ Closing
 
 -- no session closes without its bearers, and no bearer is made active in a closing session

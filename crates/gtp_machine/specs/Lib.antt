@@ -1,5 +1,5 @@
 pub mod Ordered
-pub mod Table
+pub mod FiniteMap
 pub mod Element
 pub mod Message
 pub mod Config
@@ -19,3 +19,4 @@ pub mod Packet
 pub mod World
 pub mod Laws
 pub mod Once
+pub mod Sound

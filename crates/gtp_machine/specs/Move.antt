@@ -1,6 +1,6 @@
 -- What a gateway does by itself as time goes by (TS 29.274, 7.6).
 use Rattle.std.specs.Prelude.{◌≡◌, ◌≢◌, ◌⊎◌, ℕ, List, [], ◌∷◌}
-use Rattle.gtp_machine.specs.Table.{Among}
+use Rattle.gtp_machine.specs.FiniteMap.{Among}
 use Rattle.gtp_machine.specs.Config.{control_end}
 use Rattle.gtp_machine.specs.Node.{Arrival, Held, Node}
 use Rattle.gtp_machine.specs.Input.{Move, Resend, Give_up, Forget, Effect, Moved, nothing, says}
@@ -17,15 +17,20 @@ pub record GivesUp (old : Node) (number : ℕ) (e : Effect) : Type 0 where
   pub at : HasPending old number
   pub gives : e ≡ record { out = record nothing { gave_up = number ∷ [] }; outcome = Moved; node = finished old number at.pending }
 
--- A held answer is given up: its pair leaves the set, and no other.
+-- what is left of held answers without those to the request, in order
+abbrev pub AreLeft : Arrival → List Held → List Held → Type 0
+AreLeft request [] left = left ≡ []
+AreLeft request (h ∷ held) left =
+    ((h.request ≡ request) × AreLeft request held left)
+    ⊎ ((h.request ≢ request) × ((rest : List Held) × AreLeft request held rest × (left ≡ h ∷ rest)))
+
+-- A held answer is given up: it goes, and the others stay in order.
 pub record Forgets (old : Node) (request : Arrival) (e : Effect) : Type 0 where
   pub held : Held
   pub stood : Among held old.held
   pub same : held.request ≡ request
   pub rest : List Held
-  pub only : (h : Held) → Among h rest → Among h old.held
-  pub others : (h : Held) → Among h old.held → Among h rest ⊎ (h.request ≡ request)
-  pub gone : (h : Held) → Among h rest → h.request ≢ request
+  pub left : AreLeft request old.held rest
   pub gives : e ≡ record { out = record nothing { forgot = request ∷ [] }; outcome = Moved; node = record old { held = rest } }
 
 -- the moves of a tick

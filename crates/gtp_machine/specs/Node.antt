@@ -2,7 +2,7 @@
 use Rattle.std.specs.Prelude.{ℕ, List, [], ◌∷◌, Option, Some, None, Bool}
 use Rattle.std.specs.FinMap.{empty}
 use Rattle.gtp_values.specs.declared.address.Endpoint.{Endpoint}
-use Rattle.gtp_machine.specs.Table.{Table}
+use Rattle.gtp_machine.specs.FiniteMap.{FiniteMap}
 use Rattle.gtp_machine.specs.Element.{Subscriber}
 use Rattle.gtp_machine.specs.Message.{Message}
 use Rattle.gtp_machine.specs.Config.{Config}
@@ -14,7 +14,7 @@ pub data Role : Type 0 where
 
 -- a context is pending until it is opened, then active; it is closing while the peer is asked to end it
 pub data State : Type 0 where
-  Waiting : State
+  Pending : State
   Active : State
   Closing : State
 
@@ -40,7 +40,7 @@ pub record Bearer : Type 0 where
   pub ended : Bool  -- an End Marker was sent or came
 
 -- a request that waits for its answer, and the session and bearer that it is about; an Echo Request is about none
-pub record Pending : Type 0 where
+pub record PendingRequest : Type 0 where
   pub session : Option ℕ
   pub bearer : Option ℕ
   pub request : Message
@@ -61,9 +61,9 @@ pub record Node : Type 0 where
   pub counter : ℕ  -- how often it has started, modulo 256
   pub drawn : List ℕ  -- the TEIDs drawn since it started
   pub known : Option ℕ  -- the latest restart counter heard from the peer
-  pub sessions : Table Session  -- by own TEID
-  pub bearers : Table Bearer  -- by own TEID
-  pub pending : Table Pending  -- by sequence number
+  pub sessions : FiniteMap Session  -- by own TEID
+  pub bearers : FiniteMap Bearer  -- by own TEID
+  pub pending : FiniteMap PendingRequest  -- by sequence number
   pub held : List Held
 
 -- a gateway that has just started

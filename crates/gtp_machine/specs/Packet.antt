@@ -3,16 +3,15 @@ use Rattle.std.specs.Prelude.{◌≡◌, ◌≢◌, ◌⊎◌, ℕ, ◌==◌, []
 use Rattle.std.specs.FinMap.{insert, remove}
 use Rattle.gtp_values.specs.declared.cause.Cause.{Cause}
 use Rattle.gtp_machine.specs.Ordered.{Unless}
-use Rattle.gtp_machine.specs.Table.{Among}
+use Rattle.gtp_machine.specs.FiniteMap.{Among}
 use Rattle.gtp_machine.specs.Element.{IsAccepting, Ipv4, cause_of, cause_at, teid_in, tunnel_end}
-use Rattle.gtp_machine.specs.Message.{CreateSessionRequest, CreateSessionResponse, DeleteSessionRequest, CreateBearerRequest, GivenBearer, CreateBearerResponse, DeleteBearerRequest, DeleteBearerResponse, Message, Echo_request, Echo_response, Create_session_request, Create_session_response, Delete_session_request, Delete_session_response, Create_bearer_request, Create_bearer_response, Delete_bearer_request, Delete_bearer_response, recovery_of, subscriber_of, first_given, first_identity}
-use Rattle.gtp_machine.specs.Node.{Active, Closing, Session, Bearer, Default, Pending, Arrival, Node, written}
-use Rattle.gtp_machine.specs.Input.{ControlReading, Control_message, Faulty, Control_fault, RequestKind, Of_create_session, Of_delete_session, Of_create_bearer, Of_delete_bearer, FaultyRequest, Effect, Opened, Closed, Clash, Rejected, nothing, dropped, Undecodable, No_pending, Mismatch, Held_full, Unexpected}
+use Rattle.gtp_machine.specs.Message.{CreateSessionRequest, CreateSessionResponse, DeleteSessionRequest, CreateBearerRequest, GivenBearer, CreateBearerResponse, DeleteBearerRequest, DeleteBearerResponse, Message, Echo_request, Echo_response, Create_session_request, Create_session_response, Delete_session_request, Delete_session_response, Create_bearer_request, Create_bearer_response, Delete_bearer_request, Delete_bearer_response, subscriber_of, first_given, first_identity}
+use Rattle.gtp_machine.specs.Node.{Active, Closing, Session, Bearer, Default, PendingRequest, Arrival, Node, written}
+use Rattle.gtp_machine.specs.Input.{ControlReading, RequestKind, Of_create_session, Of_delete_session, Of_create_bearer, Of_delete_bearer, FaultyRequest, Effect, Opened, Closed, Clash, Rejected, nothing, dropped, Undecodable, No_pending, Mismatch, Held_full, Unexpected}
 use Rattle.gtp_machine.specs.Choice.{IsFree, HasDraws, IsFreeAddress, HasFreeAddress, IsIdentity, IsUnused, HasSessionRoom, HasHeldRoom, HasSession, HasBearer, HasPending}
 use Rattle.gtp_machine.specs.Removal.{without_session}
-use Rattle.gtp_machine.specs.Recovery.{Hears}
 use Rattle.gtp_machine.specs.Response.{Named, finishing, EchoAnswered}
-use Rattle.gtp_machine.specs.Answer.{answered, making, echoed, refusing, faulted, fault_number}
+use Rattle.gtp_machine.specs.Answer.{answered, making, echoed, refusing, faulted, fault_number, TakesReading}
 
 -- 18 (new PDN type due to network preference) where IPv4v6 was asked for, else 16
 abbrev pub session_cause : ℕ → ℕ
@@ -90,7 +89,7 @@ DeletionAsked request d old e =
     e ≡ answered request (Delete_session_response (record { header = written at.session.remote; number = d.number; cause = cause_of 16; recovery = Some old.counter })) 16 (without_session old d.header))))
 
 -- the request is a Create Bearer Request for the session that the response names
-pub record FitsBearer (p : Pending) (x : CreateBearerResponse) : Type 0 where
+pub record FitsBearer (p : PendingRequest) (x : CreateBearerResponse) : Type 0 where
   pub request : CreateBearerRequest
   pub asked : p.request ≡ Create_bearer_request request
   pub session : ℕ
@@ -133,7 +132,7 @@ BearerAnswered x old e =
     OpensBearer old x fits.bearer e)))))))
 
 -- the request is a Delete Bearer Request for the session that the response names
-pub record FitsRemoval (p : Pending) (d : DeleteBearerResponse) : Type 0 where
+pub record FitsRemoval (p : PendingRequest) (d : DeleteBearerResponse) : Type 0 where
   pub request : DeleteBearerRequest
   pub asked : p.request ≡ Delete_bearer_request request
   pub named : Named p d.header d.cause
@@ -172,10 +171,6 @@ PacketFaulted request f Of_delete_session old e = e ≡ faulted request f old
 PacketFaulted request f Of_create_bearer old e = e ≡ dropped old (Undecodable (fault_number f.defect))
 PacketFaulted request f Of_delete_bearer old e = e ≡ dropped old (Undecodable (fault_number f.defect))
 
--- what was read: other kinds are dropped before their counter is heard
+-- what the packet gateway does with what was read
 abbrev pub PacketReads : ControlReading → Arrival → Node → Effect → Type 0
-PacketReads (Control_message message) request old e =
-    Unless (packet_takes message ≡ true) (e ≡ dropped old Unexpected) (λ taken.
-    Hears (PacketTakes request message) old (recovery_of message) e)
-PacketReads (Faulty f) request old e = PacketFaulted request f f.kind old e
-PacketReads (Control_fault fault) request old e = e ≡ dropped old (Undecodable fault)
+PacketReads = TakesReading packet_takes PacketTakes PacketFaulted

@@ -1,8 +1,8 @@
 -- How sessions and bearers go and close.
 use Rattle.std.specs.Prelude.{ℕ, ◌==◌, ◌||◌, Option, Some, None, Bool, true, false, not, if◌then◌else◌}
 use Rattle.std.specs.FinMap.{insert, remove}
-use Rattle.gtp_machine.specs.Table.{kept, changed}
-use Rattle.gtp_machine.specs.Node.{State, Waiting, Active, Closing, Session, Bearer, Pending, Node}
+use Rattle.gtp_machine.specs.FiniteMap.{kept, changed}
+use Rattle.gtp_machine.specs.Node.{State, Pending, Active, Closing, Session, Bearer, PendingRequest, Node}
 
 -- the test of what a request is about, where it is about something
 abbrev pub on : (ℕ → Bool) → Option ℕ → Bool
@@ -15,7 +15,7 @@ without session_goes bearer_goes node =
     record node {
       sessions = kept (λ t (s : Session). not (session_goes t)) node.sessions;
       bearers = kept (λ t (b : Bearer). not (bearer_goes t || session_goes b.session)) node.bearers;
-      pending = kept (λ number (p : Pending). not (on session_goes p.session || on bearer_goes p.bearer)) node.pending;
+      pending = kept (λ number (p : PendingRequest). not (on session_goes p.session || on bearer_goes p.bearer)) node.pending;
     }
 
 -- without the session, its bearers and their requests
@@ -33,7 +33,7 @@ finished_about node number (Some session) None = without_session node session
 finished_about node number None None = record node { pending = remove node.pending number }
 
 -- the request with this number is finished, and what it was about goes
-abbrev pub finished : Node → ℕ → Pending → Node
+abbrev pub finished : Node → ℕ → PendingRequest → Node
 finished node number p = finished_about node number p.session p.bearer
 
 -- the session, closing
@@ -53,12 +53,12 @@ session_closing node session s =
     }
 
 -- the state is pending
-abbrev pub is_waiting : State → Bool
-is_waiting Waiting = true
-is_waiting Active = false
-is_waiting Closing = false
+abbrev pub is_pending : State → Bool
+is_pending Pending = true
+is_pending Active = false
+is_pending Closing = false
 
 -- a session that was opened stands there
 abbrev pub is_opened : Option Session → Bool
 is_opened None = false
-is_opened (Some s) = not (is_waiting s.state)
+is_opened (Some s) = not (is_pending s.state)

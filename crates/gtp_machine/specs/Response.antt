@@ -3,21 +3,21 @@ use Rattle.std.specs.Prelude.{◌≡◌, ◌≢◌, ◌⊎◌, ℕ, Some}
 use Rattle.gtp_values.specs.declared.cause.Cause.{Cause}
 use Rattle.gtp_machine.specs.Ordered.{Unless}
 use Rattle.gtp_machine.specs.Message.{Echo, Echo_request, header_of}
-use Rattle.gtp_machine.specs.Node.{Pending, Node}
+use Rattle.gtp_machine.specs.Node.{PendingRequest, Node}
 use Rattle.gtp_machine.specs.Input.{Effect, Outcome, Alive, nothing, dropped, No_pending, Mismatch}
 use Rattle.gtp_machine.specs.Choice.{HasPending}
 use Rattle.gtp_machine.specs.Removal.{finished}
 
 -- the header names the session that the request is about; or it is 0 with cause 64 (context not found), where the request's own was not
-abbrev pub Named : Pending → ℕ → Cause → Type 0
+abbrev pub Named : PendingRequest → ℕ → Cause → Type 0
 Named p header cause = (p.session ≡ Some header) ⊎ ((header ≡ 0) × (cause.value ≡ 64) × (header_of p.request ≢ 0))
 
 -- the request with this number is finished, and what it was about goes
-abbrev pub finishing : Node → ℕ → Pending → Outcome → Effect
+abbrev pub finishing : Node → ℕ → PendingRequest → Outcome → Effect
 finishing old number p outcome = record { out = nothing; outcome = outcome; node = finished old number p }
 
 -- the request is an Echo Request
-pub record IsEcho (p : Pending) : Type 0 where
+pub record IsEcho (p : PendingRequest) : Type 0 where
   pub request : Echo
   pub asked : p.request ≡ Echo_request request
 

@@ -3,18 +3,17 @@ use Rattle.std.specs.Prelude.{◌≡◌, ◌≢◌, ℕ, ◌≤◌, ◌==◌, �
 use Rattle.std.specs.FinMap.{insert, remove}
 use Rattle.gtp_machine.specs.Ordered.{Unless}
 use Rattle.gtp_machine.specs.Element.{IsAccepting, Ipv4, cause_of, teid_in, tunnel_end}
-use Rattle.gtp_machine.specs.Message.{CreateSessionRequest, CreatedBearer, CreateSessionResponse, DeleteSessionRequest, DeleteSessionResponse, CreateBearerRequest, CreateBearerResponse, DeleteBearerRequest, RemovedBearer, Message, Echo_request, Echo_response, Create_session_request, Create_session_response, Delete_session_request, Delete_session_response, Create_bearer_request, Create_bearer_response, Delete_bearer_request, Delete_bearer_response, recovery_of, first_created}
-use Rattle.gtp_machine.specs.Node.{Waiting, Active, Session, Bearer, Dedicated, Pending, Arrival, Node, written}
-use Rattle.gtp_machine.specs.Input.{ControlReading, Control_message, Faulty, Control_fault, RequestKind, Of_create_session, Of_delete_session, Of_create_bearer, Of_delete_bearer, FaultyRequest, Effect, Opened, Closed, Rejected, nothing, dropped, Undecodable, No_pending, Mismatch, Context_not_active, Held_full, Unexpected}
+use Rattle.gtp_machine.specs.Message.{CreateSessionRequest, CreatedBearer, CreateSessionResponse, DeleteSessionRequest, DeleteSessionResponse, CreateBearerRequest, CreateBearerResponse, DeleteBearerRequest, RemovedBearer, Message, Echo_request, Echo_response, Create_session_request, Create_session_response, Delete_session_request, Delete_session_response, Create_bearer_request, Create_bearer_response, Delete_bearer_request, Delete_bearer_response, first_created}
+use Rattle.gtp_machine.specs.Node.{Pending, Active, Session, Bearer, Dedicated, PendingRequest, Arrival, Node, written}
+use Rattle.gtp_machine.specs.Input.{ControlReading, RequestKind, Of_create_session, Of_delete_session, Of_create_bearer, Of_delete_bearer, FaultyRequest, Effect, Opened, Closed, Rejected, nothing, dropped, Undecodable, No_pending, Mismatch, Context_not_active, Held_full, Unexpected}
 use Rattle.gtp_machine.specs.Choice.{IsFree, HasDraws, IsFreeIdentity, HasFreeIdentity, HasHeldRoom, HasSession, HasBearer, HasPending}
 use Rattle.gtp_machine.specs.Removal.{without_session, without_bearer}
-use Rattle.gtp_machine.specs.Recovery.{Hears}
 use Rattle.gtp_machine.specs.Response.{Named, finishing, EchoAnswered}
 use Rattle.gtp_machine.specs.Command.{NamesBearer}
-use Rattle.gtp_machine.specs.Answer.{answered, making, echoed, refusing, faulted, fault_number}
+use Rattle.gtp_machine.specs.Answer.{answered, making, echoed, refusing, faulted, fault_number, TakesReading}
 
 -- the request is a Create Session Request for the session that the response names
-pub record FitsSession (p : Pending) (a : CreateSessionResponse) : Type 0 where
+pub record FitsSession (p : PendingRequest) (a : CreateSessionResponse) : Type 0 where
   pub request : CreateSessionRequest
   pub asked : p.request ≡ Create_session_request request
   pub session : ℕ
@@ -62,7 +61,7 @@ SessionAnswered a old e =
     OpensSession old a fits.request fits.session new.at.session new.address e)))))
 
 -- the request is a Delete Session Request for the session that the response names
-pub record FitsDeletion (p : Pending) (d : DeleteSessionResponse) : Type 0 where
+pub record FitsDeletion (p : PendingRequest) (d : DeleteSessionResponse) : Type 0 where
   pub request : DeleteSessionRequest
   pub asked : p.request ≡ Delete_session_request request
   pub named : Named p d.header d.cause
@@ -162,7 +161,7 @@ abbrev pub RemovalAsked : Arrival → DeleteBearerRequest → Node → Effect �
 RemovalAsked request d old e =
     Unless (HasHeldRoom old) (e ≡ dropped old Held_full) (λ room.
     Unless (HasSession old d.header) (e ≡ answered request (refusing Of_delete_bearer 0 d.number (cause_of 64) old.counter) 64 old) (λ at.
-    Unless (at.session.state ≢ Waiting) (e ≡ dropped old Context_not_active) (λ opened.
+    Unless (at.session.state ≢ Pending) (e ≡ dropped old Context_not_active) (λ opened.
     RemovalTaken request d d.linked old at.session e)))
 
 -- what the serving gateway does with a message of a kind that it takes, once the peer's counter was heard
@@ -192,10 +191,6 @@ ServingFaulted request f Of_delete_session old e = e ≡ dropped old (Undecodabl
 ServingFaulted request f Of_create_bearer old e = e ≡ faulted request f old
 ServingFaulted request f Of_delete_bearer old e = e ≡ faulted request f old
 
--- what was read: other kinds are dropped before their counter is heard
+-- what the serving gateway does with what was read
 abbrev pub ServingReads : ControlReading → Arrival → Node → Effect → Type 0
-ServingReads (Control_message message) request old e =
-    Unless (serving_takes message ≡ true) (e ≡ dropped old Unexpected) (λ taken.
-    Hears (ServingTakes request message) old (recovery_of message) e)
-ServingReads (Faulty f) request old e = ServingFaulted request f f.kind old e
-ServingReads (Control_fault fault) request old e = e ≡ dropped old (Undecodable fault)
+ServingReads = TakesReading serving_takes ServingTakes ServingFaulted

@@ -20,11 +20,13 @@ ghost use Rattle.gtp_machine.specs.Laws.{
 };
 ghost use Rattle.gtp_machine.specs.Reading.{ControlReadsOnce, KeepsSession, KeepsSubscriber, UserReadsOnce};
 ghost use Rattle.gtp_machine.specs.Once.{ActsOnce, ActsOnceInTime, HeldUntilForgotten};
+ghost use Rattle.gtp_machine.specs.Sound.{AlwaysSteps, ReachedIsSound, ReadsWhole, StartsSound, StaysSound};
 
-/// Tunnel safety: what holds at the end of each run, whatever is lost, cut, repeated, held back or delivered in another
-/// order, and whenever a gateway restarts.
+/// Tunnel safety: what holds at the end of each run, whatever is lost, cut, repeated, held back or
+/// delivered in another order, and whenever a gateway restarts.
 pub fn tunnel_safety()
-    // Sessions that name each other have the same subscriber, access point, default identity and address.
+    // Sessions that name each other have the same subscriber, access point, default identity and
+    // address.
     ensures sessions { Always SessionsAgree }
 
     // Bearers that name each other have the same identity, and their sessions agree.
@@ -46,7 +48,8 @@ pub fn foundations()
     // The TEIDs of each session and bearer go back to such messages.
     ensures goes_back { Always EachGoesBack }
 
-    // The TEIDs that messages name, in their headers and for their packets, go back to such messages.
+    // The TEIDs that messages name, in their headers and for their packets, go back to such
+    // messages.
     ensures names { Always NamesGoBack }
 
     // Responses go back to requests.
@@ -64,7 +67,8 @@ pub fn foundations()
     // The bearers of a closing session are closing.
     ensures closes_whole { Always EachClosesWhole }
 
-    // Where no delivery of a create request was late, its gateway made at most one context for it since it started.
+    // Where no delivery of a create request was late, its gateway made at most one context for it
+    // since it started.
     ensures made_once { Always MadeOnce }
 
     // Where no delivery was late, each Create Bearer Request has one response that makes a bearer.
@@ -73,20 +77,40 @@ pub fn foundations()
 
 /// What one gateway makes for a request: its steps alone, whatever comes to it.
 pub fn acts_once()
-    // Until its answer is given up, a Create Session or Create Bearer Request makes one context and has one answer,
-    // however often it comes.
+    // Until its answer is given up, a Create Session or Create Bearer Request makes one context and
+    // has one answer, however often it comes.
     ensures until_forgotten { ActsOnce }
 
-    // Where none of its deliveries is late, it makes one context in a start of the gateway and has one answer.
+    // Where none of its deliveries is late, it makes one context in a start of the gateway and has
+    // one answer.
     ensures in_time { ActsOnceInTime }
 
     // An answer that is held stays so until it is forgotten.
     ensures held { HeldUntilForgotten }
 {}
 
-/// No law is empty: there is a run to sessions and dedicated bearers that name each other, and to an accepted packet.
+/// No law is empty: there is a run to sessions and dedicated bearers that name each other, and to
+/// an accepted packet.
 pub fn a_run_is_possible()
     ensures { ARunIsPossible }
+{}
+
+/// What holds of one gateway alone, whatever comes to it.
+pub fn sound_nodes()
+    // A gateway that has just started is sound.
+    ensures starts { StartsSound }
+
+    // Each step from a sound gateway leaves it sound.
+    ensures stays { StaysSound }
+
+    // So a gateway that is reached from a start is sound.
+    ensures reached { ReachedIsSound }
+
+    // Whatever comes to a sound gateway, there is an effect.
+    ensures steps { AlwaysSteps }
+
+    // What is read from octets names the F-TEIDs that its table asks for.
+    ensures whole { ReadsWhole }
 {}
 
 /// How datagrams read.
@@ -100,6 +124,7 @@ pub fn readings()
     // A Create Session Request reads as one, for the subscriber and the access point that it names.
     ensures subscriber { KeepsSubscriber }
 
-    // A Create Bearer Request reads as one, for the session that its header names and with its linked identity.
+    // A Create Bearer Request reads as one, for the session that its header names and with its
+    // linked identity.
     ensures session { KeepsSession }
 {}

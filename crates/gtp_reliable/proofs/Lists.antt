@@ -1,7 +1,8 @@
 -- Lists of which a tick keeps some, and loops over them.
-use Rattle.std.proofs.Common.{◌≡◌, ℕ, zero, suc, ◌+◌, ◌<◌, ◌≤◌, Bool, true, false, cond, List, [], ◌∷◌, ◌++◌, length, map, take, drop, get_or, add-one, Option, Some, None, refl, sym, ap, ◌∙◌, arith}
-use Rattle.std.specs.Prelude.{filter, is_some, unwrap_or, slice_set}
+use Rattle.std.proofs.Common.{◌≡◌, ℕ, zero, suc, ◌+◌, ◌<◌, ◌≤◌, Bool, true, false, cond, List, [], ◌∷◌, ◌++◌, length, map, take, get_or, add-one, Option, Some, None, refl, sym, ap, subst, ◌∙◌, arith}
+use Rattle.std.specs.Prelude.{filter, is_some, unwrap_or, not}
 use Rattle.std.specs.List.{filter_map, cons_option}
+use Rattle.std.specs.List.Retain.{RetainsInTurn}
 use Rattle.std.proofs.lemmas.List.{append-nil}
 
 -- ---- what stays, and what becomes of it
@@ -48,28 +49,22 @@ pub none_of : {X : Type 0} (o : Option X) → is_some o ≡ false → o ≡ None
 none_of None h = refl
 none_of (Some x) h = absurd cc
 
--- ---- a loop that writes each element
+-- ---- a tick over all
 
-set_next : {X : Type 0} (f : X → X) (xs : List X) (i : ℕ) (d : X) → i < length xs → slice_set (map f (take i xs) ++ drop i xs) i (f (get_or xs i d)) ≡ map f (take (suc i) xs) ++ drop (suc i) xs
-set_next f [] i d lt = absurd (omega arith)
-set_next f (x ∷ xs) zero d lt = refl
-set_next f (x ∷ xs) (suc i) d lt = ap (λ ys. f x ∷ ys) (set_next f xs i d (omega arith))
+kept_by : {X : Type 0} (o : Option X) (x y : X) (b : Bool) (zs : List X) → b ≡ is_some o → y ≡ unwrap_or o x → cond b (y ∷ zs) zs ≡ cons_option o zs
+kept_by (Some v) x y b zs e f = rw (e, f) refl
+kept_by None x y b zs e f = rw e refl
 
-get_next : {X : Type 0} (f : X → X) (xs : List X) (i : ℕ) (d : X) → i < length xs → get_or (map f (take i xs) ++ drop i xs) i d ≡ get_or xs i d
-get_next f [] i d lt = absurd (omega arith)
-get_next f (x ∷ xs) zero d lt = refl
-get_next f (x ∷ xs) (suc i) d lt = get_next f xs i d (omega arith)
+-- what a tick keeps and moves, element by element
+pub retained : {S X : Type 0} (R : S → X → Bool → S → X → Type 0) (h : X → Option X) (s : S) → ((x : X) (b : Bool) (t : S) (y : X) → R s x b t y → (b ≡ is_some (h x)) × (y ≡ unwrap_or (h x) x) × (t ≡ s))
+    → (xs ys : List X) → RetainsInTurn R s xs ys → ys ≡ filter_map h xs
+retained R h s step [] ys r = r
+retained R h s step (x ∷ xs) ys (b, t, y, call, zs, rest, is) =
+    let k = step x b t y call in
+    is ∙ (ap (λ (l : List _). cond b (y ∷ l) l) (retained R h s step xs zs (subst (λ (u : _). RetainsInTurn R u xs zs) k.2 rest)) ∙ kept_by (h x) x y b (filter_map h xs) k.0 k.1)
 
-length_next : {X : Type 0} (f : X → X) (xs : List X) (i : ℕ) → length (map f (take i xs) ++ drop i xs) ≡ length xs
-length_next f [] zero = refl
-length_next f [] (suc i) = refl
-length_next f (x ∷ xs) zero = refl
-length_next f (x ∷ xs) (suc i) = ap (λ (n : ℕ). suc n) (length_next f xs i)
+-- ---- a test
 
--- the element at the index is written
-pub written_next : {X : Type 0} (f : X → X) (xs now : List X) (i : ℕ) (x y : X) → now ≡ map f (take i xs) ++ drop i xs → i < length now → y ≡ f (get_or now i x) → slice_set now i y ≡ map f (take (i + 1) xs) ++ drop (i + 1) xs
-written_next f xs now i x y so_far lt written =
-    let lt_xs : i < length xs = omega (arith, ap length so_far, length_next f xs i) in
-    let here : get_or now i x ≡ get_or xs i x = ap (λ (l : List _). get_or l i x) so_far ∙ get_next f xs i x lt_xs in
-    let put : y ≡ f (get_or xs i x) = written ∙ ap f here in
-    ap (λ (l : List _). slice_set l i y) so_far ∙ (ap (λ v. slice_set (map f (take i xs) ++ drop i xs) i v) put ∙ (set_next f xs i x lt_xs ∙ ap (λ (n : ℕ). map f (take n xs) ++ drop n xs) (sym (add-one i))))
+-- the answer of a test that was turned round
+pub told_not : {P : Type 0} (meets : P → Bool) (Tells : P → Bool → Type 0) → ((p : P) (r : Bool) → Tells p r → r ≡ meets p) → (p : P) (b r : Bool) → Tells p r → b ≡ not r → b ≡ not (meets p)
+told_not meets Tells right p b r told e = e ∙ ap not (right p r told)

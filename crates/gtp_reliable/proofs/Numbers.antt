@@ -7,11 +7,11 @@ use Rattle.std.proofs.lemmas.Bool.Decides.{nat_tests}
 use Rattle.gtp_reliable.specs.Waiting.{Waiting}
 use Rattle.gtp_reliable.specs.Pending.{numbers, number_after, is_pending, IsNextFree}
 
--- how far a number is behind a start
+-- how far a number is after a start
 abbrev pub distance : ℕ → ℕ → ℕ
 distance start n = (n + numbers - start) % numbers
 
--- how many requests are so far behind a start, or further
+-- how many requests are so far after a start, or further
 unfoldable pub ahead : {P : Type 0} → ℕ → ℕ → List (Waiting P) → ℕ
 ahead start k [] = 0
 ahead start k (w ∷ ws) = cond (nat_le k (distance start w.seq)) (suc (ahead start k ws)) (ahead start k ws)
@@ -25,7 +25,7 @@ unfolding ahead
 ahead_few start k [] = omega arith
 ahead_few start k (w ∷ ws) = choose_le (nat_le k (distance start w.seq)) (ahead start k ws) (length ws) (ahead_few start k ws)
 
--- further behind there are no more
+-- further on there are no more
 further_by : (k d n m : ℕ) → n ≤ m → cond (nat_le (k + 1) d) (suc n) n ≤ cond (nat_le k d) (suc m) m
 further_by k d n m h = by_test (nat_le (k + 1) d) (nat_le k d) refl refl where
   by_test : (a b : Bool) → nat_le (k + 1) d ≡ a → nat_le k d ≡ b → cond a (suc n) n ≤ cond b (suc m) m
@@ -39,7 +39,7 @@ unfolding ahead
 further start k [] = omega arith
 further start k (w ∷ ws) = further_by k (distance start w.seq) (ahead start (k + 1) ws) (ahead start k ws) (further start k ws)
 
--- a request of the number itself is not further behind
+-- a request of the number itself is not further on
 further_less : (k d n m : ℕ) → suc n ≤ m → cond (nat_le (k + 1) d) (suc n) n < cond (nat_le k d) (suc m) m
 further_less k d n m h = by_test (nat_le (k + 1) d) (nat_le k d) refl refl where
   by_test : (a b : Bool) → nat_le (k + 1) d ≡ a → nat_le k d ≡ b → cond a (suc n) n < cond b (suc m) m

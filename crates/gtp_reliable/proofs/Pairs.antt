@@ -1,5 +1,5 @@
 -- Pairs after a change: they stay apart, and a tick keeps and moves them.
-use Rattle.std.proofs.Common.{◌≡◌, ℕ, zero, suc, ◌+◌, ◌<◌, Bool, true, false, cond, List, [], ◌∷◌, ◌++◌, length, map, take, get_or, add-one, Option, Some, None, refl, sym, ap, subst, ◌∙◌, arith, ◌⊎◌, inl, inr}
+use Rattle.std.proofs.Common.{◌≡◌, ℕ, zero, suc, ◌+◌, ◌<◌, ◌≤◌, Bool, true, false, cond, List, [], ◌∷◌, ◌++◌, length, map, take, get_or, add-one, Option, Some, None, refl, sym, ap, subst, ◌∙◌, arith, ◌⊎◌, inl, inr}
 use Rattle.std.specs.Prelude.{filter, is_some, unwrap_or, nat_lt, IfSome, IfNone, IsSomeAnd}
 use Rattle.std.specs.List.{filter_map}
 use Rattle.std.specs.Borrow.{Bor}
@@ -8,7 +8,7 @@ use Rattle.gtp_values.specs.declared.address.Endpoint.{Endpoint}
 use Rattle.gtp_reliable.specs.declared.held.Request.{Request}
 use Rattle.gtp_reliable.specs.Held.{HeldPair, just_kept, after_tick, Question, forgotten, IsFor, IsHeld, HasAnswer, AreApart}
 use Rattle.gtp_reliable.specs.Forgotten.{question_of}
-use Rattle.gtp_reliable.proofs.Lists.{filter_map_some, filter_map_none}
+use Rattle.gtp_reliable.proofs.Lists.{filter_map_some, filter_map_none, stay_and_pass, length_map, fewer_filter}
 
 -- ---- one more
 
@@ -38,7 +38,7 @@ apart_cons : (q : HeldPair) (ps : List HeldPair) (b : Bool) → (IsHeld q.source
 apart_cons q ps true h d = (h, d)
 apart_cons q ps false h d = d
 
-pub apart_filter : (p : HeldPair → Bool) (ps : List HeldPair) → AreApart ps → AreApart (filter p ps)
+apart_filter : (p : HeldPair → Bool) (ps : List HeldPair) → AreApart ps → AreApart (filter p ps)
 apart_filter p [] d = tt
 apart_filter p (q ∷ qs) d = apart_cons q (filter p qs) (p q) (λ h. d.0 (held_filter q.source q.request p qs h)) (apart_filter p qs d.1)
 
@@ -53,10 +53,10 @@ held_map s r f [] same h = h
 held_map s r f (q ∷ qs) same (inl g) = inl (sym (same q).source ∙ g.0, sym (same q).request ∙ g.1)
 held_map s r f (q ∷ qs) same (inr h) = inr (held_map s r f qs same h)
 
-abbrev pub passed : ℕ → HeldPair → HeldPair
+abbrev passed : ℕ → HeldPair → HeldPair
 passed hold p = unwrap_or (after_tick hold p) p
 
-abbrev pub stays : ℕ → HeldPair → Bool
+abbrev stays : ℕ → HeldPair → Bool
 stays hold p = is_some (after_tick hold p)
 
 passed_same : (hold : ℕ) (p : HeldPair) → SameRequest (passed hold p) p
@@ -70,8 +70,14 @@ apart_map f [] same d = tt
 apart_map f (q ∷ qs) same d =
     (λ h. d.0 (subst (λ (s : Endpoint). IsHeld s q.request qs) (same q).source (subst (λ (r : List ℕ). IsHeld (f q).source r qs) (same q).request (held_map (f q).source (f q).request f qs same h))), apart_map f qs same d.1)
 
-pub apart_passed : (hold : ℕ) (ps : List HeldPair) → AreApart ps → AreApart (map (passed hold) ps)
-apart_passed hold ps d = apart_map (passed hold) ps (passed_same hold) d
+-- after a tick there are no more of them, and they stay apart
+pub ticked_count : (hold : ℕ) (ps : List HeldPair) → length (filter_map (after_tick hold) ps) ≤ length ps
+ticked_count hold ps =
+    omega (arith, ap length (stay_and_pass (after_tick hold) ps), length_map (passed hold) (filter (stays hold) ps), fewer_filter (stays hold) ps)
+
+pub ticked_apart : (hold : ℕ) (ps : List HeldPair) → AreApart ps → AreApart (filter_map (after_tick hold) ps)
+ticked_apart hold ps d =
+    subst AreApart (stay_and_pass (after_tick hold) ps) (apart_map (passed hold) (filter (stays hold) ps) (passed_same hold) (apart_filter (stays hold) ps d))
 
 -- ---- looking up
 

@@ -1,5 +1,5 @@
 -- Requests after a change: they stay distinct, and a tick keeps and moves them.
-use Rattle.std.proofs.Common.{◌≡◌, ℕ, ◌+◌, ◌<◌, Bool, true, false, cond, List, [], ◌∷◌, ◌++◌, length, map, take, get_or, Option, Some, None, refl, sym, ap, subst, ◌∙◌, arith}
+use Rattle.std.proofs.Common.{◌≡◌, ℕ, ◌+◌, ◌<◌, ◌≤◌, Bool, true, false, cond, List, [], ◌∷◌, ◌++◌, length, map, take, get_or, None, refl, sym, ap, subst, ◌∙◌, arith}
 use Rattle.std.specs.Prelude.{◌==◌, ◌||◌, filter, is_some, unwrap_or, nat_lt, All}
 use Rattle.std.specs.List.{list_any, filter_map}
 use Rattle.std.proofs.lemmas.Bool.Decides.{nat_tests}
@@ -7,10 +7,12 @@ use Rattle.std.proofs.lemmas.List.{map_push}
 use Rattle.std.proofs.lemmas.List.Elements.{All-get_or}
 use Rattle.gtp_values.specs.declared.address.Endpoint.{Endpoint}
 use Rattle.gtp_reliable.specs.declared.pending.Resend.{Resend}
-use Rattle.gtp_reliable.specs.Waiting.{Waiting, Message, after_tick, sent_again, given_up}
+use Rattle.gtp_reliable.specs.declared.waiting.NextTick.{NextTick}
+use Rattle.gtp_reliable.specs.declared.waiting.NextTick.TheVariants.{WaitsOn, SentAgain, GivenUp}
+use Rattle.gtp_reliable.specs.Waiting.{Waiting, Message, next_tick, after_tick_by, after_tick, sent_again_by, sent_again, given_up_by, given_up}
 use Rattle.gtp_reliable.specs.Pending.{is_pending, AreDistinct}
 use Rattle.gtp_reliable.specs.Due.{message_of}
-use Rattle.gtp_reliable.proofs.Lists.{none_of, filter_map_some, filter_map_none, stay_and_pass}
+use Rattle.gtp_reliable.proofs.Lists.{filter_map_some, filter_map_none, stay_and_pass, length_map, fewer_filter}
 
 or_false : (a b : Bool) → (a || b) ≡ false → (a ≡ false) × (b ≡ false)
 or_false true b h = absurd cc
@@ -63,28 +65,34 @@ none_map n f (v ∷ ws) same h =
     let first : ((f v).seq == n) ≡ false = ap (λ (m : ℕ). m == n) (same v) ∙ both.0 in
     rw first (none_map n f ws same both.1)
 
-pub distinct_map : {P : Type 0} (f : Waiting P → Waiting P) (ws : List (Waiting P)) → ((w : Waiting P) → (f w).seq ≡ w.seq) → AreDistinct ws → AreDistinct (map f ws)
+distinct_map : {P : Type 0} (f : Waiting P → Waiting P) (ws : List (Waiting P)) → ((w : Waiting P) → (f w).seq ≡ w.seq) → AreDistinct ws → AreDistinct (map f ws)
 distinct_map f [] same d = tt
 distinct_map f (v ∷ ws) same d = (ap (λ (m : ℕ). is_pending m (map f ws)) (same v) ∙ none_map v.seq f ws same d.0, distinct_map f ws same d.1)
 
 -- ---- a tick
 
--- what stays of a request
-abbrev pub passed : {P : Type 0} → ℕ → ℕ → Waiting P → Waiting P
+-- what a tick makes of a request that stays
+abbrev passed : {P : Type 0} → ℕ → ℕ → Waiting P → Waiting P
 passed t3 n3 w = unwrap_or (after_tick t3 n3 w) w
 
-abbrev pub stays : {P : Type 0} → ℕ → ℕ → Waiting P → Bool
+abbrev stays : {P : Type 0} → ℕ → ℕ → Waiting P → Bool
 stays t3 n3 w = is_some (after_tick t3 n3 w)
 
-pub passed_seq : {P : Type 0} (t3 n3 : ℕ) (w : Waiting P) → (passed t3 n3 w).seq ≡ w.seq
-passed_seq t3 n3 w = by_full (nat_lt (w.waited + 1) t3) (nat_lt w.resent n3) where
-  by_full : (a b : Bool) → (unwrap_or (cond a (Some (record w { waited = w.waited + 1 })) (cond b (Some (record w { waited = 0; resent = w.resent + 1 })) None)) w).seq ≡ w.seq
-  by_full true b = refl
-  by_full false true = refl
-  by_full false false = refl
+passed_seq : {P : Type 0} (t3 n3 : ℕ) (w : Waiting P) → (passed t3 n3 w).seq ≡ w.seq
+passed_seq t3 n3 w = by_tick (next_tick t3 n3 w) where
+  by_tick : (n : NextTick) → (unwrap_or (after_tick_by n w) w).seq ≡ w.seq
+  by_tick WaitsOn = refl
+  by_tick SentAgain = refl
+  by_tick GivenUp = refl
 
-pub ticked : {P : Type 0} (t3 n3 : ℕ) (ws : List (Waiting P)) → map (passed t3 n3) (filter (stays t3 n3) ws) ≡ filter_map (after_tick t3 n3) ws
-ticked t3 n3 ws = stay_and_pass (after_tick t3 n3) ws
+-- after a tick there are no more of them, and they stay distinct
+pub ticked_count : {P : Type 0} (t3 n3 : ℕ) (ws : List (Waiting P)) → length (filter_map (after_tick t3 n3) ws) ≤ length ws
+ticked_count t3 n3 ws =
+    omega (arith, ap length (stay_and_pass (after_tick t3 n3) ws), length_map (passed t3 n3) (filter (stays t3 n3) ws), fewer_filter (stays t3 n3) ws)
+
+pub ticked_distinct : {P : Type 0} (t3 n3 : ℕ) (ws : List (Waiting P)) → AreDistinct ws → AreDistinct (filter_map (after_tick t3 n3) ws)
+ticked_distinct t3 n3 ws d =
+    subst AreDistinct (stay_and_pass (after_tick t3 n3) ws) (distinct_map (passed t3 n3) (filter (stays t3 n3) ws) (passed_seq t3 n3) (distinct_filter (stays t3 n3) ws d))
 
 -- ---- messages
 
@@ -94,61 +102,49 @@ message seq to octets = record { seq = seq; to = to; octets = octets }
 same_message : (s t : ℕ) (a b : Endpoint) (x y : List ℕ) → s ≡ t → a ≡ b → x ≡ y → message s a x ≡ message t b y
 same_message s t a b x y e f g = ap (λ n. message n a x) e ∙ (ap (λ n. message t n x) f ∙ ap (message t b) g)
 
--- what a request gives is something of its own
-chosen_second : {X : Type 0} (a b : Bool) (x : X) → is_some (cond a None (cond b (Some x) None)) ≡ true → cond a None (cond b (Some x) None) ≡ Some x
-chosen_second true b x p = absurd cc
-chosen_second false true x p = refl
-chosen_second false false x p = absurd cc
-
-chosen_third : {X : Type 0} (a b : Bool) (x : X) → is_some (cond a None (cond b None (Some x))) ≡ true → cond a None (cond b None (Some x)) ≡ Some x
-chosen_third true b x p = absurd cc
-chosen_third false false x p = refl
-chosen_third false true x p = absurd cc
-
-resent_is : {P : Type 0} (t3 n3 : ℕ) (w : Waiting P) → is_some (sent_again t3 n3 w) ≡ true → sent_again t3 n3 w ≡ Some (message w.seq w.to w.octets)
-resent_is t3 n3 w h = chosen_second (nat_lt (w.waited + 1) t3) (nat_lt w.resent n3) (message w.seq w.to w.octets) h
-
-abbrev given : {P : Type 0} → ℕ → P → ℕ × P
-given seq purpose = (seq, purpose)
-
-given_is : {P : Type 0} (t3 n3 : ℕ) (w : Waiting P) → is_some (given_up t3 n3 w) ≡ true → given_up t3 n3 w ≡ Some (given w.seq w.purpose)
-given_is t3 n3 w h = chosen_third (nat_lt (w.waited + 1) t3) (nat_lt w.resent n3) (given w.seq w.purpose) h
-
 -- ---- what is due
 
+-- what a request gives, by what the tick does with it
+sent_again_is : {P : Type 0} (t3 n3 : ℕ) (w : Waiting P) (n : NextTick) → n ≡ next_tick t3 n3 w → sent_again t3 n3 w ≡ sent_again_by n w
+sent_again_is t3 n3 w n e = ap (λ (m : NextTick). sent_again_by m w) (sym e)
+
+given_up_is : {P : Type 0} (t3 n3 : ℕ) (w : Waiting P) (n : NextTick) → n ≡ next_tick t3 n3 w → given_up t3 n3 w ≡ given_up_by n w
+given_up_is t3 n3 w n e = ap (λ (m : NextTick). given_up_by m w) (sym e)
+
 -- one more that is sent again
-pub resend_more : {P : Type 0} (t3 n3 : ℕ) (ws : List (Waiting P)) (i : ℕ) (w : Waiting P) (so_far now : List Resend) (r : Resend) → map message_of so_far ≡ filter_map (sent_again t3 n3) (take i ws) → i < length ws → w ≡ get_or ws i w → is_some (sent_again t3 n3 w) ≡ true
+pub resend_more : {P : Type 0} (t3 n3 : ℕ) (ws : List (Waiting P)) (i : ℕ) (w : Waiting P) (so_far now : List Resend) (r : Resend) → map message_of so_far ≡ filter_map (sent_again t3 n3) (take i ws) → i < length ws → w ≡ get_or ws i w → SentAgain ≡ next_tick t3 n3 w
     → now ≡ so_far ++ r ∷ [] → r.seq ≡ w.seq → r.to ≡ w.to → r.octets.items ≡ w.octets → map message_of now ≡ filter_map (sent_again t3 n3) (take (i + 1) ws)
-resend_more t3 n3 ws i w so_far now r before lt is some pushed s t o =
+resend_more t3 n3 ws i w so_far now r before lt is again pushed s t o =
     ap (map message_of) pushed
     ∙ (map_push message_of so_far r
     ∙ (ap (λ (ms : List Message). ms ++ message_of r ∷ []) before
     ∙ (ap (λ (m : Message). filter_map (sent_again t3 n3) (take i ws) ++ m ∷ []) (same_message r.seq w.seq r.to w.to r.octets.items w.octets s t o)
-    ∙ sym (filter_map_some (sent_again t3 n3) ws i w (message w.seq w.to w.octets) lt (ap (sent_again t3 n3) (sym is) ∙ resent_is t3 n3 w some)))))
+    ∙ sym (filter_map_some (sent_again t3 n3) ws i w (message w.seq w.to w.octets) lt (ap (sent_again t3 n3) (sym is) ∙ sent_again_is t3 n3 w SentAgain again)))))
+
+-- one that is not
+pub resend_none : {P : Type 0} (t3 n3 : ℕ) (ws : List (Waiting P)) (i : ℕ) (w : Waiting P) (n : NextTick) (so_far now : List Resend) → now ≡ so_far → map message_of so_far ≡ filter_map (sent_again t3 n3) (take i ws) → i < length ws → w ≡ get_or ws i w → n ≡ next_tick t3 n3 w → sent_again_by n w ≡ None
+    → map message_of now ≡ filter_map (sent_again t3 n3) (take (i + 1) ws)
+resend_none t3 n3 ws i w n so_far now same before lt is by none = ap (map message_of) same ∙ (before ∙ sym (filter_map_none (sent_again t3 n3) ws i w lt (ap (sent_again t3 n3) (sym is) ∙ (sent_again_is t3 n3 w n by ∙ none))))
 
 -- one more that is given up
-pub given_more : {P : Type 0} (t3 n3 : ℕ) (ws : List (Waiting P)) (i : ℕ) (w : Waiting P) (so_far now : List (ℕ × P)) (seq : ℕ) (purpose : P) → so_far ≡ filter_map (given_up t3 n3) (take i ws) → i < length ws → w ≡ get_or ws i w → is_some (given_up t3 n3 w) ≡ true
+pub given_more : {P : Type 0} (t3 n3 : ℕ) (ws : List (Waiting P)) (i : ℕ) (w : Waiting P) (so_far now : List (ℕ × P)) (seq : ℕ) (purpose : P) → so_far ≡ filter_map (given_up t3 n3) (take i ws) → i < length ws → w ≡ get_or ws i w → GivenUp ≡ next_tick t3 n3 w
     → now ≡ so_far ++ (seq, purpose) ∷ [] → seq ≡ w.seq → purpose ≡ w.purpose → now ≡ filter_map (given_up t3 n3) (take (i + 1) ws)
-given_more {P} t3 n3 ws i w so_far now seq purpose before lt is some pushed s p =
+given_more {P} t3 n3 ws i w so_far now seq purpose before lt is over pushed s p =
     pushed
     ∙ (ap (λ (ms : List (ℕ × P)). ms ++ (seq, purpose) ∷ []) before
     ∙ (ap (λ (n : ℕ). filter_map (given_up t3 n3) (take i ws) ++ (n, purpose) ∷ []) s
     ∙ (ap (λ (q : P). filter_map (given_up t3 n3) (take i ws) ++ (w.seq, q) ∷ []) p
-    ∙ sym (filter_map_some (given_up t3 n3) ws i w (w.seq, w.purpose) lt (ap (given_up t3 n3) (sym is) ∙ given_is t3 n3 w some)))))
+    ∙ sym (filter_map_some (given_up t3 n3) ws i w (w.seq, w.purpose) lt (ap (given_up t3 n3) (sym is) ∙ given_up_is t3 n3 w GivenUp over)))))
 
--- one that gives nothing
-pub due_none : {P Y : Type 0} (h : Waiting P → Option Y) (ws : List (Waiting P)) (i : ℕ) (w : Waiting P) → i < length ws → w ≡ get_or ws i w → is_some (h w) ≡ false → filter_map h (take i ws) ≡ filter_map h (take (i + 1) ws)
-due_none h ws i w lt is none = sym (filter_map_none h ws i w lt (ap h (sym is) ∙ none_of (h w) none))
+-- one that is not
+pub given_none : {P : Type 0} (t3 n3 : ℕ) (ws : List (Waiting P)) (i : ℕ) (w : Waiting P) (n : NextTick) (so_far now : List (ℕ × P)) → now ≡ so_far → so_far ≡ filter_map (given_up t3 n3) (take i ws) → i < length ws → w ≡ get_or ws i w → n ≡ next_tick t3 n3 w → given_up_by n w ≡ None
+    → now ≡ filter_map (given_up t3 n3) (take (i + 1) ws)
+given_none t3 n3 ws i w n so_far now same before lt is by none = same ∙ (before ∙ sym (filter_map_none (given_up t3 n3) ws i w lt (ap (given_up t3 n3) (sym is) ∙ (given_up_is t3 n3 w n by ∙ none))))
 
--- where no request is full none is given up
-not_full : (a b t : ℕ) (r n : ℕ) → a + 1 < t → nat_lt (a + 1) t ≡ true
-not_full a b t r n h = grind (arith, nat_tests)
+-- where fewer than t3 ticks will have passed, the request waits on
+waits : {P : Type 0} (t3 n3 : ℕ) (w : Waiting P) → w.waited + 1 < t3 → next_tick t3 n3 w ≡ WaitsOn
+waits t3 n3 w q = let before : nat_lt (w.waited + 1) t3 ≡ true = grind (arith, nat_tests) in rw before refl
 
-none_given : {P : Type 0} (t3 n3 : ℕ) (w : Waiting P) → w.waited + 1 < t3 → is_some (given_up t3 n3 w) ≡ true → ⊥
-none_given t3 n3 w q h = by_test (nat_lt (w.waited + 1) t3) (nat_lt w.resent n3) (not_full w.waited 0 t3 0 0 q) h where
-  by_test : (a b : Bool) → a ≡ true → is_some (cond a None (cond b None (Some (given w.seq w.purpose)))) ≡ true → ⊥
-  by_test true b e p = cc
-  by_test false b e p = cc
-
-pub quiet_none : {P : Type 0} (t3 n3 : ℕ) (ws : List (Waiting P)) (i : ℕ) (w : Waiting P) → All (λ v. v.waited + 1 < t3) ws → i < length ws → w ≡ get_or ws i w → is_some (given_up t3 n3 w) ≡ true → ⊥
-quiet_none t3 n3 ws i w q lt is h = none_given t3 n3 w (subst (λ (v : Waiting _). v.waited + 1 < t3) (sym is) (All-get_or (λ v. v.waited + 1 < t3) ws i w lt q)) h
+-- so where nothing is due no request does anything else
+pub quiet_waits : {P : Type 0} (t3 n3 : ℕ) (ws : List (Waiting P)) (i : ℕ) (w : Waiting P) (n : NextTick) → All (λ v. v.waited + 1 < t3) ws → i < length ws → w ≡ get_or ws i w → n ≡ next_tick t3 n3 w → n ≡ WaitsOn
+quiet_waits t3 n3 ws i w n q lt is by = by ∙ waits t3 n3 w (subst (λ (v : Waiting _). v.waited + 1 < t3) (sym is) (All-get_or (λ v. v.waited + 1 < t3) ws i w lt q))

@@ -1,9 +1,11 @@
 -- Answers that are held for requests which come again (TS 29.274 7.6).
-use Rattle.std.specs.Prelude.{◌≡◌, ℕ, ◌+◌, ◌<◌, ◌≤◌, Bool, true, List, [], ◌∷◌, length, Option, Some, None, ◌⊎◌, nat_lt, if◌then◌else◌, All}
+use Rattle.std.specs.Prelude.{◌≡◌, ℕ, ◌+◌, ◌<◌, ◌≤◌, Bool, true, List, [], ◌∷◌, length, Option}
+use Rattle.std.specs.Prelude.{Some, None, ◌⊎◌, nat_lt, if◌then◌else◌, All}
 use Rattle.std.specs.List.{filter_map}
 use Rattle.gtp_values.specs.declared.address.Endpoint.{Endpoint}
 
--- where a request came from, its whole octets, the octets of its answer, and the ticks since that was kept
+-- where a request came from, its whole octets, the octets of its answer, and the ticks since the
+-- answer was kept
 pub record HeldPair : Type 0 where
   pub source : Endpoint
   pub request : List ℕ
@@ -12,7 +14,8 @@ pub record HeldPair : Type 0 where
 
 -- a pair that was just kept
 abbrev pub just_kept : Endpoint → List ℕ → List ℕ → HeldPair
-just_kept source request answer = record { source = source; request = request; answer = answer; age = 0 }
+just_kept source request answer =
+    record { source = source; request = request; answer = answer; age = 0 }
 
 -- what a tick makes of it: it is given up in the hold-th tick
 abbrev pub after_tick : ℕ → HeldPair → Option HeldPair
@@ -25,9 +28,12 @@ pub record Question : Type 0 where
 
 -- the request that the tick forgets
 abbrev pub forgotten : ℕ → HeldPair → Option Question
-forgotten hold p = if nat_lt (p.age + 1) hold then None else Some (record { source = p.source; octets = p.request })
+forgotten hold p =
+    if nat_lt (p.age + 1) hold then None
+    else Some (record { source = p.source; octets = p.request })
 
--- how long an answer is held, the pairs in order of keeping, and whether one more can be kept without a growth
+-- how long an answer is held, the pairs in order of keeping, and whether one more can be kept
+-- without an allocation
 pub record Answers : Type 0 where
   pub hold : ℕ
   pub pairs : List HeldPair
@@ -45,7 +51,8 @@ IsHeld source request (p ∷ ps) = IsFor source request p ⊎ IsHeld source requ
 -- a pair is for the request, and has this answer
 abbrev pub HasAnswer : Endpoint → List ℕ → List ℕ → List HeldPair → Type 0
 HasAnswer source request answer [] = ⊥
-HasAnswer source request answer (p ∷ ps) = (IsFor source request p × (p.answer ≡ answer)) ⊎ HasAnswer source request answer ps
+HasAnswer source request answer (p ∷ ps) =
+    (IsFor source request p × (p.answer ≡ answer)) ⊎ HasAnswer source request answer ps
 
 -- no two pairs are for the same request
 abbrev pub AreApart : List HeldPair → Type 0

@@ -1,10 +1,12 @@
 -- The requests that are pending, and their numbers (TS 29.274 7.6).
-use Rattle.std.specs.Prelude.{◌≡◌, ℕ, ◌+◌, ◌%◌, ◌<◌, ◌≤◌, Bool, true, false, List, [], ◌∷◌, length, Option, Some, None, ◌==◌, if◌then◌else◌, All}
+use Rattle.std.specs.Prelude.{◌≡◌, ℕ, ◌+◌, ◌%◌, ◌<◌, ◌≤◌, Bool, true, false, List, [], ◌∷◌, length}
+use Rattle.std.specs.Prelude.{Option, Some, None, ◌==◌, if◌then◌else◌, All}
 use Rattle.std.specs.List.{list_any, filter_map}
 use Rattle.gtp_reliable.specs.Waiting.{Waiting, Message, sent_again, given_up}
 
--- how long a request waits and how often it is sent again, the number from which the next one is sought, the requests in order of beginning,
--- and whether one more can be begun without a growth
+-- how long a request waits and how often it is sent again, the number from which the next one is
+-- sought, the requests in order of beginning, and whether one more can be begun without an
+-- allocation
 pub record Requests (P : Type 0) : Type 0 where
   pub t3 : ℕ
   pub n3 : ℕ
@@ -16,7 +18,7 @@ pub record Requests (P : Type 0) : Type 0 where
 abbrev pub numbers : ℕ
 numbers = 8388608
 
--- the number behind a number: 0 behind the last one
+-- the number after a number: 0 after the last one
 abbrev pub number_after : ℕ → ℕ
 number_after n = (n + 1) % numbers
 
@@ -24,7 +26,8 @@ number_after n = (n + 1) % numbers
 unfoldable pub is_pending : {P : Type 0} → ℕ → List (Waiting P) → Bool
 is_pending seq ws = list_any (λ w. w.seq == seq) ws
 
--- the first number from start on, 0 following the last one, that no pending request has: so many before it are taken
+-- the first number from start on, 0 after the last one, that no pending request has: so many before
+-- it are taken
 pub record IsNextFree {P : Type 0} (start : ℕ) (ws : List (Waiting P)) (seq : ℕ) : Type 0 where
   pub free : is_pending seq ws ≡ false
   pub passed : ℕ
@@ -37,7 +40,8 @@ unfoldable pub purpose_of : {P : Type 0} → ℕ → List (Waiting P) → Option
 purpose_of seq [] = None
 purpose_of seq (w ∷ ws) = if w.seq == seq then Some w.purpose else purpose_of seq ws
 
--- the number may be begun: it is the next free one, fewer than 256 requests are pending, and there is room
+-- the number may be begun: it is the next free one, fewer than 256 requests are pending, and there
+-- is room
 pub record IsPrepared {P : Type 0} (r : Requests P) (seq : ℕ) : Type 0 where
   pub number : IsNextFree r.next r.waiting seq
   pub count : length r.waiting < 256
@@ -59,7 +63,7 @@ pub record AreRequests {P : Type 0} (r : Requests P) : Type 0 where
   pub count : length r.waiting ≤ 256
   pub distinct : AreDistinct r.waiting
 
--- the times and the next number stay
+-- how long a request waits and how often it is sent again stay; the next number may change
 abbrev pub SameTimes : {P : Type 0} → Requests P → Requests P → Type 0
 SameTimes old new = (new.t3 ≡ old.t3) × (new.n3 ≡ old.n3)
 

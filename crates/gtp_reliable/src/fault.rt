@@ -15,7 +15,7 @@ pub enum ReliableFault {
     /// B2: 4,096 answers are held.
     #[error("4096 answers are held")]
     HeldFull,
-    /// B3: a growth was refused.
+    /// B3: an allocation was refused.
     #[error("no memory")]
     Memory,
 }

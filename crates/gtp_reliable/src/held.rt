@@ -1,8 +1,11 @@
 //! Answers that are held for requests which come again.
 
-ghost use Rattle.std.specs.Prelude.{◌≡◌, ◌<◌, ◌≤◌, ◌↔◌, ◌⊎◌, ◌+◌, [], ◌∷◌, ◌++◌, ℕ, List, All, true, false, length, filter, map, IsOk, OnOk, OnErr, OnSome, IfOk, IfErr, IfSome, IfNone, IsSomeAnd, Err, is_some, unwrap_or};
+ghost use Rattle.std.specs.Prelude.{◌≡◌, ◌<◌, ◌≤◌, ◌↔◌, ◌⊎◌, ◌+◌, [], ◌∷◌, ◌++◌, ℕ, List};
+ghost use Rattle.std.specs.Prelude.{All, true, false, length, map, IsTrue, IsOk, OnOk, OnErr};
+ghost use Rattle.std.specs.Prelude.{IfOk, IfErr, IfSome, IfNone, IsSomeAnd, Err};
 ghost use Rattle.std.specs.List.{filter_map};
-ghost use Rattle.gtp_reliable.specs.Held.{just_kept, after_tick, forgotten, IsHeld, HasAnswer, IsHold, IsReady, IsQuiet, forgets};
+ghost use Rattle.gtp_reliable.specs.Held.{just_kept, after_tick, forgotten, forgets, IsHeld};
+ghost use Rattle.gtp_reliable.specs.Held.{HasAnswer, IsHold, IsReady, IsQuiet};
 ghost use Rattle.gtp_reliable.specs.Forgotten.{question_of};
 
 use crate::fault::ReliableFault;
@@ -15,15 +18,15 @@ use std::marker::Model;
 const MOST: usize = 4096;
 
 /// A request: where it came from, and its octets.
-#[derive(Debug, Drop)]
+#[derive(Clone, Debug, Drop, PartialEq, Eq)]
 pub struct Request {
     pub source: Endpoint,
     pub octets: Vec<u8>,
 }
 
-/// Answers that are held for requests which come again, in order of keeping. An answer is held until the
-/// `hold`-th tick after it was kept; a look-up doesn't prolong that, and only a tick takes a pair away.
-/// At most 4,096 are held, one for a request from a source.
+/// Answers that are held for requests which come again, in order of keeping. An answer is held
+/// until the `hold`-th tick after it was kept; a look-up doesn't prolong that, and only a tick
+/// drops a pair. At most 4,096 are held, one for a request from a source.
 #[derive(Debug, Drop)]
 pub struct Held {
     alloc: Global,
@@ -37,15 +40,26 @@ impl Model for Held {
 
     ghost Value = { Answers };
 
-    ghost view = { λ a. record { hold = a.hold; pairs = a.pairs.items; has_room = nat_lt (vec_len a.pairs) (vec_capacity a.pairs) } };
+    ghost view = { λ a.
+        record {
+          hold = a.hold;
+          pairs = a.pairs.items;
+          has_room = nat_lt (vec_len a.pairs) (vec_capacity a.pairs);
+        } };
 
-    ghost invariant = { λ a. AreAnswers (record { hold = a.hold; pairs = a.pairs.items; has_room = nat_lt (vec_len a.pairs) (vec_capacity a.pairs) }) };
+    ghost invariant = { λ a.
+        AreAnswers (record {
+          hold = a.hold;
+          pairs = a.pairs.items;
+          has_room = nat_lt (vec_len a.pairs) (vec_capacity a.pairs);
+        }) };
 }
 
 /// The requests that the next tick forgets. Takes no memory where there is none.
 fn forgotten_by_tick(alloc: Global, pairs: &[Pair], hold: u32) -> Result<Vec<Request>, AllocError>
     requires { 1 ≤ hold }
-    ensures list { IfOk result (λ v. map question_of v.items ≡ filter_map (forgotten hold) pairs.now) }
+    ensures list { IfOk result (λ v.
+        map question_of v.items ≡ filter_map (forgotten hold) pairs.now) }
     ensures quiet { All (λ p. p.age + 1 < hold) pairs.now → IsOk result }
 {
     let mut requests = Vec::new(alloc);
@@ -61,22 +75,12 @@ fn forgotten_by_tick(alloc: Global, pairs: &[Pair], hold: u32) -> Result<Vec<Req
     Ok(requests)
 }
 
-/// Drops the pairs that the next tick gives up.
-fn drop_given_up(pairs: &mut Vec<Pair>, hold: u32)
+/// A tick passes: drops the pairs that it gives up.
+fn tick_all(pairs: &mut Vec<Pair>, hold: u32)
     requires { 1 ≤ hold }
-    ensures { pairs.new.items ≡ filter (λ p. is_some (after_tick hold p)) pairs.old.items }
+    ensures { pairs.new.items ≡ filter_map (after_tick hold) pairs.old.items }
 {
-    pairs.retain(|p| p.stays(hold));
-}
-
-/// A tick passes for pairs that stay.
-fn pass_all(pairs: &mut Vec<Pair>, hold: u32)
-    requires { 1 ≤ hold }
-    ensures { pairs.new.items ≡ map (λ p. unwrap_or (after_tick hold p) p) pairs.old.items }
-{
-    for p in pairs.iter_mut() {
-        p.pass(hold);
-    }
+    pairs.retain_mut(|p| p.tick(hold));
 }
 
 /// The answer in the pair for a request.
@@ -108,23 +112,34 @@ impl Held {
 
     /// The answer that is held for a request from this source with these octets, all of them.
     pub fn lookup(&self, source: Endpoint, request: &[u8]) -> Option<&[u8]>
-        ensures found { IfSome result (λ answer. HasAnswer source request.now answer.now self.now.pairs) }
-        ensures only { (a : List ℕ) → HasAnswer source request.now a self.now.pairs → IsSomeAnd result (λ answer. answer.now ≡ a) }
+        ensures found { IfSome result (λ answer.
+            HasAnswer source request.now answer.now self.now.pairs) }
+        ensures only { (a : List ℕ) → HasAnswer source request.now a self.now.pairs
+            → IsSomeAnd result (λ answer. answer.now ≡ a) }
         ensures none { IfNone result (IsHeld source request.now self.now.pairs → ⊥) }
     {
         find_answer(self.pairs.as_slice(), source, request)
     }
 
-    /// Room for one more answer; nothing else changes.
+    /// Whether 4,096 answers are held. Takes no memory.
+    pub fn is_full(&self) -> bool
+        ensures { IsTrue result ↔ (4096 ≤ length self.now.pairs) }
+    {
+        self.pairs.len() >= MOST
+    }
+
+    /// Room for one more answer; nothing else changes. After an error all is as before: each part
+    /// of the value that contracts see, `has_room` among them.
     pub fn prepare(&mut self) -> Result<(), ReliableFault>
         ensures ready { OnOk result (IsReady self.new) }
         ensures room { OnOk result (self.new ≡ record self.old { has_room = true }) }
         ensures full { (result ≡ Err ReliableFault.HeldFull) ↔ (4096 ≤ length self.old.pairs) }
-        ensures fault { IfErr result (λ f. (f ≡ ReliableFault.HeldFull) ⊎ (f ≡ ReliableFault.Memory)) }
+        ensures fault { IfErr result (λ f.
+            (f ≡ ReliableFault.HeldFull) ⊎ (f ≡ ReliableFault.Memory)) }
         ensures memory { result ≡ Err ReliableFault.Memory → self.old.has_room ≡ false }
         ensures err { OnErr result (self.new ≡ self.old) }
     {
-        if self.pairs.len() >= MOST {
+        if self.is_full() {
             return Err(ReliableFault::HeldFull);
         }
         self.pairs.try_reserve(1)?;
@@ -135,7 +150,8 @@ impl Held {
     pub fn keep(&mut self, source: Endpoint, request: Vec<u8>, answer: Vec<u8>)
         requires ready { IsReady self.old }
         requires free { IsHeld source request.items self.old.pairs → ⊥ }
-        ensures pairs { self.new.pairs ≡ self.old.pairs ++ just_kept source request.items answer.items ∷ [] }
+        ensures pairs { self.new.pairs
+            ≡ self.old.pairs ++ just_kept source request.items answer.items ∷ [] }
         ensures hold { self.new.hold ≡ self.old.hold }
     {
         if self.pairs.push(Pair::new(source, request, answer)).is_err() {
@@ -158,7 +174,6 @@ impl Held {
         ensures pairs { self.new.pairs ≡ filter_map (after_tick self.old.hold) self.old.pairs }
         ensures hold { self.new.hold ≡ self.old.hold }
     {
-        drop_given_up(&mut self.pairs, self.hold);
-        pass_all(&mut self.pairs, self.hold);
+        tick_all(&mut self.pairs, self.hold);
     }
 }

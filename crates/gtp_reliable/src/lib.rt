@@ -1,5 +1,5 @@
-//! Reliable delivery of control messages (TS 29.274 7.6): which requests wait for an answer, when they
-//! are sent again and given up, and which answers are held for requests that come again.
+//! Reliable delivery of control messages (TS 29.274 7.6): which requests wait for an answer, when
+//! they are sent again and given up, and which answers are held for requests that come again.
 #![tactic(auto)]
 
 mod fault;

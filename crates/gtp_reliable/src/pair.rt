@@ -3,8 +3,8 @@
 use gtp_values::Endpoint;
 use std::marker::Model;
 
-/// An answer that is held for a request. Contracts see where the request came from, both texts, and the
-/// ticks that have passed.
+/// An answer that is held for a request. Contracts see where the request came from, the octets of
+/// both, and the ticks that have passed.
 #[derive(Debug, Drop)]
 pub struct Pair {
     source: Endpoint,
@@ -19,7 +19,13 @@ impl Model for Pair {
 
     ghost Value = { HeldPair };
 
-    ghost view = { λ a. record { source = a.source; request = a.request.items; answer = a.answer.items; age = a.age } };
+    ghost view = { λ a.
+        record {
+          source = a.source;
+          request = a.request.items;
+          answer = a.answer.items;
+          age = a.age;
+        } };
 }
 
 impl Pair {
@@ -71,13 +77,16 @@ impl Pair {
         self.age < hold - 1
     }
 
-    /// A tick passes for a pair that stays.
-    pub fn pass(&mut self, hold: u32)
+    /// A tick passes: whether it stays held.
+    pub fn tick(&mut self, hold: u32) -> bool
         requires { 1 ≤ hold }
-        ensures { self.new ≡ unwrap_or (after_tick hold self.old) self.old }
+        ensures stays { result ≡ is_some (after_tick hold self.old) }
+        ensures pair { self.new ≡ unwrap_or (after_tick hold self.old) self.old }
     {
-        if self.stays(hold) {
+        let stays = self.stays(hold);
+        if stays {
             self.age += 1;
         }
+        stays
     }
 }

@@ -1,13 +1,18 @@
 //! Requests that wait for their answers.
 
-ghost use Rattle.std.specs.Prelude.{◌≡◌, ◌<◌, ◌≤◌, ◌↔◌, ◌⊎◌, [], ◌∷◌, ◌++◌, ◌+◌, ◌==◌, All, true, false, not, length, filter, map, IsOk, OnOk, OnErr, IfOk, IfErr, Err, option_map, is_some, unwrap_or};
+ghost use Rattle.std.specs.Prelude.{◌≡◌, ◌<◌, ◌≤◌, ◌↔◌, ◌⊎◌, [], ◌∷◌, ◌++◌, ◌+◌, ◌==◌};
+ghost use Rattle.std.specs.Prelude.{Bool, All, true, false, not, length, filter, map, option_map};
+ghost use Rattle.std.specs.Prelude.{IsTrue, IsOk, OnOk, OnErr, IfOk, IfErr, Err};
+ghost use Rattle.std.specs.Fn.{FnReturnsAt};
 ghost use Rattle.std.specs.List.{filter_map};
 ghost use Rattle.gtp_reliable.specs.Waiting.{just_sent, after_tick, sent_again, given_up};
-ghost use Rattle.gtp_reliable.specs.Pending.{numbers, number_after, is_pending, IsNextFree, purpose_of, IsPrepared, AreLimits, AreRequests, SameTimes, IsQuiet, resends, given_ups};
+ghost use Rattle.gtp_reliable.specs.Pending.{numbers, number_after, is_pending, IsNextFree};
+ghost use Rattle.gtp_reliable.specs.Pending.{purpose_of, IsPrepared, AreLimits, SameTimes};
+ghost use Rattle.gtp_reliable.specs.Pending.{IsQuiet, resends, given_ups};
 ghost use Rattle.gtp_reliable.specs.Due.{message_of};
 
 use crate::fault::ReliableFault;
-use crate::waiting::Waiting;
+use crate::waiting::{NextTick, Waiting};
 use gtp_values::{Endpoint, Seq};
 use std::alloc::{AllocError, Global};
 use std::marker::Model;
@@ -19,7 +24,7 @@ const MOST: usize = 256;
 const LAST: u32 = 8_388_607;
 
 /// A request to be sent again: the same octets to the same place.
-#[derive(Debug, Drop)]
+#[derive(Clone, Debug, Drop, PartialEq, Eq)]
 pub struct Resend {
     pub seq: Seq,
     pub to: Endpoint,
@@ -35,10 +40,10 @@ pub struct Due<P: Copy> {
     pub gave_up: Vec<(Seq, P)>,
 }
 
-/// Requests that wait for their answers, in order of beginning, each with a purpose. A request waits `t3`
-/// ticks (T3-RESPONSE); then it is sent again, at most `n3` times (N3-REQUESTS), and then given up.
-/// Numbers rise by one from 0, or from where they were told to, to 8,388,607, and then from 0 again; one that is
-/// pending is passed over. At most 256 requests are pending.
+/// Requests that wait for their answers, in order of beginning, each with a purpose. A request
+/// waits `t3` ticks (T3-RESPONSE); then it is sent again, at most `n3` times (N3-REQUESTS), and
+/// then given up. Numbers rise by one from 0, or from where they were told to, to 8,388,607, and then
+/// from 0 again; one that is pending is passed over. At most 256 requests are pending.
 #[derive(Debug, Drop)]
 pub struct Pending<P: Copy> {
     alloc: Global,
@@ -55,9 +60,23 @@ impl<P: Copy> Model for Pending<P> {
 
     ghost Value = { Requests P };
 
-    ghost view = { λ a. record { t3 = a.t3; n3 = a.n3; next = a.next; waiting = a.waiting.items; has_room = nat_lt (vec_len a.waiting) (vec_capacity a.waiting) } };
+    ghost view = { λ a.
+        record {
+          t3 = a.t3;
+          n3 = a.n3;
+          next = a.next;
+          waiting = a.waiting.items;
+          has_room = nat_lt (vec_len a.waiting) (vec_capacity a.waiting);
+        } };
 
-    ghost invariant = { λ a. AreRequests (record { t3 = a.t3; n3 = a.n3; next = a.next; waiting = a.waiting.items; has_room = nat_lt (vec_len a.waiting) (vec_capacity a.waiting) }) };
+    ghost invariant = { λ a.
+        AreRequests (record {
+          t3 = a.t3;
+          n3 = a.n3;
+          next = a.next;
+          waiting = a.waiting.items;
+          has_room = nat_lt (vec_len a.waiting) (vec_capacity a.waiting);
+        }) };
 }
 
 /// Whether a request of this number is pending.
@@ -68,7 +87,7 @@ fn has_number<P: Copy>(waiting: &[Waiting<P>], number: u32) -> bool
     waiting.iter().any(|w| w.seq().number() == number)
 }
 
-/// The number behind a number.
+/// The number after a number.
 fn following(number: u32) -> u32
     requires { number < numbers }
     ensures { result ≡ number_after number }
@@ -90,68 +109,42 @@ pub fn next_free<P: Copy>(start: u32, waiting: &[Waiting<P>]) -> u32
     number
 }
 
-/// What the next tick sends again. Takes no memory where nothing is due.
-fn resends<P: Copy>(
+/// What the next tick does. Takes no memory where that is nothing.
+fn due_of<P: Copy>(
     alloc: Global,
     waiting: &[Waiting<P>],
     t3: u32,
     n3: u32,
-) -> Result<Vec<Resend>, AllocError>
+) -> Result<Due<P>, AllocError>
     requires { 1 ≤ t3 }
-    ensures list { IfOk result (λ v. map message_of v.items ≡ filter_map (sent_again t3 n3) waiting.now) }
+    ensures resend { IfOk result (λ due.
+        map message_of due.resend.items ≡ filter_map (sent_again t3 n3) waiting.now) }
+    ensures gave_up { IfOk result (λ due.
+        due.gave_up.items ≡ filter_map (given_up t3 n3) waiting.now) }
     ensures quiet { All (λ w. w.waited + 1 < t3) waiting.now → IsOk result }
 {
     let mut resend = Vec::new(alloc);
-    for w in waiting {
-        if !w.is_resent(t3, n3) {
-            continue;
-        }
-        resend.push(Resend {
-            seq: w.seq(),
-            to: w.to(),
-            octets: Vec::from_slice(alloc, w.octets())?,
-        })?;
-    }
-    Ok(resend)
-}
-
-/// What the next tick gives up. Takes no memory where nothing is due.
-fn given_ups<P: Copy>(
-    alloc: Global,
-    waiting: &[Waiting<P>],
-    t3: u32,
-    n3: u32,
-) -> Result<Vec<(Seq, P)>, AllocError>
-    requires { 1 ≤ t3 }
-    ensures list { IfOk result (λ v. v.items ≡ filter_map (given_up t3 n3) waiting.now) }
-    ensures quiet { All (λ w. w.waited + 1 < t3) waiting.now → IsOk result }
-{
     let mut gave_up = Vec::new(alloc);
     for w in waiting {
-        if !w.is_given_up(t3, n3) {
-            continue;
+        match w.next_tick(t3, n3) {
+            NextTick::WaitsOn => {}
+            NextTick::SentAgain => resend.push(Resend {
+                seq: w.seq(),
+                to: w.to(),
+                octets: Vec::from_slice(alloc, w.octets())?,
+            })?,
+            NextTick::GivenUp => gave_up.push((w.seq(), *w.purpose()))?,
         }
-        gave_up.push((w.seq(), *w.purpose()))?;
     }
-    Ok(gave_up)
+    Ok(Due { resend, gave_up })
 }
 
-/// Drops the requests that the next tick gives up.
-fn drop_given_up<P: Copy>(waiting: &mut Vec<Waiting<P>>, t3: u32, n3: u32)
+/// A tick passes: drops the requests that it gives up.
+fn tick_all<P: Copy>(waiting: &mut Vec<Waiting<P>>, t3: u32, n3: u32)
     requires { 1 ≤ t3 }
-    ensures { waiting.new.items ≡ filter (λ w. is_some (after_tick t3 n3 w)) waiting.old.items }
+    ensures { waiting.new.items ≡ filter_map (after_tick t3 n3) waiting.old.items }
 {
-    waiting.retain(|w| w.stays(t3, n3));
-}
-
-/// A tick passes for requests that stay.
-fn pass_all<P: Copy>(waiting: &mut Vec<Waiting<P>>, t3: u32, n3: u32)
-    requires { 1 ≤ t3 }
-    ensures { waiting.new.items ≡ map (λ w. unwrap_or (after_tick t3 n3 w) w) waiting.old.items }
-{
-    for w in waiting.iter_mut() {
-        w.pass(t3, n3);
-    }
+    waiting.retain_mut(|w| w.tick(t3, n3));
 }
 
 /// Drops the request of this number.
@@ -161,8 +154,19 @@ fn drop_number<P: Copy>(waiting: &mut Vec<Waiting<P>>, number: u32)
     waiting.retain(|w| w.seq().number() != number);
 }
 
+/// Drops the requests whose purpose meets the test.
+fn drop_where<P: Copy, F: Fn(&P) -> bool>(waiting: &mut Vec<Waiting<P>>, test: F)
+    ghost meets: { P → Bool }
+    requires callable { F.IsAlwaysCallable test }
+    requires answers { (p : P) (b : Bool) → FnReturnsAt F.Fn test p b → b ≡ meets p }
+    ensures { waiting.new.items ≡ filter (λ w. not (meets w.purpose)) waiting.old.items }
+{
+    waiting.retain(|w| !w.meets(&test));
+}
+
 impl<P: Copy> Pending<P> {
-    /// No requests; numbers begin at 0. `t3` is 1 to 1,000 ticks, `n3` at most 100. Takes no memory.
+    /// No requests; numbers begin at 0. `t3` is 1 to 1,000 ticks, `n3` at most 100. Takes no
+    /// memory.
     pub fn new(alloc: Global, t3: u32, n3: u32) -> Pending<P>
         requires { AreLimits t3 n3 }
         ensures empty { result.waiting ≡ [] }
@@ -195,16 +199,25 @@ impl<P: Copy> Pending<P> {
         }
     }
 
-    /// The next free number, and room for its request; nothing else changes.
+    /// Whether 256 requests are pending. Takes no memory.
+    pub fn is_full(&self) -> bool
+        ensures { IsTrue result ↔ (256 ≤ length self.now.waiting) }
+    {
+        self.waiting.len() >= MOST
+    }
+
+    /// The next free number, and room for its request; nothing else changes. After an error all is
+    /// as before: each part of the value that contracts see, `has_room` among them.
     pub fn prepare(&mut self) -> Result<Seq, ReliableFault>
         ensures prepared { IfOk result (IsPrepared self.new) }
         ensures room { OnOk result (self.new ≡ record self.old { has_room = true }) }
         ensures full { (result ≡ Err ReliableFault.PendingFull) ↔ (256 ≤ length self.old.waiting) }
-        ensures fault { IfErr result (λ f. (f ≡ ReliableFault.PendingFull) ⊎ (f ≡ ReliableFault.Memory)) }
+        ensures fault { IfErr result (λ f.
+            (f ≡ ReliableFault.PendingFull) ⊎ (f ≡ ReliableFault.Memory)) }
         ensures memory { result ≡ Err ReliableFault.Memory → self.old.has_room ≡ false }
         ensures err { OnErr result (self.new ≡ self.old) }
     {
-        if self.waiting.len() >= MOST {
+        if self.is_full() {
             return Err(ReliableFault::PendingFull);
         }
         self.waiting.try_reserve(1)?;
@@ -214,7 +227,8 @@ impl<P: Copy> Pending<P> {
     /// Begins the request that was prepared, which is sent now.
     pub fn begin(&mut self, seq: Seq, to: Endpoint, octets: Vec<u8>, purpose: P)
         requires { IsPrepared self.old seq }
-        ensures waiting { self.new.waiting ≡ self.old.waiting ++ just_sent seq to octets.items purpose ∷ [] }
+        ensures waiting { self.new.waiting
+            ≡ self.old.waiting ++ just_sent seq to octets.items purpose ∷ [] }
         ensures next { self.new.next ≡ number_after seq }
         ensures times { SameTimes self.old self.new }
     {
@@ -250,6 +264,19 @@ impl<P: Copy> Pending<P> {
         drop_number(&mut self.waiting, seq.number());
     }
 
+    /// All requests whose purpose meets the test wait no longer. Takes no memory. `meets` is what
+    /// the test answers; the caller picks it.
+    pub fn finish_where<F: Fn(&P) -> bool>(&mut self, test: F)
+        ghost meets: { P → Bool }
+        requires callable { F.IsAlwaysCallable test }
+        requires answers { (p : P) (b : Bool) → FnReturnsAt F.Fn test p b → b ≡ meets p }
+        ensures waiting { self.new.waiting ≡ filter (λ w. not (meets w.purpose)) self.old.waiting }
+        ensures next { self.new.next ≡ self.old.next }
+        ensures times { SameTimes self.old self.new }
+    {
+        drop_where(&mut self.waiting, test);
+    }
+
     /// What the next tick does. Takes no memory where that is nothing.
     pub fn due(&self) -> Result<Due<P>, ReliableFault>
         ensures resend { IfOk result (λ due. map message_of due.resend.items ≡ resends self.now) }
@@ -257,19 +284,17 @@ impl<P: Copy> Pending<P> {
         ensures quiet { IsQuiet self.now → IsOk result }
         ensures fault { IfErr result (λ f. f ≡ ReliableFault.Memory) }
     {
-        let waiting = self.waiting.as_slice();
-        let resend = resends(self.alloc, waiting, self.t3, self.n3)?;
-        let gave_up = given_ups(self.alloc, waiting, self.t3, self.n3)?;
-        Ok(Due { resend, gave_up })
+        let due = due_of(self.alloc, self.waiting.as_slice(), self.t3, self.n3)?;
+        Ok(due)
     }
 
     /// A tick passes: what is due is sent again, by who asked, or given up.
     pub fn tick(&mut self)
-        ensures waiting { self.new.waiting ≡ filter_map (after_tick self.old.t3 self.old.n3) self.old.waiting }
+        ensures waiting { self.new.waiting
+            ≡ filter_map (after_tick self.old.t3 self.old.n3) self.old.waiting }
         ensures next { self.new.next ≡ self.old.next }
         ensures times { SameTimes self.old self.new }
     {
-        drop_given_up(&mut self.waiting, self.t3, self.n3);
-        pass_all(&mut self.waiting, self.t3, self.n3);
+        tick_all(&mut self.waiting, self.t3, self.n3);
     }
 }

@@ -1,5 +1,6 @@
 //! Ticks, numbers and limits, counted by hand.
 
+ghost use Rattle.std.specs.Prelude.{◌≡◌, ◌==◌, filter, not};
 ghost use Rattle.gtp_reliable.specs.Pending.{AreLimits};
 
 use super::*;
@@ -77,6 +78,8 @@ fn order_of_beginning(rt: HostRuntime) -> Result<(), Fail> {
     let due = pending.due()?;
     assert_eq!(rt; due.resend.len(), 1);
     assert!(rt; due.resend[0].seq == first);
+    let again = due.resend[0].clone()?;
+    assert!(rt; again == due.resend[0]);
     pending.tick();
     let due = pending.due()?;
     assert_eq!(rt; due.resend.len(), 1);
@@ -106,6 +109,27 @@ fn several_in_one_tick(rt: HostRuntime) -> Result<(), Fail> {
     );
     pending.tick();
     assert!(rt; pending.matched(numbers[0]).is_none() && pending.matched(numbers[2]).is_none());
+    Ok(())
+}
+
+/// Finishes all requests for a purpose: what a caller of `finish_where` gets to know.
+fn finish_all(pending: &mut Pending<u8>, purpose: u8)
+    ensures { pending.new.waiting ≡ filter (λ w. not (w.purpose == purpose)) pending.old.waiting }
+{
+    pending.finish_where(|p| *p == purpose);
+}
+
+#[test]
+fn finished_by_purpose(rt: HostRuntime) -> Result<(), Fail> {
+    let mut pending = Pending::new(rt.alloc(), 1, 0);
+    for purpose in [1, 2, 1, 3] {
+        begin(rt.alloc(), &mut pending, purpose)?;
+    }
+    finish_all(&mut pending, 1);
+    let due = pending.due()?;
+    assert!(rt; due.resend.is_empty());
+    assert!(rt; due.gave_up.as_slice() == [(Seq::new(1), 2), (Seq::new(3), 3)].as_slice());
+    assert_eq!(rt; begin(rt.alloc(), &mut pending, 1)?.number(), 4);
     Ok(())
 }
 
@@ -142,8 +166,10 @@ fn full(rt: HostRuntime) -> Result<(), Fail> {
         let seq = begin(rt.alloc(), &mut pending, 1)?;
         assert_eq!(rt; seq.number(), number);
     }
+    assert!(rt; pending.is_full());
     assert!(rt; pending.prepare().err() == Some(ReliableFault::PendingFull));
     pending.finish(Seq::new(5));
+    assert!(rt; !pending.is_full());
     let seq = begin(rt.alloc(), &mut pending, 1)?;
     assert_eq!(rt; seq.number(), 256);
     Ok(())
@@ -182,6 +208,8 @@ fn held_ticks(rt: HostRuntime) -> Result<(), Fail> {
     let due = held.due()?;
     assert_eq!(rt; due.len(), 1);
     assert!(rt; due[0].source == place(1) && due[0].octets.as_slice() == b"ask".as_slice());
+    let same = due[0].clone()?;
+    assert!(rt; same == due[0]);
     held.tick();
     assert!(rt; held.lookup(place(1), b"ask").is_none());
     Ok(())
@@ -215,6 +243,7 @@ fn held_full(rt: HostRuntime) -> Result<(), Fail> {
     for number in 0u16..4096 {
         keep(rt.alloc(), &mut held, place(1), &number.to_be_bytes(), 1)?;
     }
+    assert!(rt; held.is_full());
     assert!(rt; held.prepare().err() == Some(ReliableFault::HeldFull));
     assert!(rt; held.lookup(place(1), &[15, 255]).is_some());
     assert!(rt; held.lookup(place(1), &[16, 0]).is_none());

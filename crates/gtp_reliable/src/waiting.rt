@@ -3,7 +3,16 @@
 use gtp_values::{Endpoint, Seq};
 use std::marker::Model;
 
-/// A request that waits for its answer. Contracts see its number, place, octets, purpose and counts.
+/// What a tick does with a request.
+#[derive(Clone, Copy, Debug, PartialEq, Eq)]
+pub enum NextTick {
+    WaitsOn,
+    SentAgain,
+    GivenUp,
+}
+
+/// A request that waits for its answer. Contracts see its number, place, octets, purpose and both
+/// counts.
 #[derive(Debug, Drop)]
 pub struct Waiting<P: Copy> {
     seq: Seq,
@@ -22,12 +31,21 @@ impl<P: Copy> Model for Waiting<P> {
 
     ghost Value = { WaitingView P };
 
-    ghost view = { λ a. record { seq = a.seq; to = a.to; octets = a.octets.items; purpose = a.purpose; waited = a.waited; resent = a.resent } };
+    ghost view = { λ a.
+        record {
+          seq = a.seq;
+          to = a.to;
+          octets = a.octets.items;
+          purpose = a.purpose;
+          waited = a.waited;
+          resent = a.resent;
+        } };
 }
 
 impl<P: Copy> Waiting<P> {
-    ghost use Rattle.std.specs.Prelude.{◌≡◌, ◌<◌, ◌≤◌, nat_lt, ◌+◌, ◌==◌, not, is_some, unwrap_or, Some};
-    ghost use Rattle.gtp_reliable.specs.Waiting.{just_sent, after_tick, sent_again, given_up};
+    ghost use Rattle.std.specs.Prelude.{◌≡◌, ◌≤◌, is_some, unwrap_or};
+    ghost use Rattle.std.specs.Fn.{FnReturnsAt};
+    ghost use Rattle.gtp_reliable.specs.Waiting.{just_sent, next_tick, after_tick};
 
     /// A request that was just sent.
     pub fn new(seq: Seq, to: Endpoint, octets: Vec<u8>, purpose: P) -> Waiting<P>
@@ -67,55 +85,42 @@ impl<P: Copy> Waiting<P> {
         &self.purpose
     }
 
-    /// Whether it is sent again or given up in the next tick.
-    fn is_full(&self, t3: u32) -> bool
-        requires { 1 ≤ t3 }
-        ensures { result ≡ not (nat_lt (self.now.waited + 1) t3) }
+    /// Whether its purpose meets a test.
+    pub fn meets<F: Fn(&P) -> bool>(&self, test: &F) -> bool
+        requires { F.IsAlwaysCallable test.now }
+        ensures { FnReturnsAt F.Fn test.now self.now.purpose result }
     {
-        self.waited >= t3 - 1
+        test(self.purpose())
     }
 
-    /// Whether it may be sent again.
-    fn may_be_resent(&self, n3: u32) -> bool
-        ensures { result ≡ nat_lt self.now.resent n3 }
-    {
-        self.resent < n3
-    }
-
-    /// Whether the next tick sends it again.
-    pub fn is_resent(&self, t3: u32, n3: u32) -> bool
+    /// What the next tick does with it.
+    pub fn next_tick(&self, t3: u32, n3: u32) -> NextTick
         requires { 1 ≤ t3 }
-        ensures { result ≡ is_some (sent_again t3 n3 self.now) }
+        ensures { result ≡ next_tick t3 n3 self.now }
     {
-        self.is_full(t3) && self.may_be_resent(n3)
-    }
-
-    /// Whether the next tick gives it up.
-    pub fn is_given_up(&self, t3: u32, n3: u32) -> bool
-        requires { 1 ≤ t3 }
-        ensures { result ≡ is_some (given_up t3 n3 self.now) }
-    {
-        self.is_full(t3) && !self.may_be_resent(n3)
-    }
-
-    /// Whether the next tick leaves it pending.
-    pub fn stays(&self, t3: u32, n3: u32) -> bool
-        requires { 1 ≤ t3 }
-        ensures { result ≡ is_some (after_tick t3 n3 self.now) }
-    {
-        !self.is_given_up(t3, n3)
-    }
-
-    /// A tick passes for a request that stays.
-    pub fn pass(&mut self, t3: u32, n3: u32)
-        requires { 1 ≤ t3 }
-        ensures { self.new ≡ unwrap_or (after_tick t3 n3 self.old) self.old }
-    {
-        if !self.is_full(t3) {
-            self.waited += 1;
-        } else if self.may_be_resent(n3) {
-            self.waited = 0;
-            self.resent += 1;
+        if self.waited < t3 - 1 {
+            NextTick::WaitsOn
+        } else if self.resent < n3 {
+            NextTick::SentAgain
+        } else {
+            NextTick::GivenUp
         }
+    }
+
+    /// A tick passes: whether it stays pending.
+    pub fn tick(&mut self, t3: u32, n3: u32) -> bool
+        requires { 1 ≤ t3 }
+        ensures stays { result ≡ is_some (after_tick t3 n3 self.old) }
+        ensures request { self.new ≡ unwrap_or (after_tick t3 n3 self.old) self.old }
+    {
+        match self.next_tick(t3, n3) {
+            NextTick::WaitsOn => self.waited += 1,
+            NextTick::SentAgain => {
+                self.waited = 0;
+                self.resent += 1;
+            }
+            NextTick::GivenUp => return false,
+        }
+        true
     }
 }

@@ -1,5 +1,5 @@
 -- The laws are proved in `ActsOnce`.
-use Rattle.gtp_machine.proofs.ActsOnce as law
+use Rattle.gtp_machine.proofs.Requests.ActsOnce as law
 use Rattle.gtp_machine.proofs.laws.acts_once.Goals as goal
 
 pub returns-clause-until_forgotten : goal.returns-clause-until_forgotten

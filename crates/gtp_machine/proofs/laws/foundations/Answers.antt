@@ -1,5 +1,5 @@
 -- Each law is proved of all runs in `Safety`.
-use Rattle.gtp_machine.proofs.Safety.{always_one_message, always_goes_back, always_names_back, always_responses, always_none_ahead, always_known, always_opened, always_closes_whole, always_made_once, always_once}
+use Rattle.gtp_machine.proofs.Worlds.Safety.{always_one_message, always_goes_back, always_names_back, always_responses, always_none_ahead, always_known, always_opened, always_closes_whole, always_made_once, always_once}
 use Rattle.gtp_machine.proofs.laws.foundations.Goals as goal
 
 pub returns-clause-one_message : goal.returns-clause-one_message

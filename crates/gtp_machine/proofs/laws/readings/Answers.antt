@@ -1,6 +1,6 @@
 -- The laws are proved in `ReadOnce` and `Readings`.
-use Rattle.gtp_machine.proofs.ReadOnce as once
-use Rattle.gtp_machine.proofs.Readings as law
+use Rattle.gtp_machine.proofs.Octets.ReadOnce as once
+use Rattle.gtp_machine.proofs.Octets.Readings as law
 use Rattle.gtp_machine.proofs.laws.readings.Goals as goal
 
 pub returns-clause-control : goal.returns-clause-control

@@ -1,5 +1,5 @@
 -- Each law is proved of all runs in `Safety`.
-use Rattle.gtp_machine.proofs.Safety.{always_sessions, always_bearers, always_owed, always_none_over}
+use Rattle.gtp_machine.proofs.Worlds.Safety.{always_sessions, always_bearers, always_owed, always_none_over}
 use Rattle.gtp_machine.proofs.laws.tunnel_safety.Goals as goal
 
 pub returns-clause-sessions : goal.returns-clause-sessions

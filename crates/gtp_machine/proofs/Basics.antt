@@ -1,0 +1,6 @@
+-- Finite maps, numbers that may be absent, and counters that go round.
+pub mod FiniteMaps
+pub mod Options
+pub mod Counting
+pub mod Ages
+pub mod Kinds

@@ -1,0 +1,3 @@
+-- What octets read as.
+pub mod Readings
+pub mod ReadOnce

@@ -1,0 +1,237 @@
+-- TEIDs are drawn once, over all restarts, and counters tell the start that they are of.
+use Rattle.std.proofs.Common.{◌≡◌, ◌⊎◌, inl, inr, ⊎_elim, ℕ, ◌+◌, ◌%◌, ◌<◌, ◌≤◌, List, [], ◌∷◌, ◌++◌, Some, refl, sym, ◌∙◌, ap, subst, arith}
+use Rattle.gtp_machine.specs.FiniteMap.{Among}
+use Rattle.gtp_machine.specs.Element.{IsAccepting, teid_in}
+use Rattle.gtp_machine.specs.Message.{Message, CreateSessionResponse, GivenBearer, CreateBearerResponse, Create_session_request, Create_session_response, Create_bearer_response, Owns, recovery_of, first_created, first_given}
+use Rattle.gtp_machine.specs.Node.{Arrival, Role, Serving, Packet, Node}
+use Rattle.gtp_machine.specs.Input.{Effect, messages}
+use Rattle.gtp_machine.specs.Choice.{IsFree, counter_of}
+use Rattle.gtp_machine.specs.World.{other, Sent, Side, HasSent, signed, restarted, stepped}
+use Rattle.gtp_machine.specs.Laws.{IsOfStart, AnswersSession, AnswersBearer}
+use Rattle.gtp_machine.proofs.Basics.FiniteMaps.{Among-left, Among-right, Among-cases}
+
+-- nothing that was sent is lost
+pub record Extends (before after : List Sent) : Type 0 where
+  pub keeps : (role : Role) (m : Message) → HasSent before role m → HasSent after role m
+
+-- the counter of an earlier start of the gateway
+pub record IsEarlier (side : Side) (counter : ℕ) : Type 0 where
+  pub start : ℕ
+  pub before : start < side.restarts
+  pub is : counter ≡ (side.first + start) % 256
+
+-- a Create Session Request, or its response: they tell the counter of their sender
+abbrev pub TellsStart : Message → Type 0
+TellsStart (Create_session_request q) = Unit {0}
+TellsStart (Create_session_response a) = Unit {0}
+TellsStart _ = ⊥
+
+-- a Create Session Response answers a request, and names both TEIDs where it accepts
+pub record ProperSession (history : List Sent) (a : CreateSessionResponse) : Type 0 where
+  pub answers : AnswersSession history a
+  pub control : IsAccepting a.cause → (t : ℕ) × (teid_in a.control ≡ Some t)
+  pub user : IsAccepting a.cause → (t : ℕ) × (first_created a.contexts ≡ Some t)
+
+-- a Create Bearer Response answers a request, and names a TEID where both causes accept
+pub record ProperBearer (history : List Sent) (x : CreateBearerResponse) : Type 0 where
+  pub answers : AnswersBearer history x
+  pub user : (c : GivenBearer) → x.contexts ≡ c ∷ [] → IsAccepting x.cause → IsAccepting c.cause → (t : ℕ) × (first_given x.contexts ≡ Some t)
+
+-- what holds of each response that a gateway makes
+abbrev pub IsProper : List Sent → Message → Type 0
+IsProper history (Create_session_response a) = ProperSession history a
+IsProper history (Create_bearer_response x) = ProperBearer history x
+IsProper history _ = Unit {0}
+
+-- what holds of a gateway's draws and of the counters that it tells
+pub record Drawing (side : Side) (role : Role) (history : List Sent) : Type 0 where
+  pub counter : side.node.counter ≡ (side.first + side.restarts) % 256
+  pub few : side.restarts ≤ 127
+  pub present : (t : ℕ) → Among t side.node.drawn → counter_of t ≡ side.node.counter
+  pub drawn : (m : Message) (t : ℕ) → HasSent history role m → Owns m t → Among t side.node.drawn ⊎ IsEarlier side (counter_of t)
+  pub once : (m n : Message) (t : ℕ) → HasSent history role m → HasSent history role n → Owns m t → Owns n t → m ≡ n
+  pub told : (m : Message) (r : ℕ) → HasSent history role m → recovery_of m ≡ Some r → IsOfStart side r
+  pub dated : (m : Message) (t : ℕ) → HasSent history role m → TellsStart m → Owns m t → recovery_of m ≡ Some (counter_of t)
+  pub proper : (m : Message) → HasSent history role m → IsProper history m
+
+-- a message that is made in this step: its own TEIDs are drawn now, it tells the present counter, and it is proper
+pub record IsMadeNow (history : List Sent) (old new : Node) (m : Message) : Type 0 where
+  pub free : (t : ℕ) → Owns m t → IsFree old t
+  pub drawn : (t : ℕ) → Owns m t → Among t new.drawn
+  pub told : (r : ℕ) → recovery_of m ≡ Some r → r ≡ old.counter
+  pub tells : (t : ℕ) → TellsStart m → Owns m t → recovery_of m ≡ Some old.counter
+  pub proper : IsProper history m
+
+-- what a step does with draws
+pub record Draws (history : List Sent) (role : Role) (old new : Node) (sent : List Message) : Type 0 where
+  pub config : new.config ≡ old.config
+  pub counter : new.counter ≡ old.counter
+  pub extends : (t : ℕ) → Among t old.drawn → Among t new.drawn
+  pub present : (t : ℕ) → Among t new.drawn → Among t old.drawn ⊎ (counter_of t ≡ old.counter)
+  pub each : (m : Message) → Among m sent → HasSent history role m ⊎ IsMadeNow history old new m
+  pub one : (m n : Message) → Among m sent → Among n sent → m ≡ n
+
+pub starts_apart : (first i j : ℕ) → i < j → j ≤ 127 → (first + i) % 256 ≡ (first + j) % 256 → ⊥
+starts_apart first i j before few same = omega arith
+
+-- a signed message is one that was sent
+pub signed_among : (role by : Role) (sent : List Message) (m : Message) → HasSent (signed by sent) role m → (role ≡ by) × Among m sent
+signed_among role by [] m none = absurd none
+signed_among role by (x ∷ sent) m (inl here) = (ap (λ (s : Sent). s.sender) here, inl (ap (λ (s : Sent). s.message) here))
+signed_among role by (x ∷ sent) m (inr there) = let rest = signed_among role by sent m there in (rest.0, inr rest.1)
+
+among_signed : (role : Role) (sent : List Message) (m : Message) → Among m sent → HasSent (signed role sent) role m
+among_signed role [] m none = absurd none
+among_signed role (x ∷ sent) m (inl here) = inl (ap (λ y. record { sender = role; message = y }) here)
+among_signed role (x ∷ sent) m (inr there) = inr (among_signed role sent m there)
+
+pub sent_before : (history : List Sent) (role by : Role) (sent : List Message) (m : Message) → HasSent history role m → HasSent (history ++ signed by sent) role m
+sent_before history role by sent m h = Among-left _ history (signed by sent) h
+
+pub Extends-signed : (history : List Sent) (role : Role) (sent : List Message) → Extends history (history ++ signed role sent)
+Extends-signed history role sent = record { keeps = λ r m. sent_before history r role sent m }
+
+pub sent_now : (history : List Sent) (role : Role) (sent : List Message) (m : Message) → Among m sent → HasSent (history ++ signed role sent) role m
+sent_now history role sent m h = Among-right _ history (signed role sent) (among_signed role sent m h)
+
+pub sent_cases : (history : List Sent) (role by : Role) (sent : List Message) (m : Message) → HasSent (history ++ signed by sent) role m → HasSent history role m ⊎ ((role ≡ by) × Among m sent)
+sent_cases history role by sent m h = ⊎_elim (λ l. inl l) (λ r. inr (signed_among role by sent m r)) (Among-cases _ history (signed by sent) h)
+
+not_other : (role : Role) → role ≡ other role → ⊥
+not_other Serving e = cc
+not_other Packet e = cc
+
+-- what the other gateway has sent is as before
+pub sent_by_other : (history : List Sent) (role : Role) (sent : List Message) (m : Message) → HasSent (history ++ signed (other role) sent) role m → HasSent history role m
+sent_by_other history role sent m h = ⊎_elim (λ l. l) (λ r. absurd (not_other role r.0)) (sent_cases history role (other role) sent m h)
+
+-- a proper response stays one
+pub IsProper-later : (before after : List Sent) → Extends before after → (m : Message) → IsProper before m → IsProper after m
+IsProper-later before after extends (Create_session_response a) p = record { answers = record { request = p.answers.request; sent = extends.keeps Serving _ p.answers.sent; number = p.answers.number; header = p.answers.header }; control = p.control; user = p.user }
+IsProper-later before after extends (Create_bearer_response x) p = record { answers = record { request = p.answers.request; sent = extends.keeps Packet _ p.answers.sent; number = p.answers.number; returned = p.answers.returned }; user = p.user }
+IsProper-later before after extends _ p = tt
+
+module _ (side : Side) (role : Role) (history : List Sent) (drawing : Drawing side role history) where
+  -- nothing that was sent owns what may be drawn now
+  pub unowned : (m : Message) (t : ℕ) → HasSent history role m → Owns m t → IsFree side.node t → ⊥
+  unowned m t was owns free = elim (drawing.drawn m t was owns) [
+    | inl drawn ↦ free.undrawn drawn
+    | inr earlier ↦ starts_apart side.first earlier.start side.restarts earlier.before drawing.few (sym earlier.is ∙ free.counted ∙ drawing.counter)
+  ]
+
+  pub Drawing-step : (e : Effect) → Draws history role side.node e.node (messages e.out.sent) → Drawing (stepped side e) role (history ++ signed role (messages e.out.sent))
+  Drawing-step e draws = record {
+    counter = draws.counter ∙ drawing.counter;
+    few = drawing.few;
+    present = λ t among. ⊎_elim (λ was. drawing.present t was ∙ sym draws.counter) (λ now. now ∙ sym draws.counter) (draws.present t among);
+    drawn = λ m t has owns. ⊎_elim (λ was. before m t was owns) (λ now. inl (now.1.drawn t owns)) (cases m has);
+    once = λ m n t m_has n_has m_owns n_owns. same m n t m_owns n_owns (cases m m_has) (cases n n_has);
+    told = λ m r has tells. ⊎_elim (λ was. at_start r (drawing.told m r was tells)) (λ now. record { start = side.restarts; by_now = omega arith; is = now.1.told r tells ∙ drawing.counter }) (cases m has);
+    dated = λ m t has is owns. ⊎_elim (λ was. drawing.dated m t was is owns) (λ now. now.1.tells t is owns ∙ ap (λ c. Some c) (sym (now.1.free t owns).counted)) (cases m has);
+    proper = λ m has. IsProper-later history (history ++ signed role (messages e.out.sent)) (Extends-signed history role (messages e.out.sent)) m (⊎_elim (λ was. drawing.proper m was) (λ now. now.1.proper) (cases m has));
+  }
+    where
+      at_start : (r : ℕ) → IsOfStart side r → IsOfStart (stepped side e) r
+      at_start r s = record { start = s.start; by_now = s.by_now; is = s.is }
+
+      before : (m : Message) (t : ℕ) → HasSent history role m → Owns m t → Among t e.node.drawn ⊎ IsEarlier (stepped side e) (counter_of t)
+      before m t was owns = ⊎_elim (λ drawn. inl (draws.extends t drawn)) (λ earlier. inr (record { start = earlier.start; before = earlier.before; is = earlier.is })) (drawing.drawn m t was owns)
+
+      cases : (m : Message) → HasSent (history ++ signed role (messages e.out.sent)) role m → HasSent history role m ⊎ (Among m (messages e.out.sent) × IsMadeNow history side.node e.node m)
+      cases m has = elim (sent_cases history role role (messages e.out.sent) m has) [
+        | inl was ↦ inl was
+        | inr now ↦ ⊎_elim (λ was. inl was) (λ fresh. inr (now.1, fresh)) (draws.each m now.1)
+      ]
+
+      same : (m n : Message) (t : ℕ) → Owns m t → Owns n t → HasSent history role m ⊎ (Among m (messages e.out.sent) × IsMadeNow history side.node e.node m) → HasSent history role n ⊎ (Among n (messages e.out.sent) × IsMadeNow history side.node e.node n) → m ≡ n
+      same m n t m_owns n_owns (inl m_was) (inl n_was) = drawing.once m n t m_was n_was m_owns n_owns
+      same m n t m_owns n_owns (inl m_was) (inr n_now) = absurd (unowned m t m_was m_owns (n_now.1.free t n_owns))
+      same m n t m_owns n_owns (inr m_now) (inl n_was) = absurd (unowned n t n_was n_owns (m_now.1.free t m_owns))
+      same m n t m_owns n_owns (inr m_now) (inr n_now) = draws.one m n m_now.0 n_now.0
+
+  pub Drawing-elsewhere : (sent : List Message) → Drawing side role (history ++ signed (other role) sent)
+  Drawing-elsewhere sent = record {
+    counter = drawing.counter;
+    few = drawing.few;
+    present = drawing.present;
+    drawn = λ m t has owns. drawing.drawn m t (sent_by_other history role sent m has) owns;
+    once = λ m n t m_has n_has. drawing.once m n t (sent_by_other history role sent m m_has) (sent_by_other history role sent n n_has);
+    told = λ m r has. drawing.told m r (sent_by_other history role sent m has);
+    dated = λ m t has. drawing.dated m t (sent_by_other history role sent m has);
+    proper = λ m has. IsProper-later history (history ++ signed (other role) sent) (Extends-signed history (other role) sent) m (drawing.proper m (sent_by_other history role sent m has));
+  }
+
+  pub Drawing-restart : side.restarts < 127 → Drawing (restarted side) role history
+  Drawing-restart room = record {
+    counter = refl;
+    few = omega arith;
+    present = λ t none. absurd none;
+    drawn = λ m t has owns. inr (⊎_elim (λ drawn. record { start = side.restarts; before = omega arith; is = drawing.present t drawn ∙ drawing.counter }) (λ earlier. record { start = earlier.start; before = omega (arith, earlier.before); is = earlier.is }) (drawing.drawn m t has owns));
+    once = drawing.once;
+    told = λ m r has tells. let s = drawing.told m r has tells in record { start = s.start; by_now = omega (arith, s.by_now); is = s.is };
+    dated = drawing.dated;
+    proper = drawing.proper;
+  }
+
+  -- a late delivery that is noted changes nothing of this
+  pub Drawing-marked : (a : Arrival) → Drawing (record side { came_late = a ∷ side.came_late }) role history
+  Drawing-marked a = record {
+    counter = drawing.counter;
+    few = drawing.few;
+    present = drawing.present;
+    drawn = λ m t has owns. ⊎_elim (λ drawn. inl drawn) (λ earlier. inr (record { start = earlier.start; before = earlier.before; is = earlier.is })) (drawing.drawn m t has owns);
+    once = drawing.once;
+    told = λ m r has tells. let s = drawing.told m r has tells in record { start = s.start; by_now = s.by_now; is = s.is };
+    dated = drawing.dated;
+    proper = drawing.proper;
+  }
+
+pub only_one : (m : Message) (a b : Message) → Among a (m ∷ []) → Among b (m ∷ []) → a ≡ b
+only_one m a b (inl x) (inl y) = x ∙ sym y
+only_one m a b (inr none) y = absurd none
+only_one m a b (inl x) (inr none) = absurd none
+
+-- a step that sends nothing and draws nothing
+pub Draws-nothing : (history : List Sent) (role : Role) (old new : Node) → new.config ≡ old.config → new.counter ≡ old.counter → new.drawn ≡ old.drawn → Draws history role old new []
+Draws-nothing history role old new config counter same = record {
+  config = config;
+  counter = counter;
+  extends = λ t was. subst (Among t) (sym same) was;
+  present = λ t now. inl (subst (Among t) same now);
+  each = λ m none. absurd none;
+  one = λ m n none. absurd none;
+}
+
+-- a step that draws nothing, and sends a message that was sent before or is made now
+pub Draws-one : (history : List Sent) (role : Role) (old new : Node) (m : Message) → new.config ≡ old.config → new.counter ≡ old.counter → new.drawn ≡ old.drawn → HasSent history role m ⊎ IsMadeNow history old new m → Draws history role old new (m ∷ [])
+Draws-one history role old new m config counter same is = record {
+  config = config;
+  counter = counter;
+  extends = λ t was. subst (Among t) (sym same) was;
+  present = λ t now. inl (subst (Among t) same now);
+  each = only;
+  one = only_one m;
+}
+  where
+    only : (n : Message) → Among n (m ∷ []) → HasSent history role n ⊎ IsMadeNow history old new n
+    only n (inl e) = subst (λ k. HasSent history role k ⊎ IsMadeNow history old new k) (sym e) is
+    only n (inr none) = absurd none
+
+-- a step that draws some TEIDs and sends one message, which owns no other
+pub Draws-new : (history : List Sent) (role : Role) (old new : Node) (m : Message) → new.config ≡ old.config → new.counter ≡ old.counter → ((t : ℕ) → Among t old.drawn → Among t new.drawn) → ((t : ℕ) → Among t new.drawn → Among t old.drawn ⊎ (counter_of t ≡ old.counter)) → IsMadeNow history old new m → Draws history role old new (m ∷ [])
+Draws-new history role old new m config counter extends present is = record {
+  config = config;
+  counter = counter;
+  extends = extends;
+  present = present;
+  each = only;
+  one = only_one m;
+}
+  where
+    only : (n : Message) → Among n (m ∷ []) → HasSent history role n ⊎ IsMadeNow history old new n
+    only n (inl e) = inr (subst (IsMadeNow history old new) (sym e) is)
+    only n (inr none) = absurd none
+
+-- a message that owns no TEID and tells the present counter, if any
+pub Made-plain : (history : List Sent) (old new : Node) (m : Message) → ((t : ℕ) → Owns m t → ⊥) → ((r : ℕ) → recovery_of m ≡ Some r → r ≡ old.counter) → IsProper history m → IsMadeNow history old new m
+Made-plain history old new m none told proper = record { free = λ t owns. absurd (none t owns); drawn = λ t owns. absurd (none t owns); told = told; tells = λ t is owns. absurd (none t owns); proper = proper }

@@ -1,0 +1,343 @@
+-- The steps that both gateways have keep what each knows.
+use Rattle.std.proofs.Common.{◌≡◌, ◌⊎◌, inl, inr, ⊎_elim, ℕ, List, [], ◌∷◌, Option, Some, None, refl, sym, ◌∙◌, ap, subst}
+use Rattle.std.specs.FinMap.{get, insert, entries}
+use Rattle.gtp_values.specs.Counter.{age_of}
+use Rattle.gtp_values.specs.declared.counter.Age.{Age}
+use Rattle.gtp_values.specs.declared.counter.Age.TheVariants.{Same, Later, Earlier}
+use Rattle.gtp_values.specs.declared.address.Endpoint.{Endpoint}
+use Rattle.gtp_machine.specs.FiniteMap.{Among}
+use Rattle.gtp_machine.specs.Config.{control_end, user_end}
+use Rattle.gtp_machine.specs.Message.{Echo, CreateSessionRequest, CreateBearerRequest, CreateBearerResponse, Message, Echo_request, Echo_response, Create_session_request, Create_session_response, Delete_session_request, Delete_session_response, Create_bearer_request, Create_bearer_response, Delete_bearer_request, Delete_bearer_response, Other_control, Packet_data, End_marker, Error_indication, User_echo_request, User_echo_response, Supported_extensions, Other_user, Owns, recovery_of, first_given}
+use Rattle.gtp_machine.specs.Node.{Role, Serving, Packet, Active, Closing, Session, Bearer, PendingRequest, Arrival, Node, written}
+use Rattle.gtp_machine.specs.Input.{UserReading, User_message, Extension_needed, User_fault, Move, Resend, Give_up, Forget, Entry, entry_for, Outcome, Moved, Gone_out, Dropped, Unknown_context, Unknown_extension, Echoed, Repeated, Effect, nothing, says, messages}
+use Rattle.gtp_machine.specs.Removal.{finished, session_closing}
+use Rattle.gtp_machine.specs.Recovery.{peer_restarted, Judges, Weighs, Hears, learned_by}
+use Rattle.gtp_machine.specs.Move.{MoveStep, Forgets}
+use Rattle.gtp_machine.specs.Response.{EchoAnswered, finishing}
+use Rattle.gtp_machine.specs.User.{Accepts, PacketCame, ended_bearer, EndCame, default_among, bearer_is_to, ErrorCame, UserTaken, UserRead, UserStep}
+use Rattle.gtp_machine.specs.Command.{ClosesSession, ReleasesSession, ClosesBearer, SendsEcho, SendsPacket, SessionDeleted, SessionReleased, BearerDeleted, EndMarked, EchoBegun, PacketSent, asks}
+use Rattle.gtp_machine.specs.Answer.{Repeats, echoed}
+use Rattle.gtp_machine.specs.World.{other, Sent, HasSent}
+use Rattle.gtp_machine.proofs.Origins.Drawing.{Draws-nothing, Draws-one, Made-plain, IsProper}
+use Rattle.gtp_machine.proofs.Origins.Contexts.{closes-shrinks}
+use Rattle.gtp_machine.proofs.Changes.Shrinking.{Shrunk, Shrunk-itself, Shrunk-without, Shrunk-finished, Shrunk-bearer, Shrunk-closing, Shrinks-restart, restart_pending, restart_leaves_pending, closing_same, ended_same}
+use Rattle.gtp_machine.proofs.Changes.Matching.{IsMatched-shrinks}
+use Rattle.gtp_machine.proofs.Origins.Entries.{Once, IsFor}
+use Rattle.gtp_machine.proofs.Changes.Steps.{IsHandedNow, IsAnsweredNow, at_result, IsPlain, IsHeardFrom, Draws-from, Logs-from, Heard-itself}
+use Rattle.gtp_machine.proofs.Changes.After.{Contexts-shrinks, Knows, KnownBy, KnownAfter, IsTold, nothing_told, After, drawn-shrinks, standing-shrinks, ready-shrinks, later, shrunk, stays, speaks, asks_plain, repeated}
+use Rattle.gtp_machine.proofs.Changes.Carrying.{leaves_for, comes_for}
+use Rattle.gtp_machine.proofs.Changes.Forgetting.{leaves}
+
+-- a request that asks for no session and no bearer matches whatever it is about
+abbrev IsLesser : Message → Type 0
+IsLesser (Create_session_request q) = ⊥
+IsLesser (Create_bearer_request r) = ⊥
+IsLesser _ = Unit {0}
+
+-- what was read on the user plane was sent
+abbrev pub UserCarried : Role → List Sent → UserReading → Type 0
+UserCarried role history (User_message m) = HasSent history (other role) m
+UserCarried role history Extension_needed = Unit {0}
+UserCarried role history (User_fault fault) = Unit {0}
+
+module _ (role : Role) (history : List Sent) (taken : Arrival → Message → Type 0) (serving_once : Once history Serving) (packet_once : Once history Packet) (old : Node) (knows : Knows role history old) where
+  -- a command or a datagram that leaves everything as it is
+  pub unchanged : (outcome : Outcome) (e : Effect) → e ≡ record { out = nothing; outcome = outcome; node = old } → After role history taken old e
+  unchanged outcome e gives = at_result (After role history taken old) e _ gives (stays role history taken old knows outcome)
+
+  -- a message that is made now, owns no TEID and changes nothing
+  tells_plain : (destination : Endpoint) (m : Message) (outcome : Outcome) (new : Node) → Shrunk old new → IsPlain m → ((t : ℕ) → Owns m t → ⊥) → ((r : ℕ) → recovery_of m ≡ Some r → r ≡ old.counter) → IsProper history m → After role history taken old (record { out = says destination m; outcome = outcome; node = new })
+  tells_plain destination m outcome new s plain none told proper = speaks role history taken old knows destination m outcome new s plain (Made-plain history old new m none told proper)
+
+  -- a request that makes nothing is sent, and what it is about closes or stays
+  asks_lesser : (number : ℕ) (p : PendingRequest) (teid : Option ℕ) (new : Node) → Shrunk old new → IsPlain p.request → IsLesser p.request → ((t : ℕ) → Owns p.request t → ⊥) → ((r : ℕ) → recovery_of p.request ≡ Some r → r ≡ old.counter) → IsProper history p.request → After role history taken old (asks old number p teid new)
+  asks_lesser number p teid new s plain lesser none told proper =
+      asks_plain role history taken old knows number p teid new s plain (Made-plain history old (record new { pending = insert old.pending number p }) p.request none told proper)
+      (record { waits = λ q e. absurd (not_session q e); numbered = λ q e. absurd (not_session q e); names_bearer = λ r e. absurd (not_bearer r e); of_session = λ r e. absurd (not_bearer r e) })
+      (λ q e. absurd (not_session q e))
+    where
+      not_session : (q : CreateSessionRequest) → p.request ≡ Create_session_request q → ⊥
+      not_session q e = subst IsLesser e lesser
+
+      not_bearer : (r : CreateBearerRequest) → p.request ≡ Create_bearer_request r → ⊥
+      not_bearer r e = subst IsLesser e lesser
+
+  pub closes : (session : ℕ) (at : Session) (e : Effect) → get old.sessions session ≡ Some at → at.state ≡ Active → ClosesSession old session at e → After role history taken old e
+  closes session at e stands active r = at_result (After role history taken old) e _ r.gives (asks_lesser r.number _ _ (session_closing old session at) (Shrunk-closing old session at stands active) tt tt (λ t none. none) (λ c e. absurd (cc e)) tt)
+
+  pub releases : (session : ℕ) (at : Session) (e : Effect) → get old.sessions session ≡ Some at → at.state ≡ Active → ReleasesSession old session at e → After role history taken old e
+  releases session at e stands active r = at_result (After role history taken old) e _ r.gives (asks_lesser r.number _ _ (session_closing old session at) (Shrunk-closing old session at stands active) tt tt (λ t none. none) (λ c e. absurd (cc e)) tt)
+
+  pub closes_bearer : (session : ℕ) (at : Session) (identity bearer : ℕ) (b : Bearer) (e : Effect) → get old.bearers bearer ≡ Some b → ClosesBearer old session at identity bearer b e → After role history taken old e
+  closes_bearer session at identity bearer b e stands r = at_result (After role history taken old) e _ r.gives (asks_lesser r.number _ _ (record old { bearers = insert old.bearers bearer (record b { state = Closing }) }) (Shrunk-bearer old bearer b (record b { state = Closing }) stands (closing_same b)) tt tt (λ t none. none) (λ c e. absurd (cc e)) tt)
+
+  pub sends_echo : (e : Effect) → SendsEcho old e → After role history taken old e
+  sends_echo e r = at_result (After role history taken old) e _ r.gives (asks_lesser r.number _ _ old (Shrunk-itself old) tt tt (λ t none. none) (λ c e. cc e) tt)
+
+  -- a packet that is handed in on an active bearer
+  pub sends : (bearer : ℕ) (payload : List ℕ) (b : Bearer) (e : Effect) → get old.bearers bearer ≡ Some b → b.state ≡ Active → SendsPacket old b payload e → After role history taken old e
+  sends bearer payload b e stands active r =
+      let remote = knows.ready bearer b stands active in
+      let same : written b.remote ≡ remote.0 = ap written remote.1 in
+      let m = Packet_data (written b.remote) payload in
+      let entry : Entry = entry_for (written b.remote) payload r.of.session.subscriber b.identity in
+      at_result (After role history taken old) e _ r.gives (record {
+        knows = later role history taken old knows (m ∷ []);
+        known = refl;
+        told = nothing_told history (other role);
+        draws = Draws-one history role old old m refl refl refl (inr (Made-plain history old old m (λ t none. none) (λ c e. absurd (cc e)) tt));
+        logs = record {
+          held_stays = λ h was. inl was;
+          packets = packets entry refl refl;
+          handed = handed entry (subst (λ t. IsFor history (other role) (entry_for t payload r.of.session.subscriber b.identity)) (sym same) (leaves_for history serving_once packet_once old.sessions old.bearers role knows.contexts bearer payload b r.of.session remote.0 stands remote.1 r.of.stands));
+          accepted = λ e none. absurd none;
+          answers = answers;
+          made = inl refl;
+        };
+      })
+    where
+      packets : (entry : Entry) → entry.target ≡ written b.remote → entry.payload ≡ payload → (t : ℕ) (p : List ℕ) → Among (Packet_data t p) (Packet_data (written b.remote) payload ∷ []) → HasSent history role (Packet_data t p) ⊎ IsHandedNow (record (says (user_end old.config.peer.user) (Packet_data (written b.remote) payload)) { handed = entry ∷ [] }) t p
+      packets entry target carries t p (inl is) = inr (record { entry = entry; handed = inl refl; names = cc; carries = cc })
+      packets entry target carries t p (inr none) = absurd none
+
+      handed : (entry : Entry) → IsFor history (other role) entry → (e : Entry) → Among e (entry ∷ []) → IsFor history (other role) e
+      handed entry is e (inl same) = subst (IsFor history (other role)) (sym same) is
+      handed entry is e (inr none) = absurd none
+
+      answers : (x : CreateBearerResponse) (t : ℕ) → Among (Create_bearer_response x) (Packet_data (written b.remote) payload ∷ []) → first_given x.contexts ≡ Some t → HasSent history role (Create_bearer_response x) ⊎ IsAnsweredNow history old old taken x
+      answers x t (inl is) gives = absurd (cc is)
+      answers x t (inr none) gives = absurd none
+
+  pub session_deleted : (by : Role) (session : ℕ) (e : Effect) → SessionDeleted by session old e → After role history taken old e
+  session_deleted Packet session e r = unchanged _ e r
+  session_deleted Serving session e (inl f) = unchanged _ e f.1
+  session_deleted Serving session e (inr (at, inl f)) = unchanged _ e f.1
+  session_deleted Serving session e (inr (at, inr (active, inl f))) = unchanged _ e f.1
+  session_deleted Serving session e (inr (at, inr (active, inr (few, r)))) = closes session at.session e at.stands active r
+
+  pub session_released : (by : Role) (session : ℕ) (e : Effect) → SessionReleased by session old e → After role history taken old e
+  session_released Serving session e r = unchanged _ e r
+  session_released Packet session e (inl f) = unchanged _ e f.1
+  session_released Packet session e (inr (at, inl f)) = unchanged _ e f.1
+  session_released Packet session e (inr (at, inr (active, inl f))) = unchanged _ e f.1
+  session_released Packet session e (inr (at, inr (active, inr (few, r)))) = releases session at.session e at.stands active r
+
+  pub bearer_deleted : (by : Role) (session identity : ℕ) (e : Effect) → BearerDeleted by session identity old e → After role history taken old e
+  bearer_deleted Serving session identity e r = unchanged _ e r
+  bearer_deleted Packet session identity e (inl f) = unchanged _ e f.1
+  bearer_deleted Packet session identity e (inr (at, inl f)) = unchanged _ e f.1
+  bearer_deleted Packet session identity e (inr (at, inr (named, inl f))) = unchanged _ e f.1
+  bearer_deleted Packet session identity e (inr (at, inr (named, inr (active, inl f)))) = unchanged _ e f.1
+  bearer_deleted Packet session identity e (inr (at, inr (named, inr (active, inr (few, r))))) = closes_bearer session at.session identity named.key named.at.bearer e named.at.stands r
+
+  pub end_marked : (by : Role) (bearer : ℕ) (e : Effect) → EndMarked by bearer old e → After role history taken old e
+  end_marked Serving bearer e r = unchanged _ e r
+  end_marked Packet bearer e (inl f) = unchanged _ e f.1
+  end_marked Packet bearer e (inr (at, inl f)) = unchanged _ e f.1
+  end_marked Packet bearer e (inr (at, inr (active, inl f))) = unchanged _ e f.1
+  end_marked Packet bearer e (inr (at, inr (active, inr (before, gives)))) = at_result (After role history taken old) e _ gives (tells_plain _ (End_marker (written at.bearer.remote)) Gone_out (record old { bearers = insert old.bearers bearer (ended_bearer at.bearer) }) (Shrunk-bearer old bearer at.bearer (ended_bearer at.bearer) at.stands (ended_same at.bearer)) tt (λ t none. none) (λ c e. absurd (cc e)) tt)
+
+  pub echo_begun : (e : Effect) → EchoBegun old e → After role history taken old e
+  echo_begun e (inl f) = unchanged _ e f.1
+  echo_begun e (inr (few, r)) = sends_echo e r
+
+  pub packet_sent : (by : Role) (bearer : ℕ) (payload : List ℕ) (e : Effect) → PacketSent by bearer payload old e → After role history taken old e
+  packet_sent by bearer payload e (inl f) = unchanged _ e f.1
+  packet_sent by bearer payload e (inr (at, inl f)) = unchanged _ e f.1
+  packet_sent by bearer payload e (inr (at, inr (active, inl f))) = unchanged _ e f.1
+  packet_sent by bearer payload e (inr (at, inr (active, inr (goes, inl f)))) = unchanged _ e f.1
+  packet_sent by bearer payload e (inr (at, inr (active, inr (goes, inr (short, r))))) = sends bearer payload at.bearer e at.stands active r
+
+  -- what a pending request is about goes
+  pub finishes : (number : ℕ) (p : PendingRequest) (outcome : Outcome) (e : Effect) → e ≡ finishing old number p outcome → After role history taken old e
+  finishes number p outcome e gives = at_result (After role history taken old) e _ gives (shrunk role history taken old knows (finished old number p) (Shrunk-finished old number p.session p.bearer) [] outcome)
+
+  pub echo_answered : (a : Echo) (e : Effect) → EchoAnswered a old e → After role history taken old e
+  echo_answered a e (inl f) = unchanged _ e f.1
+  echo_answered a e (inr (at, inl f)) = unchanged _ e f.1
+  echo_answered a e (inr (at, inr (fits, gives))) = finishes a.number at.pending _ e gives
+
+  pub echoes : (request : Arrival) (q : Echo) (e : Effect) → e ≡ echoed request q old → After role history taken old e
+  echoes request q e gives = at_result (After role history taken old) e _ gives (tells_plain request.source (Echo_response (record { number = q.number; recovery = old.counter })) Echoed old (Shrunk-itself old) tt (λ t none. none) (λ c e. cc e) tt)
+
+  pub repeats : (request : Arrival) (e : Effect) → Repeats old request e → After role history taken old e
+  repeats request e r = at_result (After role history taken old) e _ r.gives (repeated role history taken old knows request.source r.held.answer Repeated (knows.held r.held r.stands))
+
+  forgets : (request : Arrival) (e : Effect) → Forgets old request e → After role history taken old e
+  forgets request e r =
+      let k = later role history taken old knows [] in
+      let l = leaves request old.held r.rest r.left in
+      at_result (After role history taken old) e _ r.gives (record {
+        knows = record { contexts = k.contexts; matched = k.matched; drawn = k.drawn; standing = k.standing; ready = k.ready; closed = k.closed; pending = k.pending; held = λ h among. k.held h (l.only h among) };
+        known = refl;
+        told = nothing_told history (other role);
+        draws = Draws-nothing history role old (record old { held = r.rest }) refl refl refl;
+        logs = record {
+          held_stays = λ h was. ⊎_elim (λ stays. inl stays) (λ same. inr (inl same)) (l.others h was);
+          packets = λ target payload none. absurd none;
+          handed = λ e none. absurd none;
+          accepted = λ e none. absurd none;
+          answers = λ x t none. absurd none;
+          made = inl refl;
+        };
+      })
+
+  pub moves : (move : Move) (e : Effect) → MoveStep old move e → After role history taken old e
+  moves (Resend number) e r = at_result (After role history taken old) e _ r.gives (repeated role history taken old knows (control_end old.config.peer.control) r.at.pending.request Moved (knows.pending number r.at.pending r.at.waits).sent)
+  moves (Give_up number) e r = at_result (After role history taken old) e _ r.gives (shrunk role history taken old knows (finished old number r.at.pending) (Shrunk-finished old number r.at.pending.session r.at.pending.bearer) (number ∷ []) Moved)
+  moves (Forget request) e r = forgets request e r
+
+  accepts : (target : ℕ) (payload : List ℕ) (b : Bearer) (e : Effect) → get old.bearers target ≡ Some b → b.state ≡ Active → HasSent history (other role) (Packet_data target payload) → Accepts old target payload b e → After role history taken old e
+  accepts target payload b e stands active came r =
+      let remote = knows.ready target b stands active in
+      let entry : Entry = entry_for target payload r.of.session.subscriber b.identity in
+      at_result (After role history taken old) e _ r.gives (record {
+        knows = later role history taken old knows [];
+        known = refl;
+        told = nothing_told history (other role);
+        draws = Draws-nothing history role old old refl refl refl;
+        logs = record {
+          held_stays = λ h was. inl was;
+          packets = λ t p none. absurd none;
+          handed = λ e none. absurd none;
+          accepted = accepted entry came (comes_for history serving_once packet_once old.sessions old.bearers role knows.contexts target payload b r.of.session remote.0 stands remote.1 r.of.stands);
+          answers = λ x t none. absurd none;
+          made = inl refl;
+        };
+      })
+    where
+      accepted : (entry : Entry) → HasSent history (other role) (Packet_data entry.target entry.payload) → IsFor history role entry → (e : Entry) → Among e (entry ∷ []) → HasSent history (other role) (Packet_data e.target e.payload) × IsFor history role e
+      accepted entry delivered is e (inl same) = subst (λ (k : Entry). HasSent history (other role) (Packet_data k.target k.payload) × IsFor history role k) (sym same) (delivered, is)
+      accepted entry delivered is e (inr none) = absurd none
+
+  packet_came : (by : Role) (target : ℕ) (payload : List ℕ) (e : Effect) → HasSent history (other role) (Packet_data target payload) → PacketCame by target payload old e → After role history taken old e
+  packet_came by target payload e came (inl f) = at_result (After role history taken old) e _ f.1 (tells_plain (user_end old.config.peer.user) (Error_indication target old.config.own.user) (Dropped Unknown_context) old (Shrunk-itself old) tt (λ t none. none) (λ c e. absurd (cc e)) tt)
+  packet_came by target payload e came (inr (at, inl f)) = unchanged _ e f.1
+  packet_came by target payload e came (inr (at, inr (active, inl f))) = unchanged _ e f.1
+  packet_came by target payload e came (inr (at, inr (active, inr (comes, r)))) = accepts target payload at.bearer e at.stands active came r
+
+  end_came : (by : Role) (target : ℕ) (e : Effect) → EndCame by target old e → After role history taken old e
+  end_came Serving target e (inl f) = unchanged _ e f.1
+  end_came Serving target e (inr (at, inl f)) = unchanged _ e f.1
+  end_came Serving target e (inr (at, inr (active, gives))) = at_result (After role history taken old) e _ gives (shrunk role history taken old knows (record old { bearers = insert old.bearers target (ended_bearer at.bearer) }) (Shrunk-bearer old target at.bearer (ended_bearer at.bearer) at.stands (ended_same at.bearer)) [] _)
+  end_came Packet target e r = unchanged _ e r
+
+  error_came : (remote : ℕ) (e : Effect) → ErrorCame remote old e → After role history taken old e
+  error_came remote e (inl f) = unchanged _ e f.1
+  error_came remote e (inr (named, gives)) = at_result (After role history taken old) e _ gives (shrunk role history taken old knows _ (Shrunk-without (λ t. default_among remote t (entries old.bearers)) (λ t. bearer_is_to remote (get old.bearers t)) old) [] _)
+
+  user_taken : (by : Role) (source : Endpoint) (m : Message) (e : Effect) → HasSent history (other role) m → UserTaken by source m old e → After role history taken old e
+  user_taken by source (Packet_data target payload) e came r = packet_came by target payload e came r
+  user_taken by source (End_marker target) e came r = end_came by target e r
+  user_taken by source (Error_indication remote address) e came r = error_came remote e r
+  user_taken by source (User_echo_request number) e came r = at_result (After role history taken old) e _ r (tells_plain source (User_echo_response number) Echoed old (Shrunk-itself old) tt (λ t none. none) (λ c e. absurd (cc e)) tt)
+  user_taken by source (User_echo_response number) e came r = unchanged _ e r
+  user_taken by source (Supported_extensions types) e came r = unchanged _ e r
+  user_taken by source (Other_user kind) e came r = unchanged _ e r
+  user_taken by source (Other_control kind) e came r = unchanged _ e r
+  user_taken by source (Echo_request q) e came r = unchanged _ e r
+  user_taken by source (Echo_response q) e came r = unchanged _ e r
+  user_taken by source (Create_session_request q) e came r = unchanged _ e r
+  user_taken by source (Create_session_response q) e came r = unchanged _ e r
+  user_taken by source (Delete_session_request q) e came r = unchanged _ e r
+  user_taken by source (Delete_session_response q) e came r = unchanged _ e r
+  user_taken by source (Create_bearer_request q) e came r = unchanged _ e r
+  user_taken by source (Create_bearer_response q) e came r = unchanged _ e r
+  user_taken by source (Delete_bearer_request q) e came r = unchanged _ e r
+  user_taken by source (Delete_bearer_response q) e came r = unchanged _ e r
+
+  user_read : (by : Role) (source : Endpoint) (reading : UserReading) (e : Effect) → UserCarried role history reading → UserRead by source reading old e → After role history taken old e
+  user_read by source (User_message m) e came r = user_taken by source m e came r
+  user_read by source Extension_needed e came r = at_result (After role history taken old) e _ r (tells_plain (user_end old.config.peer.user) (Supported_extensions (64 ∷ [])) (Dropped Unknown_extension) old (Shrunk-itself old) tt (λ t none. none) (λ c e. absurd (cc e)) tt)
+  user_read by source (User_fault fault) e came r = unchanged _ e r
+
+  pub user_step : (by : Role) (source : Endpoint) (reading : UserReading) (e : Effect) → UserCarried role history reading → UserStep by source reading old e → After role history taken old e
+  user_step by source reading e came (inl f) = unchanged _ e f.1
+  user_step by source reading e came (inr (peer, r)) = user_read by source reading e came r
+
+-- the first counter that is heard
+knows_first : (role : Role) (history : List Sent) (old : Node) (c : ℕ) → old.known ≡ None → Knows role history old → Knows role history (record old { known = Some c })
+knows_first role history old c none knows = record { matched = knows.matched; contexts = knows.contexts; drawn = knows.drawn; standing = λ t s e. let at = knows.standing t s e in record { current = λ r is. absurd (impossible (at.current r is)); blank = at.blank; named = at.named }; ready = knows.ready; closed = knows.closed; pending = knows.pending; held = knows.held }
+  where
+    impossible : {k : ℕ} → old.known ≡ Some k → ⊥
+    impossible e = cc
+
+-- a later counter that is heard
+knows_restart : (role : Role) (history : List Sent) (old : Node) (c : ℕ) → Knows role history old → Knows role history (peer_restarted old c)
+knows_restart role history old c knows = record {
+  contexts = Contexts-shrinks role history old (peer_restarted old c) (Shrinks-restart old c) knows.contexts;
+  drawn = drawn-shrinks old (peer_restarted old c) (Shrinks-restart old c) knows.drawn;
+  matched = λ number p e. IsMatched-shrinks old (peer_restarted old c) (Shrinks-restart old c) number p (knows.matched number p (restart_pending old c number p e));
+  standing = λ t s e.
+      let waits = restart_leaves_pending old c t s e in
+      let at = standing-shrinks old (peer_restarted old c) (Shrinks-restart old c) knows.standing t s e in
+      record { current = λ r is. absurd (impossible s r (at.blank waits) is); blank = at.blank; named = at.named };
+  ready = ready-shrinks old (peer_restarted old c) (Shrinks-restart old c) knows.ready;
+  closed = closes-shrinks old.sessions old.bearers (peer_restarted old c).sessions (peer_restarted old c).bearers (Shrinks-restart old c) knows.closed;
+  pending = λ number p e. knows.pending number p (restart_pending old c number p e);
+  held = knows.held;
+}
+  where
+    impossible : (s : Session) (r : ℕ) → s.remote ≡ None → s.remote ≡ Some r → ⊥
+    impossible s r none some = cc
+
+pub Heard-restart : (old : Node) (c : ℕ) → IsHeardFrom old (peer_restarted old c)
+Heard-restart old c = record { config = refl; counter = refl; drawn = refl; held = refl; sessions = λ t s e. let was = (Shrinks-restart old c).sessions t s e in (was.before, was.stood) }
+
+Heard-first : (old : Node) (c : ℕ) → IsHeardFrom old (record old { known = Some c })
+Heard-first old c = record { config = refl; counter = refl; drawn = refl; held = refl; sessions = λ t s e. (s, e) }
+
+-- what the message leaves, once its counter is heard
+from_mid : (role : Role) (history : List Sent) (taken : Arrival → Message → Type 0) (old mid : Node) (e : Effect) (heard : ℕ) (learned : Option ℕ) → IsHeardFrom old mid → IsTold history (other role) heard → KnownAfter old.known (Some heard) e.node.known → After role history taken mid e → After role history taken old (record e { out = record e.out { heard = Some heard; learned = learned } })
+from_mid role history taken old mid e heard learned from told known after = record {
+  knows = after.knows;
+  draws = Draws-from history role old mid e.node (messages e.out.sent) from after.draws;
+  known = known;
+  told = λ c is. subst (IsTold history (other role)) (let same : heard ≡ c = cc is in same) told;
+  logs = Logs-from history role taken old mid e (Some heard) learned from after.logs;
+}
+
+-- equal ages are equal counters
+abbrev pub SameIs : Node → Message → Type 0
+SameIs old m = (k c : ℕ) → recovery_of m ≡ Some c → old.known ≡ Some k → age_of k c ≡ Same → k ≡ c
+
+-- where no counter is heard, the same is known
+same_known : (old new heard : Option ℕ) → heard ≡ None → KnownAfter old heard new → new ≡ old
+same_known old new heard none known = subst (λ h. KnownAfter old h new) none known
+
+-- what is known after a counter of that age
+known_by : (old : Option ℕ) (k c : ℕ) (a : Age) (new : Option ℕ) → old ≡ Some k → age_of k c ≡ a → KnownBy a k c new → KnownAfter old (Some c) new
+known_by old k c a new known age_is by = subst (λ o. KnownAfter o (Some c) new) (sym known) (subst (λ x. KnownBy x k c new) (sym age_is) by)
+
+module _ (role : Role) (history : List Sent) (taken : Arrival → Message → Type 0) (serving_once : Once history Serving) (packet_once : Once history Packet) (m : Message) (came : HasSent history (other role) m) (Takes : Node → Effect → Type 0) (old : Node)
+    (takes : (mid : Node) → IsHeardFrom old mid → Knows role history mid → ((c : ℕ) → recovery_of m ≡ Some c → mid.known ≡ Some c) → (e : Effect) → Takes mid e → After role history taken mid e × (e.out.heard ≡ None))
+    (knows : Knows role history old) where
+  is_told : (c : ℕ) → recovery_of m ≡ Some c → IsTold history (other role) c
+  is_told c tells = record { message = m; sent = came; tells = tells }
+
+  judges : (c k : ℕ) (learned : Option ℕ) (e : Effect) → recovery_of m ≡ Some c → old.known ≡ Some k → (a : Age) → age_of k c ≡ a → SameIs old m → Judges Takes old c a e → After role history taken old (record e { out = record e.out { heard = Some c; learned = learned } })
+  judges c k learned e tells known Same age_is same r =
+      let told : (d : ℕ) → recovery_of m ≡ Some d → old.known ≡ Some d = λ d e. (let k_is : k ≡ c = same k c tells known age_is in cc) in
+      let t = takes old (Heard-itself old) knows told e r in
+      from_mid role history taken old old e c learned (Heard-itself old) (is_told c tells) (known_by old.known k c Same e.node.known known age_is (same_known old.known e.node.known e.out.heard t.1 t.0.known ∙ known)) t.0
+  judges c k learned e tells known Later age_is same r =
+      let told : (d : ℕ) → recovery_of m ≡ Some d → Some c ≡ Some d = λ d e. sym tells ∙ e in
+      let t = takes (peer_restarted old c) (Heard-restart old c) (knows_restart role history old c knows) told e r in
+      from_mid role history taken old (peer_restarted old c) e c learned (Heard-restart old c) (is_told c tells) (known_by old.known k c Later e.node.known known age_is (same_known (Some c) e.node.known e.out.heard t.1 t.0.known)) t.0
+  judges c k learned e tells known Earlier age_is same r =
+      from_mid role history taken old old e c learned (Heard-itself old) (is_told c tells) (known_by old.known k c Earlier e.node.known known age_is (ap (λ (f : Effect). f.node.known) r ∙ known)) (unchanged role history taken serving_once packet_once old knows _ e r)
+
+  weighs : (c : ℕ) (learned : Option ℕ) (e : Effect) → recovery_of m ≡ Some c → (known : Option ℕ) → old.known ≡ known → SameIs old m → Weighs Takes old c known e → After role history taken old (record e { out = record e.out { heard = Some c; learned = learned } })
+  weighs c learned e tells None known same r =
+      let mid = record old { known = Some c } in
+      let told : (d : ℕ) → recovery_of m ≡ Some d → Some c ≡ Some d = λ d e. sym tells ∙ e in
+      let t = takes mid (Heard-first old c) (knows_first role history old c known knows) told e r in
+      from_mid role history taken old mid e c learned (Heard-first old c) (is_told c tells) (subst (λ o. KnownAfter o (Some c) e.node.known) (sym known) (same_known (Some c) e.node.known e.out.heard t.1 t.0.known)) t.0
+  weighs c learned e tells (Some k) known same r = judges c k learned e tells known (age_of k c) refl same r
+
+  pub hears : (o : Option ℕ) (e : Effect) → recovery_of m ≡ o → SameIs old m → Hears Takes old o e → After role history taken old e
+  hears None e tells same r = (takes old (Heard-itself old) knows (λ c e. absurd (impossible c e)) e r).0
+    where
+      impossible : (c : ℕ) → recovery_of m ≡ Some c → ⊥
+      impossible c e = cc
+  hears (Some c) e tells same r = at_result (After role history taken old) e _ r.2 (weighs c (learned_by old.known c) r.0 tells old.known refl same r.1)

@@ -1,0 +1,319 @@
+-- Each step of the packet gateway keeps what it knows.
+use Rattle.std.proofs.Common.{◌≡◌, ◌⊎◌, inl, inr, ⊎_elim, ℕ, ◌<◌, ◌≤◌, eqb, false, List, [], ◌∷◌, ◌++◌, Some, None, refl, sym, ◌∙◌, ap, subst, arith}
+use Rattle.std.specs.FinMap.{get, insert, remove}
+use Rattle.gtp_values.specs.declared.cause.Cause.{Cause}
+use Rattle.gtp_values.specs.declared.qos.Qos.{Qos}
+use Rattle.gtp_machine.specs.FiniteMap.{FiniteMap, Each, Among}
+use Rattle.gtp_machine.specs.Element.{IsAccepting, cause_of, cause_at, teid_in}
+use Rattle.gtp_machine.specs.Message.{CreateSessionRequest, CreateSessionResponse, DeleteSessionRequest, DeleteSessionResponse, CreateBearerRequest, CreateBearerResponse, DeleteBearerResponse, Message, Create_session_request, Create_session_response, Delete_session_response, Create_bearer_request, Create_bearer_response, Packet_data, Owns, recovery_of, first_returned}
+use Rattle.gtp_machine.specs.Node.{Serving, Packet, State, Pending, Active, Closing, Session, Bearer, PendingRequest, Arrival, Node, holding, written}
+use Rattle.gtp_machine.specs.Input.{ControlReading, Control_message, Begun, Opened, Answered, Effect}
+use Rattle.gtp_machine.specs.Choice.{IsFree, HasPending, counter_of}
+use Rattle.gtp_machine.specs.Removal.{without_session}
+use Rattle.gtp_machine.specs.Command.{bearer_request, pending_dedicated, BeginsBearer, BearerBegun}
+use Rattle.gtp_machine.specs.Answer.{IsNew, answered, ControlStep}
+use Rattle.gtp_machine.specs.Packet.{session_cause, session_response, made_session, made_bearer, session_made, MakesSession, session_refused, SessionAsked, DeletionAsked, FitsBearer, DescribesBearer, CanOpen, opened_dedicated, OpensBearer, BearerAnswered, RemovalAnswered, PacketTakes, packet_takes, PacketFaulted, PacketReads}
+use Rattle.gtp_machine.specs.World.{Sent, HasSent, signed}
+use Rattle.gtp_machine.proofs.Basics.FiniteMaps.{Each-insert, Each-remove, found-remove, get-insert_same}
+use Rattle.gtp_machine.proofs.Origins.Drawing.{Draws-nothing, Draws-new, TellsStart, IsProper, sent_before, sent_now, sent_cases}
+use Rattle.gtp_machine.proofs.Origins.Contexts.{IsMade, IsWanted, IsAtPacket, closes-session, closes-bearer}
+use Rattle.gtp_machine.proofs.Changes.Shrinking.{Shrunk, Shrunk-itself, Shrunk-without}
+use Rattle.gtp_machine.proofs.Changes.Matching.{IsMatched, IsMatched-bearer}
+use Rattle.gtp_machine.proofs.Origins.Entries.{Once, answer_not_request}
+use Rattle.gtp_machine.proofs.Changes.Steps.{Logs-silent, Logs-plain, at_result, NothingOwns, NothingOwns-from}
+use Rattle.gtp_machine.proofs.Changes.After.{IsPending, IsStanding, IsReady, Knows, After, nothing_told, later, held_now, matched_session, matched_bearer, still_stands}
+use Rattle.gtp_machine.proofs.Rows.Common.{unchanged}
+use Rattle.gtp_machine.proofs.Rows.Taking.{Took, took, drops, ends, gives_answer, takes_echo, takes_echo_response}
+use Rattle.gtp_machine.proofs.Basics.Options.{some_same, none_some}
+use Rattle.gtp_machine.proofs.Rows.Control.{ControlCarried, control_came}
+use Rattle.gtp_machine.proofs.Basics.Kinds.{by_packet}
+
+module _ (history : List Sent) (taken : Arrival → Message → Type 0) (serving_once : Once history Serving) (packet_once : Once history Packet) (old : Node) (knows : Knows Packet history old) where
+  was_later : (sent : List Message) → Knows Packet (history ++ signed Packet sent) old
+  was_later sent = later Packet history taken old knows sent
+
+  with_new_session : (after : List Sent) (key : ℕ) (s : Session) → (Among key old.drawn → ⊥) → Each (IsAtPacket after old.sessions) old.bearers → Each (IsAtPacket after (insert old.sessions key s)) old.bearers
+  with_new_session after key s undrawn each t b e = let at = each t b e in record { session = at.session; stands = still_stands history Packet old knows key s undrawn b.session at.session at.stands; origin = at.origin }
+
+  active_not_pending : Active ≡ Pending → ⊥
+  active_not_pending e = cc
+
+  pending_not_active : Pending ≡ Active → ⊥
+  pending_not_active e = cc
+
+  active_not_closing : (state : State) → state ≡ Active → state ≡ Closing → ⊥
+  active_not_closing state is c = cc
+
+  -- a session that stands there and is active is not closing
+  stands_active : (sessions : FiniteMap Session) (key : ℕ) (at : Session) → get sessions key ≡ Some at → at.state ≡ Active → (s : Session) → get sessions key ≡ Some s → s.state ≡ Closing → ⊥
+  stands_active sessions key at at_stands active s s_stands closing =
+      let is : at ≡ s = cc (at_stands, s_stands) in
+      active_not_closing at.state active (ap (λ (k : Session). k.state) is ∙ closing)
+
+  begins : (unowned : NothingOwns history Packet old) (session : ℕ) (at : Session) (tft : List ℕ) (qos : Qos) (e : Effect) → get old.sessions session ≡ Some at → at.state ≡ Active → BeginsBearer old session at tft qos e → After Packet history taken old e
+  begins unowned session at tft qos e stands active r =
+      let q = bearer_request old at tft qos r.user r.number in
+      let p : PendingRequest = record { session = Some session; bearer = Some r.user; request = Create_bearer_request q } in
+      let m = Create_bearer_request q in
+      let after = history ++ signed Packet (m ∷ []) in
+      let was = was_later (m ∷ []) in
+      let now : HasSent after Packet m = sent_now history Packet (m ∷ []) m (inl refl) in
+      let made = was.contexts.sessions_made session at stands in
+      let new_node : Node = record old { drawn = r.user ∷ old.drawn; bearers = insert old.bearers r.user (pending_dedicated session); pending = insert old.pending r.number p } in
+      at_result (After Packet history taken old) e _ r.gives (record {
+        knows = record {
+          contexts = record {
+            sessions_made = was.contexts.sessions_made;
+            bearers_made = Each-insert (IsAtPacket after old.sessions) old.bearers r.user (pending_dedicated session)
+                (record {
+                  session = at;
+                  stands = stands;
+                  origin = inr (record { kind = refl; request = q; asked = now; user = refl; made = made.answer; answered = made.answered; control = made.control; header = ap written made.remote ∙ sym made.header; opened = λ x none. absurd (none_some x none) });
+                })
+                was.contexts.bearers_made;
+          };
+          matched = Each-insert (IsMatched old.sessions (insert old.bearers r.user (pending_dedicated session))) old.pending r.number p
+              (record { waits = λ k e. absurd (not_session q k e); numbered = λ k e. absurd (not_session q k e); names_bearer = λ k e. let same : q ≡ k = cc e in ap (λ (k : CreateBearerRequest). Some k.context.user.teid) same; of_session = of_session q })
+              (matched_bearer history Packet old unowned knows.pending old.sessions r.user (pending_dedicated session) r.user_free knows.matched);
+          drawn = λ t s e. inr (knows.drawn t s e);
+          standing = knows.standing;
+          ready = Each-insert IsReady old.bearers r.user (pending_dedicated session) (λ a. absurd (pending_not_active a)) knows.ready;
+          closed = closes-bearer old.sessions old.bearers r.user (pending_dedicated session) (stands_active old.sessions session at stands active) knows.closed;
+          pending = Each-insert (IsPending after Packet) old.pending r.number p (record { sent = now; names = λ k e. absurd (not_session q k e) }) was.pending;
+          held = was.held;
+        };
+        known = refl;
+        told = nothing_told history Serving;
+        draws = Draws-new history Packet old new_node m refl refl (λ t stood. inr stood) present (record { free = λ t is. subst (IsFree old) (sym is) r.user_free; drawn = λ t is. inl is; told = λ c e. absurd (none_some c e); tells = λ t none. absurd none; proper = tt });
+        logs = Logs-plain history Packet taken old new_node (Begun (Some r.user)) (λ h stood. stood) _ m tt;
+      })
+    where
+      of_session : (q k : CreateBearerRequest) → Create_bearer_request q ≡ Create_bearer_request k → (b : Bearer) → get (insert old.bearers q.context.user.teid (pending_dedicated session)) k.context.user.teid ≡ Some b → Some session ≡ Some b.session
+      of_session q k e b stands =
+          let same : q ≡ k = cc e in
+          let here : get (insert old.bearers q.context.user.teid (pending_dedicated session)) k.context.user.teid ≡ Some (pending_dedicated session) = ap (λ (k : CreateBearerRequest). get (insert old.bearers q.context.user.teid (pending_dedicated session)) k.context.user.teid) (sym same) ∙ get-insert_same old.bearers q.context.user.teid (pending_dedicated session) in
+          let is : pending_dedicated session ≡ b = cc (here, stands) in
+          ap (λ (k : Bearer). Some k.session) is
+
+      not_session : (q : CreateBearerRequest) (k : CreateSessionRequest) → Create_bearer_request q ≡ Create_session_request k → ⊥
+      not_session q k e = cc
+
+      present : (t : ℕ) → Among t (r.user ∷ old.drawn) → Among t old.drawn ⊎ (counter_of t ≡ old.counter)
+      present t (inl is) = inr (ap counter_of is ∙ r.user_free.counted)
+      present t (inr stood) = inl stood
+
+  pub bearer_begun_here : (unowned : NothingOwns history Packet old) (session : ℕ) (tft : List ℕ) (qos : Qos) (e : Effect) → BearerBegun Packet session tft qos old e → After Packet history taken old e
+  bearer_begun_here unowned session tft qos e (inl f) = unchanged Packet history taken serving_once packet_once old knows _ e f.1
+  bearer_begun_here unowned session tft qos e (inr (at, inl f)) = unchanged Packet history taken serving_once packet_once old knows _ e f.1
+  bearer_begun_here unowned session tft qos e (inr (at, inr (active, inl f))) = unchanged Packet history taken serving_once packet_once old knows _ e f.1
+  bearer_begun_here unowned session tft qos e (inr (at, inr (active, inr (draws, inl f)))) = unchanged Packet history taken serving_once packet_once old knows _ e f.1
+  bearer_begun_here unowned session tft qos e (inr (at, inr (active, inr (draws, inr (few, r))))) = begins unowned session at.session tft qos e at.stands active r
+
+  module _ (dated : (m : Message) (t : ℕ) → HasSent history Serving m → TellsStart m → Owns m t → recovery_of m ≡ Some (counter_of t)) (proper : (m : Message) → HasSent history Serving m → IsProper history m) where
+    makes : (unowned : NothingOwns history Packet old) (request : Arrival) (q : CreateSessionRequest) (e : Effect) → HasSent history Serving (Create_session_request q) → taken request (Create_session_request q) → ((c : ℕ) → q.recovery ≡ Some c → old.known ≡ Some c) → MakesSession request old q e → Took Packet history taken old e
+    makes unowned request q e came is_taken told r =
+        let a = session_response old q r.control r.user r.address in
+        let m = Create_session_response a in
+        let after = history ++ signed Packet (m ∷ []) in
+        let was = was_later (m ∷ []) in
+        let now : HasSent after Packet m = sent_now history Packet (m ∷ []) m (inl refl) in
+        let asked : HasSent after Serving (Create_session_request q) = sent_before history Serving Packet (m ∷ []) (Create_session_request q) came in
+        let s = made_session q r.address in
+        let b = made_bearer q r.control in
+        let new = session_made old q r.control r.user r.address in
+        took Packet history taken old knows e _ r.gives refl (record {
+          knows = held_now Packet history taken old knows request m new (record {
+            contexts = record {
+              sessions_made = Each-insert (IsMade after) old.sessions r.control s (record { request = q; asked = asked; answer = a; answered = now; control = refl; header = refl; remote = refl; subscriber = refl; address = refl }) was.contexts.sessions_made;
+              bearers_made = Each-insert (IsAtPacket after (insert old.sessions r.control s)) old.bearers r.user b
+                  (record { session = s; stands = get-insert_same old.sessions r.control s; origin = inl (record { kind = refl; request = q; asked = asked; answer = a; answered = now; user = refl; control = refl; header = refl; remote = refl; identity = refl }) })
+                  (with_new_session after r.control s r.control_free.undrawn was.contexts.bearers_made);
+            };
+            matched = matched_bearer history Packet old unowned knows.pending (insert old.sessions r.control s) r.user b r.user_free (matched_session history Packet old unowned knows.pending r.control s r.control_free knows.matched);
+            drawn = Each-insert (λ t (x : Session). Among t (r.user ∷ r.control ∷ old.drawn)) old.sessions r.control s (inr (inl refl)) (λ t x e. inr (inr (knows.drawn t x e)));
+            standing = Each-insert (IsStanding old.known) old.sessions r.control s (record { current = λ x is. told (counter_of x) (dated (Create_session_request q) x came tt (inl (let same : x ≡ q.control.teid = cc is in same))); blank = λ w. absurd (active_not_pending w); named = λ h. (q.control.teid, refl) }) knows.standing;
+            ready = Each-insert IsReady old.bearers r.user b (λ active. (q.context.user.teid, refl)) knows.ready;
+            closed = closes-bearer (insert old.sessions r.control s) old.bearers r.user b (stands_active (insert old.sessions r.control s) r.control s (get-insert_same old.sessions r.control s) refl) (closes-session old.sessions old.bearers r.control s (active_not_closing Active refl) knows.closed);
+            pending = was.pending;
+            held = was.held;
+          });
+          known = refl;
+          told = nothing_told history Serving;
+          draws = Draws-new history Packet old (holding request m new) m refl refl (λ t stood. inr (inr stood)) present (record { free = free; drawn = drawn; told = λ c e. cc e; tells = λ t is owns. refl; proper = record { answers = record { request = q; sent = came; number = refl; header = refl }; control = λ accepts. (r.control, refl); user = λ accepts. (r.user, refl) } });
+          logs =
+              let l = Logs-plain history Packet taken old (holding request m new) (Answered (session_cause q.pdn)) (λ h stood. inr stood) request.source m tt in record {
+                held_stays = l.held_stays;
+                packets = λ t p among. absurd (no_packet a t p among);
+                handed = l.handed;
+                accepted = l.accepted;
+                answers = l.answers;
+                made = inr (record { arrival = request; is = refl; message = Create_session_request q; came = is_taken; answer = m; held = inl refl });
+              };
+        })
+      where
+        present : (t : ℕ) → Among t (r.user ∷ r.control ∷ old.drawn) → Among t old.drawn ⊎ (counter_of t ≡ old.counter)
+        present t (inl is) = inr (ap counter_of is ∙ r.user_free.counted)
+        present t (inr (inl is)) = inr (ap counter_of is ∙ r.control_free.counted)
+        present t (inr (inr stood)) = inl stood
+
+        no_packet : (a : CreateSessionResponse) (t : ℕ) (p : List ℕ) → Among (Packet_data t p) (Create_session_response a ∷ []) → ⊥
+        no_packet a t p (inl is) = cc
+        no_packet a t p (inr none) = none
+
+        same_some : (s t : ℕ) → Some s ≡ Some t → s ≡ t
+        same_some s t e = cc
+
+        free : (t : ℕ) → (Some r.control ≡ Some t) ⊎ (Some r.user ≡ Some t) → IsFree old t
+        free t (inl is) = subst (IsFree old) (same_some r.control t is) r.control_free
+        free t (inr is) = subst (IsFree old) (same_some r.user t is) r.user_free
+
+        drawn : (t : ℕ) → (Some r.control ≡ Some t) ⊎ (Some r.user ≡ Some t) → Among t (r.user ∷ r.control ∷ old.drawn)
+        drawn t (inl is) = inr (inl (sym (same_some r.control t is)))
+        drawn t (inr is) = inl (sym (same_some r.user t is))
+
+    refuses : (request : Arrival) (q : CreateSessionRequest) (cause : Cause) (e : Effect) → HasSent history Serving (Create_session_request q) → 64 ≤ cause.value → e ≡ session_refused request q cause old → Took Packet history taken old e
+    refuses request q cause e came high gives = gives_answer Packet history taken old knows request _ cause.value old e gives (Shrunk-itself old) tt none (λ c e. cc e)
+        (record { answers = record { request = q; sent = came; number = refl; header = refl }; control = λ accepts. absurd (impossible accepts.high); user = λ accepts. absurd (impossible accepts.high) })
+      where
+        none : (t : ℕ) → (None ≡ Some t) ⊎ (None ≡ Some t) → ⊥
+        none t (inl e) = none_some t e
+        none t (inr e) = none_some t e
+
+        impossible : cause.value < 64 → ⊥
+        impossible low = omega (arith, high)
+
+    session_asked : (unowned : NothingOwns history Packet old) (request : Arrival) (q : CreateSessionRequest) (e : Effect) → HasSent history Serving (Create_session_request q) → taken request (Create_session_request q) → ((c : ℕ) → q.recovery ≡ Some c → old.known ≡ Some c) → SessionAsked request q old e → Took Packet history taken old e
+    session_asked unowned request q e came is told (inl f) = drops Packet history taken old knows _ e f.1
+    session_asked unowned request q e came is told (inr (room, inl f)) = refuses request q (cause_of 94) e came (omega arith) f.1
+    session_asked unowned request q e came is told (inr (room, inr (one, inl f))) = refuses request q (cause_at 69 73 0) e came (omega arith) f.1
+    session_asked unowned request q e came is told (inr (room, inr (one, inr (identity, inl f)))) = refuses request q (cause_of 78) e came (omega arith) f.1
+    session_asked unowned request q e came is told (inr (room, inr (one, inr (identity, inr (configured, inl f))))) = refuses request q (cause_of 83) e came (omega arith) f.1
+    session_asked unowned request q e came is told (inr (room, inr (one, inr (identity, inr (configured, inr (pdn, inl f)))))) = refuses request q (cause_of 73) e came (omega arith) f.1
+    session_asked unowned request q e came is told (inr (room, inr (one, inr (identity, inr (configured, inr (pdn, inr (few, inl f))))))) = refuses request q (cause_of 84) e came (omega arith) f.1
+    session_asked unowned request q e came is told (inr (room, inr (one, inr (identity, inr (configured, inr (pdn, inr (few, inr (address, r)))))))) = makes unowned request q e came is told r
+
+    -- an answer to a Delete Session Request
+    says_deleted : (request : Arrival) (cause : ℕ) (new : Node) (d : DeleteSessionResponse) (e : Effect) → e ≡ answered request (Delete_session_response d) cause new → Shrunk old new → ((r : ℕ) → d.recovery ≡ Some r → r ≡ old.counter) → Took Packet history taken old e
+    says_deleted request cause new d e gives s told = gives_answer Packet history taken old knows request (Delete_session_response d) cause new e gives s tt (λ t none. none) told tt
+
+    deletion_asked : (request : Arrival) (d : DeleteSessionRequest) (e : Effect) → DeletionAsked request d old e → Took Packet history taken old e
+    deletion_asked request d e (inl f) = drops Packet history taken old knows _ e f.1
+    deletion_asked request d e (inr (room, inl f)) = says_deleted request 64 old _ e f.1 (Shrunk-itself old) (λ c e. cc e)
+    deletion_asked request d e (inr (room, inr (at, inl f))) = says_deleted request 64 old _ e f.1 (Shrunk-itself old) (λ c e. cc e)
+    deletion_asked request d e (inr (room, inr (at, inr (linked, gives)))) = says_deleted request 16 (without_session old d.header) _ e gives (Shrunk-without (λ t. eqb t d.header) (λ t. false) old) (λ c e. cc e)
+
+    module _ (x : CreateBearerResponse) (came : HasSent history Serving (Create_bearer_response x)) (at : HasPending old x.number) (fits : FitsBearer at.pending x) (accepts : IsAccepting x.cause) (new : DescribesBearer x) (both : IsAccepting new.context.cause) (returned : teid_in new.context.packet_user ≡ Some fits.bearer) (can : CanOpen old fits.session new.context.identity) where
+      pending : IsPending history Packet x.number at.pending
+      pending = knows.pending x.number at.pending at.waits
+
+      matched_now : IsMatched old.sessions old.bearers x.number at.pending
+      matched_now = knows.matched x.number at.pending at.waits
+
+      -- the request that it answers is for this bearer
+      user_is : fits.request.context.user.teid ≡ fits.bearer
+      user_is = some_same at.pending.bearer fits.request.context.user.teid fits.bearer (matched_now.names_bearer fits.request fits.asked) fits.about_bearer
+
+      request_sent : HasSent (history ++ []) Packet (Create_bearer_request fits.request)
+      request_sent = sent_before history Packet Packet [] (Create_bearer_request fits.request) (subst (λ m. HasSent history Packet m) fits.asked pending.sent)
+
+      later_once : Once (history ++ []) Packet
+      later_once m n t m_has n_has = packet_once m n t (before m m_has) (before n n_has)
+        where
+          before : (m : Message) → HasSent (history ++ []) Packet m → HasSent history Packet m
+          before m has = ⊎_elim (λ was. was) (λ now. absurd now.1) (sent_cases history Packet Packet [] m has)
+
+      opens : (e : Effect) → OpensBearer old x fits.bearer e → Took Packet history taken old e
+      opens e r =
+          let after = history ++ signed Packet [] in
+          let was = was_later [] in
+          let stood = was.contexts.bearers_made fits.bearer r.at.bearer r.at.stands in
+          let opened = opened_dedicated r.at.bearer x in
+          let new_node : Node = record old { bearers = insert old.bearers fits.bearer opened; pending = remove old.pending x.number } in
+          took Packet history taken old knows e _ r.gives refl (record {
+            knows = record {
+              contexts = record {
+                sessions_made = was.contexts.sessions_made;
+                bearers_made = Each-insert (IsAtPacket after old.sessions) old.bearers fits.bearer opened
+                    (record { session = stood.session; stands = stood.stands; origin = ⊎_elim (λ o. absurd (answer_not_request (history ++ []) later_once o.answer fits.request o.answered request_sent (o.user ∙ ap (λ k. Some k) (sym user_is)))) (λ w. inr (opened_origin w)) stood.origin })
+                    was.contexts.bearers_made;
+              };
+              drawn = knows.drawn;
+              standing = knows.standing;
+              ready = Each-insert IsReady old.bearers fits.bearer opened (λ active. (proper (Create_bearer_response x) came).user new.context new.alone accepts both) knows.ready;
+              closed = closes-bearer old.sessions old.bearers fits.bearer opened not_closing knows.closed;
+              matched = matched;
+              pending = Each-remove (IsPending after Packet) old.pending x.number was.pending;
+              held = was.held;
+            };
+            known = refl;
+            told = nothing_told history Serving;
+            draws = Draws-nothing history Packet old new_node refl refl refl;
+            logs = Logs-silent history Packet taken old new_node Opened (λ h stood. stood) [];
+          })
+        where
+          session_is : x.header ≡ r.at.bearer.session
+          session_is = ⊎_elim (λ is. some_same at.pending.session x.header r.at.bearer.session is (matched_now.of_session fits.request fits.asked r.at.bearer (ap (λ k. get old.bearers k) user_is ∙ r.at.stands))) (λ zero. absurd (impossible zero.1 accepts.high)) fits.named
+            where
+              impossible : {n : ℕ} → n ≡ 64 → n < 64 → ⊥
+              impossible e h = omega arith
+
+          -- the bearer is of the session that the request is about
+          of_session : r.at.bearer.session ≡ fits.session
+          of_session = some_same at.pending.session r.at.bearer.session fits.session (matched_now.of_session fits.request fits.asked r.at.bearer (ap (λ k. get old.bearers k) user_is ∙ r.at.stands)) fits.about
+
+          not_closing : (s : Session) → get old.sessions r.at.bearer.session ≡ Some s → s.state ≡ Closing → ⊥
+          not_closing s stands closing =
+              let is : can.at.session ≡ s = cc (can.at.stands, ap (λ k. get old.sessions k) (sym of_session) ∙ stands) in
+              can.not_closing (ap (λ (k : Session). k.state) is ∙ closing)
+
+          matched : Each (IsMatched old.sessions (insert old.bearers fits.bearer (opened_dedicated r.at.bearer x))) (remove old.pending x.number)
+          matched number p e =
+              let found = found-remove old.pending x.number number p e in
+              let was = knows.matched number p found.1 in
+              IsMatched-bearer old.sessions old.bearers fits.bearer (opened_dedicated r.at.bearer x) number p (λ b is same. was.of_session b is r.at.bearer (ap (λ k. get old.bearers k) same ∙ r.at.stands)) was
+
+          opened_origin : IsWanted (history ++ []) fits.bearer r.at.bearer → IsWanted (history ++ []) fits.bearer (opened_dedicated r.at.bearer x)
+          opened_origin w = record {
+            kind = w.kind;
+            request = w.request;
+            asked = w.asked;
+            user = w.user;
+            made = w.made;
+            answered = w.answered;
+            control = w.control;
+            header = w.header;
+            opened = λ t is. record { answer = x; sent = sent_before history Serving Packet [] (Create_bearer_response x) came; header = session_is; echoed = ap first_returned new.alone ∙ returned; remote = refl; identity = refl };
+          }
+
+    bearer_answered : (x : CreateBearerResponse) (e : Effect) → HasSent history Serving (Create_bearer_response x) → BearerAnswered x old e → Took Packet history taken old e
+    bearer_answered x e came (inl f) = drops Packet history taken old knows _ e f.1
+    bearer_answered x e came (inr (at, inl f)) = drops Packet history taken old knows _ e f.1
+    bearer_answered x e came (inr (at, inr (fits, inl f))) = ends Packet history taken old knows x.number at.pending _ e f.1
+    bearer_answered x e came (inr (at, inr (fits, inr (accepts, inl f)))) = drops Packet history taken old knows _ e f.1
+    bearer_answered x e came (inr (at, inr (fits, inr (accepts, inr (new, inl f))))) = ends Packet history taken old knows x.number at.pending _ e f.1
+    bearer_answered x e came (inr (at, inr (fits, inr (accepts, inr (new, inr (both, inl f)))))) = drops Packet history taken old knows _ e f.1
+    bearer_answered x e came (inr (at, inr (fits, inr (accepts, inr (new, inr (both, inr (returned, inl f))))))) = ends Packet history taken old knows x.number at.pending _ e f.1
+    bearer_answered x e came (inr (at, inr (fits, inr (accepts, inr (new, inr (both, inr (returned, inr (can, r)))))))) = opens x came at fits accepts new both returned can e r
+
+    removal_answered : (d : DeleteBearerResponse) (e : Effect) → RemovalAnswered d old e → Took Packet history taken old e
+    removal_answered d e (inl f) = drops Packet history taken old knows _ e f.1
+    removal_answered d e (inr (at, inl f)) = drops Packet history taken old knows _ e f.1
+    removal_answered d e (inr (at, inr (fits, gives))) = ends Packet history taken old knows d.number at.pending _ e gives
+
+    takes : (unowned : NothingOwns history Packet old) (request : Arrival) (m : Message) (e : Effect) → HasSent history Serving m → taken request m → ((c : ℕ) → recovery_of m ≡ Some c → old.known ≡ Some c) → PacketTakes request m old e → Took Packet history taken old e
+    takes unowned request =
+        by_packet (λ m. (e : Effect) → HasSent history Serving m → taken request m → ((c : ℕ) → recovery_of m ≡ Some c → old.known ≡ Some c) → PacketTakes request m old e → Took Packet history taken old e)
+        (λ q e came is told r. takes_echo Packet history taken old knows request q e r)
+        (λ a e came is told r. takes_echo_response Packet history taken old knows a e r)
+        (λ q e came is told r. session_asked unowned request q e came is told r)
+        (λ d e came is told r. deletion_asked request d e r)
+        (λ x e came is told r. bearer_answered x e came r)
+        (λ d e came is told r. removal_answered d e r)
+        (λ m dropped e came is told r. drops Packet history taken old knows _ e (dropped.only request old e r))
+
+module _ (history : List Sent) (serving_once : Once history Serving) (packet_once : Once history Packet) (old : Node) (unowned : NothingOwns history Packet old)
+    (dated : (m : Message) (t : ℕ) → HasSent history Serving m → TellsStart m → Owns m t → recovery_of m ≡ Some (counter_of t)) (proper : (m : Message) → HasSent history Serving m → IsProper history m) (knows : Knows Packet history old) (request : Arrival) (taken : Arrival → Message → Type 0) where
+  pub packet_control : (reading : ControlReading) (e : Effect) → ControlCarried Packet history old reading → (IsNew old request → (m : Message) → reading ≡ Control_message m → taken request m) → ControlStep (PacketReads reading) request old e → After Packet history taken old e
+  packet_control =
+      control_came Packet history taken serving_once packet_once old knows packet_takes PacketTakes PacketFaulted request
+      (λ m came is mid from mid_knows told e rows. takes history taken serving_once packet_once mid mid_knows dated proper (NothingOwns-from history Packet old mid from unowned) request m e came is told rows)

@@ -1,0 +1,62 @@
+-- A step of a gateway, whatever it takes, leaves what both know.
+use Rattle.std.proofs.Common.{◌≡◌, ℕ, List, Some, ap}
+use Rattle.gtp_values.specs.declared.qos.Qos.{Qos}
+use Rattle.gtp_machine.specs.Message.{Message, Owns, recovery_of}
+use Rattle.gtp_machine.specs.Node.{Role, Serving, Packet, Arrival, Node}
+use Rattle.gtp_machine.specs.Input.{Command, Create_session, Delete_session, Create_bearer, Delete_bearer, Release_session, Mark_end, Send_echo, Send_user, Specification, ControlReading, Control_message, Input, Commanded, Control_came, User_came, Moves_on, Effect}
+use Rattle.gtp_machine.specs.Choice.{counter_of}
+use Rattle.gtp_machine.specs.Answer.{IsNew}
+use Rattle.gtp_machine.specs.Command.{SessionBegun, BearerBegun, CommandStep}
+use Rattle.gtp_machine.specs.World.{Step, other, Sent, HasSent}
+use Rattle.gtp_machine.proofs.Origins.Drawing.{TellsStart, IsProper}
+use Rattle.gtp_machine.proofs.Origins.Entries.{Once}
+use Rattle.gtp_machine.proofs.Changes.Steps.{NothingOwns}
+use Rattle.gtp_machine.proofs.Changes.After.{Knows, After}
+use Rattle.gtp_machine.proofs.Rows.Common.{unchanged, session_deleted, session_released, bearer_deleted, end_marked, echo_begun, packet_sent, moves, UserCarried, user_step}
+use Rattle.gtp_machine.proofs.Rows.Serving.{session_begun_here, serving_control}
+use Rattle.gtp_machine.proofs.Rows.Packet.{bearer_begun_here, packet_control}
+use Rattle.gtp_machine.proofs.Rows.Control.{ControlCarried}
+
+-- what a gateway takes was sent by the other
+abbrev pub Carried : Role → List Sent → Node → Input → Type 0
+Carried role history old (Commanded command) = Unit {0}
+Carried role history old (Control_came request reading) = ControlCarried role history old reading
+Carried role history old (User_came source reading) = UserCarried role history reading
+Carried role history old (Moves_on move) = Unit {0}
+
+-- the request came so, and no answer was held for it
+abbrev pub Taken : Node → Input → Arrival → Message → Type 0
+Taken old input a m = (input ≡ Control_came a (Control_message m)) × IsNew old a
+
+module _ (history : List Sent) (serving_once : Once history Serving) (packet_once : Once history Packet) (old : Node) where
+  -- the two commands that one gateway has and the other has not
+  session_begun_by : (role : Role) → NothingOwns history role old → Knows role history old → (taken : Arrival → Message → Type 0) (spec : Specification) (e : Effect) → SessionBegun role spec old e → After role history taken old e
+  session_begun_by Serving unowned knows taken spec e r = session_begun_here history taken serving_once packet_once old knows unowned spec e r
+  session_begun_by Packet unowned knows taken spec e r = unchanged Packet history taken serving_once packet_once old knows _ e r
+
+  bearer_begun_by : (role : Role) → NothingOwns history role old → Knows role history old → (taken : Arrival → Message → Type 0) (session : ℕ) (tft : List ℕ) (qos : Qos) (e : Effect) → BearerBegun role session tft qos old e → After role history taken old e
+  bearer_begun_by Serving unowned knows taken session tft qos e r = unchanged Serving history taken serving_once packet_once old knows _ e r
+  bearer_begun_by Packet unowned knows taken session tft qos e r = bearer_begun_here history taken serving_once packet_once old knows unowned session tft qos e r
+
+  -- a datagram of the control plane
+  control_taken : (role : Role) → NothingOwns history role old → ((m : Message) (t : ℕ) → HasSent history (other role) m → TellsStart m → Owns m t → recovery_of m ≡ Some (counter_of t)) → ((m : Message) → HasSent history (other role) m → IsProper history m) → Knows role history old
+      → (request : Arrival) (reading : ControlReading) (e : Effect) → ControlCarried role history old reading → Step role old (Control_came request reading) e → After role history (Taken old (Control_came request reading)) old e
+  control_taken Serving unowned dated proper knows request reading e came r = serving_control history serving_once packet_once old unowned dated proper knows request (Taken old (Control_came request reading)) reading e came (λ new m is. (ap (λ k. Control_came request k) is, new)) r
+  control_taken Packet unowned dated proper knows request reading e came r = packet_control history serving_once packet_once old unowned dated proper knows request (Taken old (Control_came request reading)) reading e came (λ new m is. (ap (λ k. Control_came request k) is, new)) r
+
+  module _ (role : Role) (unowned : NothingOwns history role old) (dated : (m : Message) (t : ℕ) → HasSent history (other role) m → TellsStart m → Owns m t → recovery_of m ≡ Some (counter_of t)) (proper : (m : Message) → HasSent history (other role) m → IsProper history m) (knows : Knows role history old) where
+    commanded : (taken : Arrival → Message → Type 0) (command : Command) (e : Effect) → CommandStep role command old e → After role history taken old e
+    commanded taken (Create_session spec) e r = session_begun_by role unowned knows taken spec e r
+    commanded taken (Delete_session session) e r = session_deleted role history taken serving_once packet_once old knows role session e r
+    commanded taken (Create_bearer session tft qos) e r = bearer_begun_by role unowned knows taken session tft qos e r
+    commanded taken (Delete_bearer session identity) e r = bearer_deleted role history taken serving_once packet_once old knows role session identity e r
+    commanded taken (Release_session session) e r = session_released role history taken serving_once packet_once old knows role session e r
+    commanded taken (Mark_end bearer) e r = end_marked role history taken serving_once packet_once old knows role bearer e r
+    commanded taken Send_echo e r = echo_begun role history taken serving_once packet_once old knows e r
+    commanded taken (Send_user bearer payload) e r = packet_sent role history taken serving_once packet_once old knows role bearer payload e r
+
+    pub step_after : (input : Input) (e : Effect) → Carried role history old input → Step role old input e → After role history (Taken old input) old e
+    step_after (Commanded command) e came r = commanded (Taken old (Commanded command)) command e r
+    step_after (Control_came request reading) e came r = control_taken role unowned dated proper knows request reading e came r
+    step_after (User_came source reading) e came r = user_step role history (Taken old (User_came source reading)) serving_once packet_once old knows role source reading e came r
+    step_after (Moves_on move) e came r = moves role history (Taken old (Moves_on move)) serving_once packet_once old knows move e r

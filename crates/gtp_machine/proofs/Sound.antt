@@ -1,0 +1,7 @@
+-- A gateway alone stays sound, whatever comes to it, and has an effect.
+pub mod Parts
+pub mod Changes
+pub mod Rows
+pub mod Free
+pub mod Steps
+pub mod Reads

@@ -1,0 +1,411 @@
+-- Each row leaves a sound node sound.
+use Rattle.std.proofs.Common.{◌≡◌, inl, inr, ⊎_elim, ℕ, ◌+◌, ◌≤◌, ◌<◌, Bool, false, List, [], ◌∷◌, length, Option, Some, None, refl, sym, ◌∙◌, ap, subst, arith}
+use Rattle.std.specs.FinMap.{get, insert, remove, len, entries}
+use Rattle.gtp_values.specs.Counter.{age_of}
+use Rattle.gtp_values.specs.declared.counter.Age.{Age}
+use Rattle.gtp_values.specs.declared.counter.Age.TheVariants.{Same, Later, Earlier}
+use Rattle.gtp_values.specs.declared.qos.Qos.{Qos}
+use Rattle.gtp_values.specs.declared.address.Endpoint.{Endpoint}
+use Rattle.gtp_machine.specs.FiniteMap.{Among}
+use Rattle.gtp_machine.specs.Element.{IsAccepting}
+use Rattle.gtp_machine.specs.Message.{Echo, CreateSessionRequest, CreateSessionResponse, DeleteSessionRequest, DeleteSessionResponse, CreateBearerRequest, CreateBearerResponse, DeleteBearerRequest, RemovedBearer, DeleteBearerResponse, Message, Echo_request, Echo_response, Create_session_request, Create_session_response, Delete_session_request, Delete_session_response, Create_bearer_request, Create_bearer_response, Delete_bearer_request, Delete_bearer_response, Other_control, Packet_data, End_marker, Error_indication, User_echo_request, User_echo_response, Supported_extensions, Other_user, recovery_of, first_created, first_given, first_identity}
+use Rattle.gtp_machine.specs.Node.{Role, Serving, Packet, Pending, Active, Closing, Default, Dedicated, Session, Bearer, Arrival, Held, Node, holding, fresh_node}
+use Rattle.gtp_machine.specs.Input.{Specification, ControlReading, Control_message, Faulty, Control_fault, RequestKind, Of_create_session, Of_delete_session, Of_create_bearer, Of_delete_bearer, UserReading, User_message, Extension_needed, User_fault, Command, Create_session, Delete_session, Create_bearer, Delete_bearer, Release_session, Mark_end, Send_echo, Send_user, Move, Resend, Give_up, Forget, Commanded, Control_came, User_came, Moves_on, Effect}
+use Rattle.gtp_machine.specs.Choice.{HasPending, IsIdentity}
+use Rattle.gtp_machine.specs.Removal.{without, finished, without_session, without_bearer, session_closing, closing_session, is_opened}
+use Rattle.gtp_machine.specs.Recovery.{peer_restarted, Judges, Weighs, Hears}
+use Rattle.gtp_machine.specs.Move.{MoveStep}
+use Rattle.gtp_machine.specs.Response.{EchoAnswered}
+use Rattle.gtp_machine.specs.User.{UserTaken, UserStep, ended_bearer, default_among, bearer_is_to, is_to}
+use Rattle.gtp_machine.specs.Command.{session_request, pending_session, pending_bearer, session_begun, BeginsSession, ClosesSession, ReleasesSession, bearer_request, pending_dedicated, BeginsBearer, ClosesBearer, CommandStep}
+use Rattle.gtp_machine.specs.Answer.{ControlStep}
+use Rattle.gtp_machine.specs.Serving.{FitsSession, DescribesSession, opened_session, opened_bearer, OpensSession, SessionAnswered, DeletionAnswered, granted_bearer, BearerAsked, RemovesEach, RemovalTaken, RemovalAsked, ServingTakes, ServingFaulted, ServingReads}
+use Rattle.gtp_machine.specs.Packet.{made_session, made_bearer, session_made, SessionAsked, DeletionAsked, FitsBearer, DescribesBearer, CanOpen, opened_dedicated, OpensBearer, BearerAnswered, RemovalAnswered, PacketTakes, PacketFaulted, PacketReads}
+use Rattle.gtp_machine.specs.Once.{Done, Steps}
+use Rattle.gtp_machine.specs.Sound.{At, IsInState, IsBearerOf, IsSound, IsWhole, IsWellFormed, AreWellFormed, StaysSound, ReachedIsSound}
+use Rattle.gtp_machine.proofs.Basics.FiniteMaps.{get-insert_same}
+use Rattle.gtp_machine.proofs.Sound.Parts.{one_value, waiting_active, at_here}
+use Rattle.gtp_machine.proofs.Sound.Changes.{fresh, without_sound, without_session_sound, without_bearer_sound, finished_sound, holding_sound, known_sound, asks_sound, free_opened, session_comes, bearer_comes, bearer_changes, closing_sound, is_session, is_bearer, session_opens, bearer_opens}
+use Rattle.gtp_machine.proofs.Changes.Forgetting.{leaves}
+use Rattle.gtp_machine.proofs.Basics.Options.{some_is, none_some}
+use Rattle.gtp_machine.proofs.Basics.Kinds.{by_serving, by_packet}
+
+module _ (role : Role) where
+  -- what a row says of its effect
+  by_row : (e f : Effect) → e ≡ f → IsSound role f.node → IsSound role e.node
+  by_row e f gives s = subst (λ (k : Effect). IsSound role k.node) (sym gives) s
+
+module _ (old : Node) where
+  begins : IsSound Serving old → (spec : Specification) → IsIdentity spec.subscriber.identity → (e : Effect) → len old.sessions < 1000 → length old.drawn + 2 ≤ 16777215 → len old.pending < 256 → BeginsSession old spec e → IsSound Serving e.node
+  begins sound spec identity e room draws few r =
+      let q = session_request old spec r.control r.user r.number in
+      by_row Serving e _ r.gives (asks_sound Serving old sound (session_begun old r.control r.user q) r.number _
+      (session_comes Serving old sound r.control r.user (pending_session q) (pending_bearer r.control q) r.control_free r.user_free refl room draws
+      (record { own = inr (inl refl); named = λ n. absurd (n refl); blank = λ w. refl })
+      (record { own = inl refl; of = (pending_session q, get-insert_same old.sessions r.control (pending_session q)); named = λ a. absurd (cc a); blank = λ w. refl; range = λ i e. subst IsIdentity (some_is spec.subscriber.identity i e) identity }))
+      refl few r.number_free.small
+      (inr (inl (record {
+        by = refl;
+        request = q;
+        asked = refl;
+        numbered = refl;
+        session = refl;
+        bearer = refl;
+        waits = at_here old.sessions r.control (pending_session q) (IsInState Pending) r.control refl refl;
+        default = at_here old.bearers r.user (pending_bearer r.control q) (IsBearerOf r.control Default Pending) r.user refl (record { of = refl; is_kind = refl; in_state = refl });
+      })))
+      (λ m p t at o same. free_opened Serving old sound r.control m p t r.control_free at o (sym (some_is r.control t same))))
+
+  closes : IsSound Serving old → (session : ℕ) (at : Session) (e : Effect) → get old.sessions session ≡ Some at → at.state ≡ Active → len old.pending < 256 → ClosesSession old session at e → IsSound Serving e.node
+  closes sound session at e stands active few r = by_row Serving e _ r.gives (asks_sound Serving old sound (session_closing old session at) r.number _ (closing_sound Serving old sound session at stands active) refl few r.number_free.small
+      (inr (inr (inl (record { asked = (_, refl, refl); about = session; session = refl; bearer = refl; closes = at_here old.sessions session (closing_session at) (IsInState Closing) session refl refl }))))
+      (λ m p t at o same. none_some t same))
+
+  releases : IsSound Packet old → (session : ℕ) (at : Session) (e : Effect) → get old.sessions session ≡ Some at → at.state ≡ Active → len old.pending < 256 → ReleasesSession old session at e → IsSound Packet e.node
+  releases sound session at e stands active few r = by_row Packet e _ r.gives (asks_sound Packet old sound (session_closing old session at) r.number _ (closing_sound Packet old sound session at stands active) refl few r.number_free.small
+      (inr (inr (inl (record { asked = (_, refl, refl, refl); about = session; session = refl; bearer = refl; closes = at_here old.sessions session (closing_session at) (IsInState Closing) session refl refl }))))
+      (λ m p t at o same. none_some t same))
+
+  begins_bearer : IsSound Packet old → (session : ℕ) (at : Session) (tft : List ℕ) (qos : Qos) (e : Effect) → get old.sessions session ≡ Some at → length old.drawn + 1 ≤ 16777215 → len old.pending < 256 → BeginsBearer old session at tft qos e → IsSound Packet e.node
+  begins_bearer sound session at tft qos e stands draws few r = by_row Packet e _ r.gives (asks_sound Packet old sound (record old { drawn = r.user ∷ old.drawn; bearers = insert old.bearers r.user (pending_dedicated session) }) r.number _
+      (bearer_comes Packet old sound r.user (pending_dedicated session) r.user_free draws
+      (record { own = inl refl; of = (at, stands); named = λ a. absurd (cc a); blank = λ w. refl; range = λ i e. absurd (none_some i e) })
+      (λ t a i e same ia ib. none_some i ib))
+      refl few r.number_free.small
+      (inr (inr (inr (inl (record {
+        by = refl;
+        request = bearer_request old at tft qos r.user r.number;
+        asked = refl;
+        numbered = refl;
+        about = session;
+        session = refl;
+        bearer = refl;
+        wanted = inl (at_here old.bearers r.user (pending_dedicated session) (IsBearerOf session Dedicated Pending) r.user refl (record { of = refl; is_kind = refl; in_state = refl }));
+      })))))
+      (λ m p t at o same. free_opened Packet old sound r.user m p t r.user_free at o (sym (some_is r.user t same))))
+
+  closes_bearer : IsSound Packet old → (session : ℕ) (at : Session) (identity bearer : ℕ) (b : Bearer) (e : Effect) → get old.bearers bearer ≡ Some b → b.state ≡ Active → b.session ≡ session → b.kind ≡ Dedicated → len old.pending < 256 → ClosesBearer old session at identity bearer b e → IsSound Packet e.node
+  closes_bearer sound session at identity bearer b e stands active of dedicated few r = by_row Packet e _ r.gives (asks_sound Packet old sound (record old { bearers = insert old.bearers bearer (record b { state = Closing }) }) r.number _
+      (bearer_changes Packet old sound bearer b (record b { state = Closing }) stands active refl refl refl refl (λ w. cc w))
+      refl few r.number_free.small
+      (inr (inr (inr (inr (record {
+        by = refl;
+        request = _;
+        asked = refl;
+        numbered = refl;
+        unlinked = refl;
+        about = session;
+        session = refl;
+        key = bearer;
+        bearer = refl;
+        closes = at_here old.bearers bearer (record b { state = Closing }) (IsBearerOf session Dedicated Closing) bearer refl (record { of = of; is_kind = dedicated; in_state = refl });
+      })))))
+      (λ m p t at o same. none_some t same))
+
+  ends_bearer : (role : Role) → IsSound role old → (key : ℕ) (b : Bearer) → get old.bearers key ≡ Some b → b.state ≡ Active → IsSound role (record old { bearers = insert old.bearers key (ended_bearer b) })
+  ends_bearer role sound key b stands active = bearer_changes role old sound key b (ended_bearer b) stands active refl refl refl refl (λ w. waiting_active b.state w active)
+
+  command : (role : Role) → IsSound role old → (c : Command) → IsWellFormed (Commanded c) → (e : Effect) → CommandStep role c old e → IsSound role e.node
+  command Packet sound (Create_session spec) formed e r = by_row Packet e _ r sound
+  command Serving sound (Create_session spec) formed e (inl f) = by_row Serving e _ f.1 sound
+  command Serving sound (Create_session spec) formed e (inr (room, inl f)) = by_row Serving e _ f.1 sound
+  command Serving sound (Create_session spec) formed e (inr (room, inr (draws, inl f))) = by_row Serving e _ f.1 sound
+  command Serving sound (Create_session spec) formed e (inr (room, inr (draws, inr (few, r)))) = begins sound spec formed e room.few draws.left few.few r
+  command Packet sound (Delete_session session) formed e r = by_row Packet e _ r sound
+  command Serving sound (Delete_session session) formed e (inl f) = by_row Serving e _ f.1 sound
+  command Serving sound (Delete_session session) formed e (inr (at, inl f)) = by_row Serving e _ f.1 sound
+  command Serving sound (Delete_session session) formed e (inr (at, inr (active, inl f))) = by_row Serving e _ f.1 sound
+  command Serving sound (Delete_session session) formed e (inr (at, inr (active, inr (few, r)))) = closes sound session at.session e at.stands active few.few r
+  command Serving sound (Create_bearer session tft qos) formed e r = by_row Serving e _ r sound
+  command Packet sound (Create_bearer session tft qos) formed e (inl f) = by_row Packet e _ f.1 sound
+  command Packet sound (Create_bearer session tft qos) formed e (inr (at, inl f)) = by_row Packet e _ f.1 sound
+  command Packet sound (Create_bearer session tft qos) formed e (inr (at, inr (active, inl f))) = by_row Packet e _ f.1 sound
+  command Packet sound (Create_bearer session tft qos) formed e (inr (at, inr (active, inr (draws, inl f)))) = by_row Packet e _ f.1 sound
+  command Packet sound (Create_bearer session tft qos) formed e (inr (at, inr (active, inr (draws, inr (few, r))))) = begins_bearer sound session at.session tft qos e at.stands draws.left few.few r
+  command Serving sound (Delete_bearer session identity) formed e r = by_row Serving e _ r sound
+  command Packet sound (Delete_bearer session identity) formed e (inl f) = by_row Packet e _ f.1 sound
+  command Packet sound (Delete_bearer session identity) formed e (inr (at, inl f)) = by_row Packet e _ f.1 sound
+  command Packet sound (Delete_bearer session identity) formed e (inr (at, inr (named, inl f))) = by_row Packet e _ f.1 sound
+  command Packet sound (Delete_bearer session identity) formed e (inr (at, inr (named, inr (active, inl f)))) = by_row Packet e _ f.1 sound
+  command Packet sound (Delete_bearer session identity) formed e (inr (at, inr (named, inr (active, inr (few, r))))) = closes_bearer sound session at.session identity named.key named.at.bearer e named.at.stands active.1 named.of named.dedicated few.few r
+  command Serving sound (Release_session session) formed e r = by_row Serving e _ r sound
+  command Packet sound (Release_session session) formed e (inl f) = by_row Packet e _ f.1 sound
+  command Packet sound (Release_session session) formed e (inr (at, inl f)) = by_row Packet e _ f.1 sound
+  command Packet sound (Release_session session) formed e (inr (at, inr (active, inl f))) = by_row Packet e _ f.1 sound
+  command Packet sound (Release_session session) formed e (inr (at, inr (active, inr (few, r)))) = releases sound session at.session e at.stands active few.few r
+  command Serving sound (Mark_end bearer) formed e r = by_row Serving e _ r sound
+  command Packet sound (Mark_end bearer) formed e (inl f) = by_row Packet e _ f.1 sound
+  command Packet sound (Mark_end bearer) formed e (inr (at, inl f)) = by_row Packet e _ f.1 sound
+  command Packet sound (Mark_end bearer) formed e (inr (at, inr (active, inl f))) = by_row Packet e _ f.1 sound
+  command Packet sound (Mark_end bearer) formed e (inr (at, inr (active, inr (before, gives)))) = by_row Packet e _ gives (ends_bearer Packet sound bearer at.bearer at.stands active)
+  command role sound Send_echo formed e (inl f) = by_row role e _ f.1 sound
+  command role sound Send_echo formed e (inr (few, r)) = by_row role e _ r.gives (asks_sound role old sound old r.number _ sound refl few.few r.number_free.small (inl (record { request = _; asked = refl; numbered = refl; session = refl; bearer = refl })) (λ m p t at o same. none_some t same))
+  command role sound (Send_user bearer payload) formed e (inl f) = by_row role e _ f.1 sound
+  command role sound (Send_user bearer payload) formed e (inr (at, inl f)) = by_row role e _ f.1 sound
+  command role sound (Send_user bearer payload) formed e (inr (at, inr (active, inl f))) = by_row role e _ f.1 sound
+  command role sound (Send_user bearer payload) formed e (inr (at, inr (active, inr (goes, inl f)))) = by_row role e _ f.1 sound
+  command role sound (Send_user bearer payload) formed e (inr (at, inr (active, inr (goes, inr (short, r))))) = by_row role e _ r.gives sound
+
+  -- bearers with that remote go, and no pending one has it
+  broken_sound : (role : Role) → IsSound role old → (remote : ℕ) → (session_goes : ℕ → Bool) → IsSound role (without session_goes (λ t. bearer_is_to remote (get old.bearers t)) old)
+  broken_sound role sound remote session_goes = without_sound role old sound session_goes (λ t. bearer_is_to remote (get old.bearers t)) (λ t b e kind waits. ap (bearer_is_to remote) e ∙ ap (is_to remote) ((sound.contexts.each_bearer t b e).blank waits))
+
+  user_taken : (role : Role) → IsSound role old → (source : Endpoint) (m : Message) (e : Effect) → UserTaken role source m old e → IsSound role e.node
+  user_taken role sound source (Packet_data t p) e (inl f) = by_row role e _ f.1 sound
+  user_taken role sound source (Packet_data t p) e (inr (at, inl f)) = by_row role e _ f.1 sound
+  user_taken role sound source (Packet_data t p) e (inr (at, inr (active, inl f))) = by_row role e _ f.1 sound
+  user_taken role sound source (Packet_data t p) e (inr (at, inr (active, inr (comes, r)))) = by_row role e _ r.gives sound
+  user_taken Packet sound source (End_marker t) e r = by_row Packet e _ r sound
+  user_taken Serving sound source (End_marker t) e (inl f) = by_row Serving e _ f.1 sound
+  user_taken Serving sound source (End_marker t) e (inr (at, inl f)) = by_row Serving e _ f.1 sound
+  user_taken Serving sound source (End_marker t) e (inr (at, inr (active, gives))) = by_row Serving e _ gives (ends_bearer Serving sound t at.bearer at.stands active)
+  user_taken role sound source (Error_indication t address) e (inl f) = by_row role e _ f.1 sound
+  user_taken role sound source (Error_indication t address) e (inr (named, gives)) = by_row role e _ gives (broken_sound role sound t (λ s. default_among t s (entries old.bearers)))
+  user_taken role sound source (User_echo_request n) e r = by_row role e _ r sound
+  user_taken role sound source (User_echo_response n) e r = by_row role e _ r sound
+  user_taken role sound source (Supported_extensions n) e r = by_row role e _ r sound
+  user_taken role sound source (Other_user n) e r = by_row role e _ r sound
+  user_taken role sound source (Echo_request n) e r = by_row role e _ r sound
+  user_taken role sound source (Echo_response n) e r = by_row role e _ r sound
+  user_taken role sound source (Create_session_request n) e r = by_row role e _ r sound
+  user_taken role sound source (Create_session_response n) e r = by_row role e _ r sound
+  user_taken role sound source (Delete_session_request n) e r = by_row role e _ r sound
+  user_taken role sound source (Delete_session_response n) e r = by_row role e _ r sound
+  user_taken role sound source (Create_bearer_request n) e r = by_row role e _ r sound
+  user_taken role sound source (Create_bearer_response n) e r = by_row role e _ r sound
+  user_taken role sound source (Delete_bearer_request n) e r = by_row role e _ r sound
+  user_taken role sound source (Delete_bearer_response n) e r = by_row role e _ r sound
+  user_taken role sound source (Other_control n) e r = by_row role e _ r sound
+
+  user_step : (role : Role) → IsSound role old → (source : Endpoint) (reading : UserReading) (e : Effect) → UserStep role source reading old e → IsSound role e.node
+  user_step role sound source reading e (inl f) = by_row role e _ f.1 sound
+  user_step role sound source (User_message m) e (inr (peer, r)) = user_taken role sound source m e r
+  user_step role sound source Extension_needed e (inr (peer, r)) = by_row role e _ r sound
+  user_step role sound source (User_fault fault) e (inr (peer, r)) = by_row role e _ r sound
+
+  moves : (role : Role) → IsSound role old → (move : Move) (e : Effect) → MoveStep old move e → IsSound role e.node
+  moves role sound (Resend number) e r = by_row role e _ r.gives sound
+  moves role sound (Give_up number) e r = by_row role e _ r.gives (finished_sound role old sound number r.at.pending r.at.waits)
+  moves role sound (Forget request) e r = by_row role e _ r.gives (record {
+    contexts = sound.contexts;
+    requests = sound.requests;
+    within = record { sessions_few = sound.within.sessions_few; pending_few = sound.within.pending_few; numbers = sound.within.numbers; held_few = omega (arith, (leaves request old.held r.rest r.left).fewer, sound.within.held_few); drawn_few = sound.within.drawn_few };
+  })
+
+  pub restarted_sound : (role : Role) → IsSound role old → (counter : ℕ) → IsSound role (peer_restarted old counter)
+  restarted_sound role sound counter = without_sound role (record old { known = Some counter }) (known_sound role old sound (Some counter)) (λ t. is_opened (get old.sessions t)) (λ t. false) (λ t b e k w. refl)
+
+  ends : (role : Role) → IsSound role old → (number : ℕ) (at : HasPending old number) → IsSound role (finished old number at.pending)
+  ends role sound number at = finished_sound role old sound number at.pending at.waits
+
+  echo_answered : (role : Role) → IsSound role old → (a : Echo) (e : Effect) → EchoAnswered a old e → IsSound role e.node
+  echo_answered role sound a e (inl f) = by_row role e _ f.1 sound
+  echo_answered role sound a e (inr (at, inl f)) = by_row role e _ f.1 sound
+  echo_answered role sound a e (inr (at, inr (fits, gives))) = by_row role e _ gives (ends role sound a.number at)
+
+  module _ (sound : IsSound Serving old) where
+    opens : (a : CreateSessionResponse) → IsWhole (Create_session_response a) → (at : HasPending old a.number) (fits : FitsSession at.pending a) → IsAccepting a.cause → (new : DescribesSession old fits.session a) → IsAccepting new.context.cause → (e : Effect) → OpensSession old a fits.request fits.session new.at.session new.address e → IsSound Serving e.node
+    opens a whole at fits accepts new both e r =
+        let is = is_session Serving old sound a.number at.pending fits.request at.waits fits.asked in
+        let ask = is.0 in
+        let now = opened_session new.at.session a new.address in
+        let opened = opened_bearer r.default.bearer a in
+        let control : ask.request.control.teid ≡ fits.session = some_is ask.request.control.teid fits.session (sym ask.session ∙ fits.about) in
+        let user : ask.request.context.user.teid ≡ fits.request.context.user.teid = ap (λ (k : CreateSessionRequest). k.context.user.teid) is.1 in
+        let same : r.default.bearer ≡ ask.default.0 = one_value (get old.bearers fits.request.context.user.teid) r.default.bearer ask.default.0 r.default.stands (ap (λ k. get old.bearers k) (sym user) ∙ ask.default.1) in
+        let given = whole accepts in
+        let context = given.1 new.context (subst (λ k. Among new.context k) (sym new.alone) (inl refl)) both in
+        by_row Serving e _ r.gives
+        (subst (λ k. IsSound Serving (record old { sessions = insert old.sessions k now; bearers = insert old.bearers fits.request.context.user.teid opened; pending = remove old.pending a.number })) control
+        (subst (λ k. IsSound Serving (record old { sessions = insert old.sessions ask.request.control.teid now; bearers = insert old.bearers k opened; pending = remove old.pending a.number })) user
+        (session_opens Serving old sound a.number at.pending ask at.waits now opened refl given.0
+        (ap (λ (k : Bearer). k.session) same) (ap (λ (k : Bearer). k.identity) same) (ap (λ (k : Bearer). k.kind) same) refl
+        (context.0, ap first_created new.alone ∙ context.1))))
+
+    session_answered : (a : CreateSessionResponse) → IsWhole (Create_session_response a) → (e : Effect) → SessionAnswered a old e → IsSound Serving e.node
+    session_answered a whole e (inl f) = by_row Serving e _ f.1 sound
+    session_answered a whole e (inr (at, inl f)) = by_row Serving e _ f.1 sound
+    session_answered a whole e (inr (at, inr (fits, inl f))) = by_row Serving e _ f.1 (ends Serving sound a.number at)
+    session_answered a whole e (inr (at, inr (fits, inr (accepts, inl f)))) = by_row Serving e _ f.1 sound
+    session_answered a whole e (inr (at, inr (fits, inr (accepts, inr (new, inl f))))) = by_row Serving e _ f.1 (ends Serving sound a.number at)
+    session_answered a whole e (inr (at, inr (fits, inr (accepts, inr (new, inr (both, r)))))) = opens a whole at fits accepts new both e r
+
+    deletion_answered : (d : DeleteSessionResponse) (e : Effect) → DeletionAnswered d old e → IsSound Serving e.node
+    deletion_answered d e (inl f) = by_row Serving e _ f.1 sound
+    deletion_answered d e (inr (at, inl f)) = by_row Serving e _ f.1 sound
+    deletion_answered d e (inr (at, inr (fits, gives))) = by_row Serving e _ gives (ends Serving sound d.number at)
+
+    holds : (role : Role) → IsSound role old → (request : Arrival) (answer : Message) → length old.held < 4096 → IsSound role (holding request answer old)
+    holds role s request answer room = holding_sound role old s request answer room
+
+    bearer_asked : (request : Arrival) (q : CreateBearerRequest) (e : Effect) → BearerAsked request q old e → IsSound Serving e.node
+    bearer_asked request q e (inl f) = by_row Serving e _ f.1 sound
+    bearer_asked request q e (inr (room, inl f)) = by_row Serving e _ f.1 (holding_sound Serving old sound request _ room.few)
+    bearer_asked request q e (inr (room, inr (at, inl f))) = by_row Serving e _ f.1 sound
+    bearer_asked request q e (inr (room, inr (at, inr (active, inl f)))) = by_row Serving e _ f.1 (holding_sound Serving old sound request _ room.few)
+    bearer_asked request q e (inr (room, inr (at, inr (active, inr (one, inl f))))) = by_row Serving e _ f.1 (holding_sound Serving old sound request _ room.few)
+    bearer_asked request q e (inr (room, inr (at, inr (active, inr (one, inr (linked, inl f)))))) = by_row Serving e _ f.1 (holding_sound Serving old sound request _ room.few)
+    bearer_asked request q e (inr (room, inr (at, inr (active, inr (one, inr (linked, inr (free, r))))))) =
+        by_row Serving e _ r.gives (holding_sound Serving (record old { drawn = r.user ∷ old.drawn; bearers = insert old.bearers r.user (granted_bearer q r.identity) })
+        (bearer_comes Serving old sound r.user (granted_bearer q r.identity) r.user_free free.1.left
+        (record { own = inl refl; of = (at.session, at.stands); named = λ a. (q.context.user.teid, refl); blank = λ w. absurd (cc w); range = λ i e. subst IsIdentity (some_is r.identity i e) r.identity_free.range })
+        (λ t a i e same ia ib. r.identity_free.unused t a e same (ia ∙ sym ib)))
+        request _ room.few)
+
+  removes_each : (session : ℕ) (identities : List ℕ) (from : Node) (contexts : List RemovedBearer) (new : Node) → IsSound Serving from → RemovesEach session identities from contexts new → IsSound Serving new × (new.held ≡ from.held)
+  removes_each session [] from contexts new s r = (subst (λ n. IsSound Serving n) (sym r.1) s, ap (λ (n : Node). n.held) r.1)
+  removes_each session (identity ∷ rest) from contexts new s (others, inl f) = removes_each session rest from others new s f.1.1
+  removes_each session (identity ∷ rest) from contexts new s (others, inr (named, h)) = removes_each session rest (without_bearer from named.key) others new (without_bearer_sound Serving from s named.key named.at.bearer named.at.stands named.dedicated) h.1
+
+  module _ (sound : IsSound Serving old) where
+    removal_taken : (request : Arrival) (d : DeleteBearerRequest) (linked : Option ℕ) (s : Session) (e : Effect) → length old.held < 4096 → RemovalTaken request d linked old s e → IsSound Serving e.node
+    removal_taken request d (Some identity) s e room (inl f) = by_row Serving e _ f.1 (holding_sound Serving old sound request _ room)
+    removal_taken request d (Some identity) s e room (inr (linked, gives)) = by_row Serving e _ gives (holding_sound Serving (without_session old d.header) (without_session_sound Serving old sound d.header) request _ room)
+    removal_taken request d None s e room (inl f) = by_row Serving e _ f.1 (holding_sound Serving old sound request _ room)
+    removal_taken request d None s e room (inr (few, r)) =
+        let left = removes_each d.header d.identities old r.contexts r.left sound r.removes in
+        by_row Serving e _ r.gives (holding_sound Serving r.left left.0 request _ (subst (λ (h : List Held). length h < 4096) (sym left.1) room))
+
+    removal_asked : (request : Arrival) (d : DeleteBearerRequest) (e : Effect) → RemovalAsked request d old e → IsSound Serving e.node
+    removal_asked request d e (inl f) = by_row Serving e _ f.1 sound
+    removal_asked request d e (inr (room, inl f)) = by_row Serving e _ f.1 (holding_sound Serving old sound request _ room.few)
+    removal_asked request d e (inr (room, inr (at, inl f))) = by_row Serving e _ f.1 sound
+    removal_asked request d e (inr (room, inr (at, inr (opened, r)))) = removal_taken request d d.linked at.session e room.few r
+
+    serving_takes : (request : Arrival) (m : Message) → IsWhole m → (e : Effect) → ServingTakes request m old e → IsSound Serving e.node
+    serving_takes request =
+        by_serving (λ m. IsWhole m → (e : Effect) → ServingTakes request m old e → IsSound Serving e.node)
+        (λ q whole e r. by_row Serving e _ r sound)
+        (λ a whole e r. echo_answered Serving sound a e r)
+        (λ a whole e r. session_answered sound a whole e r)
+        (λ d whole e r. deletion_answered sound d e r)
+        (λ q whole e r. bearer_asked sound request q e r)
+        (λ d whole e r. removal_asked request d e r)
+        (λ m drops whole e r. by_row Serving e _ (drops.only request old e r) sound)
+
+  module _ (sound : IsSound Packet old) where
+    session_asked : (request : Arrival) (q : CreateSessionRequest) (e : Effect) → SessionAsked request q old e → IsSound Packet e.node
+    session_asked request q e (inl f) = by_row Packet e _ f.1 sound
+    session_asked request q e (inr (room, inl f)) = by_row Packet e _ f.1 (holding_sound Packet old sound request _ room.few)
+    session_asked request q e (inr (room, inr (one, inl f))) = by_row Packet e _ f.1 (holding_sound Packet old sound request _ room.few)
+    session_asked request q e (inr (room, inr (one, inr (identity, inl f)))) = by_row Packet e _ f.1 (holding_sound Packet old sound request _ room.few)
+    session_asked request q e (inr (room, inr (one, inr (identity, inr (configured, inl f))))) = by_row Packet e _ f.1 (holding_sound Packet old sound request _ room.few)
+    session_asked request q e (inr (room, inr (one, inr (identity, inr (configured, inr (pdn, inl f)))))) = by_row Packet e _ f.1 (holding_sound Packet old sound request _ room.few)
+    session_asked request q e (inr (room, inr (one, inr (identity, inr (configured, inr (pdn, inr (few, inl f))))))) = by_row Packet e _ f.1 (holding_sound Packet old sound request _ room.few)
+    session_asked request q e (inr (room, inr (one, inr (identity, inr (configured, inr (pdn, inr (few, inr (address, r)))))))) =
+        by_row Packet e _ r.gives (holding_sound Packet (session_made old q r.control r.user r.address)
+        (session_comes Packet old sound r.control r.user (made_session q r.address) (made_bearer q r.control) r.control_free r.user_free refl few.0.few few.1.left
+        (record { own = inr (inl refl); named = λ n. (q.control.teid, refl); blank = λ w. absurd (cc w) })
+        (record { own = inl refl; of = (made_session q r.address, get-insert_same old.sessions r.control (made_session q r.address)); named = λ a. (q.context.user.teid, refl); blank = λ w. absurd (cc w); range = λ i e. subst IsIdentity (some_is q.context.identity i e) identity }))
+        request _ room.few)
+
+    deletion_asked : (request : Arrival) (d : DeleteSessionRequest) (e : Effect) → DeletionAsked request d old e → IsSound Packet e.node
+    deletion_asked request d e (inl f) = by_row Packet e _ f.1 sound
+    deletion_asked request d e (inr (room, inl f)) = by_row Packet e _ f.1 (holding_sound Packet old sound request _ room.few)
+    deletion_asked request d e (inr (room, inr (at, inl f))) = by_row Packet e _ f.1 (holding_sound Packet old sound request _ room.few)
+    deletion_asked request d e (inr (room, inr (at, inr (linked, gives)))) = by_row Packet e _ gives (holding_sound Packet (without_session old d.header) (without_session_sound Packet old sound d.header) request _ room.few)
+
+    opens_bearer : (x : CreateBearerResponse) → IsWhole (Create_bearer_response x) → (at : HasPending old x.number) (fits : FitsBearer at.pending x) → IsAccepting x.cause → (new : DescribesBearer x) → IsAccepting new.context.cause → CanOpen old fits.session new.context.identity → (e : Effect) → OpensBearer old x fits.bearer e → IsSound Packet e.node
+    opens_bearer x whole at fits accepts new both can e r =
+        let is = is_bearer Packet old sound x.number at.pending fits.request at.waits fits.asked in
+        let ask = is.0 in
+        let key : ask.request.context.user.teid ≡ fits.bearer = some_is ask.request.context.user.teid fits.bearer (sym ask.bearer ∙ fits.about_bearer) in
+        let about : ask.about ≡ fits.session = some_is ask.about fits.session (sym ask.session ∙ fits.about) in
+        let opened = opened_dedicated r.at.bearer x in
+        let context = whole accepts new.context (subst (λ k. Among new.context k) (sym new.alone) (inl refl)) both in
+        let identity : opened.identity ≡ Some new.context.identity = ap first_identity new.alone in
+        let waits : At old.bearers ask.request.context.user.teid (IsBearerOf ask.about Dedicated Pending) =
+        ⊎_elim (λ w. w) (λ c. absurd (can.not_closing (ap (λ (k : Session). k.state) (one_value (get old.sessions fits.session) can.at.session c.1.0 can.at.stands (ap (λ k. get old.sessions k) (sym about) ∙ c.1.1)) ∙ c.1.2))) ask.wanted in
+        let same : r.at.bearer ≡ waits.0 = one_value (get old.bearers fits.bearer) r.at.bearer waits.0 r.at.stands (ap (λ k. get old.bearers k) (sym key) ∙ waits.1) in
+        by_row Packet e _ r.gives
+        (subst (λ k. IsSound Packet (record old { bearers = insert old.bearers k opened; pending = remove old.pending x.number })) key
+        (bearer_opens Packet old sound x.number at.pending ask.request r.at.bearer opened at.waits ask.asked
+        (ap (λ k. get old.bearers k) key ∙ r.at.stands)
+        (ap (λ (k : Bearer). k.kind) same ∙ waits.2.is_kind) (ap (λ (k : Bearer). k.state) same ∙ waits.2.in_state)
+        refl refl refl (context.0, ap first_given new.alone ∙ context.1)
+        (λ i e. subst IsIdentity (some_is new.context.identity i (sym identity ∙ e)) can.range)
+        (λ t a i e of ia ib. can.unused t a e (of ∙ (ap (λ (k : Bearer). k.session) same ∙ (waits.2.of ∙ about))) (ia ∙ (sym ib ∙ identity)))))
+
+    bearer_answered : (x : CreateBearerResponse) → IsWhole (Create_bearer_response x) → (e : Effect) → BearerAnswered x old e → IsSound Packet e.node
+    bearer_answered x whole e (inl f) = by_row Packet e _ f.1 sound
+    bearer_answered x whole e (inr (at, inl f)) = by_row Packet e _ f.1 sound
+    bearer_answered x whole e (inr (at, inr (fits, inl f))) = by_row Packet e _ f.1 (ends Packet sound x.number at)
+    bearer_answered x whole e (inr (at, inr (fits, inr (accepts, inl f)))) = by_row Packet e _ f.1 sound
+    bearer_answered x whole e (inr (at, inr (fits, inr (accepts, inr (new, inl f))))) = by_row Packet e _ f.1 (ends Packet sound x.number at)
+    bearer_answered x whole e (inr (at, inr (fits, inr (accepts, inr (new, inr (both, inl f)))))) = by_row Packet e _ f.1 sound
+    bearer_answered x whole e (inr (at, inr (fits, inr (accepts, inr (new, inr (both, inr (returned, inl f))))))) = by_row Packet e _ f.1 (ends Packet sound x.number at)
+    bearer_answered x whole e (inr (at, inr (fits, inr (accepts, inr (new, inr (both, inr (returned, inr (can, r)))))))) = opens_bearer x whole at fits accepts new both can e r
+
+    removal_answered : (d : DeleteBearerResponse) (e : Effect) → RemovalAnswered d old e → IsSound Packet e.node
+    removal_answered d e (inl f) = by_row Packet e _ f.1 sound
+    removal_answered d e (inr (at, inl f)) = by_row Packet e _ f.1 sound
+    removal_answered d e (inr (at, inr (fits, gives))) = by_row Packet e _ gives (ends Packet sound d.number at)
+
+    packet_takes : (request : Arrival) (m : Message) → IsWhole m → (e : Effect) → PacketTakes request m old e → IsSound Packet e.node
+    packet_takes request =
+        by_packet (λ m. IsWhole m → (e : Effect) → PacketTakes request m old e → IsSound Packet e.node)
+        (λ q whole e r. by_row Packet e _ r sound)
+        (λ a whole e r. echo_answered Packet sound a e r)
+        (λ q whole e r. session_asked request q e r)
+        (λ d whole e r. deletion_asked request d e r)
+        (λ x whole e r. bearer_answered x whole e r)
+        (λ d whole e r. removal_answered d e r)
+        (λ m drops whole e r. by_row Packet e _ (drops.only request old e r) sound)
+
+-- a counter is heard, and then the message is taken
+module _ (role : Role) (Takes : Node → Effect → Type 0) (takes : (node : Node) → IsSound role node → (e : Effect) → Takes node e → IsSound role e.node) (old : Node) (sound : IsSound role old) where
+  judges : (counter : ℕ) (a : Age) (e : Effect) → Judges Takes old counter a e → IsSound role e.node
+  judges counter Same e r = takes old sound e r
+  judges counter Later e r = takes (peer_restarted old counter) (restarted_sound old role sound counter) e r
+  judges counter Earlier e r = by_row role e _ r sound
+
+  weighs : (counter : ℕ) (known : Option ℕ) (e : Effect) → Weighs Takes old counter known e → IsSound role e.node
+  weighs counter None e r = takes (record old { known = Some counter }) (known_sound role old sound (Some counter)) e r
+  weighs counter (Some known) e r = judges counter (age_of known counter) e r
+
+  hears : (heard : Option ℕ) (e : Effect) → Hears Takes old heard e → IsSound role e.node
+  hears None e r = takes old sound e r
+  hears (Some counter) e r = by_row role e _ r.2 (weighs counter old.known r.0 r.1)
+
+serving_reads : (old : Node) → IsSound Serving old → (request : Arrival) (reading : ControlReading) → IsWellFormed (Control_came request reading) → (e : Effect) → ServingReads reading request old e → IsSound Serving e.node
+serving_reads old sound request (Control_message m) whole e (inl f) = by_row Serving e _ f.1 sound
+serving_reads old sound request (Control_message m) whole e (inr (taken, r)) = hears Serving (ServingTakes request m) (λ node s f rows. serving_takes node s request m whole f rows) old sound (recovery_of m) e r
+serving_reads old sound request (Faulty f) whole e r = faulted f.kind r
+  where
+    faulted : (kind : RequestKind) → ServingFaulted request f kind old e → IsSound Serving e.node
+    faulted Of_create_session r = by_row Serving e _ r sound
+    faulted Of_delete_session r = by_row Serving e _ r sound
+    faulted Of_create_bearer r = by_row Serving e _ r sound
+    faulted Of_delete_bearer r = by_row Serving e _ r sound
+serving_reads old sound request (Control_fault fault) whole e r = by_row Serving e _ r sound
+
+packet_reads : (old : Node) → IsSound Packet old → (request : Arrival) (reading : ControlReading) → IsWellFormed (Control_came request reading) → (e : Effect) → PacketReads reading request old e → IsSound Packet e.node
+packet_reads old sound request (Control_message m) whole e (inl f) = by_row Packet e _ f.1 sound
+packet_reads old sound request (Control_message m) whole e (inr (taken, r)) = hears Packet (PacketTakes request m) (λ node s f rows. packet_takes node s request m whole f rows) old sound (recovery_of m) e r
+packet_reads old sound request (Faulty f) whole e r = faulted f.kind r
+  where
+    faulted : (kind : RequestKind) → PacketFaulted request f kind old e → IsSound Packet e.node
+    faulted Of_create_session r = by_row Packet e _ r sound
+    faulted Of_delete_session r = by_row Packet e _ r sound
+    faulted Of_create_bearer r = by_row Packet e _ r sound
+    faulted Of_delete_bearer r = by_row Packet e _ r sound
+packet_reads old sound request (Control_fault fault) whole e r = by_row Packet e _ r sound
+
+control : (role : Role) (old : Node) → IsSound role old → (Reads : Arrival → Node → Effect → Type 0) (request : Arrival) (e : Effect) → (Reads request old e → IsSound role e.node) → ControlStep Reads request old e → IsSound role e.node
+control role old sound Reads request e reads (inl f) = by_row role e _ f.1 sound
+control role old sound Reads request e reads (inr (peer, inl r)) = by_row role e _ r.gives sound
+control role old sound Reads request e reads (inr (peer, inr r)) = reads r.1
+
+pub stays_sound : StaysSound
+stays_sound role old (Commanded c) e sound read r = command old role sound c read e r
+stays_sound Serving old (Control_came request reading) e sound read r = control Serving old sound (ServingReads reading) request e (serving_reads old sound request reading read e) r
+stays_sound Packet old (Control_came request reading) e sound read r = control Packet old sound (PacketReads reading) request e (packet_reads old sound request reading read e) r
+stays_sound role old (User_came source reading) e sound read r = user_step old role sound source reading e r
+stays_sound role old (Moves_on move) e sound read r = moves old role sound move e r
+
+reached_from : (role : Role) (old : Node) (log : List Done) (node : Node) → IsSound role old → Steps role old log node → AreWellFormed log → IsSound role node
+reached_from role old [] node sound steps read = subst (λ n. IsSound role n) (sym steps) sound
+reached_from role old (done ∷ log) node sound steps read = reached_from role done.effect.node log node (stays_sound role old done.input done.effect sound read.0 steps.1) steps.2 read.1
+
+pub reached_sound : ReachedIsSound
+reached_sound role config counter log node steps read = reached_from role (fresh_node config counter) log node (fresh role config counter) steps read

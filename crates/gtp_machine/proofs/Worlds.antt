@@ -1,0 +1,6 @@
+-- What holds of the world in each run.
+pub mod Hearing
+pub mod Kept
+pub mod Runs
+pub mod Safety
+pub mod Possible

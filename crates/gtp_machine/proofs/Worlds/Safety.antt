@@ -1,0 +1,230 @@
+-- The laws that hold at the end of each run.
+use Rattle.std.proofs.Common.{◌≡◌, ◌≢◌, inl, inr, ⊎_elim, ℕ, ◌≤◌, List, Option, Some, None, sym, ◌∙◌, ap, arith}
+use Rattle.std.specs.FinMap.{get}
+use Rattle.gtp_machine.specs.Element.{Subscriber, ipv4_of, teid_in}
+use Rattle.gtp_machine.specs.Message.{CreateSessionRequest, CreateSessionResponse, CreateBearerResponse, Message, Create_session_request, Create_session_response, Create_bearer_request, Create_bearer_response, Owns, recovery_of, subscriber_of, first_identity}
+use Rattle.gtp_machine.specs.Node.{Role, Serving, Packet, Pending, Active, Session, Bearer}
+use Rattle.gtp_machine.specs.Config.{Addresses}
+use Rattle.gtp_machine.specs.Choice.{counter_of}
+use Rattle.gtp_machine.specs.World.{World, Side, Sent, HasSent, side_of}
+use Rattle.gtp_machine.specs.Laws.{Always, Agree, SessionsAgree, MutualBearers, AgreeBearers, BearersAgree, IsOver, NoneOver, EachOwed, OneMessage, GoesBack, EachGoesBack, NamesGoBack, ResponsesGoBack, IsOfStart, NoneAhead, IsLatestHeard, KnownIsLatest, BearersOnce, EachOpened, EachClosesWhole, MadeOnce}
+use Rattle.gtp_machine.proofs.Origins.Drawing.{Drawing}
+use Rattle.gtp_machine.proofs.Origins.Contexts.{IsAskedWith, IsGranted, IsMadeWith, IsWanted}
+use Rattle.gtp_machine.proofs.Origins.Entries.{Once, same_request, same_user_request, same_answer, same_user_answer, same_bearer_answer, answer_not_request}
+use Rattle.gtp_machine.proofs.Worlds.Hearing.{Hearing, none_later}
+use Rattle.gtp_machine.proofs.Worlds.Runs.{SideInvariant, Invariant, always}
+use Rattle.gtp_machine.proofs.Basics.Options.{some_same}
+
+module _ (spelled : Message → List ℕ) (own : Addresses) (w : World) (inv : Invariant spelled own w) where
+  so : Once w.history Serving
+  so = inv.serving.draws.once
+
+  po : Once w.history Packet
+  po = inv.packet.draws.once
+
+  same_subscriber : (c d : Session) (q k : CreateSessionRequest) → c.subscriber ≡ subscriber_of q → d.subscriber ≡ subscriber_of k → q ≡ k → c.address ≡ d.address → Agree c d
+  same_subscriber c d q k x y same address =
+      let s : c.subscriber ≡ d.subscriber = x ∙ ap (λ k. subscriber_of k) same ∙ sym y in
+      record { imsi = ap (λ (k : Subscriber). k.imsi) s; access_point = ap (λ (k : Subscriber). k.access_point) s; identity = ap (λ (k : Subscriber). k.identity) s; address = address }
+
+  -- Sessions agree where that of the serving gateway has that of the packet gateway as its remote, opened by the answer that made it.
+  linked : (c d : ℕ) (s n : Session) → get w.serving.node.sessions c ≡ Some s → get w.packet.node.sessions d ≡ Some n → s.remote ≡ Some d → Agree s n
+  linked c d s n s_stands n_stands there =
+      let asked = inv.serving.knows.contexts.sessions_asked c s s_stands in
+      let opened = asked.opened d there in
+      let made = inv.packet.knows.contexts.sessions_made d n n_stands in
+      let answers = same_answer w.history po opened.answer made.answer opened.sent made.answered d (sym opened.remote ∙ there) made.control in
+      let requests = same_request w.history so asked.request made.request asked.sent made.asked (asked.control ∙ sym opened.header ∙ ap (λ (a : CreateSessionResponse). a.header) answers ∙ made.header) in
+      same_subscriber s n asked.request made.request asked.subscriber made.subscriber requests (opened.address ∙ ap (λ (a : CreateSessionResponse). ipv4_of a.address) answers ∙ sym made.address)
+
+  sessions_agree : SessionsAgree w
+  sessions_agree c d s n m = linked c d s n m.serving m.packet m.there
+
+  -- Bearers that name each other agree, and so do their sessions.
+  module _ (c d : ℕ) (b e : Bearer) (m : MutualBearers w c d b e) where
+    both_default : (s n : Session) → get w.serving.node.sessions b.session ≡ Some s → get w.packet.node.sessions e.session ≡ Some n → IsAskedWith w.history c b s → IsMadeWith w.history d e → AgreeBearers w b e
+    both_default s n s_stands n_stands o p =
+        let opened = o.opened d m.there in
+        let answers = same_user_answer w.history po opened.answer p.answer opened.sent p.answered d (sym opened.user ∙ m.there) p.user in
+        let requests = same_user_request w.history so o.request p.request o.sent p.asked (o.user ∙ some_same e.remote c p.request.context.user.teid m.back p.remote) in
+        record {
+          identity = o.identity ∙ ap (λ (q : CreateSessionRequest). Some q.context.identity) requests ∙ sym p.identity;
+          at_serving = s;
+          at_packet = n;
+          serving = s_stands;
+          packet = n_stands;
+          sessions = linked b.session e.session s n s_stands n_stands (opened.control ∙ ap (λ (a : CreateSessionResponse). teid_in a.control) answers ∙ p.control);
+        }
+
+    both_dedicated : (s n : Session) → get w.serving.node.sessions b.session ≡ Some s → get w.packet.node.sessions e.session ≡ Some n → IsGranted w.history c b s → IsWanted w.history d e → AgreeBearers w b e
+    both_dedicated s n s_stands n_stands g p =
+        let given = p.opened c m.back in
+        let answers = same_bearer_answer w.history so g.answer given.answer g.answered given.sent c g.user (sym given.remote ∙ m.back) in
+        record {
+          identity = g.identity ∙ ap (λ (x : CreateBearerResponse). first_identity x.contexts) answers ∙ sym given.identity;
+          at_serving = s;
+          at_packet = n;
+          serving = s_stands;
+          packet = n_stands;
+          sessions = linked b.session e.session s n s_stands n_stands (g.header ∙ ap (λ (x : CreateBearerResponse). Some x.header) answers ∙ ap (λ k. Some k) given.header);
+        }
+
+    bearers_agree : AgreeBearers w b e
+    bearers_agree =
+        let at = inv.serving.knows.contexts.bearers_asked c b m.serving in
+        let there = inv.packet.knows.contexts.bearers_made d e m.packet in
+        ⊎_elim
+        (λ o. ⊎_elim
+        (λ p. both_default at.session there.session at.stands there.stands o p)
+        (λ p. let opened = o.opened d m.there in absurd (answer_not_request w.history po opened.answer p.request opened.sent p.asked (sym opened.user ∙ m.there ∙ ap (λ k. Some k) (sym p.user))))
+        there.origin)
+        (λ g. ⊎_elim
+        (λ p. absurd (answer_not_request w.history po p.answer g.request p.answered g.asked (p.user ∙ sym m.there ∙ g.remote)))
+        (λ p. both_dedicated at.session there.session at.stands there.stands g p)
+        there.origin)
+        at.origin
+
+  -- the TEIDs of a session go back to messages
+  session_goes_back : (role : Role) (t : ℕ) (s : Session) → get (side_of w role).node.sessions t ≡ Some s → GoesBack w.history role t s.remote
+  session_goes_back Serving t s stands =
+      let asked = inv.serving.knows.contexts.sessions_asked t s stands in
+      record {
+        here = record { message = Create_session_request asked.request; sent = asked.sent; owns = inl (sym asked.control) };
+        there = λ r e. let opened = asked.opened r e in record { message = Create_session_response opened.answer; sent = opened.sent; owns = inl (sym opened.remote ∙ e) };
+      }
+  session_goes_back Packet t s stands =
+      let made = inv.packet.knows.contexts.sessions_made t s stands in
+      record {
+        here = record { message = Create_session_response made.answer; sent = made.answered; owns = inl made.control };
+        there = λ r e. record { message = Create_session_request made.request; sent = made.asked; owns = inl (one s.remote r made.request.control.teid e made.remote) };
+      }
+    where
+      one : (o : Option ℕ) (s t : ℕ) → o ≡ Some s → o ≡ Some t → s ≡ t
+      one o s t x y = cc
+
+  bearer_goes_back : (role : Role) (t : ℕ) (b : Bearer) → get (side_of w role).node.bearers t ≡ Some b → GoesBack w.history role t b.remote
+  bearer_goes_back Serving t b stands =
+      ⊎_elim
+      (λ o. record {
+        here = record { message = Create_session_request o.request; sent = o.sent; owns = inr (sym o.user) };
+        there = λ r e. let opened = o.opened r e in record { message = Create_session_response opened.answer; sent = opened.sent; owns = inr (sym opened.user ∙ e) };
+      })
+      (λ g. record {
+        here = record { message = Create_bearer_response g.answer; sent = g.answered; owns = g.user };
+        there = λ r e. record { message = Create_bearer_request g.request; sent = g.asked; owns = one b.remote r g.request.context.user.teid e g.remote };
+      })
+      (inv.serving.knows.contexts.bearers_asked t b stands).origin
+    where
+      one : (o : Option ℕ) (s t : ℕ) → o ≡ Some s → o ≡ Some t → s ≡ t
+      one o s t x y = cc
+  bearer_goes_back Packet t b stands =
+      ⊎_elim
+      (λ o. record {
+        here = record { message = Create_session_response o.answer; sent = o.answered; owns = inr o.user };
+        there = λ r e. record { message = Create_session_request o.request; sent = o.asked; owns = inr (one b.remote r o.request.context.user.teid e o.remote) };
+      })
+      (λ p. record {
+        here = record { message = Create_bearer_request p.request; sent = p.asked; owns = sym p.user };
+        there = λ r e. let given = p.opened r e in record { message = Create_bearer_response given.answer; sent = given.sent; owns = sym given.remote ∙ e };
+      })
+      (inv.packet.knows.contexts.bearers_made t b stands).origin
+    where
+      one : (o : Option ℕ) (s t : ℕ) → o ≡ Some s → o ≡ Some t → s ≡ t
+      one o s t x y = cc
+
+-- no session of a gateway is over
+none_over : (history : List Sent) (role : Role) (side peer : Side) → SideInvariant history role side peer → peer.restarts ≤ 127 → (t : ℕ) (s : Session) → get side.node.sessions t ≡ Some s → IsOver side s → ⊥
+none_over history role side peer inv few t s stands over =
+    let k = counter_of over.remote in
+    none_later peer few side.seen k over.counter (inv.hearing.latest k ((inv.knows.standing t s stands).current over.remote over.has)) over.heard over.earlier
+
+drawn_of_start : (side : Side) (role : Role) (history : List Sent) → Drawing side role history → (m : Message) (t : ℕ) → HasSent history role m → Owns m t → IsOfStart side (counter_of t)
+drawn_of_start side role history drawing m t has owns = ⊎_elim
+    (λ now. record { start = side.restarts; by_now = omega arith; is = drawing.present t now ∙ drawing.counter })
+    (λ earlier. record { start = earlier.start; by_now = omega (arith, earlier.before); is = earlier.is })
+    (drawing.drawn m t has owns)
+
+latest_heard : (peer : Side) (known : Option ℕ) (seen : List ℕ) → peer.restarts ≤ 127 → Hearing peer known seen → IsLatestHeard known seen
+latest_heard peer known seen few h = record {
+  none = h.none;
+  heard = λ k e. (h.latest k e).heard;
+  latest = λ k c e among later. none_later peer few seen k c (h.latest k e) among later;
+}
+
+pub always_sessions : Always SessionsAgree
+always_sessions spelled serving packet sc pc events w r = sessions_agree spelled packet.own w (always spelled serving packet sc pc events w r)
+
+pub always_bearers : Always BearersAgree
+always_bearers spelled serving packet sc pc events w r c d b e m = bearers_agree spelled packet.own w (always spelled serving packet sc pc events w r) c d b e m
+
+pub always_none_over : Always NoneOver
+always_none_over spelled serving packet sc pc events w r Serving t s = let inv = always spelled serving packet sc pc events w r in none_over w.history Serving w.serving w.packet inv.serving inv.packet.draws.few t s
+always_none_over spelled serving packet sc pc events w r Packet t s = let inv = always spelled serving packet sc pc events w r in none_over w.history Packet w.packet w.serving inv.packet inv.serving.draws.few t s
+
+pub always_owed : Always EachOwed
+always_owed spelled serving packet sc pc events w r = (always spelled serving packet sc pc events w r).owed
+
+pub always_one_message : Always OneMessage
+always_one_message spelled serving packet sc pc events w r Serving = (always spelled serving packet sc pc events w r).serving.draws.once
+always_one_message spelled serving packet sc pc events w r Packet = (always spelled serving packet sc pc events w r).packet.draws.once
+
+pub always_names_back : Always NamesGoBack
+always_names_back spelled serving packet sc pc events w r = (always spelled serving packet sc pc events w r).named
+
+pub always_goes_back : Always EachGoesBack
+always_goes_back spelled serving packet sc pc events w r = let inv = always spelled serving packet sc pc events w r in record { sessions = session_goes_back spelled packet.own w inv; bearers = bearer_goes_back spelled packet.own w inv }
+
+pub always_responses : Always ResponsesGoBack
+always_responses spelled serving packet sc pc events w r =
+    let inv = always spelled serving packet sc pc events w r in
+    record {
+      sessions = λ a has. (inv.packet.draws.proper (Create_session_response a) has).answers;
+      bearers = λ x has. (inv.serving.draws.proper (Create_bearer_response x) has).answers;
+    }
+
+pub always_none_ahead : Always NoneAhead
+always_none_ahead spelled serving packet sc pc events w r = record { told = told; drawn = drawn }
+  where
+    inv : Invariant spelled packet.own w
+    inv = always spelled serving packet sc pc events w r
+
+    told : (role : Role) (m : Message) (c : ℕ) → HasSent w.history role m → recovery_of m ≡ Some c → IsOfStart (side_of w role) c
+    told Serving m c = inv.serving.draws.told m c
+    told Packet m c = inv.packet.draws.told m c
+
+    drawn : (role : Role) (m : Message) (t : ℕ) → HasSent w.history role m → Owns m t → IsOfStart (side_of w role) (counter_of t)
+    drawn Serving = drawn_of_start w.serving Serving w.history inv.serving.draws
+    drawn Packet = drawn_of_start w.packet Packet w.history inv.packet.draws
+
+pub always_known : Always KnownIsLatest
+always_known spelled serving packet sc pc events w r Serving = let inv = always spelled serving packet sc pc events w r in latest_heard w.packet w.serving.node.known w.serving.seen inv.packet.draws.few inv.serving.hearing
+always_known spelled serving packet sc pc events w r Packet = let inv = always spelled serving packet sc pc events w r in latest_heard w.serving w.packet.node.known w.packet.seen inv.serving.draws.few inv.packet.hearing
+
+pub always_once : Always BearersOnce
+always_once spelled serving packet sc pc events w r = (always spelled serving packet sc pc events w r).once
+
+pub always_opened : Always EachOpened
+always_opened spelled serving packet sc pc events w r = record { named = named; blank = blank; bearers = bearers }
+  where
+    inv : Invariant spelled packet.own w
+    inv = always spelled serving packet sc pc events w r
+
+    named : (role : Role) (t : ℕ) (s : Session) → get (side_of w role).node.sessions t ≡ Some s → s.state ≢ Pending → (remote : ℕ) × (s.remote ≡ Some remote)
+    named Serving t s stands = (inv.serving.knows.standing t s stands).named
+    named Packet t s stands = (inv.packet.knows.standing t s stands).named
+
+    blank : (role : Role) (t : ℕ) (s : Session) → get (side_of w role).node.sessions t ≡ Some s → s.state ≡ Pending → s.remote ≡ None
+    blank Serving t s stands = (inv.serving.knows.standing t s stands).blank
+    blank Packet t s stands = (inv.packet.knows.standing t s stands).blank
+
+    bearers : (role : Role) (t : ℕ) (b : Bearer) → get (side_of w role).node.bearers t ≡ Some b → b.state ≡ Active → (remote : ℕ) × (b.remote ≡ Some remote)
+    bearers Serving = inv.serving.knows.ready
+    bearers Packet = inv.packet.knows.ready
+
+pub always_closes_whole : Always EachClosesWhole
+always_closes_whole spelled serving packet sc pc events w r Serving = (always spelled serving packet sc pc events w r).serving.knows.closed
+always_closes_whole spelled serving packet sc pc events w r Packet = (always spelled serving packet sc pc events w r).packet.knows.closed
+
+pub always_made_once : Always MadeOnce
+always_made_once spelled serving packet sc pc events w r Serving = (always spelled serving packet sc pc events w r).serving.making.once
+always_made_once spelled serving packet sc pc events w r Packet = (always spelled serving packet sc pc events w r).packet.making.once

@@ -1,0 +1,21 @@
+-- The laws are proved in `Sound`.
+use Rattle.gtp_machine.proofs.Sound.Rows.{stays_sound, reached_sound}
+use Rattle.gtp_machine.proofs.Sound.Steps.{always_steps}
+use Rattle.gtp_machine.proofs.Sound.Reads.{reads_whole}
+use Rattle.gtp_machine.proofs.Sound.Changes.{fresh}
+use Rattle.gtp_machine.proofs.laws.sound_nodes.Goals as goal
+
+pub returns-clause-starts : goal.returns-clause-starts
+returns-clause-starts c = λ role config counter. fresh role config counter
+
+pub returns-clause-stays : goal.returns-clause-stays
+returns-clause-stays c = stays_sound
+
+pub returns-clause-reached : goal.returns-clause-reached
+returns-clause-reached c = reached_sound
+
+pub returns-clause-steps : goal.returns-clause-steps
+returns-clause-steps c = always_steps
+
+pub returns-clause-whole : goal.returns-clause-whole
+returns-clause-whole c = reads_whole
