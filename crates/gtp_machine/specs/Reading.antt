@@ -20,7 +20,7 @@ use Rattle.gtp_v2.specs.declared.body.delete_bearer_response.RemovalResponseCont
 use Rattle.gtp_v2.specs.declared.fault.Head.{Head}
 use Rattle.gtp_v2.specs.declared.fault.V2Fault.{V2Fault}
 use Rattle.gtp_v2.specs.declared.fault.V2Fault.TheVariants as faults
-use Rattle.gtp_v2.specs.Body.{kind_of, spoken_of}
+use Rattle.gtp_v2.specs.Body.{kind_of, message_value}
 use Rattle.gtp_v2.specs.Datagram.{IsMessage, IsFault}
 use Rattle.gtp_user.specs.declared.message.UserBody.{UserBody}
 use Rattle.gtp_user.specs.declared.message.UserBody.TheVariants as user_bodies
@@ -173,7 +173,7 @@ control_fault faults.TooLong = Control_fault 9
 -- The octets of a control datagram (TS 29.274, 5 to 8) read so: they spell this message, or this is their first fault.
 abbrev pub ControlReads : List ℕ → ControlReading → Type 0
 ControlReads octets reading =
-    ((m : decoded.Message) × IsMessage octets (spoken_of m) × (reading ≡ Control_message (control_message m)))
+    ((m : decoded.Message) × IsMessage octets (message_value m) × (reading ≡ Control_message (control_message m)))
     ⊎ ((fault : V2Fault) × IsFault octets fault × (reading ≡ control_fault fault))
 
 -- what a user plane message carries, by its type (TS 29.281, 6.1); the sequence number counts in Echo messages alone
@@ -207,7 +207,7 @@ user_fault user_faults.TooLong = User_fault 11
 -- The octets of a user plane datagram (TS 29.281, 5, 7 and 8) read so: they spell this message, or this is their first fault.
 abbrev pub UserReads : List ℕ → UserReading → Type 0
 UserReads octets reading =
-    ((m : UserMessage) × IsUserMessage octets (user_messages.spoken_of m) × (reading ≡ User_message (user_message m)))
+    ((m : UserMessage) × IsUserMessage octets (user_messages.message_value m) × (reading ≡ User_message (user_message m)))
     ⊎ ((fault : UserFault) × IsUserFault octets fault × (reading ≡ user_fault fault))
 
 -- Octets of the control plane read in at most one way.
@@ -220,8 +220,8 @@ UserReadsOnce = (octets : List ℕ) (r s : UserReading) → UserReads octets r �
 
 -- Each Create Session Request that is decoded reads as one, for the subscriber and the access point that it names.
 abbrev pub KeepsSubscriber : Type 0
-KeepsSubscriber = (octets : List ℕ) (m : decoded.Message) (q : session_requests.CreateSessionRequest) → IsMessage octets (spoken_of m) → m.body ≡ bodies.CreateSessionRequest q → (r : CreateSessionRequest) × (control_message m ≡ Create_session_request r) × (r.imsi ≡ q.imsi) × (r.access_point ≡ q.apn)
+KeepsSubscriber = (octets : List ℕ) (m : decoded.Message) (q : session_requests.CreateSessionRequest) → IsMessage octets (message_value m) → m.body ≡ bodies.CreateSessionRequest q → (r : CreateSessionRequest) × (control_message m ≡ Create_session_request r) × (r.imsi ≡ q.imsi) × (r.access_point ≡ q.apn)
 
 -- Each Create Bearer Request that is decoded reads as one, for the session that its header names and with its linked identity.
 abbrev pub KeepsSession : Type 0
-KeepsSession = (octets : List ℕ) (m : decoded.Message) (q : bearer_requests.CreateBearerRequest) → IsMessage octets (spoken_of m) → m.body ≡ bodies.CreateBearerRequest q → (r : CreateBearerRequest) × (control_message m ≡ Create_bearer_request r) × (r.header ≡ header_in m.teid) × (r.linked ≡ q.linked_ebi.0)
+KeepsSession = (octets : List ℕ) (m : decoded.Message) (q : bearer_requests.CreateBearerRequest) → IsMessage octets (message_value m) → m.body ≡ bodies.CreateBearerRequest q → (r : CreateBearerRequest) × (control_message m ≡ Create_bearer_request r) × (r.header ≡ header_in m.teid) × (r.linked ≡ q.linked_ebi.0)

@@ -7,7 +7,7 @@ use Rattle.gtp_v2.specs.Table.{Field, Table}
 use Rattle.gtp_v2.specs.Tables.{table_of}
 use Rattle.gtp_v2.specs.Headed.{Headed}
 use Rattle.gtp_v2.specs.Header.{IsHeaded}
-use Rattle.gtp_v2.specs.Message.{Content, Fields, Raw, raw_of, Spoken}
+use Rattle.gtp_v2.specs.Message.{Content, Fields, Raw, raw_of, MessageValue}
 use Rattle.gtp_v2.specs.Datagram.{CarriesBy, IsMessage}
 use Rattle.gtpshow.specs.Control.{place_of}
 
@@ -34,11 +34,11 @@ by_table None h fields c = absurd cc
 by_table (Some table) h fields (flag, others, (es, are, lines), e) = (es, are)
 
 -- what a message with fields carries is elements
-pub elements_in : (octets : List ℕ) (m : Spoken) (fields : List Field) → IsMessage octets m → m.content ≡ Fields fields → (es : List Element) × AreElements (place_of m.teid) (drop (place_of m.teid) octets) es
+pub elements_in : (octets : List ℕ) (m : MessageValue) (fields : List Field) → IsMessage octets m → m.content ≡ Fields fields → (es : List Element) × AreElements (place_of m.teid) (drop (place_of m.teid) octets) es
 elements_in octets m fields (h, headed, (content, carries, e)) has =
     let b = after_header octets h headed in
-    let same : place_of m.teid ≡ h.at = ap (λ (x : Spoken). place_of x.teid) e ∙ b.place in
-    let typed : content ≡ Fields fields = sym (ap (λ (x : Spoken). x.content) e) ∙ has in
+    let same : place_of m.teid ≡ h.at = ap (λ (x : MessageValue). place_of x.teid) e ∙ b.place in
+    let typed : content ≡ Fields fields = sym (ap (λ (x : MessageValue). x.content) e) ∙ has in
     let found = by_table (table_of h.kind) h fields (subst (CarriesBy (table_of h.kind) h) typed carries) in
     (found.0, subst (λ (n : ℕ). AreElements n (drop n octets) found.0) (sym same) (subst (λ (xs : List ℕ). AreElements h.at xs found.0) (sym b.rest) found.1))
 

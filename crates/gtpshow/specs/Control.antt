@@ -9,7 +9,7 @@ use Rattle.gtp_v2.specs.declared.fault.V2Fault.{V2Fault}
 use Rattle.gtp_v2.specs.declared.fault.V2Fault.TheVariants as faults
 use Rattle.gtp_v2.specs.Table.{Table}
 use Rattle.gtp_v2.specs.Tables.{table_of}
-use Rattle.gtp_v2.specs.Message.{Content, Fields, Raw, Spoken}
+use Rattle.gtp_v2.specs.Message.{Content, Fields, Raw, MessageValue}
 use Rattle.gtp_v2.specs.Datagram.{IsMessage, IsFault}
 use Rattle.gtpshow.specs.Text.{octets_text, teid_text}
 use Rattle.gtpshow.specs.Values.{field_shown, raw_shown, body_shown}
@@ -52,7 +52,7 @@ unfoldable pub title_shown : ℕ → List ℕ
 title_shown kind = field_shown (codes "gtpv2 type ") kind ++ (codes " " ++ message_name kind)
 
 -- the first line of a message
-abbrev pub head_line : Spoken → List ℕ
+abbrev pub head_line : MessageValue → List ℕ
 head_line m = title_shown m.kind ++ (teid_shown m.teid ++ (field_shown (codes " seq ") m.seq ++ (priority_shown m.priority ++ codes "\n")))
 
 -- where what a message carries begins
@@ -61,7 +61,7 @@ place_of None = 8
 place_of (Some teid) = 12
 
 -- the lines after the first: those of the elements in the datagram's order, or the octets of a message of another type
-abbrev pub CarriedLines : List ℕ → Spoken → Content → List ℕ → Type 0
+abbrev pub CarriedLines : List ℕ → MessageValue → Content → List ℕ → Type 0
 CarriedLines octets m (Raw carried) lines = lines ≡ codes "octets " ++ (octets_text carried ++ codes "\n")
 CarriedLines octets m (Fields fields) lines =
     (es : List Element) × AreElements (place_of m.teid) (drop (place_of m.teid) octets) es × (lines ≡ flat_map element_lines es)
@@ -98,10 +98,10 @@ abbrev pub fault_line : V2Fault → List ℕ
 fault_line f = codes "fault " ++ (fault_shown f ++ codes "\n")
 
 -- the text is other text, and then the lines of a message that the octets spell
-abbrev pub HasLines : List ℕ → List ℕ → Spoken → List ℕ → Type 0
+abbrev pub HasLines : List ℕ → List ℕ → MessageValue → List ℕ → Type 0
 HasLines before octets m text = (lines : List ℕ) × CarriedLines octets m m.content lines × (text ≡ before ++ (head_line m ++ lines))
 
 -- the lines of a control datagram, and whether they are a fault's
 abbrev pub ControlLines : List ℕ → List ℕ → Bool → Type 0
 ControlLines octets text true = (f : V2Fault) × IsFault octets f × (text ≡ fault_line f)
-ControlLines octets text false = (m : Spoken) × IsMessage octets m × HasLines [] octets m text
+ControlLines octets text false = (m : MessageValue) × IsMessage octets m × HasLines [] octets m text

@@ -4,7 +4,7 @@ ghost use Rattle.std.specs.Prelude.{◌≡◌, ◌+◌, ◌++◌, OnOk, option_m
 ghost use Rattle.std.specs.List.{flat_map};
 ghost use Rattle.gtp_ie.specs.Element.{elements_of};
 ghost use Rattle.gtp_ie.specs.View.{element_of};
-ghost use Rattle.gtp_v2.specs.Body.{spoken_of};
+ghost use Rattle.gtp_v2.specs.Body.{message_value};
 ghost use Rattle.gtpshow.specs.Control.{element_head, inner_line, element_lines, message_name as spec_message_name, teid_shown, priority_shown, title_shown, head_line, group_shown, element_fault, mark_shown, fault_shown, fault_line};
 
 use crate::text::{put, put_teid};
@@ -132,7 +132,7 @@ fn put_title(out: &mut Vec<u8>, kind: u8) -> Result<(), AllocError>
 /// Appends the first line of a message.
 #[tactic(auto, using(crate::proofs::Appends::appending))]
 pub fn put_head(out: &mut Vec<u8>, message: &Message) -> Result<(), AllocError>
-    ensures ok { OnOk result (out.new.items ≡ out.old.items ++ head_line (spoken_of message.now)) }
+    ensures ok { OnOk result (out.new.items ≡ out.old.items ++ head_line (message_value message.now)) }
 {
     put_title(out, message.body.kind())?;
     put_some_teid(out, message.teid)?;

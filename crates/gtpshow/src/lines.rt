@@ -1,7 +1,7 @@
 //! The lines of a datagram.
 
 ghost use Rattle.std.specs.Prelude.{◌≡◌, OnOk, IfOk, option_map};
-ghost use Rattle.gtp_v2.specs.Body.{spoken_of};
+ghost use Rattle.gtp_v2.specs.Body.{message_value};
 ghost use Rattle.gtp_v2.specs.Datagram.{IsMessage};
 ghost use Rattle.gtpshow.specs.Control.{place_of, ControlLines, HasLines};
 ghost use Rattle.gtpshow.specs.User.{UserLines};
@@ -36,8 +36,8 @@ fn place(teid: Option<Teid>) -> usize
 
 /// Appends the lines of a message that these octets spell.
 fn put_message(out: &mut Vec<u8>, octets: &[u8], message: &Message) -> Result<(), AllocError>
-    requires { IsMessage octets.now (spoken_of message.now) }
-    ensures ok { OnOk result (HasLines out.old.items octets.now (spoken_of message.now) out.new.items) }
+    requires { IsMessage octets.now (message_value message.now) }
+    ensures ok { OnOk result (HasLines out.old.items octets.now (message_value message.now) out.new.items) }
 {
     put_head(out, message)?;
     if let Some(carried) = message.body.octets() {

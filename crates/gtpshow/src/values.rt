@@ -225,8 +225,8 @@ impl Show for FTeid {
         put_number(out, u64::from(self.interface()))?;
         put(out, b" ")?;
         put_teid(out, self.teid())?;
-        put_some_v4(out, self.v4())?;
-        put_some_v6(out, self.v6())
+        put_some_v4(out, &self.v4())?;
+        put_some_v6(out, &self.v6())
     }
 }
 

@@ -24,8 +24,8 @@ use Rattle.gtp_v2.specs.CreateSessionResponse.{session_response_context_values}
 use Rattle.gtp_v2.specs.CreateBearerRequest.{create_bearer_request_fields, bearer_request_context_values}
 use Rattle.gtp_v2.specs.CreateBearerResponse.{bearer_response_context_values}
 use Rattle.gtp_v2.specs.DeleteBearerResponse.{removal_response_context_values}
-use Rattle.gtp_v2.specs.Message.{Content, Fields, Raw, Spoken}
-use Rattle.gtp_v2.specs.Body.{kind_of, content_of, spoken_of}
+use Rattle.gtp_v2.specs.Message.{Content, Fields, Raw, MessageValue}
+use Rattle.gtp_v2.specs.Body.{kind_of, content_of, message_value}
 use Rattle.gtp_v2.proofs.Told as control
 use Rattle.gtp_user.specs.declared.message.UserBody.{UserBody}
 use Rattle.gtp_user.specs.declared.message.UserBody.TheVariants as user_bodies
@@ -293,10 +293,10 @@ body_read header number (bodies.DeleteBearerResponse d) =
 body_read header number other = refl
 
 -- the message of what a datagram says
-abbrev said : Spoken → Message
+abbrev said : MessageValue → Message
 said m = content_message m.kind (written m.teid) m.seq m.content
 
-said_is : (m : decoded.Message) → control_message m ≡ said (spoken_of m)
+said_is : (m : decoded.Message) → control_message m ≡ said (message_value m)
 said_is m = body_read (written (option_map (λ t. t.0) m.teid)) m.seq m.body
 
 ok_same : {X E : Type 0} (r : Result X E) (x y : X) → r ≡ Ok x → r ≡ Ok y → x ≡ y
@@ -311,9 +311,9 @@ ok_not_err r x f a b = let e : Ok x ≡ Err f = sym a ∙ b in cc e
 pub control_reads_once : ControlReadsOnce
 control_reads_once octets r s (inl (m, is, as_m)) (inl (n, also, as_n)) =
     let d = control.message_decided octets in
-    as_m ∙ ap (λ k. Control_message k) (said_is m ∙ ap said (ok_same _ (spoken_of m) (spoken_of n) (d.is (spoken_of m) is) (d.is (spoken_of n) also)) ∙ sym (said_is n)) ∙ sym as_n
-control_reads_once octets r s (inl (m, is, as_m)) (inr (f, fails, as_f)) = let d = control.message_decided octets in absurd (ok_not_err _ (spoken_of m) f (d.is (spoken_of m) is) (d.fails f fails))
-control_reads_once octets r s (inr (f, fails, as_f)) (inl (m, is, as_m)) = let d = control.message_decided octets in absurd (ok_not_err _ (spoken_of m) f (d.is (spoken_of m) is) (d.fails f fails))
+    as_m ∙ ap (λ k. Control_message k) (said_is m ∙ ap said (ok_same _ (message_value m) (message_value n) (d.is (message_value m) is) (d.is (message_value n) also)) ∙ sym (said_is n)) ∙ sym as_n
+control_reads_once octets r s (inl (m, is, as_m)) (inr (f, fails, as_f)) = let d = control.message_decided octets in absurd (ok_not_err _ (message_value m) f (d.is (message_value m) is) (d.fails f fails))
+control_reads_once octets r s (inr (f, fails, as_f)) (inl (m, is, as_m)) = let d = control.message_decided octets in absurd (ok_not_err _ (message_value m) f (d.is (message_value m) is) (d.fails f fails))
 control_reads_once octets r s (inr (f, fails, as_f)) (inr (g, also, as_g)) =
     let d = control.message_decided octets in
     as_f ∙ ap control_fault (err_same _ f g (d.fails f fails) (d.fails g also)) ∙ sym as_g
@@ -328,7 +328,7 @@ user_content number (user_messages.EndMarker teid) = End_marker teid
 user_content number (user_messages.Packet teid payload) = Packet_data teid payload
 user_content number (user_messages.Other kind teid octets) = Other_user kind
 
-abbrev user_said : user_messages.Spoken → Message
+abbrev user_said : user_messages.MessageValue → Message
 user_said m = user_content m.seq m.content
 
 user_body_read : (number : Option ℕ) (body : UserBody) → user_body_message number body ≡ user_content number (user_messages.content_of body)
@@ -340,15 +340,15 @@ user_body_read number (user_bodies.EndMarker teid) = refl
 user_body_read number (user_bodies.Packet teid payload) = refl
 user_body_read number (user_bodies.Other kind teid octets) = refl
 
-user_said_is : (m : UserMessage) → user_message m ≡ user_said (user_messages.spoken_of m)
+user_said_is : (m : UserMessage) → user_message m ≡ user_said (user_messages.message_value m)
 user_said_is m = user_body_read m.seq m.body
 
 pub user_reads_once : UserReadsOnce
 user_reads_once octets r s (inl (m, is, as_m)) (inl (n, also, as_n)) =
     let d = user.message_decided octets in
-    as_m ∙ ap (λ k. User_message k) (user_said_is m ∙ ap user_said (ok_same _ (user_messages.spoken_of m) (user_messages.spoken_of n) (d.is (user_messages.spoken_of m) is) (d.is (user_messages.spoken_of n) also)) ∙ sym (user_said_is n)) ∙ sym as_n
-user_reads_once octets r s (inl (m, is, as_m)) (inr (f, fails, as_f)) = let d = user.message_decided octets in absurd (ok_not_err _ (user_messages.spoken_of m) f (d.is (user_messages.spoken_of m) is) (d.fails f fails))
-user_reads_once octets r s (inr (f, fails, as_f)) (inl (m, is, as_m)) = let d = user.message_decided octets in absurd (ok_not_err _ (user_messages.spoken_of m) f (d.is (user_messages.spoken_of m) is) (d.fails f fails))
+    as_m ∙ ap (λ k. User_message k) (user_said_is m ∙ ap user_said (ok_same _ (user_messages.message_value m) (user_messages.message_value n) (d.is (user_messages.message_value m) is) (d.is (user_messages.message_value n) also)) ∙ sym (user_said_is n)) ∙ sym as_n
+user_reads_once octets r s (inl (m, is, as_m)) (inr (f, fails, as_f)) = let d = user.message_decided octets in absurd (ok_not_err _ (user_messages.message_value m) f (d.is (user_messages.message_value m) is) (d.fails f fails))
+user_reads_once octets r s (inr (f, fails, as_f)) (inl (m, is, as_m)) = let d = user.message_decided octets in absurd (ok_not_err _ (user_messages.message_value m) f (d.is (user_messages.message_value m) is) (d.fails f fails))
 user_reads_once octets r s (inr (f, fails, as_f)) (inr (g, also, as_g)) =
     let d = user.message_decided octets in
     as_f ∙ ap user_fault (err_same _ f g (d.fails f fails) (d.fails g also)) ∙ sym as_g

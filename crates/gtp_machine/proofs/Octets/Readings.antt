@@ -8,8 +8,8 @@ use Rattle.gtp_v2.specs.CreateSessionRequest.{create_session_request, create_ses
 use Rattle.gtp_v2.specs.CreateBearerRequest.{create_bearer_request, create_bearer_request_fields, bearer_request_context_values}
 use Rattle.gtp_v2.specs.Tables.{table_of}
 use Rattle.gtp_v2.specs.Headed.{Headed}
-use Rattle.gtp_v2.specs.Message.{Content, Fields, Raw, Spoken}
-use Rattle.gtp_v2.specs.Body.{kind_of, content_of, spoken_of}
+use Rattle.gtp_v2.specs.Message.{Content, Fields, Raw, MessageValue}
+use Rattle.gtp_v2.specs.Body.{kind_of, content_of, message_value}
 use Rattle.gtp_v2.specs.Datagram.{IsMessage, CarriesBy}
 use Rattle.gtp_machine.specs.Reading.{body_message, session_request_of, bearer_request_of, header_in, KeepsSubscriber, KeepsSession}
 
@@ -27,24 +27,24 @@ some_context values [] groups same some = let few : 0 < 0 = subst (λ (g : List 
 some_context values (first ∷ further) groups same some = (first, further, refl)
 
 -- the fields of a message whose type has a table are those of its lines
-typed_lines : (kind : ℕ) (table : Table) (octets : List ℕ) (m : Spoken) (fields : List Field) → ((h : Headed) (content : Content) → h.kind ≡ kind → CarriesBy (table_of h.kind) h content → CarriesBy (Some table) h content) → m.kind ≡ kind → m.content ≡ Fields fields → IsMessage octets m → (es : List Element) × LinesAre start table.lines es fields
+typed_lines : (kind : ℕ) (table : Table) (octets : List ℕ) (m : MessageValue) (fields : List Field) → ((h : Headed) (content : Content) → h.kind ≡ kind → CarriesBy (table_of h.kind) h content → CarriesBy (Some table) h content) → m.kind ≡ kind → m.content ≡ Fields fields → IsMessage octets m → (es : List Element) × LinesAre start table.lines es fields
 typed_lines kind table octets m fields has of says is =
     let h = is.0 in
     let content = is.2.0 in
-    let carries = has h content (sym (ap (λ (k : Spoken). k.kind) is.2.2) ∙ of) is.2.1 in
-    let same : fields ≡ carries.1 = ap fields_in (sym says ∙ ap (λ (k : Spoken). k.content) is.2.2 ∙ carries.3) in
+    let carries = has h content (sym (ap (λ (k : MessageValue). k.kind) is.2.2) ∙ of) is.2.1 in
+    let same : fields ≡ carries.1 = ap fields_in (sym says ∙ ap (λ (k : MessageValue). k.content) is.2.2 ∙ carries.3) in
     (carries.2.0, subst (λ f. LinesAre start table.lines carries.2.0 f) (sym same) carries.2.2)
 
 pub keeps_subscriber : KeepsSubscriber
 keeps_subscriber octets m q is of =
-    let lines = typed_lines 32 create_session_request octets (spoken_of m) (create_session_request_fields q) (λ h content kind c. subst (λ k. CarriesBy (table_of k) h content) kind c) (ap kind_of of) (ap content_of of) is in
+    let lines = typed_lines 32 create_session_request octets (message_value m) (create_session_request_fields q) (λ h content kind c. subst (λ k. CarriesBy (table_of k) h content) kind c) (ap kind_of of) (ap content_of of) is in
     let line = lines.1.1.1.1.1.1.1.1.1.1.0 in
     let some = some_context session_request_context_values q.contexts line.0 line.2 line.1.1 in
     (_, ap (λ b. body_message (header_in m.teid) m.seq b) of ∙ ap (λ contexts. session_request_of (header_in m.teid) m.seq q contexts) some.2, refl, refl)
 
 pub keeps_session : KeepsSession
 keeps_session octets m q is of =
-    let lines = typed_lines 95 create_bearer_request octets (spoken_of m) (create_bearer_request_fields q) (λ h content kind c. subst (λ k. CarriesBy (table_of k) h content) kind c) (ap kind_of of) (ap content_of of) is in
+    let lines = typed_lines 95 create_bearer_request octets (message_value m) (create_bearer_request_fields q) (λ h content kind c. subst (λ k. CarriesBy (table_of k) h content) kind c) (ap kind_of of) (ap content_of of) is in
     let line = lines.1.1.1.0 in
     let some = some_context bearer_request_context_values q.contexts line.0 line.2 line.1.1 in
     (_, ap (λ b. body_message (header_in m.teid) m.seq b) of ∙ ap (λ contexts. bearer_request_of (header_in m.teid) m.seq q contexts) some.2, refl, refl)

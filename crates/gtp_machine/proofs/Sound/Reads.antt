@@ -13,7 +13,7 @@ use Rattle.gtp_v2.specs.Table.{accepts}
 use Rattle.gtp_v2.specs.Marks.{RowsMarked}
 use Rattle.gtp_v2.specs.CreateSessionResponse.{session_response_context_rows, session_response_context_values}
 use Rattle.gtp_v2.specs.CreateBearerResponse.{bearer_response_context_rows, bearer_response_context_values}
-use Rattle.gtp_v2.specs.Body.{kind_of, content_of, spoken_of}
+use Rattle.gtp_v2.specs.Body.{kind_of, content_of, message_value}
 use Rattle.gtp_v2.specs.declared.body.Body.{Body}
 use Rattle.gtp_v2.specs.declared.body.Body.TheVariants as bodies
 use Rattle.gtp_v2.specs.declared.body.create_session_response.CreateSessionResponse as session_responses
@@ -132,5 +132,5 @@ fault_read request faults.Memory = tt
 fault_read request faults.TooLong = tt
 
 pub reads_whole : ReadsWhole
-reads_whole request reading (inl found) = subst (λ r. IsWellFormed (Control_came request r)) (sym found.2) (whole_body (header_in found.0.teid) found.0.seq found.0.body (_, message_marked request.octets (spoken_of found.0) found.1))
+reads_whole request reading (inl found) = subst (λ r. IsWellFormed (Control_came request r)) (sym found.2) (whole_body (header_in found.0.teid) found.0.seq found.0.body (_, message_marked request.octets (message_value found.0) found.1))
 reads_whole request reading (inr fault) = subst (λ r. IsWellFormed (Control_came request r)) (sym fault.2) (fault_read request fault.0)
