@@ -49,7 +49,8 @@ fn put_all_inner(out: &mut Vec<u8>, elements: &Elements) -> Result<(), AllocErro
 #[tactic(auto, using(crate::proofs::Appends::appending))]
 fn put_group(out: &mut Vec<u8>, view: &ElementView) -> Result<(), AllocError>
     ensures ok { OnOk result
-        (out.new.items ≡ out.old.items ++ group_shown (element_of view.now) (elements_of (view.now.at + 4) view.now.body.now)) }
+        (out.new.items ≡ out.old.items
+        ++ group_shown (element_of view.now) (elements_of (view.now.at + 4) view.now.body.now)) }
 {
     match view.inner() {
         Ok(inner) => {

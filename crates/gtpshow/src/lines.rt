@@ -37,7 +37,8 @@ fn place(teid: Option<Teid>) -> usize
 /// Appends the lines of a message that these octets spell.
 fn put_message(out: &mut Vec<u8>, octets: &[u8], message: &Message) -> Result<(), AllocError>
     requires { IsMessage octets.now (message_value message.now) }
-    ensures ok { OnOk result (HasLines out.old.items octets.now (message_value message.now) out.new.items) }
+    ensures ok { OnOk result
+        (HasLines out.old.items octets.now (message_value message.now) out.new.items) }
 {
     put_head(out, message)?;
     if let Some(carried) = message.body.octets() {

@@ -12,8 +12,8 @@ use hex::FromHexError;
 use std::alloc::Global;
 use std::io::Write;
 
-/// Writes the lines of the datagram of these hexadecimal digits, and answers the exit status: 1 for a
-/// fault.
+/// Writes the lines of the datagram of these hexadecimal digits, and answers the exit status: 1 for
+/// a fault.
 pub fn show<W: Write>(
     alloc: Global,
     out: &mut Watched<W>,

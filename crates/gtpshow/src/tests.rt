@@ -1,3 +1,5 @@
+//! Datagrams and their lines. Those of examples/datagrams stand there with their clauses.
+
 use crate::command::Failure;
 use crate::lines::decode_lines;
 use crate::plane::Plane;
@@ -542,7 +544,7 @@ fn shows(
 #[test]
 fn writers(rt: HostRuntime) -> Result<(), Fail> {
     let alloc = rt.alloc();
-    // examples/datagrams/user/g-pdu and no-octets
+    // examples/datagrams/user: g-pdu and no-octets
     let packet = "30ff000301000002616263";
     let lines = "gtpu type 255 g-pdu teid 01000002\npayload 616263\n";
     let (status, out) = shows(alloc, packet, 0)?;

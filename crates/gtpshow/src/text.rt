@@ -62,7 +62,8 @@ pub fn put_teid(out: &mut Vec<u8>, teid: Teid) -> Result<(), AllocError>
 
 /// Appends what a value displays.
 pub fn put_display<D: Display>(out: &mut Vec<u8>, value: &D) -> Result<(), AllocError>
-    ensures ok { OnOk result (IfSome (D.Display.output value.now) (λ text. out.new.items ≡ out.old.items ++ text)) }
+    ensures ok { OnOk result
+        (IfSome (D.Display.output value.now) (λ text. out.new.items ≡ out.old.items ++ text)) }
 {
     let text = value.to_string(*out.allocator())?;
     put(out, text.as_bytes())

@@ -243,7 +243,8 @@ pub fn put_raw(out: &mut Vec<u8>, body: &[u8]) -> Result<(), AllocError>
 #[tactic(auto, using(crate::proofs::Appends::appending))]
 fn put_value<T: Show>(out: &mut Vec<u8>, name: &[u8], body: &[u8]) -> Result<(), AllocError>
     ensures ok { OnOk result
-        (out.new.items ≡ out.old.items ++ named_shown name.now body.now (value_at T.KIND body.now)) }
+        (out.new.items ≡ out.old.items
+        ++ named_shown name.now body.now (value_at T.KIND body.now)) }
 {
     match T::parse(body) {
         Ok(value) => {
