@@ -100,13 +100,13 @@ pub fn sound_nodes()
     // A gateway that has just started is sound.
     ensures starts { StartsSound }
 
-    // Each step from a sound gateway leaves it sound.
+    // Each step from a sound gateway on a well-formed input leaves it sound.
     ensures stays { StaysSound }
 
-    // So a gateway that is reached from a start is sound.
+    // So a gateway that well-formed inputs reach from a start is sound.
     ensures reached { ReachedIsSound }
 
-    // Whatever comes to a sound gateway, there is an effect.
+    // For a sound gateway no input is without an effect, but for a move of what is not there.
     ensures steps { AlwaysSteps }
 
     // What is read from octets names the F-TEIDs that its table asks for.

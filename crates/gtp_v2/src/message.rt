@@ -92,7 +92,7 @@ fn read_datagram(alloc: Global, octets: &[u8]) -> Result<Datagram, V2Fault>
 pub fn decode(alloc: Global, octets: &[u8]) -> Result<Datagram, V2Fault>
     // What is answered is spelled so.
     ensures found { IfOk result (λ d. IsMessage octets.now (message_value d.message)) }
-    // What is spelled so is answered, unless memory runs out, which it does only where it grows for the message.
+    // What is spelled so is answered, unless memory runs out, which it does only where some is allocated.
     ensures only { (m : MessageValue) → IsMessage octets.now m
         → IsOkAnd result (λ d. message_value d.message ≡ m)
         ⊎ ((result ≡ Err V2Fault.Memory) × MessageAllocates m) }

@@ -9,7 +9,7 @@ use std::test::Fail;
 // The octets of all tests are drawn by hand after the figures of TS 29.274 clauses 5, 7 and 8; those of
 // whole messages stand an element a line.
 
-/// Create Session Request, as a serving gateway sends it.
+/// Create Session Request, as a serving gateway sends it: examples/datagrams/control/create-session-request.
 const SESSION_REQUEST: &str = concat!(
     "4820008e0000000000000000", // no TEID yet: 0
     "0100080000010121436587f9", // IMSI 001010123456789
@@ -29,7 +29,7 @@ const SESSION_REQUEST: &str = concat!(
     "0300010001" // Recovery 1
 );
 
-/// Its answer.
+/// Its answer: examples/datagrams/control/create-session-response.
 const SESSION_RESPONSE: &str = concat!(
     "482100730100000100000000",
     "020002001000", // accepted
@@ -46,7 +46,7 @@ const SESSION_RESPONSE: &str = concat!(
     "0300010001" // Recovery 1
 );
 
-/// Create Bearer Request, as a packet gateway sends it.
+/// Create Bearer Request, as a packet gateway sends it: examples/datagrams/control/create-bearer-request.
 const BEARER_REQUEST: &str = concat!(
     "485f004a0100000100000000",
     "4900010005", // linked to bearer 5
@@ -59,7 +59,7 @@ const BEARER_REQUEST: &str = concat!(
     "5e00040001000003" // charging identifier
 );
 
-/// Its answer.
+/// Its answer: examples/datagrams/control/create-bearer-response.
 const BEARER_RESPONSE: &str = concat!(
     "4860003c0100000100000000",
     "020002001000", // accepted
@@ -71,10 +71,10 @@ const BEARER_RESPONSE: &str = concat!(
     "0300010001" // Recovery 1
 );
 
-/// A request to remove bearers 6 and 9.
+/// A request to remove bearers 6 and 9: examples/datagrams/control/delete-bearer-request.
 const REMOVAL_REQUEST: &str = "48630012010000010000050049000101064900010109";
 
-/// Its answer, which removed the first alone.
+/// Its answer, which removed the first alone: examples/datagrams/control/delete-bearer-response.
 const REMOVAL_RESPONSE: &str = concat!(
     "4864003101000001000005000200020011005d000b004900010006020002001000",
     "5d000b0049000100090200020040000300010001"

@@ -170,7 +170,7 @@ fn label_length(text: &[u8]) -> usize
 }
 
 /// The octets of the labels of a text: the length of the first, and each dot replaced by that of
-/// the label behind it.
+/// the label after it.
 fn octets_of_text(text: &[u8]) -> Octets<100>
     requires room { length text.now < 100 }
     ensures value { result ≡ spec_octets_of_text text.now }
