@@ -24,7 +24,7 @@ pub fn show<W: Write>(
     // The lines are written, and nothing else.
     ensures shown { IfOk result
         (IsShown plane digits.now (W.contents out.old.inner) (W.contents out.new.inner)) }
-    // A write failed exactly where that is answered.
+    // A failed write was noted exactly where that is answered.
     ensures write { (result ≡ Err Failure.Write) ↔ IsTrue out.new.failed }
     ensures only { result ≡ Err Failure.BadHex → IsErr (decode_of digits.now) }
     ensures bad { IsErr (decode_of digits.now) →
