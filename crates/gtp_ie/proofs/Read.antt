@@ -6,6 +6,8 @@ use Rattle.gtp_values.specs.Plmn.{Network, IsNetwork}
 use Rattle.gtp_ie.specs.declared.fault.ReadFault.TheVariants.{Bad}
 use Rattle.gtp_ie.specs.Digits.{packed, digits_in}
 use Rattle.gtp_ie.specs.Value.{OfImsi, OfApn, OfPlmn, network_in, value_at}
+use Rattle.std.specs.Int.Bits.{bit_and}
+use Rattle.std.proofs.lemmas.Nat.{and_mask}
 use Rattle.std.specs.Prelude.{◌==◌}
 use Rattle.gtp_ie.specs.Spelling.{Says}
 use Rattle.gtp_ie.proofs.Spelled.{value_decided, packed_again, digits_again}
@@ -57,20 +59,22 @@ network_with mcc mnc = record { mcc = mcc; mnc = mnc }
 
 -- the halves of three octets, the last digit left out where it is the filler
 abbrev pub halves : ℕ → ℕ → ℕ → ℕ → Network
-halves a b c count = network_with (a % 16 ∷ a / 16 ∷ b % 16 ∷ []) (take count (c % 16 ∷ c / 16 ∷ b / 16 ∷ []))
+halves a b c count = network_with (bit_and a 15 ∷ a / 16 ∷ bit_and b 15 ∷ []) (take count (bit_and c 15 ∷ c / 16 ∷ b / 16 ∷ []))
+
+-- the low half of an octet, by a mask
+low_half : (n : ℕ) → (n / 1) % 16 ≡ bit_and n 15
+low_half n = let one : (n / 1) % 16 ≡ n % 16 = omega arith in one ∙ sym (and_mask n 4)
 
 pub halves_two : (body : List ℕ) (count : ℕ) → get_or body 0 0 < 256 → get_or body 1 0 < 256 → get_or body 2 0 < 256 → get_or body 1 0 / 16 ≡ 15 → count ≡ 2 → network_in body ≡ halves (get_or body 0 0) (get_or body 1 0) (get_or body 2 0) count
 halves_two body count p q r t e =
     let third : (get_or body 1 0 / 16) % 16 ≡ 15 = omega arith in
     let a : (get_or body 0 0 / 16) % 16 ≡ get_or body 0 0 / 16 = omega arith in
     let c : (get_or body 2 0 / 16) % 16 ≡ get_or body 2 0 / 16 = omega arith in
-    let ones : (n : ℕ) → (n / 1) % 16 ≡ n % 16 = λ n. omega arith in
-    rw (e, third, a, c, ones (get_or body 0 0), ones (get_or body 1 0), ones (get_or body 2 0)) refl
+    rw (e, third, a, c, low_half (get_or body 0 0), low_half (get_or body 1 0), low_half (get_or body 2 0)) refl
 
 pub halves_three : (body : List ℕ) (count : ℕ) → get_or body 0 0 < 256 → get_or body 1 0 < 256 → get_or body 2 0 < 256 → (get_or body 1 0 / 16 == 15) ≡ false → count ≡ 3 → network_in body ≡ halves (get_or body 0 0) (get_or body 1 0) (get_or body 2 0) count
 halves_three body count p q r t e =
     let third : (get_or body 1 0 / 16) % 16 ≡ get_or body 1 0 / 16 = omega arith in
     let a : (get_or body 0 0 / 16) % 16 ≡ get_or body 0 0 / 16 = omega arith in
     let c : (get_or body 2 0 / 16) % 16 ≡ get_or body 2 0 / 16 = omega arith in
-    let ones : (n : ℕ) → (n / 1) % 16 ≡ n % 16 = λ n. omega arith in
-    rw (e, third, t, a, c, ones (get_or body 0 0), ones (get_or body 1 0), ones (get_or body 2 0)) refl
+    rw (e, third, t, a, c, low_half (get_or body 0 0), low_half (get_or body 1 0), low_half (get_or body 2 0)) refl

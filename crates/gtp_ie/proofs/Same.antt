@@ -1,5 +1,5 @@
 -- Where `==` of the values of elements is true, contracts see the same value.
-use Rattle.std.proofs.Common.{◌≡◌, ℕ, List, ap}
+use Rattle.std.proofs.Common.{◌≡◌, ℕ, List, refl, ap}
 use Rattle.std.specs.Bool.{Decides}
 use Rattle.std.proofs.lemmas.Bool.Decides.{Decides-eqb}
 use Rattle.gtp_values.specs.declared.cause.Cause.{Cause}
@@ -18,7 +18,7 @@ use Rattle.gtp_values.specs.contracts.paa.PaaPartialEq.TheImpl as allocations
 use Rattle.gtp_values.specs.contracts.qos.AmbrPartialEq.TheImpl as ambrs
 use Rattle.gtp_values.specs.contracts.qos.QosPartialEq.TheImpl as qualities
 use Rattle.gtp_values.proofs.Same as values
-use Rattle.gtp_values.proofs.Same.{whole_by}
+use Rattle.gtp_values.proofs.Same.{whole_by, one_by}
 use Rattle.gtp_ie.specs.declared.value.numbers.Recovery.{Recovery}
 use Rattle.gtp_ie.specs.declared.value.numbers.EbiValue.{EbiValue}
 use Rattle.gtp_ie.specs.declared.value.numbers.Rat.{Rat}
@@ -33,7 +33,7 @@ use Rattle.gtp_ie.specs.contracts.value.numbers.ChargingIdPartialEq.TheImpl as c
 use Rattle.gtp_ie.specs.contracts.value.numbers.PdnTypePartialEq.TheImpl as pdn_types
 use Rattle.gtp_ie.specs.contracts.value.numbers.PtiPartialEq.TheImpl as ptis
 use Rattle.gtp_ie.specs.contracts.value.numbers.SelectionPartialEq.TheImpl as selections
-use Rattle.gtp_ie.specs.Value.{Value, OfImsi, OfCause, OfRecovery, OfApn, OfAmbr, OfEbi, OfPaa, OfQos, OfRat, OfPlmn, OfTft, OfFTeid, OfChargingId, OfPdnType, OfPti, OfSelection}
+use Rattle.gtp_ie.specs.Value.{OfImsi, OfCause, OfRecovery, OfApn, OfAmbr, OfEbi, OfPaa, OfQos, OfRat, OfPlmn, OfTft, OfFTeid, OfChargingId, OfPdnType, OfPti, OfSelection}
 
 pub imsi_same : (a b : List ℕ) → Decides ((imsis.ghosts).eq a b) (OfImsi a ≡ OfImsi b)
 imsi_same a b = whole_by (λ e. ap (λ x. OfImsi x) e) (λ e. cc) (values.imsi_same a b)
@@ -82,3 +82,26 @@ pti_same a b = whole_by (λ e. ap (λ x. OfPti x) e) (λ e. cc) (Decides-eqb a.0
 
 pub selection_same : (a b : Selection) → Decides ((selections.ghosts).eq a b) (OfSelection a.0 ≡ OfSelection b.0)
 selection_same a b = whole_by (λ e. ap (λ x. OfSelection x) e) (λ e. cc) (Decides-eqb a.0 b.0)
+
+-- ---- a number in a struct of its own determines it
+
+pub recovery_one : (a b : Recovery) → OfRecovery a.0.0 ≡ OfRecovery b.0.0 → a ≡ b
+recovery_one a b e = one_by (λ x. x.0.0) (λ n. record { 0 = record { 0 = n } }) (λ x. refl) a b cc
+
+pub ebi_one : (a b : EbiValue) → OfEbi a.0 ≡ OfEbi b.0 → a ≡ b
+ebi_one a b e = one_by (λ x. x.0) (λ n. record { 0 = n }) (λ x. refl) a b cc
+
+pub rat_one : (a b : Rat) → OfRat a.0 ≡ OfRat b.0 → a ≡ b
+rat_one a b e = one_by (λ x. x.0) (λ n. record { 0 = n }) (λ x. refl) a b cc
+
+pub charging_id_one : (a b : ChargingId) → OfChargingId a.0 ≡ OfChargingId b.0 → a ≡ b
+charging_id_one a b e = one_by (λ x. x.0) (λ n. record { 0 = n }) (λ x. refl) a b cc
+
+pub pdn_type_one : (a b : PdnType) → OfPdnType a.0 ≡ OfPdnType b.0 → a ≡ b
+pdn_type_one a b e = one_by (λ x. x.0) (λ n. record { 0 = n }) (λ x. refl) a b cc
+
+pub pti_one : (a b : Pti) → OfPti a.0 ≡ OfPti b.0 → a ≡ b
+pti_one a b e = one_by (λ x. x.0) (λ n. record { 0 = n }) (λ x. refl) a b cc
+
+pub selection_one : (a b : Selection) → OfSelection a.0 ≡ OfSelection b.0 → a ≡ b
+selection_one a b e = one_by (λ x. x.0) (λ n. record { 0 = n }) (λ x. refl) a b cc

@@ -8,6 +8,7 @@ use Rattle.gtp_values.specs.Apn.{IsApn, are_labels_from}
 use Rattle.gtp_values.specs.Imsi.{IsImsi}
 use Rattle.gtp_values.specs.Plmn.{Network, IsNetwork}
 use Rattle.gtp_values.proofs.Labels.{are_labels, labels_are}
+use Rattle.gtp_values.proofs.Outcomes.{both, none_some}
 use Rattle.gtp_ie.specs.declared.fault.ReadFault.{ReadFault}
 use Rattle.gtp_ie.specs.declared.fault.ReadFault.TheVariants.{Short, Bad}
 use Rattle.gtp_values.specs.Decides.{Decides}
@@ -29,14 +30,6 @@ finds_always w = record { some = λ v h. cc; is = λ v h. ap (λ (x : Value). So
 finds_if : (good : Bool) (w : Value) (P : Type 0) → (good ≡ true → P) → (P → good ≡ true) → Finds (only_if good w) (λ v. P × (v ≡ w))
 finds_if true w P to from = record { some = λ v h. (to refl, cc); is = λ v h. ap (λ (x : Value). Some x) (sym h.1) }
 finds_if false w P to from = record { some = λ v h. absurd cc; is = λ v h. let e = from h.0 in absurd cc }
-
-record Both (a b : Bool) : Type 0 where
-  pub left : a ≡ true
-  pub right : b ≡ true
-
-both : (a b : Bool) → (a && b) ≡ true → Both a b
-both true b h = record { left = refl; right = h }
-both false b h = absurd cc
 
 join : (a b : Bool) → a ≡ true → b ≡ true → (a && b) ≡ true
 join a b p q = rw (p, q) refl
@@ -193,9 +186,6 @@ some_value v = Some v
 
 same_value : (v w : Value) → some_value v ≡ Some w → w ≡ v
 same_value v w h = cc
-
-none_some : (w : Value) → ◌≡◌ {A = Option Value} None (Some w) → ⊥
-none_some w h = cc
 
 -- reading a body decides which value it spells, and why it spells none
 pub value_decided : (kind : ℕ) (body : List ℕ) → Decides (value_at kind body) (Spells kind body) (SpellsNone kind body)

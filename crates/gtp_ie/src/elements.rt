@@ -1,6 +1,6 @@
 //! Elements in the place where they lie.
 
-ghost use Rattle.std.specs.Prelude.{◌≡◌, ◌+◌, ◌<◌, ◌^◌, length, drop, slice_get, option_map};
+ghost use Rattle.std.specs.Prelude.{◌≡◌, ◌+◌, ◌<◌, ◌^◌, [], length, drop, slice_get, option_map};
 ghost use Rattle.gtp_ie.specs.Element.{Element, front_of, elements_of, stop_of, first_of, all_of};
 ghost use Rattle.gtp_ie.specs.View.{element_of, FrontIs};
 ghost use Rattle.std.specs.Iterator.{YieldsFirstBy, item_count};
@@ -35,8 +35,8 @@ fn front(octets: &[u8], at: usize) -> Option<(ElementView<'_>, &[u8])>
     let (body, rest) = rest.split_at(len);
     let view = ElementView {
         kind: *kind,
-        spare: *last / 16,
-        instance: *last % 16,
+        spare: *last >> 4,
+        instance: *last & 0x0f,
         body,
         at,
     };
@@ -117,6 +117,13 @@ impl<'a> Iterator for Elements<'a> {
 }
 
 impl<'a> Elements<'a> {
+    /// No elements.
+    pub fn none() -> Elements<'a>
+        ensures { result ≡ [] }
+    {
+        Elements { rest: &[], at: 0 }
+    }
+
     /// The same elements again.
     pub fn iter(&self) -> Elements<'a>
         ensures { result ≡ self.now }

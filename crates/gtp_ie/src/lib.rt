@@ -19,6 +19,3 @@ pub use gtp_values::{
     Ambr, Apn, Below, Cause, Counter, FTeid, Imsi, Offending, OtherPdnType, Paa, Plmn, Qos, Rate,
     Rates, Teid, Tft,
 };
-
-#[cfg(test)]
-mod tests;

@@ -56,7 +56,8 @@ pub fn put_value<T: IeValue>(out: &mut Vec<u8>, instance: u8, value: &T) -> Resu
         ≡ out.old.items
         ++ element_encoding T.KIND instance (encoding_of (T.value value.now))) }
     // Its body spells the value.
-    ensures again { OnOk result (Spells T.KIND (encoding_of (T.value value.now)) (T.value value.now)) }
+    ensures again { OnOk result (Spells T.KIND (encoding_of (T.value value.now))
+        (T.value value.now)) }
     ensures err { OnErr result (out.new.items ≡ out.old.items) }
 {
     let start = out.len();
@@ -74,7 +75,8 @@ pub fn put_value<T: IeValue>(out: &mut Vec<u8>, instance: u8, value: &T) -> Resu
 /// vector is as before.
 pub fn put(out: &mut Vec<u8>, kind: u8, instance: u8, body: &[u8]) -> Result<(), IeFault>
     requires { instance < 16 }
-    ensures ok { OnOk result (out.new.items ≡ out.old.items ++ element_encoding kind instance body.now) }
+    ensures ok { OnOk result (out.new.items
+        ≡ out.old.items ++ element_encoding kind instance body.now) }
     ensures long { IsErrOf result IeFault.TooLong ↔ (65535 < length body.now) }
     ensures fault { IfErr result (λ f. (f ≡ TooLong) ⊎ (f ≡ Memory)) }
     ensures err { OnErr result (out.new.items ≡ out.old.items) }

@@ -2,7 +2,7 @@
 use Rattle.std.specs.Prelude.{◌≡◌, ◌⊎◌, ℕ, [], ◌∷◌, Option, Some, None, Bool, true}
 use Rattle.std.specs.FinMap.{get}
 use Rattle.gtp_values.specs.declared.cause.Cause.{Cause}
-use Rattle.gtp_machine.specs.FiniteMap.{Among}
+use Rattle.gtp_values.specs.FiniteMap.{Among}
 use Rattle.gtp_machine.specs.Ordered.{Unless}
 use Rattle.gtp_machine.specs.Element.{cause_at, teid_in}
 use Rattle.gtp_machine.specs.Message.{Message, Echo, Echo_response, Create_session_response, Delete_session_response, Create_bearer_response, Delete_bearer_response, recovery_of}

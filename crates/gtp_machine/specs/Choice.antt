@@ -1,7 +1,7 @@
 -- What is free to be chosen, and what is full.
 use Rattle.std.specs.Prelude.{◌≡◌, ◌≢◌, ℕ, ◌+◌, ◌/◌, ◌%◌, ◌^◌, ◌<◌, ◌≤◌, Some, None, length}
 use Rattle.std.specs.FinMap.{get, len}
-use Rattle.gtp_machine.specs.FiniteMap.{Among}
+use Rattle.gtp_values.specs.FiniteMap.{Among}
 use Rattle.gtp_machine.specs.Node.{Session, Bearer, PendingRequest, Node}
 
 -- the restart counter in a TEID, its first octet

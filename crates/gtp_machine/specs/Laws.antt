@@ -3,7 +3,7 @@ use Rattle.std.specs.Prelude.{◌≡◌, ◌≢◌, ℕ, ◌+◌, ◌%◌, ◌�
 use Rattle.std.specs.FinMap.{get}
 use Rattle.gtp_values.specs.Counter.{age_of}
 use Rattle.gtp_values.specs.declared.counter.Age.TheVariants.{Later}
-use Rattle.gtp_machine.specs.FiniteMap.{FiniteMap, Among}
+use Rattle.gtp_values.specs.FiniteMap.{FiniteMap, Among}
 use Rattle.gtp_machine.specs.Config.{Config}
 use Rattle.gtp_machine.specs.Message.{CreateSessionRequest, CreateSessionResponse, CreateBearerRequest, CreateBearerResponse, Message, Create_session_request, Create_session_response, Create_bearer_request, Create_bearer_response, Packet_data, End_marker, Error_indication, Owns, header_of, recovery_of, first_given, first_returned}
 use Rattle.gtp_machine.specs.Node.{Arrival, Role, Serving, Packet, Pending, Active, Closing, Session, Bearer, Dedicated}

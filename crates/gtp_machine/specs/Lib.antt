@@ -1,5 +1,4 @@
 pub mod Ordered
-pub mod FiniteMap
 pub mod Element
 pub mod Message
 pub mod Config

@@ -1,6 +1,6 @@
 -- What a gateway does by itself as time goes by (TS 29.274, 7.6).
 use Rattle.std.specs.Prelude.{◌≡◌, ◌≢◌, ◌⊎◌, ℕ, List, [], ◌∷◌}
-use Rattle.gtp_machine.specs.FiniteMap.{Among}
+use Rattle.gtp_values.specs.FiniteMap.{Among}
 use Rattle.gtp_machine.specs.Config.{control_end}
 use Rattle.gtp_machine.specs.Node.{Arrival, Held, Node}
 use Rattle.gtp_machine.specs.Input.{Move, Resend, Give_up, Forget, Effect, Moved, nothing, says}

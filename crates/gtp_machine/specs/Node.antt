@@ -2,7 +2,7 @@
 use Rattle.std.specs.Prelude.{ℕ, List, [], ◌∷◌, Option, Some, None, Bool}
 use Rattle.std.specs.FinMap.{empty}
 use Rattle.gtp_values.specs.declared.address.Endpoint.{Endpoint}
-use Rattle.gtp_machine.specs.FiniteMap.{FiniteMap}
+use Rattle.gtp_values.specs.FiniteMap.{FiniteMap}
 use Rattle.gtp_machine.specs.Element.{Subscriber}
 use Rattle.gtp_machine.specs.Message.{Message}
 use Rattle.gtp_machine.specs.Config.{Config}

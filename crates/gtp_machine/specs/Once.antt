@@ -1,7 +1,7 @@
 -- The steps of one gateway by itself, and what it makes for a request.
 use Rattle.std.specs.Prelude.{◌≡◌, ◌⊎◌, ℕ, List, [], ◌∷◌, ◌++◌, Some, None}
 use Rattle.std.specs.FinMap.{get}
-use Rattle.gtp_machine.specs.FiniteMap.{Among}
+use Rattle.gtp_values.specs.FiniteMap.{Among}
 use Rattle.gtp_machine.specs.Config.{Config}
 use Rattle.gtp_machine.specs.Message.{Message, Create_session_request, Create_bearer_request}
 use Rattle.gtp_machine.specs.Node.{Role, Serving, Packet, Bearer, Arrival, Held, Node, fresh_node}

@@ -35,14 +35,14 @@ use Rattle.gtp_machine.specs.Input.{RequestKind, Of_create_session, Of_delete_se
 use Rattle.gtp_machine.specs.Node.{written}
 use Rattle.gtp_machine.specs.Answer.{fault_number}
 
--- the number that octets stand for, the highest first, behind what stands before them
-abbrev pub number_behind : ℕ → List ℕ → ℕ
-number_behind before [] = before
-number_behind before (octet ∷ octets) = number_behind (256 * before + octet) octets
+-- the number that octets stand for, the highest first, after what stands before them
+abbrev pub number_from : ℕ → List ℕ → ℕ
+number_from before [] = before
+number_from before (octet ∷ octets) = number_from (256 * before + octet) octets
 
 -- a PDN Address Allocation (TS 29.274, 8.14): an IPv4 address as a number, another one as it is
 abbrev pub address_of : Paa → PdnAddress
-address_of (paas.V4 octets) = Ipv4 (number_behind 0 octets)
+address_of (paas.V4 octets) = Ipv4 (number_from 0 octets)
 address_of (paas.V6 prefix octets) = Other_address (paas.V6 prefix octets)
 address_of (paas.V4V6 prefix v6 v4) = Other_address (paas.V4V6 prefix v6 v4)
 address_of (paas.Other number) = Other_address (paas.Other number)

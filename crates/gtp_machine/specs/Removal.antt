@@ -1,7 +1,7 @@
 -- How sessions and bearers go and close.
 use Rattle.std.specs.Prelude.{ℕ, ◌==◌, ◌||◌, Option, Some, None, Bool, true, false, not, if◌then◌else◌}
 use Rattle.std.specs.FinMap.{insert, remove}
-use Rattle.gtp_machine.specs.FiniteMap.{kept, changed}
+use Rattle.gtp_values.specs.FiniteMap.{kept, changed}
 use Rattle.gtp_machine.specs.Node.{State, Pending, Active, Closing, Session, Bearer, PendingRequest, Node}
 
 -- the test of what a request is about, where it is about something

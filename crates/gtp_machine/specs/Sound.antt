@@ -1,7 +1,7 @@
 -- What holds of one gateway alone, whatever comes to it.
 use Rattle.std.specs.Prelude.{◌≡◌, ◌≢◌, ◌⊎◌, ℕ, ◌≤◌, List, [], ◌∷◌, Option, Some, None, length}
 use Rattle.std.specs.FinMap.{get, len}
-use Rattle.gtp_machine.specs.FiniteMap.{FiniteMap, Each, Among}
+use Rattle.gtp_values.specs.FiniteMap.{FiniteMap, Each, Among}
 use Rattle.gtp_machine.specs.Element.{IsAccepting, teid_in}
 use Rattle.gtp_machine.specs.Message.{Echo, CreateSessionRequest, DeleteSessionRequest, CreateBearerRequest, DeleteBearerRequest, Message, Echo_request, Create_session_request, Create_session_response, Delete_session_request, Create_bearer_request, Create_bearer_response, Delete_bearer_request, CreatedBearer, GivenBearer}
 use Rattle.gtp_machine.specs.Node.{Role, Serving, Packet, State, Pending, Active, Closing, Kind, Default, Dedicated, Session, Bearer, PendingRequest, Held, Arrival, Node, fresh_node}

@@ -1,5 +1,11 @@
 pub mod Numbers
 pub mod Lists
 pub mod Requests
+pub mod Order
+pub mod Halving
+pub mod Index
+pub mod Aging
+pub mod Purposes
 pub mod Pairs
 pub mod OnTime
+pub mod Told

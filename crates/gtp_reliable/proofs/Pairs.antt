@@ -1,14 +1,18 @@
 -- Pairs after a change: they stay apart, and a tick keeps and moves them.
-use Rattle.std.proofs.Common.{◌≡◌, ℕ, zero, suc, ◌+◌, ◌<◌, ◌≤◌, Bool, true, false, cond, List, [], ◌∷◌, ◌++◌, length, map, take, get_or, add-one, Option, Some, None, refl, sym, ap, subst, ◌∙◌, arith, ◌⊎◌, inl, inr}
-use Rattle.std.specs.Prelude.{filter, is_some, unwrap_or, nat_lt, IfSome, IfNone, IsSomeAnd}
-use Rattle.std.specs.List.{filter_map}
-use Rattle.std.specs.Borrow.{Bor}
+use Rattle.std.proofs.Common.{◌≡◌, ℕ, zero, suc, ◌+◌, ◌<◌, ◌≤◌, ◌%◌, ◌^◌, Bool, true, false, cond, List, [], ◌∷◌, ◌++◌, length, map, take, drop, get_or, insert, remove, Option, Some, None, refl, sym, ap, subst, ◌∙◌, arith, ◌⊎◌, inl, inr}
+use Rattle.std.specs.Prelude.{filter, is_some, unwrap_or, nat_lt}
+use Rattle.std.specs.List.{filter_map, cons_option}
 use Rattle.std.proofs.lemmas.List.{map_push}
 use Rattle.gtp_values.specs.declared.address.Endpoint.{Endpoint}
 use Rattle.gtp_reliable.specs.declared.held.Request.{Request}
+use Rattle.gtp_reliable.specs.declared.pair.Pair.{Pair}
 use Rattle.gtp_reliable.specs.Held.{HeldPair, just_kept, after_tick, Question, forgotten, IsFor, IsHeld, HasAnswer, AreApart}
+use Rattle.gtp_reliable.specs.Index.{after, asked, question, questions, question_at, named_at, IsIndex, IsGap}
+use Rattle.gtp_reliable.specs.Aging.{seen}
 use Rattle.gtp_reliable.specs.Forgotten.{question_of}
-use Rattle.gtp_reliable.proofs.Lists.{filter_map_some, filter_map_none, stay_and_pass, length_map, fewer_filter}
+use Rattle.gtp_reliable.proofs.Halving.{same_count}
+use Rattle.gtp_reliable.proofs.Index.{pushed, popped_front, not_held}
+use Rattle.gtp_reliable.proofs.Lists.{filter_map_some, stay_and_pass, length_map, fewer_filter}
 
 -- ---- one more
 
@@ -79,55 +83,73 @@ pub ticked_apart : (hold : ℕ) (ps : List HeldPair) → AreApart ps → AreApar
 ticked_apart hold ps d =
     subst AreApart (stay_and_pass (after_tick hold) ps) (apart_map (passed hold) (filter (stays hold) ps) (passed_same hold) (apart_filter (stays hold) ps d))
 
+-- ---- the index of a queue after a change
+
+pub pushed_pair : (first : ℕ) (index : List ℕ) (ps : List Pair) → IsIndex first index (questions ps) → (p : Pair) (i n : ℕ) → IsGap first index (questions ps) (asked p) i → after first n ≡ length ps → IsIndex first (insert index i n) (questions (ps ++ p ∷ []))
+pushed_pair first index ps is p i n gap back =
+    subst (IsIndex first (insert index i n)) (sym (map_push asked ps p)) (pushed first index (questions ps) is (asked p) i n gap (back ∙ sym (same_count ps)))
+
+drop_asked : (ps : List Pair) → drop 1 (questions ps) ≡ questions (drop 1 ps)
+drop_asked [] = refl
+drop_asked (p ∷ ps) = refl
+
+pub popped_pair : (first : ℕ) (index : List ℕ) (ps : List Pair) → 0 < length ps → IsIndex first index (questions ps) → first < 2 ^ 64 → (i : ℕ) → i < length index → named_at first index (questions ps) i ≡ question_at (questions ps) 0 → IsIndex ((first + 1) % 2 ^ 64) (remove index i) (questions (drop 1 ps))
+popped_pair first index ps some is low i within found =
+    subst (IsIndex ((first + 1) % 2 ^ 64) (remove index i)) (drop_asked ps) (popped_front first index (questions ps) (omega (arith, same_count ps, some)) is low i within found)
+
 -- ---- looking up
 
-answer_at_by : (s : Endpoint) (r : List ℕ) (ps : List HeldPair) (i : ℕ) (d : HeldPair) → i < length ps → IsFor s r (get_or ps i d) → HasAnswer s r (get_or ps i d).answer ps
-answer_at_by s r [] i d lt f = absurd (omega arith)
-answer_at_by s r (q ∷ qs) zero d lt f = inl (f, refl)
-answer_at_by s r (q ∷ qs) (suc i) d lt f = inr (answer_at_by s r qs i d (omega arith) f)
+same_question : (a b : Endpoint) (x y : List ℕ) → a ≡ b → x ≡ y → question a x ≡ question b y
+same_question a b x y e f = ap (λ n. question n x) e ∙ ap (question b) f
 
--- the pair at an index has its answer
-pub answer_at : (s : Endpoint) (r : List ℕ) (ps : List HeldPair) (i : ℕ) (p : HeldPair) (a : List ℕ) → i < length ps → p ≡ get_or ps i p → IsFor s r p → a ≡ p.answer → HasAnswer s r a ps
-answer_at s r ps i p a lt is f e =
-    subst (λ (x : List ℕ). HasAnswer s r x ps) (ap (λ (q : HeldPair). q.answer) (sym is) ∙ sym e) (answer_at_by s r ps i p lt (subst (IsFor s r) is f))
+-- the pair at a place of the queue has its answer
+pub answer_at : (now : ℕ) (s : Endpoint) (r : List ℕ) (ps : List Pair) (k : ℕ) (p : Pair) (a : List ℕ) → k < length ps → p ≡ get_or ps k p → question_at (questions ps) k ≡ question s r → a ≡ p.answer.items → HasAnswer s r a (map (seen now) ps)
+answer_at now s r [] k p a lt is same gives = absurd (omega arith)
+answer_at now s r (q ∷ qs) zero p a lt is same gives =
+    inl ((ap (λ (x : Question). x.source) same, ap (λ (x : Question). x.octets) same), sym (ap (λ (x : Pair). x.answer.items) is) ∙ sym gives)
+answer_at now s r (q ∷ qs) (suc k) p a lt is same gives = inr (answer_at now s r qs k p a (omega arith) is same gives)
 
-held_of : (s : Endpoint) (r a : List ℕ) (ps : List HeldPair) → HasAnswer s r a ps → IsHeld s r ps
+-- a pair at a place of the queue is held, and one that is held has a place
+pub held_at : (now : ℕ) (s : Endpoint) (r : List ℕ) (ps : List Pair) (k : ℕ) → k < length ps → question_at (questions ps) k ≡ question s r → IsHeld s r (map (seen now) ps)
+held_at now s r [] k lt same = absurd (omega arith)
+held_at now s r (q ∷ qs) zero lt same = inl (ap (λ (x : Question). x.source) same, ap (λ (x : Question). x.octets) same)
+held_at now s r (q ∷ qs) (suc k) lt same = inr (held_at now s r qs k (omega arith) same)
+
+pub place_of_held : (now : ℕ) (s : Endpoint) (r : List ℕ) (ps : List Pair) → IsHeld s r (map (seen now) ps) → (k : ℕ) × (k < length ps) × (question_at (questions ps) k ≡ question s r)
+place_of_held now s r [] h = absurd h
+place_of_held now s r (q ∷ qs) (inl f) = (0, omega arith, same_question q.source s q.request.items r f.0 f.1)
+place_of_held now s r (q ∷ qs) (inr h) = let at = place_of_held now s r qs h in (suc at.0, omega (arith, at.1), at.2)
+
+-- what the index doesn't name isn't held
+pub none_held : (now first : ℕ) (index : List ℕ) (ps : List Pair) (s : Endpoint) (r : List ℕ) (i : ℕ) → IsIndex first index (questions ps) → IsGap first index (questions ps) (question s r) i → IsHeld s r (map (seen now) ps) → ⊥
+none_held now first index ps s r i is gap h =
+    let at = place_of_held now s r ps h in
+    not_held first index (questions ps) (question s r) i is gap at.0 (omega (arith, same_count ps, at.1)) at.2
+
+pub held_of : (s : Endpoint) (r a : List ℕ) (ps : List HeldPair) → HasAnswer s r a ps → IsHeld s r ps
 held_of s r a [] h = h
 held_of s r a (q ∷ qs) (inl f) = inl f.0
 held_of s r a (q ∷ qs) (inr h) = inr (held_of s r a qs h)
 
 -- a request has one answer
-one_answer : (s : Endpoint) (r a b : List ℕ) (ps : List HeldPair) → AreApart ps → HasAnswer s r a ps → HasAnswer s r b ps → a ≡ b
+pub one_answer : (s : Endpoint) (r a b : List ℕ) (ps : List HeldPair) → AreApart ps → HasAnswer s r a ps → HasAnswer s r b ps → a ≡ b
 one_answer s r a b [] d h g = absurd h
 one_answer s r a b (q ∷ qs) d (inl h) (inl g) = sym h.1 ∙ g.1
 one_answer s r a b (q ∷ qs) d (inl h) (inr g) = absurd (d.0 (subst (λ (x : Endpoint). IsHeld x q.request qs) (sym h.0.0) (subst (λ (x : List ℕ). IsHeld s x qs) (sym h.0.1) (held_of s r b qs g))))
 one_answer s r a b (q ∷ qs) d (inr h) (inl g) = absurd (d.0 (subst (λ (x : Endpoint). IsHeld x q.request qs) (sym g.0.0) (subst (λ (x : List ℕ). IsHeld s x qs) (sym g.0.1) (held_of s r a qs h))))
 one_answer s r a b (q ∷ qs) d (inr h) (inr g) = one_answer s r a b qs d.1 h g
 
--- what was found is the only answer
-pub only_answer : (s : Endpoint) (q : List ℕ) (ps : List HeldPair) (r : Option (Bor (List ℕ))) → AreApart ps → IfSome r (λ x. HasAnswer s q x.now ps) → IfNone r (IsHeld s q ps → ⊥) → (a : List ℕ) → HasAnswer s q a ps → IsSomeAnd r (λ x. x.now ≡ a)
-only_answer s q ps (Some x) d found none a h = one_answer s q x.now a ps d found h
-only_answer s q ps None d found none a h = absurd (none (held_of s q a ps h))
+-- what is kept is seen as a pair that was just kept
+pub kept_seen : (now : ℕ) (ps : List Pair) (p : Pair) → now < 2 ^ 64 → p.kept ≡ now → map (seen now) (ps ++ p ∷ []) ≡ map (seen now) ps ++ just_kept p.source p.request.items p.answer.items ∷ []
+kept_seen now ps p small just = map_push (seen now) ps p ∙ ap (λ (h : HeldPair). map (seen now) ps ++ h ∷ []) new
+  where
+    none : after p.kept now ≡ 0
+    none = omega (arith, just, small)
 
-held_take : (s : Endpoint) (r : List ℕ) (ps : List HeldPair) (i : ℕ) (d : HeldPair) → i < length ps → IsHeld s r (take (suc i) ps) → IsHeld s r (take i ps) ⊎ IsFor s r (get_or ps i d)
-held_take s r [] i d lt h = absurd (omega arith)
-held_take s r (q ∷ qs) zero d lt (inl f) = inr f
-held_take s r (q ∷ qs) zero d lt (inr n) = absurd n
-held_take s r (q ∷ qs) (suc i) d lt (inl f) = inl (inl f)
-held_take s r (q ∷ qs) (suc i) d lt (inr h) = elim (held_take s r qs i d (omega arith) h) [ inl g ↦ inl (inr g) | inr f ↦ inr f ]
-
--- nor is the next pair for the request
-pub none_next : (s : Endpoint) (r : List ℕ) (ps : List HeldPair) (i : ℕ) (p : HeldPair) → i < length ps → p ≡ get_or ps i p → (IsHeld s r (take i ps) → ⊥) → (IsFor s r p → ⊥) → IsHeld s r (take (i + 1) ps) → ⊥
-none_next s r ps i p lt is none other h =
-    elim (held_take s r ps i p lt (subst (λ (n : ℕ). IsHeld s r (take n ps)) (add-one i) h)) [ inl g ↦ none g | inr f ↦ other (subst (IsFor s r) (sym is) f) ]
+    new : seen now p ≡ just_kept p.source p.request.items p.answer.items
+    new = λ i. record { source = p.source; request = p.request.items; answer = p.answer.items; age = none i }
 
 -- ---- what is forgotten
-
-abbrev question : Endpoint → List ℕ → Question
-question source octets = record { source = source; octets = octets }
-
-same_question : (a b : Endpoint) (x y : List ℕ) → a ≡ b → x ≡ y → question a x ≡ question b y
-same_question a b x y e f = ap (λ n. question n x) e ∙ ap (question b) f
 
 stays_or : (b : Bool) (p : HeldPair) (q : Question) → is_some (cond b (Some p) None) ≡ false → cond b None (Some q) ≡ Some q
 stays_or true p q h = absurd cc
@@ -136,21 +158,22 @@ stays_or false p q h = refl
 forgotten_is : (hold : ℕ) (p : HeldPair) → is_some (after_tick hold p) ≡ false → forgotten hold p ≡ Some (question p.source p.request)
 forgotten_is hold p h = stays_or (nat_lt (p.age + 1) hold) (record p { age = p.age + 1 }) (question p.source p.request) h
 
-stays_not : (b : Bool) (p : HeldPair) (q : Question) → is_some (cond b (Some p) None) ≡ true → cond b None (Some q) ≡ None
-stays_not true p q h = refl
-stays_not false p q h = absurd cc
+filter_map_map : {X Y Z : Type 0} (h : Y → Option Z) (f : X → Y) (xs : List X) → filter_map h (map f xs) ≡ filter_map (λ x. h (f x)) xs
+filter_map_map h f [] = refl
+filter_map_map h f (x ∷ xs) = ap (cons_option (h (f x))) (filter_map_map h f xs)
 
-not_forgotten : (hold : ℕ) (p : HeldPair) → is_some (after_tick hold p) ≡ true → forgotten hold p ≡ None
-not_forgotten hold p h = stays_not (nat_lt (p.age + 1) hold) (record p { age = p.age + 1 }) (question p.source p.request) h
+filter_map_seen : (now hold : ℕ) (ps : List Pair) (i : ℕ) (p : Pair) (q : Question) → i < length ps → forgotten hold (seen now (get_or ps i p)) ≡ Some q → filter_map (forgotten hold) (map (seen now) (take (i + 1) ps)) ≡ filter_map (forgotten hold) (map (seen now) (take i ps)) ++ q ∷ []
+filter_map_seen now hold ps i p q lt e =
+    filter_map_map (forgotten hold) (seen now) (take (i + 1) ps)
+    ∙ (filter_map_some (λ (x : Pair). forgotten hold (seen now x)) ps i p q lt e
+    ∙ ap (λ (qs : List Question). qs ++ q ∷ []) (sym (filter_map_map (forgotten hold) (seen now) (take i ps))))
 
-pub forgotten_more : (hold : ℕ) (ps : List HeldPair) (i : ℕ) (p : HeldPair) (so_far now : List Request) (r : Request) → map question_of so_far ≡ filter_map (forgotten hold) (take i ps) → i < length ps → p ≡ get_or ps i p → is_some (after_tick hold p) ≡ false
-    → now ≡ so_far ++ r ∷ [] → r.source ≡ p.source → r.octets.items ≡ p.request → map question_of now ≡ filter_map (forgotten hold) (take (i + 1) ps)
-forgotten_more hold ps i p so_far now r before lt is gone pushed s o =
+-- the loop over the pairs that are due, from the front
+pub forgotten_more : (now hold : ℕ) (ps : List Pair) (i : ℕ) (p : Pair) (so_far more : List Request) (r : Request) → map question_of so_far ≡ filter_map (forgotten hold) (map (seen now) (take i ps)) → i < length ps → p ≡ get_or ps i p → is_some (after_tick hold (seen now p)) ≡ false
+    → more ≡ so_far ++ r ∷ [] → r.source ≡ p.source → r.octets.items ≡ p.request.items → map question_of more ≡ filter_map (forgotten hold) (map (seen now) (take (i + 1) ps))
+forgotten_more now hold ps i p so_far more r before lt is gone pushed s o =
     ap (map question_of) pushed
     ∙ (map_push question_of so_far r
     ∙ (ap (λ (ms : List Question). ms ++ question_of r ∷ []) before
-    ∙ (ap (λ (m : Question). filter_map (forgotten hold) (take i ps) ++ m ∷ []) (same_question r.source p.source r.octets.items p.request s o)
-    ∙ sym (filter_map_some (forgotten hold) ps i p (question p.source p.request) lt (ap (forgotten hold) (sym is) ∙ forgotten_is hold p gone)))))
-
-pub forgotten_none : (hold : ℕ) (ps : List HeldPair) (i : ℕ) (p : HeldPair) → i < length ps → p ≡ get_or ps i p → is_some (after_tick hold p) ≡ true → filter_map (forgotten hold) (take i ps) ≡ filter_map (forgotten hold) (take (i + 1) ps)
-forgotten_none hold ps i p lt is stay = sym (filter_map_none (forgotten hold) ps i p lt (ap (forgotten hold) (sym is) ∙ not_forgotten hold p stay))
+    ∙ (ap (λ (m : Question). filter_map (forgotten hold) (map (seen now) (take i ps)) ++ m ∷ []) (same_question r.source p.source r.octets.items p.request.items s o)
+    ∙ sym (filter_map_seen now hold ps i p (question p.source p.request.items) lt (ap (λ (q : Pair). forgotten hold (seen now q)) (sym is) ∙ forgotten_is hold (seen now p) gone)))))

@@ -4,3 +4,7 @@ pub mod Due
 pub mod Held
 pub mod Forgotten
 pub mod Ticks
+pub mod Order
+pub mod Index
+pub mod Aging
+pub mod Purposes

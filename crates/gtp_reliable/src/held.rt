@@ -1,21 +1,26 @@
 //! Answers that are held for requests which come again.
 
-ghost use Rattle.std.specs.Prelude.{◌≡◌, ◌<◌, ◌≤◌, ◌↔◌, ◌⊎◌, ◌+◌, [], ◌∷◌, ◌++◌, ℕ, List};
-ghost use Rattle.std.specs.Prelude.{All, true, false, length, map, IsTrue, IsOk, OnOk, OnErr};
+ghost use Rattle.std.specs.Prelude.{◌≡◌, ◌≤◌, ◌↔◌, ◌⊎◌, [], ◌∷◌, ◌++◌, ℕ, List};
+ghost use Rattle.std.specs.Prelude.{true, false, length, map, IsTrue, IsOk, OnOk, OnErr};
 ghost use Rattle.std.specs.Prelude.{IfOk, IfErr, IfSome, IfNone, IsSomeAnd, Err};
 ghost use Rattle.std.specs.List.{filter_map};
-ghost use Rattle.gtp_reliable.specs.Held.{just_kept, after_tick, forgotten, forgets, IsHeld};
+ghost use Rattle.gtp_reliable.specs.Held.{just_kept, after_tick, forgets, IsHeld};
 ghost use Rattle.gtp_reliable.specs.Held.{HasAnswer, IsHold, IsReady, IsQuiet};
 ghost use Rattle.gtp_reliable.specs.Forgotten.{question_of};
 
 use crate::fault::ReliableFault;
 use crate::pair::Pair;
+use crate::queue::{find, forgotten_by_tick, keep, place_of, tick_all};
 use gtp_values::Endpoint;
-use std::alloc::{AllocError, Global};
+use std::alloc::Global;
+use std::collections::VecDeque;
 use std::marker::Model;
 
 /// The most answers that are held at a time.
 const MOST: usize = 4096;
+
+/// For how many answers room is made at first.
+const LEAST: usize = 4;
 
 /// A request: where it came from, and its octets.
 #[derive(Clone, Debug, Drop, PartialEq, Eq)]
@@ -26,74 +31,42 @@ pub struct Request {
 
 /// Answers that are held for requests which come again, in order of keeping. An answer is held
 /// until the `hold`-th tick after it was kept; a look-up doesn't prolong that, and only a tick
-/// drops a pair. At most 4,096 are held, one for a request from a source.
+/// drops a pair. At most 4,096 are held, one for a request from a source. A look-up halves an index
+/// by source and octets, and a tick goes over what it gives up, not over what stays.
 #[derive(Debug, Drop)]
 pub struct Held {
     alloc: Global,
     hold: u32,
-    pairs: Vec<Pair>,
+    /// Oldest first.
+    pairs: VecDeque<Pair>,
+    /// The numbers of keeping, in order of source and octets.
+    index: Vec<u64>,
+    /// The number of keeping of the oldest pair, modulo 2^64.
+    first: u64,
+    /// The ticks that have passed, modulo 2^64.
+    ticks: u64,
 }
 
 impl Model for Held {
-    ghost use Rattle.std.specs.Prelude.{nat_lt, vec_len, vec_capacity};
+    ghost use Rattle.std.specs.Prelude.{nat_lt, ◌&&◌, vec_len, vec_capacity};
+    ghost use Rattle.std.specs.VecDeque.{deque_len, deque_capacity};
     ghost use Rattle.gtp_reliable.specs.Held.{Answers, AreAnswers};
+    ghost use Rattle.gtp_reliable.specs.Index.{questions, IsIndex};
+    ghost use Rattle.gtp_reliable.specs.Aging.{answers_of, AreAging};
 
     ghost Value = { Answers };
 
     ghost view = { λ a.
-        record {
-          hold = a.hold;
-          pairs = a.pairs.items;
-          has_room = nat_lt (vec_len a.pairs) (vec_capacity a.pairs);
-        } };
+        answers_of a.hold a.ticks a.pairs.items
+        (nat_lt (deque_len a.pairs) (deque_capacity a.pairs)
+        && nat_lt (vec_len a.index) (vec_capacity a.index)) };
 
     ghost invariant = { λ a.
-        AreAnswers (record {
-          hold = a.hold;
-          pairs = a.pairs.items;
-          has_room = nat_lt (vec_len a.pairs) (vec_capacity a.pairs);
-        }) };
-}
-
-/// The requests that the next tick forgets. Takes no memory where there is none.
-fn forgotten_by_tick(alloc: Global, pairs: &[Pair], hold: u32) -> Result<Vec<Request>, AllocError>
-    requires { 1 ≤ hold }
-    ensures list { IfOk result (λ v.
-        map question_of v.items ≡ filter_map (forgotten hold) pairs.now) }
-    ensures quiet { All (λ p. p.age + 1 < hold) pairs.now → IsOk result }
-{
-    let mut requests = Vec::new(alloc);
-    for pair in pairs {
-        if pair.stays(hold) {
-            continue;
-        }
-        requests.push(Request {
-            source: pair.source(),
-            octets: Vec::from_slice(alloc, pair.request())?,
-        })?;
-    }
-    Ok(requests)
-}
-
-/// A tick passes: drops the pairs that it gives up.
-fn tick_all(pairs: &mut Vec<Pair>, hold: u32)
-    requires { 1 ≤ hold }
-    ensures { pairs.new.items ≡ filter_map (after_tick hold) pairs.old.items }
-{
-    pairs.retain_mut(|p| p.tick(hold));
-}
-
-/// The answer in the pair for a request.
-fn find_answer<'a>(pairs: &'a [Pair], source: Endpoint, request: &[u8]) -> Option<&'a [u8]>
-    ensures found { IfSome result (λ answer. HasAnswer source request.now answer.now pairs.now) }
-    ensures none { IfNone result (IsHeld source request.now pairs.now → ⊥) }
-{
-    for pair in pairs {
-        if pair.is_for(source, request) {
-            return Some(pair.answer());
-        }
-    }
-    None
+        AreAnswers (answers_of a.hold a.ticks a.pairs.items
+        (nat_lt (deque_len a.pairs) (deque_capacity a.pairs)
+        && nat_lt (vec_len a.index) (vec_capacity a.index)))
+        × IsIndex a.first a.index.items (questions a.pairs.items)
+        × AreAging a.ticks a.hold a.pairs.items };
 }
 
 impl Held {
@@ -106,7 +79,10 @@ impl Held {
         Held {
             alloc,
             hold,
-            pairs: Vec::new(alloc),
+            pairs: VecDeque::new(alloc),
+            index: Vec::new(alloc),
+            first: 0,
+            ticks: 0,
         }
     }
 
@@ -118,7 +94,27 @@ impl Held {
             → IsSomeAnd result (λ answer. answer.now ≡ a) }
         ensures none { IfNone result (IsHeld source request.now self.now.pairs → ⊥) }
     {
-        find_answer(self.pairs.as_slice(), source, request)
+        self.lookup_counted(source, request).0
+    }
+
+    /// The same, and how many answers were looked at for it: at most 14, whatever is held. Takes no
+    /// memory.
+    pub fn lookup_counted(&self, source: Endpoint, request: &[u8]) -> (Option<&[u8]>, u32)
+        ensures found { IfSome result.0 (λ answer.
+            HasAnswer source request.now answer.now self.now.pairs) }
+        ensures only { (a : List ℕ) → HasAnswer source request.now a self.now.pairs
+            → IsSomeAnd result.0 (λ answer. answer.now ≡ a) }
+        ensures none { IfNone result.0 (IsHeld source request.now self.now.pairs → ⊥) }
+        ensures count { result.1 ≤ 14 }
+    {
+        let index = self.index.as_slice();
+        match find(&self.pairs, index, self.first, source, request) {
+            (Ok(at), compared) => {
+                let pair = &self.pairs[place_of(self.first, index[at])];
+                (Some(pair.answer.as_slice()), compared)
+            }
+            (Err(_), compared) => (None, compared),
+        }
     }
 
     /// Whether 4,096 answers are held. Takes no memory.
@@ -142,7 +138,11 @@ impl Held {
         if self.is_full() {
             return Err(ReliableFault::HeldFull);
         }
-        self.pairs.try_reserve(1)?;
+        let count = self.pairs.len();
+        if count == self.pairs.capacity() {
+            self.pairs.reserve_exact(count.max(LEAST))?;
+        }
+        self.index.try_reserve(1)?;
         Ok(())
     }
 
@@ -154,9 +154,13 @@ impl Held {
             ≡ self.old.pairs ++ just_kept source request.items answer.items ∷ [] }
         ensures hold { self.new.hold ≡ self.old.hold }
     {
-        if self.pairs.push(Pair::new(source, request, answer)).is_err() {
-            unreachable!()
-        }
+        let pair = Pair {
+            source,
+            request,
+            answer,
+            kept: self.ticks,
+        };
+        keep(&mut self.pairs, &mut self.index, self.first, pair);
     }
 
     /// The requests that the next tick forgets. Takes no memory where there is none.
@@ -165,7 +169,7 @@ impl Held {
         ensures quiet { IsQuiet self.now → IsOk result }
         ensures fault { IfErr result (λ f. f ≡ ReliableFault.Memory) }
     {
-        let requests = forgotten_by_tick(self.alloc, self.pairs.as_slice(), self.hold)?;
+        let requests = forgotten_by_tick(self.alloc, &self.pairs, self.ticks, self.hold)?;
         Ok(requests)
     }
 
@@ -174,6 +178,13 @@ impl Held {
         ensures pairs { self.new.pairs ≡ filter_map (after_tick self.old.hold) self.old.pairs }
         ensures hold { self.new.hold ≡ self.old.hold }
     {
-        tick_all(&mut self.pairs, self.hold);
+        tick_all(
+            &mut self.pairs,
+            &mut self.index,
+            &mut self.first,
+            self.ticks,
+            self.hold,
+        );
+        self.ticks = self.ticks.wrapping_add(1);
     }
 }

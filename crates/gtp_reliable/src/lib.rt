@@ -5,8 +5,10 @@
 mod fault;
 mod held;
 pub mod laws;
+mod numbered;
 mod pair;
 mod pending;
+mod queue;
 mod waiting;
 
 pub use fault::ReliableFault;
@@ -16,5 +18,7 @@ pub use pending::{Due, Pending, Resend};
 /// What the signatures and contracts here name of the crate below.
 pub use gtp_values::{Endpoint, Seq};
 
+#[cfg(test)]
+mod listed;
 #[cfg(test)]
 mod tests;

@@ -1,92 +1,49 @@
 //! One answer that is held for a request that comes again.
 
 use gtp_values::Endpoint;
-use std::marker::Model;
+use std::cmp::Ordering;
 
-/// An answer that is held for a request. Contracts see where the request came from, the octets of
-/// both, and the ticks that have passed.
+/// An answer that is held for a request.
 #[derive(Debug, Drop)]
 pub struct Pair {
-    source: Endpoint,
-    request: Vec<u8>,
-    answer: Vec<u8>,
-    /// Ticks since it was kept.
-    age: u32,
-}
-
-impl Model for Pair {
-    ghost use Rattle.gtp_reliable.specs.Held.{HeldPair};
-
-    ghost Value = { HeldPair };
-
-    ghost view = { λ a.
-        record {
-          source = a.source;
-          request = a.request.items;
-          answer = a.answer.items;
-          age = a.age;
-        } };
+    /// Where the request came from.
+    pub source: Endpoint,
+    /// The octets of the request.
+    pub request: Vec<u8>,
+    /// The octets of the answer.
+    pub answer: Vec<u8>,
+    /// The tick in which it was kept, modulo 2^64.
+    pub kept: u64,
 }
 
 impl Pair {
-    ghost use Rattle.std.specs.Prelude.{◌≡◌, ◌≤◌, ◌↔◌, IsTrue, is_some, unwrap_or};
-    ghost use Rattle.gtp_reliable.specs.Held.{just_kept, after_tick, IsFor};
+    ghost use Rattle.std.specs.Prelude.{◌≡◌, ◌≤◌, is_some};
+    ghost use Rattle.gtp_reliable.specs.Held.{after_tick};
+    ghost use Rattle.gtp_reliable.specs.Order.{question_cmp};
+    ghost use Rattle.gtp_reliable.specs.Index.{asked, question};
+    ghost use Rattle.gtp_reliable.specs.Aging.{age, seen};
 
-    /// A pair that was just kept.
-    pub fn new(source: Endpoint, request: Vec<u8>, answer: Vec<u8>) -> Pair
-        ensures { result ≡ just_kept source request.items answer.items }
+    /// The ticks since it was kept.
+    pub fn age(&self, now: u64) -> u64
+        ensures { result ≡ age now self.now }
     {
-        Pair {
-            source,
-            request,
-            answer,
-            age: 0,
-        }
-    }
-
-    pub fn source(&self) -> Endpoint
-        ensures { result ≡ self.now.source }
-    {
-        self.source
-    }
-
-    pub fn request(&self) -> &[u8]
-        ensures { result.now ≡ self.now.request }
-    {
-        &self.request
-    }
-
-    pub fn answer(&self) -> &[u8]
-        ensures { result.now ≡ self.now.answer }
-    {
-        &self.answer
-    }
-
-    /// Whether it is for a request from this source with these octets.
-    pub fn is_for(&self, source: Endpoint, request: &[u8]) -> bool
-        ensures { IsTrue result ↔ IsFor source request.now self.now }
-    {
-        self.source == source && self.request.as_slice() == request
+        now.wrapping_sub(self.kept)
     }
 
     /// Whether the next tick leaves it held.
-    pub fn stays(&self, hold: u32) -> bool
+    pub fn stays(&self, now: u64, hold: u32) -> bool
         requires { 1 ≤ hold }
-        ensures { result ≡ is_some (after_tick hold self.now) }
+        ensures { result ≡ is_some (after_tick hold (seen now self.now)) }
     {
-        self.age < hold - 1
+        self.age(now) < u64::from(hold - 1)
     }
 
-    /// A tick passes: whether it stays held.
-    pub fn tick(&mut self, hold: u32) -> bool
-        requires { 1 ≤ hold }
-        ensures stays { result ≡ is_some (after_tick hold self.old) }
-        ensures pair { self.new ≡ unwrap_or (after_tick hold self.old) self.old }
+    /// How its request stands to a request from this source with these octets.
+    pub fn compare(&self, source: Endpoint, request: &[u8]) -> Ordering
+        ensures { result ≡ question_cmp (asked self.now) (question source request.now) }
     {
-        let stays = self.stays(hold);
-        if stays {
-            self.age += 1;
-        }
-        stays
+        self.source
+            .cmp(&source)
+            .then(self.request.as_slice().cmp(request))
     }
 }

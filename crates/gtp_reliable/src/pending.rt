@@ -10,9 +10,11 @@ ghost use Rattle.gtp_reliable.specs.Pending.{numbers, number_after, is_pending, 
 ghost use Rattle.gtp_reliable.specs.Pending.{purpose_of, IsPrepared, AreLimits, SameTimes};
 ghost use Rattle.gtp_reliable.specs.Pending.{IsQuiet, resends, given_ups};
 ghost use Rattle.gtp_reliable.specs.Due.{message_of};
+ghost use Rattle.gtp_reliable.specs.Purposes.{AreRising, is_given_up};
 
 use crate::fault::ReliableFault;
-use crate::waiting::{NextTick, Waiting};
+use crate::numbered::{find_number, put_in, take_out};
+use crate::waiting::{NextTick, Waiting, meets};
 use gtp_values::{Endpoint, Seq};
 use std::alloc::{AllocError, Global};
 use std::marker::Model;
@@ -42,8 +44,9 @@ pub struct Due<P: Copy> {
 
 /// Requests that wait for their answers, in order of beginning, each with a purpose. A request
 /// waits `t3` ticks (T3-RESPONSE); then it is sent again, at most `n3` times (N3-REQUESTS), and
-/// then given up. Numbers rise by one from 0, or from where they were told to, to 8,388,607, and then
-/// from 0 again; one that is pending is passed over. At most 256 requests are pending.
+/// then given up. Numbers rise by one from 0, or from where they were told to, to 8,388,607, and
+/// then from 0 again; one that is pending is passed over. At most 256 requests are pending. A number
+/// is found by halving an index; a tick goes over all of them.
 #[derive(Debug, Drop)]
 pub struct Pending<P: Copy> {
     alloc: Global,
@@ -51,12 +54,16 @@ pub struct Pending<P: Copy> {
     n3: u32,
     /// The number from which the next free one is sought.
     next: u32,
+    /// In order of beginning.
     waiting: Vec<Waiting<P>>,
+    /// Their numbers, in order, each with what its request is for.
+    purposes: Vec<(u32, P)>,
 }
 
 impl<P: Copy> Model for Pending<P> {
-    ghost use Rattle.std.specs.Prelude.{nat_lt, vec_len, vec_capacity};
+    ghost use Rattle.std.specs.Prelude.{nat_lt, ◌&&◌, vec_len, vec_capacity};
     ghost use Rattle.gtp_reliable.specs.Pending.{Requests, AreRequests};
+    ghost use Rattle.gtp_reliable.specs.Purposes.{IsNumbered};
 
     ghost Value = { Requests P };
 
@@ -66,7 +73,8 @@ impl<P: Copy> Model for Pending<P> {
           n3 = a.n3;
           next = a.next;
           waiting = a.waiting.items;
-          has_room = nat_lt (vec_len a.waiting) (vec_capacity a.waiting);
+          has_room = nat_lt (vec_len a.waiting) (vec_capacity a.waiting)
+              && nat_lt (vec_len a.purposes) (vec_capacity a.purposes);
         } };
 
     ghost invariant = { λ a.
@@ -75,16 +83,10 @@ impl<P: Copy> Model for Pending<P> {
           n3 = a.n3;
           next = a.next;
           waiting = a.waiting.items;
-          has_room = nat_lt (vec_len a.waiting) (vec_capacity a.waiting);
-        }) };
-}
-
-/// Whether a request of this number is pending.
-#[tactic(auto, unfolding(crate::specs::Pending::is_pending))]
-fn has_number<P: Copy>(waiting: &[Waiting<P>], number: u32) -> bool
-    ensures { result ≡ is_pending number waiting.now }
-{
-    waiting.iter().any(|w| w.seq().number() == number)
+          has_room = nat_lt (vec_len a.waiting) (vec_capacity a.waiting)
+              && nat_lt (vec_len a.purposes) (vec_capacity a.purposes);
+        })
+        × IsNumbered a.purposes.items a.waiting.items };
 }
 
 /// The number after a number.
@@ -93,20 +95,6 @@ fn following(number: u32) -> u32
     ensures { result ≡ number_after number }
 {
     if number == LAST { 0 } else { number + 1 }
-}
-
-/// The first number from a start on that no request has.
-pub fn next_free<P: Copy>(start: u32, waiting: &[Waiting<P>]) -> u32
-    requires start { start < numbers }
-    requires count { length waiting.now ≤ 256 }
-    ensures number { IsNextFree start waiting.now result }
-    ensures small { result < numbers }
-{
-    let mut number = start;
-    while has_number(waiting, number) {
-        number = following(number);
-    }
-    number
 }
 
 /// What the next tick does. Takes no memory where that is nothing.
@@ -147,6 +135,25 @@ fn tick_all<P: Copy>(waiting: &mut Vec<Waiting<P>>, t3: u32, n3: u32)
     waiting.retain_mut(|w| w.tick(t3, n3));
 }
 
+/// Takes the numbers out of the index that the next tick gives up.
+fn take_out_given_up<P: Copy>(
+    purposes: &mut Vec<(u32, P)>,
+    waiting: &[Waiting<P>],
+    t3: u32,
+    n3: u32,
+)
+    requires times { 1 ≤ t3 }
+    requires rising { AreRising purposes.old.items }
+    ensures { purposes.new.items
+        ≡ filter (λ e. not (is_given_up t3 n3 e.0 waiting.now)) purposes.old.items }
+{
+    for w in waiting {
+        if w.gives_up(t3, n3) {
+            take_out(purposes, w.seq().number());
+        }
+    }
+}
+
 /// Drops the request of this number.
 fn drop_number<P: Copy>(waiting: &mut Vec<Waiting<P>>, number: u32)
     ensures { waiting.new.items ≡ filter (λ w. not (w.seq == number)) waiting.old.items }
@@ -155,13 +162,23 @@ fn drop_number<P: Copy>(waiting: &mut Vec<Waiting<P>>, number: u32)
 }
 
 /// Drops the requests whose purpose meets the test.
-fn drop_where<P: Copy, F: Fn(&P) -> bool>(waiting: &mut Vec<Waiting<P>>, test: F)
+fn drop_where<P: Copy, F: Fn(&P) -> bool>(waiting: &mut Vec<Waiting<P>>, test: &F)
     ghost meets: { P → Bool }
-    requires callable { F.IsAlwaysCallable test }
-    requires answers { (p : P) (b : Bool) → FnReturnsAt F.Fn test p b → b ≡ meets p }
+    requires callable { F.IsAlwaysCallable test.now }
+    requires answers { (p : P) (b : Bool) → FnReturnsAt F.Fn test.now p b → b ≡ meets p }
     ensures { waiting.new.items ≡ filter (λ w. not (meets w.purpose)) waiting.old.items }
 {
-    waiting.retain(|w| !w.meets(&test));
+    waiting.retain(|w| !w.meets(test));
+}
+
+/// Takes the numbers out of the index whose purpose meets the test.
+fn take_out_where<P: Copy, F: Fn(&P) -> bool>(purposes: &mut Vec<(u32, P)>, test: &F)
+    ghost meets: { P → Bool }
+    requires callable { F.IsAlwaysCallable test.now }
+    requires answers { (p : P) (b : Bool) → FnReturnsAt F.Fn test.now p b → b ≡ meets p }
+    ensures { purposes.new.items ≡ filter (λ e. not (meets e.1)) purposes.old.items }
+{
+    purposes.retain(|entry| !meets(&entry.1, test));
 }
 
 impl<P: Copy> Pending<P> {
@@ -179,6 +196,7 @@ impl<P: Copy> Pending<P> {
             n3,
             next: 0,
             waiting: Vec::new(alloc),
+            purposes: Vec::new(alloc),
         }
     }
 
@@ -196,6 +214,7 @@ impl<P: Copy> Pending<P> {
             n3,
             next: next.number(),
             waiting: Vec::new(alloc),
+            purposes: Vec::new(alloc),
         }
     }
 
@@ -221,7 +240,27 @@ impl<P: Copy> Pending<P> {
             return Err(ReliableFault::PendingFull);
         }
         self.waiting.try_reserve(1)?;
-        Ok(Seq::new(next_free(self.next, self.waiting.as_slice())))
+        self.purposes.try_reserve(1)?;
+        Ok(Seq::new(self.next_free()))
+    }
+
+    /// Whether a request of this number is pending.
+    fn has_number(&self, number: u32) -> bool
+        ensures { result ≡ is_pending number self.now.waiting }
+    {
+        find_number(self.purposes.as_slice(), number).is_ok()
+    }
+
+    /// The first number from the next one on that no request has.
+    fn next_free(&self) -> u32
+        ensures number { IsNextFree self.now.next self.now.waiting result }
+        ensures small { result < numbers }
+    {
+        let mut number = self.next;
+        while self.has_number(number) {
+            number = following(number);
+        }
+        number
     }
 
     /// Begins the request that was prepared, which is sent now.
@@ -232,7 +271,9 @@ impl<P: Copy> Pending<P> {
         ensures next { self.new.next ≡ number_after seq }
         ensures times { SameTimes self.old self.new }
     {
-        self.next = following(seq.number());
+        let number = seq.number();
+        self.next = following(number);
+        put_in(&mut self.purposes, number, purpose);
         if self
             .waiting
             .push(Waiting::new(seq, to, octets, purpose))
@@ -243,16 +284,13 @@ impl<P: Copy> Pending<P> {
     }
 
     /// What the pending request of this number is for.
-    #[tactic(auto, unfolding(crate::specs::Pending::purpose_of))]
     pub fn matched(&self, seq: Seq) -> Option<&P>
         ensures { option_map (λ p. p.now) result ≡ purpose_of seq self.now.waiting }
     {
-        for waiting in &self.waiting {
-            if waiting.seq().number() == seq.number() {
-                return Some(waiting.purpose());
-            }
+        match find_number(self.purposes.as_slice(), seq.number()) {
+            Ok(at) => Some(&self.purposes[at].1),
+            Err(_) => None,
         }
-        None
     }
 
     /// The request of this number, if it is pending, waits no longer.
@@ -261,7 +299,9 @@ impl<P: Copy> Pending<P> {
         ensures next { self.new.next ≡ self.old.next }
         ensures times { SameTimes self.old self.new }
     {
-        drop_number(&mut self.waiting, seq.number());
+        let number = seq.number();
+        drop_number(&mut self.waiting, number);
+        take_out(&mut self.purposes, number);
     }
 
     /// All requests whose purpose meets the test wait no longer. Takes no memory. `meets` is what
@@ -274,7 +314,8 @@ impl<P: Copy> Pending<P> {
         ensures next { self.new.next ≡ self.old.next }
         ensures times { SameTimes self.old self.new }
     {
-        drop_where(&mut self.waiting, test);
+        drop_where(&mut self.waiting, &test);
+        take_out_where(&mut self.purposes, &test);
     }
 
     /// What the next tick does. Takes no memory where that is nothing.
@@ -295,6 +336,12 @@ impl<P: Copy> Pending<P> {
         ensures next { self.new.next ≡ self.old.next }
         ensures times { SameTimes self.old self.new }
     {
+        take_out_given_up(
+            &mut self.purposes,
+            self.waiting.as_slice(),
+            self.t3,
+            self.n3,
+        );
         tick_all(&mut self.waiting, self.t3, self.n3);
     }
 }

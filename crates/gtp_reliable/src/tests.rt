@@ -4,8 +4,7 @@ ghost use Rattle.std.specs.Prelude.{◌≡◌, ◌==◌, filter, not};
 ghost use Rattle.gtp_reliable.specs.Pending.{AreLimits};
 
 use super::*;
-use crate::pending::next_free;
-use crate::waiting::Waiting;
+use crate::listed::{Draws, ListedAnswers, ListedRequests};
 use gtp_values::Ip;
 use std::alloc::Global;
 use std::process::Abort;
@@ -143,22 +142,6 @@ fn numbers(rt: HostRuntime) -> Result<(), Fail> {
     Ok(())
 }
 
-/// The return to 0 with 0 still pending.
-#[test]
-fn numbers_return(rt: HostRuntime) -> Result<(), Fail> {
-    let mut waiting = Vec::new(rt.alloc());
-    for number in [8_388_607, 0] {
-        let octets = Vec::new(rt.alloc());
-        waiting.push(Waiting::new(Seq::new(number), place(2123), octets, 1u8))?;
-    }
-    let waiting = waiting.as_slice();
-    assert_eq!(rt; waiting.len(), 2);
-    assert_eq!(rt; next_free(8_388_607, waiting), 1);
-    assert_eq!(rt; next_free(8_388_606, waiting), 8_388_606);
-    assert_eq!(rt; next_free(1, waiting), 1);
-    Ok(())
-}
-
 #[test]
 fn full(rt: HostRuntime) -> Result<(), Fail> {
     let mut pending = Pending::new(rt.alloc(), 3, 3);
@@ -260,5 +243,203 @@ fn faults_in_words(rt: HostRuntime) -> Result<(), Fail> {
     ] {
         assert_eq!(rt; fault.to_string(alloc)?.as_str(), words);
     }
+    Ok(())
+}
+
+/// Each of 4,096 answers is found by few comparisons.
+#[test]
+fn found_in_few_comparisons(rt: HostRuntime) -> Result<(), Fail> {
+    let mut held = Held::new(rt.alloc(), 60);
+    for number in 0u16..4096 {
+        let octets = number.wrapping_mul(40_503).to_be_bytes();
+        keep(rt.alloc(), &mut held, place(number % 3), &octets, 1)?;
+    }
+    for number in 0u16..4096 {
+        let octets = number.wrapping_mul(40_503).to_be_bytes();
+        let (answer, compared) = held.lookup_counted(place(number % 3), &octets);
+        assert!(rt; answer == Some([1].as_slice()));
+        assert!(rt; compared <= 14, "{compared} compared");
+        assert!(rt; held.lookup_counted(place(4), &octets).0.is_none());
+    }
+    Ok(())
+}
+
+/// How often the calls in the tests below met what they are to meet.
+#[derive(Clone, Copy, Debug, Default)]
+struct Met {
+    found: u32,
+    refused: u32,
+    due: u32,
+}
+
+/// Looks up a request in both forms, and tells whether an answer is held.
+fn look_up_both(
+    rt: &impl Abort,
+    held: &Held,
+    listed: &ListedAnswers,
+    source: Endpoint,
+    request: &[u8],
+) -> bool {
+    let (answer, compared) = held.lookup_counted(source, request);
+    assert!(rt; answer == listed.lookup(source, request));
+    assert!(rt; answer == held.lookup(source, request));
+    assert!(rt; compared <= 14);
+    answer.is_some()
+}
+
+/// Keeps an answer in both forms, where that isn't refused; tells whether it was.
+fn keep_both(
+    rt: &impl Abort,
+    alloc: Global,
+    held: &mut Held,
+    listed: &mut ListedAnswers,
+    source: Endpoint,
+    number: u16,
+) -> Result<bool, Fail> {
+    let request = Vec::from_slice(alloc, &number.to_be_bytes())?;
+    assert!(rt; held.is_full() == listed.is_full());
+    let prepared = held.prepare();
+    if listed.is_full() {
+        assert!(rt; prepared.err() == Some(ReliableFault::HeldFull));
+        return Ok(true);
+    }
+    prepared?;
+    if held.lookup(source, request.as_slice()).is_none() {
+        let answer = vec![in alloc; 1, 2]?;
+        listed.keep(source, request.clone()?, answer.clone()?)?;
+        held.keep(source, request, answer);
+    }
+    Ok(false)
+}
+
+/// What the next tick forgets, alike in both forms; tells how many requests.
+fn forgotten_by_both(
+    rt: &impl Abort,
+    alloc: Global,
+    held: &Held,
+    listed: &ListedAnswers,
+) -> Result<usize, Fail> {
+    let due = held.due()?;
+    assert!(rt; due == listed.due(alloc)?);
+    Ok(due.len())
+}
+
+#[test]
+fn held_as_by_lists(rt: HostRuntime) -> Result<(), Fail> {
+    let alloc = rt.alloc();
+    let mut held = Held::new(alloc, 300);
+    let mut listed = ListedAnswers::new(alloc, 300);
+    let mut draws = Draws::new(15);
+    let mut met = Met::default();
+    for call in 0..10_000 {
+        let source = place(draws.below(2));
+        let number = draws.below(30_000);
+        match draws.below(if call < 6_000 { 64 } else { 8 }) {
+            0 => {
+                if forgotten_by_both(&rt, alloc, &held, &listed)? > 0 {
+                    met.due = met.due.saturating_add(1);
+                }
+                held.tick();
+                listed.tick();
+            }
+            1 | 2 => {
+                if look_up_both(&rt, &held, &listed, source, &number.to_be_bytes()) {
+                    met.found = met.found.saturating_add(1);
+                }
+            }
+            _ => {
+                if keep_both(&rt, alloc, &mut held, &mut listed, source, number)? {
+                    met.refused = met.refused.saturating_add(1);
+                }
+            }
+        }
+    }
+    assert!(rt; met.found > 0 && met.refused > 0 && met.due > 0, "{met:?}");
+    Ok(())
+}
+
+/// Begins a request in both forms, where that isn't refused; tells whether it was.
+fn begin_both(
+    rt: &impl Abort,
+    alloc: Global,
+    pending: &mut Pending<u8>,
+    listed: &mut ListedRequests,
+    purpose: u8,
+) -> Result<bool, Fail> {
+    assert!(rt; pending.is_full() == listed.is_full());
+    let octets = vec![in alloc; purpose, 7]?;
+    match pending.prepare() {
+        Ok(seq) => {
+            assert!(rt; !listed.is_full() && seq.number() == listed.next_free());
+            listed.begin(seq, place(2123), octets.clone()?, purpose)?;
+            pending.begin(seq, place(2123), octets, purpose);
+            Ok(false)
+        }
+        Err(fault) => {
+            assert!(rt; listed.is_full() && fault == ReliableFault::PendingFull);
+            Ok(true)
+        }
+    }
+}
+
+/// What the next tick does, alike in both forms; tells how many requests that is.
+fn due_of_both(
+    rt: &impl Abort,
+    alloc: Global,
+    pending: &Pending<u8>,
+    listed: &ListedRequests,
+) -> Result<(usize, usize), Fail> {
+    let due = pending.due()?;
+    assert!(rt; due.resend == listed.resends(alloc)?);
+    assert!(rt; due.gave_up == listed.gave_up(alloc)?);
+    Ok((due.resend.len(), due.gave_up.len()))
+}
+
+#[test]
+fn pending_as_by_lists(rt: HostRuntime) -> Result<(), Fail> {
+    let alloc = rt.alloc();
+    let first = 8_387_000;
+    let mut pending = Pending::new_at(alloc, 20, 3, Seq::new(first));
+    let mut listed = ListedRequests::new(alloc, 20, 3, first);
+    let mut draws = Draws::new(15);
+    let mut met = Met::default();
+    let mut gave_up = false;
+    for _ in 0..10_000 {
+        let number = first.wrapping_add(u32::from(draws.below(6_000))) % 8_388_608;
+        let seq = Seq::new(number);
+        match draws.below(64) {
+            0 | 1 => {
+                let (resent, given_up) = due_of_both(&rt, alloc, &pending, &listed)?;
+                if resent > 0 {
+                    met.due = met.due.saturating_add(1);
+                }
+                gave_up = gave_up || given_up > 0;
+                pending.tick();
+                listed.tick();
+            }
+            2..=31 => {
+                assert!(rt; pending.matched(seq) == listed.matched(seq));
+                if pending.matched(seq).is_some() {
+                    met.found = met.found.saturating_add(1);
+                }
+                pending.finish(seq);
+                listed.finish(seq);
+            }
+            32 => {
+                finish_all(&mut pending, 5);
+                listed.finish_purpose(5);
+            }
+            _ => {
+                let purpose = draws.below(9) as u8;
+                if begin_both(&rt, alloc, &mut pending, &mut listed, purpose)? {
+                    met.refused = met.refused.saturating_add(1);
+                }
+            }
+        }
+    }
+    assert!(rt;
+        gave_up && met.found > 0 && met.refused > 0 && met.due > 0,
+        "{met:?}"
+    );
     Ok(())
 }

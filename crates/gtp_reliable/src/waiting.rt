@@ -1,5 +1,7 @@
 //! One request that waits for its answer.
 
+ghost use Rattle.std.specs.Fn.{FnReturnsAt};
+
 use gtp_values::{Endpoint, Seq};
 use std::marker::Model;
 
@@ -42,10 +44,18 @@ impl<P: Copy> Model for Waiting<P> {
         } };
 }
 
+/// Whether a purpose meets a test.
+pub fn meets<P: Copy, F: Fn(&P) -> bool>(purpose: &P, test: &F) -> bool
+    requires { F.IsAlwaysCallable test.now }
+    ensures { FnReturnsAt F.Fn test.now purpose.now result }
+{
+    test(purpose)
+}
+
 impl<P: Copy> Waiting<P> {
     ghost use Rattle.std.specs.Prelude.{◌≡◌, ◌≤◌, is_some, unwrap_or};
-    ghost use Rattle.std.specs.Fn.{FnReturnsAt};
     ghost use Rattle.gtp_reliable.specs.Waiting.{just_sent, next_tick, after_tick};
+    ghost use Rattle.gtp_reliable.specs.Purposes.{gives_up};
 
     /// A request that was just sent.
     pub fn new(seq: Seq, to: Endpoint, octets: Vec<u8>, purpose: P) -> Waiting<P>
@@ -90,7 +100,7 @@ impl<P: Copy> Waiting<P> {
         requires { F.IsAlwaysCallable test.now }
         ensures { FnReturnsAt F.Fn test.now self.now.purpose result }
     {
-        test(self.purpose())
+        meets(self.purpose(), test)
     }
 
     /// What the next tick does with it.
@@ -104,6 +114,17 @@ impl<P: Copy> Waiting<P> {
             NextTick::SentAgain
         } else {
             NextTick::GivenUp
+        }
+    }
+
+    /// Whether the next tick gives it up.
+    pub fn gives_up(&self, t3: u32, n3: u32) -> bool
+        requires { 1 ≤ t3 }
+        ensures { result ≡ gives_up t3 n3 self.now }
+    {
+        match self.next_tick(t3, n3) {
+            NextTick::WaitsOn | NextTick::SentAgain => false,
+            NextTick::GivenUp => true,
         }
     }
 

@@ -9,7 +9,7 @@ use Rattle.gtp_user.specs.declared.fault.UserFault.TheVariants as faults
 use Rattle.gtp_values.specs.Decides.{Decides}
 use Rattle.gtp_user.specs.Headed.{Headed, where_set, header_at, after_flags}
 use Rattle.gtp_user.specs.Header.{Flags, bit, bits, Opens, HeadedPlain, HeadedByFlags, IsHeaded, HeaderFails}
-use Rattle.gtp_user.proofs.Outcomes.{decided_by}
+use Rattle.gtp_values.proofs.Outcomes.{decided_by}
 
 -- ---- bits
 

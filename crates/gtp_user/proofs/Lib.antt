@@ -1,5 +1,4 @@
 pub mod Appends
-pub mod Outcomes
 pub mod Begun
 pub mod Gathers
 pub mod Chains

@@ -21,7 +21,7 @@ use Rattle.gtp_values.proofs.Decided.{decide_bind, decide_map, decide_ok, decide
 use Rattle.gtp_user.proofs.Headers.{header_decided}
 use Rattle.gtp_user.proofs.Chains.{IsChained, chained, chain_decided}
 use Rattle.gtp_user.proofs.Spanned.{elements_decided}
-use Rattle.gtp_user.proofs.Outcomes.{some_same, none_some}
+use Rattle.gtp_values.proofs.Outcomes.{some_same, none_some}
 
 -- ---- elements that a message must have
 

@@ -8,7 +8,7 @@ use Rattle.gtp_user.specs.Element.{Element, BeginsElement, Spans, AreElements, I
 use Rattle.gtp_user.specs.Elements.{element_at, go_on, elements_in, elements_at}
 use Rattle.gtp_user.proofs.Begun.{found, element_begins, begins_element, begins_shorter}
 use Rattle.gtp_values.proofs.Decided.{decide_map, decide_as, known_ok, known_err}
-use Rattle.gtp_user.proofs.Outcomes.{some_same, none_some}
+use Rattle.gtp_values.proofs.Outcomes.{some_same, none_some}
 
 abbrev whole_so_far : List Element → Result (List Element) UserFault
 whole_so_far es = Ok es

@@ -3,7 +3,7 @@ use Rattle.std.proofs.Common.{◌≡◌, Result, Ok, Err, sym, ap, ◌∙◌}
 use Rattle.std.specs.Prelude.{IfOk, IfErr, IsOkAnd}
 use Rattle.gtp_values.specs.Steps.{Gives}
 use Rattle.gtp_values.specs.Decides.{Decides}
-use Rattle.gtp_user.proofs.Outcomes.{ok_same, err_same, apart}
+use Rattle.gtp_values.proofs.Outcomes.{ok_same, err_same, apart}
 
 -- the four clauses of a reading
 pub record Told {X Y E : Type 0} (view : X → Y) (r : Result X E) (Is : Y → Type 0) (Fails : E → Type 0) : Type 0 where

@@ -35,6 +35,10 @@ content_of (bodies.Other kind teid octets) = Other kind teid.0 octets.now
 abbrev pub message_value : UserMessage → MessageValue
 message_value m = record { seq = m.seq; npdu = m.npdu; ext = m.ext; content = content_of m.body }
 
+-- a message of these parts, which are all that it has
+abbrev pub of_parts : Option ℕ → Option ℕ → List Extension → UserBody → UserMessage
+of_parts seq npdu ext body = record { seq = seq; npdu = npdu; ext = ext; body = body }
+
 -- the sequence number of a message whose header has this one: an echo, an Error Indication and a notification always have one, 0 where their flag S is not set
 abbrev pub numbered : Content → Option ℕ → Option ℕ
 numbered EchoRequest seq = Some (unwrap_or seq 0)

@@ -3,7 +3,7 @@
 
 ghost use Rattle.std.specs.Prelude.{◌≡◌, ◌↔◌, ℕ, ◌-◌, ◌<◌, ◌≤◌, IsTrue, List, length, take};
 ghost use Rattle.gtp_user.specs.declared.fault.UserFault.TheVariants as faults;
-ghost use Rattle.gtp_user.specs.Message.{MessageValue, message_value};
+ghost use Rattle.gtp_user.specs.Message.{MessageValue, message_value, of_parts};
 ghost use Rattle.gtp_user.specs.Datagram.{IsUserMessage, IsUserFault};
 ghost use Rattle.gtp_user.specs.Encoding.{Meets, encoding};
 
@@ -23,6 +23,11 @@ pub fn proper_prefixes_are_faults()
     ensures fewer { (octets : List ℕ) (m : MessageValue) (n : ℕ) →
         IsUserMessage octets m → 8 ≤ n → n < length octets →
         IsUserFault (take n octets) (faults.Length (length octets - 8) (n - 8)) }
+{}
+
+/// A message has these parts and no others, so none is hidden from contracts.
+pub fn messages_have_these_parts_alone()
+    ensures { (m : UserMessage) → m ≡ of_parts m.seq m.npdu m.ext m.body }
 {}
 
 /// Two messages are equal exactly where contracts see the same message.

@@ -6,6 +6,7 @@ mod element;
 mod extension;
 mod fault;
 mod header;
+pub mod kinds;
 pub mod laws;
 mod message;
 mod numbers;
@@ -20,6 +21,3 @@ pub use writing::encode;
 
 /// What the signatures and contracts here name of the crate below.
 pub use gtp_values::{Ip, Teid};
-
-#[cfg(test)]
-mod tests;

@@ -1,16 +1,4 @@
-//! Numbers of message types (TS 29.281 6.1) and of element types (8.1).
-
-pub const ECHO_REQUEST: u8 = 1;
-
-pub const ECHO_RESPONSE: u8 = 2;
-
-pub const ERROR_INDICATION: u8 = 26;
-
-pub const SUPPORTED_EXTENSIONS: u8 = 31;
-
-pub const END_MARKER: u8 = 254;
-
-pub const G_PDU: u8 = 255;
+//! The types of elements (TS 29.281 8.1).
 
 pub const RECOVERY: u8 = 14;
 

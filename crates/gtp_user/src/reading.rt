@@ -11,11 +11,12 @@ use crate::element::read_elements;
 use crate::extension::read_chain;
 use crate::fault::UserFault;
 use crate::header::read_header;
-use crate::message::{UserBody, UserMessage};
-use crate::numbers::{
-    ECHO_REQUEST, ECHO_RESPONSE, END_MARKER, ERROR_INDICATION, EXTENSION_TYPES, G_PDU,
-    PEER_ADDRESS, RECOVERY, SUPPORTED_EXTENSIONS, TEID_DATA,
+use crate::kinds::{
+    ECHO_REQUEST, ECHO_RESPONSE, END_MARKER, ERROR_INDICATION, G_PDU,
+    SUPPORTED_EXTENSION_HEADERS_NOTIFICATION,
 };
+use crate::message::{UserBody, UserMessage};
+use crate::numbers::{EXTENSION_TYPES, PEER_ADDRESS, RECOVERY, TEID_DATA};
 use gtp_values::Teid;
 
 /// What a message of this type carries in the octets after its chain, the last ones of a datagram of
@@ -40,7 +41,7 @@ fn read_body(kind: u8, teid: Teid, octets: &[u8], end: usize) -> Result<UserBody
             let peer = found.peer.ok_or(UserFault::Missing { kind: PEER_ADDRESS })?;
             Ok(UserBody::ErrorIndication { teid, peer })
         }
-        SUPPORTED_EXTENSIONS => {
+        SUPPORTED_EXTENSION_HEADERS_NOTIFICATION => {
             let found = read_elements(octets, end)?;
             let types = found.types.ok_or(UserFault::Missing {
                 kind: EXTENSION_TYPES,

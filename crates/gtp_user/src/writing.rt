@@ -7,11 +7,12 @@ ghost use Rattle.gtp_user.specs.Header.{bits};
 ghost use Rattle.gtp_user.specs.Datagram.{IsUserMessage};
 
 use crate::fault::UserFault;
-use crate::message::{UserBody, UserMessage};
-use crate::numbers::{
-    ECHO_REQUEST, ECHO_RESPONSE, END_MARKER, ERROR_INDICATION, EXTENSION_TYPES, G_PDU,
-    PEER_ADDRESS, RECOVERY, SUPPORTED_EXTENSIONS, TEID_DATA,
+use crate::kinds::{
+    ECHO_REQUEST, ECHO_RESPONSE, END_MARKER, ERROR_INDICATION, G_PDU,
+    SUPPORTED_EXTENSION_HEADERS_NOTIFICATION,
 };
+use crate::message::{UserBody, UserMessage};
+use crate::numbers::{EXTENSION_TYPES, PEER_ADDRESS, RECOVERY, TEID_DATA};
 use gtp_values::Ip;
 use std::alloc::{AllocError, Global};
 
@@ -35,7 +36,7 @@ impl UserBody<'_> {
             UserBody::EchoRequest => ECHO_REQUEST,
             UserBody::EchoResponse => ECHO_RESPONSE,
             UserBody::ErrorIndication { .. } => ERROR_INDICATION,
-            UserBody::Notification { .. } => SUPPORTED_EXTENSIONS,
+            UserBody::Notification { .. } => SUPPORTED_EXTENSION_HEADERS_NOTIFICATION,
             UserBody::EndMarker { .. } => END_MARKER,
             UserBody::Packet { .. } => G_PDU,
             UserBody::Other { kind, .. } => *kind,
@@ -91,7 +92,7 @@ impl UserMessage<'_> {
                 ECHO_REQUEST
                     | ECHO_RESPONSE
                     | ERROR_INDICATION
-                    | SUPPORTED_EXTENSIONS
+                    | SUPPORTED_EXTENSION_HEADERS_NOTIFICATION
                     | END_MARKER
                     | G_PDU
             ),

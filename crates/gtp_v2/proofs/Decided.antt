@@ -15,15 +15,13 @@ use Rattle.gtp_v2.specs.declared.fault.Need.TheVariants as needs
 use Rattle.gtp_ie.specs.Value.{Value, value_at}
 use Rattle.gtp_ie.specs.Spelling.{Spells, SpellsNone}
 use Rattle.gtp_ie.proofs.Spelled.{value_decided}
+use Rattle.gtp_values.proofs.Outcomes.{done, ok_same, err_same, apart}
 use Rattle.gtp_values.proofs.Decided.{decide_bind, decide_map, decide_cons, decide_ok, decide_as, known_ok, known_err}
 use Rattle.gtp_v2.specs.declared.fault.RowFault.{RowFault}
 use Rattle.gtp_v2.specs.declared.fault.RowFault.TheVariants as faults
 use Rattle.gtp_v2.specs.Table.{Row, Mandatory, Conditional, Accepted, Optional, Line, Single, Grouped, Several, Plain, Groups, State}
 use Rattle.gtp_v2.specs.Rows.{named, needed, needed_at, welcome, value_or_none, optional_at, needed_if_at, row_at, rows_at, accepts, whole, one_at, each_at, values_at, group_at, groups_at, no_group, some_groups, no_value, several_at, line_at, lines_at, need_of, kind_of, instance_of, after}
 use Rattle.gtp_v2.specs.Grammar.{Says, SaysNothing, One, AtMostOne, NeededFails, absent, short, bad, RowIs, RowFails, RowsAre, RowsFail, IsCutShort, GroupIs, GroupFails, EachIs, SomeFails, GroupsAre, GroupsFail, OneIs, OneFails, short_one, bad_one, SeveralAre, SeveralFail, IsEnough, NoGroup, SomeGroups, SomeGroupsFail, LineIs, LineFails, LinesAre, LinesFail}
-
-abbrev done : {X : Type 0} (E : Type 0) → X → Result X E
-done E x = Ok x
 
 abbrev free_at : ℕ → ℕ → List Element → Result (List Value) RowFault
 free_at kind instance es = Ok (option_to_list (optional_at kind instance es))
@@ -93,30 +91,12 @@ rows_decided accepting (row ∷ rows) es =
 
 -- ---- groups
 
-abbrev walked_ok : List Element → Result (List Element) ℕ
-walked_ok es = Ok es
-
-abbrev walked_err : ℕ → Result (List Element) ℕ
-walked_err p = Err p
-
-ok_same : {x y : List Element} → walked_ok x ≡ Ok y → y ≡ x
-ok_same h = cc
-
-ok_err : {x : List Element} {p : ℕ} → walked_ok x ≡ Err p → ⊥
-ok_err h = cc
-
-err_ok : {x : List Element} {p : ℕ} → walked_err p ≡ Ok x → ⊥
-err_ok h = cc
-
-err_same : {p q : ℕ} → walked_err p ≡ Err q → q ≡ p
-err_same h = cc
-
 -- the elements of a list
 pub whole_decided : (at : ℕ) (octets : List ℕ) → Decides (whole (elements_of at octets)) (AreElements at octets) (IsCutShort at octets)
 whole_decided at octets = by_walk (elements_of at octets) (elements_decided at octets) where
   by_walk : (r : Result (List Element) ℕ) → Decides r (AreElements at octets) (IsCut at octets) → Decides (whole r) (AreElements at octets) (IsCutShort at octets)
-  by_walk (Ok es) d = known_ok es (AreElements at octets) (IsCutShort at octets) (d.ok es refl) (λ all h. ok_same (d.is all h)) (λ f h. ok_err (d.fails h.0 h.1))
-  by_walk (Err p) d = known_err (faults.Element (Truncated p)) (AreElements at octets) (IsCutShort at octets) (p, d.err p refl, refl) (λ all h. err_ok (d.is all h)) (λ f h. h.2 ∙ ap (λ (n : ℕ). faults.Element (Truncated n)) (err_same (d.fails h.0 h.1)))
+  by_walk (Ok es) d = known_ok es (AreElements at octets) (IsCutShort at octets) (d.ok es refl) (λ all h. sym (ok_same ℕ es all (d.is all h))) (λ f h. apart es h.0 (d.fails h.0 h.1))
+  by_walk (Err p) d = known_err (faults.Element (Truncated p)) (AreElements at octets) (IsCutShort at octets) (p, d.err p refl, refl) (λ all h. apart all p (sym (d.is all h))) (λ f h. h.2 ∙ ap (λ (n : ℕ). faults.Element (Truncated n)) (sym (err_same (List Element) p h.0 (d.fails h.0 h.1))))
 
 group_decided : (accepting : Bool) (rows : List Row) (e : Element) → Decides (group_at accepting rows e) (GroupIs accepting rows e) (GroupFails accepting rows e)
 unfolding group_at

@@ -4,10 +4,10 @@ use Rattle.std.specs.Prelude.{◌==◌, is_some}
 use Rattle.byteorder.specs.Endian.{big_number}
 use Rattle.gtp_values.proofs.Decided.{bind_ok}
 use Rattle.gtp_ie.specs.Element.{elements_of}
-use Rattle.gtp_ie.proofs.Slots.{both}
+use Rattle.gtp_values.proofs.Outcomes.{both}
 use Rattle.gtp_v2.specs.Table.{start, Table}
 use Rattle.gtp_v2.specs.Rows.{whole, lines_at}
-use Rattle.gtp_v2.specs.Apart.{lines_apart, all_fit}
+use Rattle.gtp_v2.specs.Apart.{lines_apart, all_fit, is_table}
 use Rattle.gtp_v2.proofs.Meets.{LinesMeet}
 use Rattle.gtp_v2.specs.Headed.{Headed, header_at}
 use Rattle.gtp_v2.specs.Message.{Content, Fields, Raw, MessageValue}
@@ -47,10 +47,10 @@ header_again kind (Some teid) seq (Some p) rest m lt =
     let same : (16 * p) / 16 ≡ p = omega arith in
     rw (size_again (8 + length rest) (four teid (three seq ((16 * p) ∷ rest))) (omega arith) (omega arith), four_again teid m.0, three_again seq m.1, same) refl
 
--- whether the lines of tables have types and instances of their own, and fit
-abbrev all_pass : List Table → Bool
-all_pass [] = true
-all_pass (table ∷ others) = (lines_apart table.lines && all_fit table.lines) && all_pass others
+-- whether each of these tables passes a test
+abbrev pub all_pass : (Table → Bool) → List Table → Bool
+all_pass test [] = true
+all_pass test (table ∷ others) = test table && all_pass test others
 
 -- the first of two, or the second by a test
 either_of : (b : Bool) (first table : Table) (others : Option Table) → cond b (Some first) others ≡ Some table → (first ≡ table) ⊎ (others ≡ Some table)
@@ -58,25 +58,25 @@ either_of true first table others h = inl cc
 either_of false first table others h = inr h
 
 -- a table among tables that pass
-one_passes : (kind : ℕ) (all : List Table) (table : Table) → all_pass all ≡ true → table_among kind all ≡ Some table → lines_apart table.lines && all_fit table.lines ≡ true
-one_passes kind [] table pass h = absurd cc
-one_passes kind (first ∷ others) table pass h =
-    let p = both (lines_apart first.lines && all_fit first.lines) (all_pass others) pass in
+one_passes : (test : Table → Bool) (kind : ℕ) (all : List Table) (table : Table) → all_pass test all ≡ true → table_among kind all ≡ Some table → test table ≡ true
+one_passes test kind [] table pass h = absurd cc
+one_passes test kind (first ∷ others) table pass h =
+    let p = both (test first) (all_pass test others) pass in
     elim (either_of (kind == first.kind) first table (table_among kind others) h) [
-      | inl is ↦ subst (λ (t : Table). lines_apart t.lines && all_fit t.lines ≡ true) is p.left
-      | inr later ↦ one_passes kind others table p.right later
+      | inl is ↦ subst (λ (t : Table). test t ≡ true) is p.left
+      | inr later ↦ one_passes test kind others table p.right later
     ]
 
--- each table passes
-tables_pass : (kind : ℕ) (table : Table) → table_of kind ≡ Some table → lines_apart table.lines && all_fit table.lines ≡ true
-tables_pass kind table h = one_passes kind tables table refl h
+-- each table passes a test that all of them pass
+pub tables_pass : (test : Table → Bool) → all_pass test tables ≡ true → (kind : ℕ) (table : Table) → table_of kind ≡ Some table → test table ≡ true
+tables_pass test pass kind table h = one_passes test kind tables table pass h
 
 -- each table's lines have types and instances of their own
 tables_apart : (kind : ℕ) (table : Table) → table_of kind ≡ Some table → lines_apart table.lines ≡ true
-tables_apart kind table h = (both (lines_apart table.lines) (all_fit table.lines) (tables_pass kind table h)).left
+tables_apart kind table h = (both (lines_apart table.lines) (all_fit table.lines) (tables_pass (λ t. is_table t.lines) refl kind table h)).left
 
 pub tables_fit : (kind : ℕ) (table : Table) → table_of kind ≡ Some table → all_fit table.lines ≡ true
-tables_fit kind table h = (both (lines_apart table.lines) (all_fit table.lines) (tables_pass kind table h)).right
+tables_fit kind table h = (both (lines_apart table.lines) (all_fit table.lines) (tables_pass (λ t. is_table t.lines) refl kind table h)).right
 
 -- the fields meet the kind's table
 abbrev pub ContentMeets : Option Table → Option ℕ → Content → Type 0

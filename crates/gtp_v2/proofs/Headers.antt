@@ -1,5 +1,5 @@
 -- Reading a header decides its form.
-use Rattle.std.proofs.Common.{◌≡◌, ◌≢◌, ℕ, ◌+◌, ◌-◌, ◌*◌, ◌/◌, ◌%◌, ◌<◌, ◌≤◌, Bool, true, false, cond, List, [], ◌∷◌, length, Some, None, Result, Ok, Err, ◌⊎◌, inl, inr, refl, sym, ap, subst, ◌∙◌, arith}
+use Rattle.std.proofs.Common.{◌≡◌, ◌≢◌, ℕ, ◌+◌, ◌-◌, ◌*◌, ◌/◌, ◌%◌, ◌<◌, ◌≤◌, Bool, true, false, cond, List, [], ◌∷◌, length, Some, None, Ok, Err, ◌⊎◌, inl, inr, refl, sym, ap, subst, ◌∙◌, arith}
 use Rattle.std.specs.Prelude.{◌==◌, nat_le}
 use Rattle.byteorder.specs.Endian.{big_number}
 use Rattle.std.proofs.lemmas.Bool.Decides.{nat_tests}
@@ -9,6 +9,7 @@ use Rattle.gtp_v2.specs.declared.fault.V2Fault.{V2Fault}
 use Rattle.gtp_v2.specs.declared.fault.V2Fault.TheVariants as faults
 use Rattle.gtp_v2.specs.Headed.{Headed, header_at, after_teid, after_no_teid}
 use Rattle.gtp_v2.specs.Header.{HeadedPlain, HeadedByTeid, IsHeaded, HeaderFails}
+use Rattle.gtp_values.proofs.Outcomes.{decided_by}
 
 -- the parts of what was read are those of the octets: each form is read as itself
 plain_is : (octets : List ℕ) (h : Headed) → HeadedPlain octets h → header_at octets ≡ Ok h
@@ -177,26 +178,6 @@ headed_is : (octets : List ℕ) (h : Headed) → IsHeaded octets h → header_at
 headed_is octets h (inl p) = plain_is octets h p
 headed_is octets h (inr p) = teid_is octets h p
 
-abbrev header_done : Headed → Result Headed V2Fault
-header_done h = Ok h
-
-abbrev header_failed : V2Fault → Result Headed V2Fault
-header_failed f = Err f
-
-ok_is : (x y : Headed) → header_done x ≡ Ok y → x ≡ y
-ok_is x y h = cc
-
-err_is : (f g : V2Fault) → header_failed f ≡ Err g → f ≡ g
-err_is f g h = cc
-
-apart : (x : Headed) (f : V2Fault) → header_done x ≡ Err f → ⊥
-apart x f h = cc
-
 -- reading a header decides its form
 pub header_decided : (octets : List ℕ) → Decides (header_at octets) (IsHeaded octets) (HeaderFails octets)
-header_decided octets = record {
-  ok = λ h e. elim (sorted octets) [ inl s ↦ subst (IsHeaded octets) (ok_is s.0 h (sym (headed_is octets s.0 s.1) ∙ e)) s.1 | inr s ↦ absurd (apart h s.0 (sym e ∙ fault_is octets s.0 s.1)) ];
-  is = λ h p. headed_is octets h p;
-  err = λ f e. elim (sorted octets) [ inl s ↦ absurd (apart s.0 f (sym (headed_is octets s.0 s.1) ∙ e)) | inr s ↦ subst (HeaderFails octets) (err_is s.0 f (sym (fault_is octets s.0 s.1) ∙ e)) s.1 ];
-  fails = λ f p. fault_is octets f p;
-}
+header_decided octets = decided_by (header_at octets) (IsHeaded octets) (HeaderFails octets) (sorted octets) (headed_is octets) (fault_is octets)

@@ -1,13 +1,11 @@
 -- An instance that a fault names is one of a table's rows, and so below 16.
-use Rattle.std.proofs.Common.{◌≡◌, ◌<◌, ℕ, Bool, true, false, ◌&&◌, List, [], ◌∷◌, Option, Some, None, ◌⊎◌, inl, inr, refl, sym, subst, ltb, ltb-true}
-use Rattle.std.specs.Prelude.{nat_lt}
+use Rattle.std.proofs.Common.{◌≡◌, ◌<◌, ℕ, Bool, true, false, ◌&&◌, List, [], ◌∷◌, Option, Some, None, inl, inr, refl, sym, subst, ltb, ltb-true}
 use Rattle.gtp_ie.specs.Element.{Element}
 use Rattle.gtp_v2.specs.declared.fault.RowFault.{RowFault}
 use Rattle.gtp_v2.specs.declared.fault.RowFault.TheVariants as row_faults
 use Rattle.gtp_v2.specs.declared.fault.Need.{Need}
 use Rattle.gtp_v2.specs.declared.fault.Need.TheVariants as needs
 use Rattle.gtp_v2.specs.declared.fault.V2Fault.{V2Fault}
-use Rattle.gtp_v2.specs.declared.fault.V2Fault.TheVariants as faults
 use Rattle.gtp_v2.specs.declared.fault.Head.{Head}
 use Rattle.gtp_ie.specs.Value.{Value}
 use Rattle.gtp_v2.specs.Table.{Row, Mandatory, Conditional, Accepted, Optional, Line, Single, Grouped, Several, State, start, Table, accepts, after, need_of, kind_of, instance_of}
@@ -19,7 +17,7 @@ use Rattle.gtp_v2.specs.Message.{with_head}
 use Rattle.gtp_v2.specs.Tables.{table_of}
 use Rattle.gtp_v2.specs.Datagram.{FailsBy, IsFault}
 use Rattle.gtp_v2.specs.Instances.{RowInstanceIsSmall, InstanceIsSmall}
-use Rattle.gtp_ie.proofs.Slots.{both}
+use Rattle.gtp_values.proofs.Outcomes.{both}
 use Rattle.gtp_v2.proofs.Encoded.{tables_fit}
 
 needed_small : (conditional : Bool) (kind instance : ℕ) (es : List Element) (f : RowFault) → instance < 16 → NeededFails conditional kind instance es f → RowInstanceIsSmall f

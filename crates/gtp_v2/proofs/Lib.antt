@@ -3,6 +3,7 @@ pub mod Decided
 pub mod Appends
 pub mod Meets
 pub mod Again
+pub mod One
 pub mod Same
 pub mod SameBodies
 pub mod SameMessages
@@ -10,8 +11,14 @@ pub mod Told
 pub mod Instances
 pub mod Prefixes
 pub mod Encoded
+pub mod Few
 pub mod Marked
 pub mod MarksOf
 pub mod Headers
 pub mod Senders
 pub mod Measured
+pub mod Unknown
+pub mod Checks
+pub mod Views
+pub mod GroupValues
+pub mod Carried

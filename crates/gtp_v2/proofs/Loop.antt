@@ -16,7 +16,7 @@ regroup {X = X} front first (Ok others) = ap (λ (xs : List X). Ok xs) (simp app
 regroup front first (Err f) = refl
 
 -- an element that was read
-goes_on : {X : Type 0} (read : Element → Result X RowFault) (front : List X) (e : Element) (es left : List Element) (first : X) (total : Result (List X) RowFault)
+pub goes_on : {X : Type 0} (read : Element → Result X RowFault) (front : List X) (e : Element) (es left : List Element) (first : X) (total : Result (List X) RowFault)
     → left ≡ e ∷ es → read e ≡ Ok first → with_front front (each_at read left) ≡ total → with_front (front ++ first ∷ []) (each_at read es) ≡ total
 unfolding each_at
 goes_on read front e es left first total split h so_far =
@@ -24,7 +24,7 @@ goes_on read front e es left first total split h so_far =
     sym one ∙ so_far
 
 -- an element at fault
-ends : {X : Type 0} (read : Element → Result X RowFault) (f : RowFault) (front : List X) (e : Element) (es left : List Element) (total : Result (List X) RowFault)
+pub ends : {X : Type 0} (read : Element → Result X RowFault) (f : RowFault) (front : List X) (e : Element) (es left : List Element) (total : Result (List X) RowFault)
     → left ≡ e ∷ es → read e ≡ Err f → with_front front (each_at read left) ≡ total → total ≡ Err f
 unfolding each_at
 ends read f front e es left total split h so_far =
@@ -32,7 +32,7 @@ ends read f front e es left total split h so_far =
     sym so_far ∙ one
 
 -- no element is left
-is_done : {X : Type 0} (read : Element → Result X RowFault) (front : List X) (left : List Element) (total : Result (List X) RowFault) → left ≡ [] → with_front front (each_at read left) ≡ total → total ≡ Ok front
+pub is_done : {X : Type 0} (read : Element → Result X RowFault) (front : List X) (left : List Element) (total : Result (List X) RowFault) → left ≡ [] → with_front front (each_at read left) ≡ total → total ≡ Ok front
 unfolding each_at
 is_done {X = X} read front left total none so_far =
     let one : with_front front (each_at read left) ≡ Ok front = rw none (ap (λ (xs : List X). Ok xs) (append-nil front)) in
@@ -46,7 +46,7 @@ Gathers read false items left total = with_front items (each_at read left) ≡ t
 Gathers {X = X} read true items left total = (front : List X) × (front ≡ [] → ⊥) × (with_front front (each_at read left) ≡ total)
 
 -- before the first element
-nothing_before : {X : Type 0} (read : Result (List X) RowFault) → with_front [] read ≡ read
+pub nothing_before : {X : Type 0} (read : Result (List X) RowFault) → with_front [] read ≡ read
 nothing_before (Ok xs) = refl
 nothing_before (Err f) = refl
 

@@ -54,7 +54,7 @@ kind_same {f = f} {g = g} table d = whole_by (λ e. ap (λ fields. by table fiel
 same_octets : (xs ys : List ℕ) → Raw xs ≡ Raw ys → xs ≡ ys
 same_octets xs ys e = cc
 
-abbrev kept : ℕ → List ℕ → Said
+abbrev pub kept : ℕ → List ℕ → Said
 kept kind octets = record { kind = kind; content = Raw octets }
 
 pub kept_same : {p q : Bool} {k l : ℕ} {xs ys : List ℕ} → Decides p (k ≡ l) → Decides q (xs ≡ ys) → Decides (p && q) (kept k xs ≡ kept l ys)

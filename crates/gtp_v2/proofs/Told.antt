@@ -6,6 +6,7 @@ use Rattle.gtp_values.specs.Steps.{◌>>=◌}
 use Rattle.gtp_values.specs.Decides.{Decides, First_or_later}
 use Rattle.gtp_ie.specs.Element.{Element, elements_of}
 use Rattle.gtp_ie.specs.Octets.{AreElements}
+use Rattle.gtp_values.proofs.Outcomes.{ok_same, err_same, apart}
 use Rattle.gtp_values.proofs.Decided.{decide_bind, decide_map, decide_as, known_ok, known_err}
 use Rattle.gtp_v2.specs.declared.fault.RowFault.{RowFault}
 use Rattle.gtp_v2.specs.declared.fault.V2Fault.{V2Fault}
@@ -30,27 +31,9 @@ use Rattle.gtp_v2.specs.Datagram.{FieldsAre, ListFails, FieldsFail, CarriesBy, F
 use Rattle.gtp_v2.proofs.Decided.{whole_decided, lines_decided}
 use Rattle.gtp_v2.proofs.Senders.{sender_is, sender_only}
 
-abbrev read_ok : {X : Type 0} → X → Result X RowFault
-read_ok x = Ok x
-
-abbrev read_err : (X : Type 0) → RowFault → Result X RowFault
-read_err X f = Err f
-
-ok_same : {X : Type 0} (y x : X) → read_ok x ≡ Ok y → y ≡ x
-ok_same y x h = cc
-
-ok_err : {X : Type 0} (x : X) (f : RowFault) → read_ok x ≡ Err f → ⊥
-ok_err x f h = cc
-
-err_ok : {X : Type 0} (f : RowFault) (x : X) → read_err X f ≡ Ok x → ⊥
-err_ok f x h = cc
-
-err_same : {X : Type 0} (f g : RowFault) → read_err X f ≡ Err g → g ≡ f
-err_same f g h = cc
-
 told_decided : {X : Type 0} (head : Head) (r : Result X RowFault) (P : X → Type 0) (F : RowFault → Type 0) → Decides r P F → Decides (told head r) P (λ f. (g : RowFault) × F g × (f ≡ with_head head g))
-told_decided head (Ok x) P F d = known_ok x P (λ f. (g : RowFault) × F g × (f ≡ with_head head g)) (d.ok x refl) (λ y p. ok_same y x (d.is y p)) (λ f q. ok_err x q.0 (d.fails q.0 q.1))
-told_decided {X = X} head (Err e) P F d = known_err (with_head head e) P (λ f. (g : RowFault) × F g × (f ≡ with_head head g)) (e, d.err e refl, refl) (λ y p. err_ok e y (d.is y p)) (λ f q. q.2 ∙ ap (λ (g : RowFault). with_head head g) (err_same {X = X} e q.0 (d.fails q.0 q.1)))
+told_decided head (Ok x) P F d = known_ok x P (λ f. (g : RowFault) × F g × (f ≡ with_head head g)) (d.ok x refl) (λ y p. sym (ok_same RowFault x y (d.is y p))) (λ f q. apart x q.0 (d.fails q.0 q.1))
+told_decided {X = X} head (Err e) P F d = known_err (with_head head e) P (λ f. (g : RowFault) × F g × (f ≡ with_head head g)) (e, d.err e refl, refl) (λ y p. apart y e (sym (d.is y p))) (λ f q. q.2 ∙ ap (λ (g : RowFault). with_head head g) (sym (err_same X e q.0 (d.fails q.0 q.1))))
 
 -- the list of elements, told with no sender
 list_decided : (h : Headed) → Decides (told (head_of h None) (whole (elements_of h.at h.rest))) (AreElements h.at h.rest) (ListFails h)

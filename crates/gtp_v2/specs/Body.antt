@@ -38,7 +38,7 @@ said_of (bodies.CreateBearerRequest m) = by create_bearer_request (create_bearer
 said_of (bodies.CreateBearerResponse m) = by create_bearer_response (create_bearer_response_fields m)
 said_of (bodies.DeleteBearerRequest m) = by delete_bearer_request (delete_bearer_request_fields m)
 said_of (bodies.DeleteBearerResponse m) = by delete_bearer_response (delete_bearer_response_fields m)
-said_of (bodies.Other kind octets) = record { kind = kind; content = Raw octets.items }
+said_of (bodies.Other kind octets) = record { kind = kind; content = Raw octets }
 
 abbrev pub kind_of : Body → ℕ
 kind_of body = (said_of body).kind

@@ -18,6 +18,9 @@ pub mod Datagram
 pub mod Prefixes
 pub mod Instances
 pub mod Encoding
+pub mod Lines
+pub mod Checked
+pub mod Viewed
 -- the messages
 pub mod EchoRequest
 pub mod EchoResponse

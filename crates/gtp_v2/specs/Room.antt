@@ -48,3 +48,23 @@ most_carried_by table content = 0
 
 abbrev pub most_carried : MessageValue → ℕ
 most_carried m = most_carried_by (table_of m.kind) m.content
+
+-- how many members the list of a line has, where it has one
+abbrev pub members_of_line : Line → Field → ℕ
+members_of_line (Single row) field = 0
+members_of_line (Grouped row rows) (Groups groups) = length groups
+members_of_line (Several kind instance missed) (Plain values) = length values
+members_of_line line field = 0
+
+abbrev pub members_of_lines : List Line → List Field → ℕ
+members_of_lines (line ∷ lines) (field ∷ fields) = members_of_line line field + members_of_lines lines fields
+members_of_lines lines fields = 0
+
+abbrev pub members_by : Option Table → Content → ℕ
+members_by (Some table) (Fields fields) = members_of_lines table.lines fields
+members_by None (Raw octets) = length octets
+members_by table content = 0
+
+-- how many members the lists of a message have, all together: bearer contexts, identities of bearers, or octets that are kept
+abbrev pub members : MessageValue → ℕ
+members m = members_by (table_of m.kind) m.content

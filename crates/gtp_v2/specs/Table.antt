@@ -5,13 +5,9 @@ use Rattle.gtp_ie.specs.Value.{Value, OfCause}
 use Rattle.gtp_v2.specs.declared.fault.Need.{Need}
 use Rattle.gtp_v2.specs.declared.fault.Need.TheVariants as needs
 use Rattle.gtp_v2.specs.Needs.{need_where}
-
--- a row of a type and instance, and who needs it
-pub data Row : Type 0 where
-  Mandatory : ℕ → ℕ → Row
-  Conditional : ℕ → ℕ → Row
-  Accepted : ℕ → ℕ → Row
-  Optional : ℕ → ℕ → Row
+pub use Rattle.gtp_v2.specs.declared.table.Row.{Row}
+pub use Rattle.gtp_v2.specs.declared.table.Row.TheVariants.{Mandatory, Conditional, Accepted, Optional}
+pub use Rattle.gtp_v2.specs.declared.table.State.{State}
 
 -- a line of a message's table: a row; a row of groups, with the rows in each; or all values of a type and an instance. Of
 -- these there is at least one where the lines before have no value, and else the element of the type and the third number
@@ -25,11 +21,6 @@ pub data Line : Type 0 where
 pub data Field : Type 0 where
   Plain : List Value → Field
   Groups : List (List (List Value)) → Field
-
--- what the lines so far say: whether each cause accepts, and whether none has a value
-pub record State : Type 0 where
-  pub accepting : Bool
-  pub silent : Bool
 
 -- before the first line
 abbrev pub start : State

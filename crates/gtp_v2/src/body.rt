@@ -12,6 +12,7 @@ ghost use Rattle.gtp_v2.specs.Headed.{headed_of};
 
 use crate::fault::V2Fault;
 use crate::header::Header;
+use crate::listed::Listed;
 use crate::typed::{Typed, read_typed};
 use std::alloc::{AllocError, Global};
 
@@ -54,7 +55,7 @@ pub enum Body {
     DeleteBearerRequest(DeleteBearerRequest),
     DeleteBearerResponse(DeleteBearerResponse),
     /// A message of another type: the octets after its header.
-    Other { kind: u8, octets: Vec<u8> },
+    Other { kind: u8, octets: Listed<u8> },
 }
 
 /// Hands a macro what it is given, and then each kind of message with a table.
@@ -133,7 +134,7 @@ macro_rules! write_among {
     (($body:expr, $out:expr), $($kind:ident),+) => {
         match $body {
             $(Body::$kind(message) => message.write($out)?,)+
-            Body::Other { octets, .. } => $out.extend_from_slice(octets)?,
+            Body::Other { octets, .. } => $out.extend_from_slice(octets.as_slice())?,
         }
     };
 }
@@ -160,7 +161,8 @@ impl Body {
 /// The name of a type of message that has a table (TS 29.274 table 6.1-1), in lower case and with
 /// hyphens: `create-session-request`.
 pub fn type_name(kind: u8) -> Option<&'static str>
-    ensures { option_map (λ name. name.now) result ≡ option_map (λ table. table.name) (table_of kind) }
+    ensures { option_map (λ name. name.now) result
+        ≡ option_map (λ table. table.name) (table_of kind) }
 {
     with_kinds!(name_among, kind)
 }
@@ -172,7 +174,7 @@ fn read_other(alloc: Global, header: &Header) -> Result<Body, V2Fault>
     ensures content { MessageGives (ContentAllocates (table_of header.now.kind)) content_of result
         (content_at (headed_of header.now)) }
     ensures kind { IfOk result (λ body. kind_of body ≡ header.now.kind) }
-    ensures fits { IfOk result OctetsOnlyWithoutTable }
+    ensures octets_only { IfOk result OctetsOnlyWithoutTable }
 {
     let kind = header.kind;
     // No octets take no memory, so it may not be answered that it ran out.
@@ -181,7 +183,10 @@ fn read_other(alloc: Global, header: &Header) -> Result<Body, V2Fault>
     } else {
         Vec::from_slice(alloc, header.rest)?
     };
-    Ok(Body::Other { kind, octets })
+    Ok(Body::Other {
+        kind,
+        octets: Listed::of(octets),
+    })
 }
 
 /// What a message says, after its header.
@@ -190,7 +195,7 @@ pub fn read_body(alloc: Global, header: &Header) -> Result<Body, V2Fault>
     ensures content { MessageGives (ContentAllocates (table_of header.now.kind)) content_of result
         (content_at (headed_of header.now)) }
     ensures kind { IfOk result (λ body. kind_of body ≡ header.now.kind) }
-    ensures fits { IfOk result OctetsOnlyWithoutTable }
+    ensures octets_only { IfOk result OctetsOnlyWithoutTable }
 {
     with_kinds!(read_among, alloc, header)
 }
@@ -198,8 +203,10 @@ pub fn read_body(alloc: Global, header: &Header) -> Result<Body, V2Fault>
 /// What is left of a room after what a message carries, `None` where it doesn't fit.
 pub fn room_after(body: &Body, room: usize) -> Option<usize>
     requires { OctetsOnlyWithoutTable body.now }
-    ensures left { Leaves room (length (carried_by (table_of (kind_of body.now)) (content_of body.now))) result }
-    ensures most { TakesAtMost room (most_carried_by (table_of (kind_of body.now)) (content_of body.now))
+    ensures left { Leaves room (length (carried_by (table_of (kind_of body.now))
+        (content_of body.now))) result }
+    ensures most { TakesAtMost room (most_carried_by (table_of (kind_of body.now))
+        (content_of body.now))
         result }
 {
     with_kinds!(room_among, body, room)
@@ -207,7 +214,8 @@ pub fn room_after(body: &Body, room: usize) -> Option<usize>
 
 /// Whether a TEID stands exactly where the kind has one, and what the marks of its table ask is there.
 pub fn meets_marks(body: &Body, has_teid: bool) -> bool
-    ensures { IsTrue result ↔ ContentMarked (table_of (kind_of body.now)) has_teid (content_of body.now) }
+    ensures { IsTrue result
+        ↔ ContentMarked (table_of (kind_of body.now)) has_teid (content_of body.now) }
 {
     with_kinds!(marks_among, body, has_teid)
 }
@@ -219,7 +227,8 @@ pub fn write_body(out: &mut Vec<u8>, body: &Body) -> Result<(), AllocError>
         (out.new.items
         ≡ out.old.items
         ++ carried_by (table_of (kind_of body.now)) (content_of body.now)) }
-    ensures kinds { OnOk result (ContentHasKinds (table_of (kind_of body.now)) (content_of body.now)) }
+    ensures kinds { OnOk result (ContentHasKinds (table_of (kind_of body.now))
+        (content_of body.now)) }
 {
     with_kinds!(write_among, body, out);
     Ok(())

@@ -36,7 +36,8 @@ pub trait Context: Copy {
 
     /// Appends the elements of the rows.
     fn write(&self, out: &mut Vec<u8>) -> Result<(), AllocError>
-        ensures ok { OnOk result (out.new.items ≡ out.old.items ++ rows_encoding rows (values self.now)) }
+        ensures ok { OnOk result (out.new.items
+            ≡ out.old.items ++ rows_encoding rows (values self.now)) }
         // Each row has at most one value, of its type.
         ensures kinds { OnOk result (RowsHaveKinds rows (values self.now)) };
 

@@ -34,6 +34,11 @@ pub fn encodings_are_read_again()
     ensures { (m : MessageValue) → Meets m → IsMessage (canonical_encoding m) m }
 {}
 
+/// Nothing of a message is hidden from contracts: two of which they see the same are one.
+pub fn messages_are_what_contracts_see()
+    ensures { (a b : Message) → message_value a ≡ message_value b → a ≡ b }
+{}
+
 /// Two messages are equal exactly where contracts see the same message.
 pub fn equal_messages_are_the_same(a: &Message, b: &Message) -> bool
     ensures { IsTrue result ↔ (message_value a.now ≡ message_value b.now) }

@@ -2,6 +2,8 @@
 #![tactic(auto)]
 
 mod body;
+mod check;
+mod contexts;
 mod fault;
 mod groups;
 mod header;
@@ -14,7 +16,10 @@ mod reading;
 mod repeated;
 mod room;
 mod rows;
+mod shapes;
+mod table;
 mod typed;
+mod viewing;
 mod writing;
 
 pub use body::{
@@ -23,10 +28,12 @@ pub use body::{
     DeleteSessionRequest, DeleteSessionResponse, EchoRequest, EchoResponse, RemovalResponseContext,
     SessionRequestContext, SessionResponseContext, VersionNotSupported, type_name,
 };
+pub use contexts::{ContextView, Contexts};
 pub use fault::{Head, V2Fault};
 pub use groups::BEARER_CONTEXT;
 pub use listed::Listed;
 pub use message::{Datagram, Message, decode, encode};
+pub use viewing::{DatagramView, view};
 
 /// What the signatures and contracts here name of the crates below.
 pub use gtp_ie::{
@@ -34,6 +41,3 @@ pub use gtp_ie::{
     OtherPdnType, Paa, PdnType, Plmn, Pti, Qos, Rat, Rate, Rates, Recovery, Selection, Teid, Tft,
 };
 pub use gtp_values::Seq;
-
-#[cfg(test)]
-mod tests;

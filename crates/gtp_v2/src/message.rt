@@ -6,7 +6,7 @@ ghost use Rattle.gtp_v2.specs.Tables.{table_of};
 ghost use Rattle.gtp_v2.specs.Body.{content_of, kind_of, message_value, OctetsOnlyWithoutTable};
 ghost use Rattle.gtp_v2.specs.Priority.{PriorityNeedsTeid};
 ghost use Rattle.gtp_v2.specs.Encoding.{open_header, canonical_encoding, HeaderMeets};
-ghost use Rattle.gtp_v2.specs.Room.{most_carried};
+ghost use Rattle.gtp_v2.specs.Room.{most_carried, members};
 ghost use Rattle.gtp_values.specs.Numbers.{three, four};
 ghost use Rattle.gtp_v2.specs.Kinds.{ContentHasKinds};
 ghost use Rattle.gtp_v2.specs.Marks.{MeetsMarks};
@@ -69,7 +69,8 @@ pub struct Datagram {
 /// The message that a datagram spells, by one reading.
 #[tactic(auto, unfolding(crate::specs::Message::message_at))]
 fn read_datagram(alloc: Global, octets: &[u8]) -> Result<Datagram, V2Fault>
-    ensures message { MessageGives MessageAllocates (λ d. message_value d.message) result (message_at octets.now) }
+    ensures message { MessageGives MessageAllocates (λ d. message_value d.message) result
+        (message_at octets.now) }
     ensures kind { IfOk result (λ d. OctetsOnlyWithoutTable d.message.body) }
     ensures header { IfOk result (λ d. PriorityNeedsTeid d.message.teid d.message.priority) }
 {
@@ -137,7 +138,8 @@ fn write_long_header(
 
 /// Appends a header without a TEID, its length still 0.
 fn write_short_header(out: &mut Vec<u8>, kind: u8, seq: Seq) -> Result<(), AllocError>
-    ensures ok { OnOk result (out.new.items ≡ out.old.items ++ 64 ∷ kind ∷ 0 ∷ 0 ∷ three seq (0 ∷ [])) }
+    ensures ok { OnOk result (out.new.items
+        ≡ out.old.items ++ 64 ∷ kind ∷ 0 ∷ 0 ∷ three seq (0 ∷ [])) }
     ensures seq { seq < 2 ^ 24 }
 {
     let mut header = [64, kind, 0, 0, 0, 0, 0, 0];
@@ -155,7 +157,8 @@ fn write_header(out: &mut Vec<u8>, message: &Message) -> Result<(), AllocError>
         ++ open_header (kind_of message.now.body) (message_value message.now).teid
         message.now.seq
         message.now.priority) }
-    ensures range { HeaderMeets (message_value message.now).teid message.now.seq message.now.priority }
+    ensures range { HeaderMeets
+        (message_value message.now).teid message.now.seq message.now.priority }
 {
     let kind = message.body.kind();
     let seq = message.seq;
@@ -175,10 +178,12 @@ const LONGEST: usize = 65535;
 fn write_message(alloc: Global, message: &Message) -> Result<Vec<u8>, V2Fault>
     requires header { PriorityNeedsTeid message.now.teid message.now.priority }
     requires kind { OctetsOnlyWithoutTable message.now.body }
-    ensures written { IfOk result (λ octets. octets.items ≡ canonical_encoding (message_value message.now)) }
+    ensures written { IfOk result (λ octets. octets.items
+        ≡ canonical_encoding (message_value message.now)) }
     ensures too_long { IsErrOf result V2Fault.TooLong
         ↔ (65535 + 4 < length (canonical_encoding (message_value message.now))) }
-    ensures fits { IsErrOf result V2Fault.TooLong → 65527 < most_carried (message_value message.now) }
+    ensures rows { IsErrOf result V2Fault.TooLong →
+        65527 < most_carried (message_value message.now) }
     ensures fault { IfErr result (λ f. (f ≡ V2Fault.Memory) ⊎ (f ≡ V2Fault.TooLong)) }
     ensures range { OnOk result
         (HeaderMeets (message_value message.now).teid message.now.seq message.now.priority) }
@@ -211,12 +216,16 @@ pub fn encode(alloc: Global, message: &Message) -> Result<Vec<u8>, V2Fault>
     requires header { PriorityNeedsTeid message.now.teid message.now.priority }
     // A message of a type that has a table is not kept as octets.
     requires kind { OctetsOnlyWithoutTable message.now.body }
-    ensures written { IfOk result (λ octets. octets.items ≡ canonical_encoding (message_value message.now)) }
+    ensures written { IfOk result (λ octets. octets.items
+        ≡ canonical_encoding (message_value message.now)) }
     // Two octets state the length of all but the first four.
     ensures too_long { IsErrOf result V2Fault.TooLong
         ↔ (65535 + 4 < length (canonical_encoding (message_value message.now))) }
-    // So no message is too long whose elements and lists have few enough members: 259 octets each will do.
-    ensures fits { IsErrOf result V2Fault.TooLong → 65527 < most_carried (message_value message.now) }
+    // None is too long whose rows fit: 259 octets for each value and 4 for each bearer context will do.
+    ensures rows { IsErrOf result V2Fault.TooLong →
+        65527 < most_carried (message_value message.now) }
+    // So none is too long whose lists have at most 48 members, all together.
+    ensures few { IsErrOf result V2Fault.TooLong → 48 < members (message_value message.now) }
     ensures fault { IfErr result (λ f. (f ≡ V2Fault.Memory) ⊎ (f ≡ V2Fault.TooLong)) }
     // It is read again where the message meets the marks of its table, and nowhere else.
     ensures read_again { IfOk result

@@ -13,7 +13,7 @@ use gtp_values::{Below, Seq, Teid};
 /// The header of a message with a TEID, after its first four octets.
 fn with_teid(first: u8, kind: u8, octets: &[u8]) -> Result<Header<'_>, V2Fault>
     ensures header { Gives headed_of result (after_teid first kind octets.now) }
-    ensures place { IfOk result (λ h. PriorityNeedsTeid h.teid h.priority) }
+    ensures priority { IfOk result (λ h. PriorityNeedsTeid h.teid h.priority) }
 {
     let [a, b, c, d, e, f, g, last, rest @ ..] = octets else {
         return Err(V2Fault::Short {
@@ -21,7 +21,7 @@ fn with_teid(first: u8, kind: u8, octets: &[u8]) -> Result<Header<'_>, V2Fault>
         });
     };
     let priority = if first / 4 % 2 == 1 {
-        Some(Below::new(*last / 16))
+        Some(Below::new(*last >> 4))
     } else {
         None
     };
@@ -38,7 +38,7 @@ fn with_teid(first: u8, kind: u8, octets: &[u8]) -> Result<Header<'_>, V2Fault>
 /// The same without a TEID.
 fn without_teid(kind: u8, octets: &[u8]) -> Result<Header<'_>, V2Fault>
     ensures header { Gives headed_of result (after_no_teid kind octets.now) }
-    ensures place { IfOk result (λ h. PriorityNeedsTeid h.teid h.priority) }
+    ensures priority { IfOk result (λ h. PriorityNeedsTeid h.teid h.priority) }
 {
     let [a, b, c, _, rest @ ..] = octets else {
         return Err(V2Fault::Short {
@@ -58,16 +58,16 @@ fn without_teid(kind: u8, octets: &[u8]) -> Result<Header<'_>, V2Fault>
 /// The header of a datagram, which it fills exactly.
 pub fn read_header(octets: &[u8]) -> Result<Header<'_>, V2Fault>
     ensures header { Gives headed_of result (header_at octets.now) }
-    ensures place { IfOk result (λ h. PriorityNeedsTeid h.teid h.priority) }
+    ensures priority { IfOk result (λ h. PriorityNeedsTeid h.teid h.priority) }
 {
     let [first, kind, high, low, rest @ ..] = octets else {
         return Err(V2Fault::Short { held: octets.len() });
     };
-    let version = *first / 32;
+    let version = *first >> 5;
     if version != 2 {
         return Err(V2Fault::Version(version));
     }
-    if *first / 16 % 2 == 1 {
+    if *first >> 4 & 1 == 1 {
         return Err(V2Fault::Piggyback);
     }
     let stated = usize::from(BigEndian::read_u16(&[*high, *low]));
@@ -77,7 +77,7 @@ pub fn read_header(octets: &[u8]) -> Result<Header<'_>, V2Fault>
             held: rest.len(),
         });
     }
-    if *first / 8 % 2 == 1 {
+    if *first >> 3 & 1 == 1 {
         with_teid(*first, *kind, rest)
     } else {
         without_teid(*kind, rest)

@@ -19,7 +19,8 @@ pub fn after_row<T: IeValue>(room: usize, value: &T) -> Option<usize>
 
 /// What is left of a room after the element of a value, where there is one.
 pub fn after_option<T: IeValue>(room: usize, value: &Option<T>) -> Option<usize>
-    ensures left { Leaves room (value_length (option_to_list (option_map T.value value.now))) result }
+    ensures left { Leaves room (value_length (option_to_list
+        (option_map T.value value.now))) result }
     ensures most { TakesAtMost room 259 result }
 {
     match value {
@@ -30,7 +31,8 @@ pub fn after_option<T: IeValue>(room: usize, value: &Option<T>) -> Option<usize>
 
 /// What is left of a room after a bearer context.
 fn after_context<C: Context>(room: usize, context: &C) -> Option<usize>
-    ensures left { Leaves room (length (element_encoding 93 0 (rows_encoding C.rows (C.values context.now))))
+    ensures left { Leaves room (length (element_encoding 93 0 (rows_encoding C.rows
+        (C.values context.now))))
         result }
     ensures most { TakesAtMost room (most_of_group C.rows) result }
 {
@@ -40,8 +42,10 @@ fn after_context<C: Context>(room: usize, context: &C) -> Option<usize>
 /// What is left of a room after bearer contexts.
 #[tactic(auto, unfolding(crate::specs::Text::groups_encoding))]
 pub fn after_contexts<C: Context>(room: usize, contexts: &[C]) -> Option<usize>
-    ensures left { Leaves room (length (groups_encoding 93 0 C.rows (map C.values contexts.now))) result }
-    ensures most { TakesAtMost room (most_of_group C.rows * length (map C.values contexts.now)) result }
+    ensures left { Leaves room (length (groups_encoding 93 0 C.rows
+        (map C.values contexts.now))) result }
+    ensures most { TakesAtMost room (most_of_group C.rows * length
+        (map C.values contexts.now)) result }
 {
     let mut left = room;
     for context in contexts {

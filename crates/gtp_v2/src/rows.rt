@@ -58,7 +58,8 @@ pub fn needed_if<T: IeValue>(
     elements: &Elements,
     instance: u8,
 ) -> Result<Option<T>, RowFault>
-    ensures { Gives (option_map T.value) result (needed_if_at is_needed T.KIND instance elements.now) }
+    ensures { Gives (option_map T.value) result
+        (needed_if_at is_needed T.KIND instance elements.now) }
 {
     if is_needed {
         let value = needed(true, elements, instance)?;

@@ -51,7 +51,8 @@ pub trait Typed: Drop {
 
     /// Appends the elements of the lines.
     fn write(&self, out: &mut Vec<u8>) -> Result<(), AllocError>
-        ensures ok { OnOk result (out.new.items ≡ out.old.items ++ lines_encoding lines (fields self.now)) }
+        ensures ok { OnOk result (out.new.items
+            ≡ out.old.items ++ lines_encoding lines (fields self.now)) }
         // The values are of the types of the table's rows.
         ensures kinds { OnOk result (LinesHaveKinds lines (fields self.now)) };
 
@@ -66,7 +67,7 @@ pub trait Typed: Drop {
 }
 
 /// What is known of a message whose elements are at fault.
-fn head(header: &Header, sender: Option<FTeid>) -> Head
+pub fn head(header: &Header, sender: Option<FTeid>) -> Head
     ensures { result ≡ head_of (headed_of header.now) sender }
 {
     Head {
@@ -80,7 +81,7 @@ fn head(header: &Header, sender: Option<FTeid>) -> Head
 
 /// The sender's end for control messages, which a Create Session Request gives.
 #[tactic(auto, unfolding(crate::specs::Message::sender_of))]
-fn sender(kind: u8, elements: &Elements) -> Option<FTeid>
+pub fn sender(kind: u8, elements: &Elements) -> Option<FTeid>
     ensures { result ≡ sender_of kind elements.now }
 {
     if kind == CreateSessionRequest::KIND {
@@ -91,7 +92,7 @@ fn sender(kind: u8, elements: &Elements) -> Option<FTeid>
 }
 
 /// The fault of a row, told with the head.
-fn with_head(head: Head, fault: RowFault) -> V2Fault
+pub fn with_head(head: Head, fault: RowFault) -> V2Fault
     ensures { result ≡ headed_fault head fault }
 {
     match fault {

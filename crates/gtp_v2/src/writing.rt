@@ -35,7 +35,8 @@ pub fn put_option<T: IeValue>(
         ≡ out.old.items
         ++ value_encoding T.KIND instance
         (option_to_list (option_map T.value value.now))) }
-    ensures kind { OnOk result (AtMostOneOf T.KIND (option_to_list (option_map T.value value.now))) }
+    ensures kind { OnOk result (AtMostOneOf T.KIND (option_to_list
+        (option_map T.value value.now))) }
 {
     if let Some(value) = value {
         put_value(out, instance, value)?;

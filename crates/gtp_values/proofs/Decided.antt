@@ -1,6 +1,7 @@
 -- What steps one after the other decide.
 use Rattle.std.proofs.Common.{◌≡◌, List, [], ◌∷◌, Result, Ok, Err, refl, sym, ap, subst, ◌∙◌, inl, inr, ◌⊎◌}
 use Rattle.gtp_values.specs.Steps.{◌>>=◌}
+use Rattle.gtp_values.proofs.Outcomes.{done, failed, ok_same, err_same, apart}
 use Rattle.gtp_values.specs.Decides.{Decides, First_and_others, First_or_later}
 
 -- the value of steps that did not fail
@@ -30,19 +31,10 @@ decide_bind r k P F Q G first others = record {
   fails = λ f h. elim h [ inl e ↦ bind_at_err r k f (first.fails f e) | inr b ↦ bind_at r k b.0 (first.is b.0 b.1) ∙ (others b.0).fails f b.2 ];
 }
 
-abbrev done : {Y : Type 0} (E : Type 0) → Y → Result Y E
-done E y = Ok y
-
-same_ok : {Y : Type 0} (E : Type 0) (y z : Y) → done E z ≡ Ok y → y ≡ z
-same_ok E y z h = cc
-
-apart : {Y E : Type 0} (z : Y) (f : E) → done E z ≡ Err f → ⊥
-apart z f h = cc
-
 -- a step whose value is changed
 pub decide_map : {X Y E : Type 0} (r : Result X E) (g : X → Y) (P : X → Type 0) (F : E → Type 0) → Decides r P F → Decides (r >>= λ x. Ok (g x)) (λ y. (x : X) × P x × (y ≡ g x)) F
 decide_map {E = E} r g P F first = record {
-  ok = λ y h. let b = bind_ok r (λ x. Ok (g x)) y h in (b.0, first.ok b.0 b.1, same_ok E y (g b.0) b.2);
+  ok = λ y h. let b = bind_ok r (λ x. Ok (g x)) y h in (b.0, first.ok b.0 b.1, sym (ok_same E (g b.0) y b.2));
   is = λ y h. bind_at r (λ x. Ok (g x)) h.0 (first.is h.0 h.1) ∙ ap (λ z. Ok z) (sym h.2);
   err = λ f h. elim (bind_err r (λ x. Ok (g x)) f h) [ inl e ↦ first.err f e | inr b ↦ absurd (apart (g b.0) f b.2) ];
   fails = λ f h. bind_at_err r (λ x. Ok (g x)) f (first.fails f h);
@@ -69,7 +61,7 @@ decide_cons {X = X} r k P F Q G first others =
 
 -- a function that can't fail
 pub decide_ok : {X E : Type 0} (x : X) → Decides (done E x) (λ y. y ≡ x) (λ f. ⊥)
-decide_ok {E = E} x = record { ok = λ y h. same_ok E y x h; is = λ y h. ap (λ z. Ok z) (sym h); err = λ f h. apart x f h; fails = λ f h. absurd h }
+decide_ok {E = E} x = record { ok = λ y h. sym (ok_same E x y h); is = λ y h. ap (λ z. Ok z) (sym h); err = λ f h. apart x f h; fails = λ f h. absurd h }
 
 -- the same outcomes by other words
 pub decide_as : {X E : Type 0} (r : Result X E) (P P' : X → Type 0) (F F' : E → Type 0) → ((x : X) → P x → P' x) → ((x : X) → P' x → P x) → ((f : E) → F f → F' f) → ((f : E) → F' f → F f) → Decides r P F → Decides r P' F'
@@ -77,17 +69,8 @@ decide_as r P P' F F' p p' q q' d = record { ok = λ x h. p x (d.ok x h); is = �
 
 -- an outcome that is known
 pub known_ok : {X E : Type 0} (x : X) (P : X → Type 0) (F : E → Type 0) → P x → ((y : X) → P y → y ≡ x) → ((f : E) → F f → ⊥) → Decides (done E x) P F
-known_ok {X = X} {E = E} x P F p one none = record { ok = λ y h. subst P (sym (same_ok E y x h)) p; is = λ y h. ap (λ z. Ok z) (sym (one y h)); err = λ f h. absurd (apart x f h); fails = λ f h. absurd (none f h) }
-
-abbrev failed : {E : Type 0} (X : Type 0) → E → Result X E
-failed X f = Err f
-
-same_err : {E : Type 0} (X : Type 0) (f g : E) → failed X g ≡ Err f → f ≡ g
-same_err X f g h = cc
-
-apart_err : {X E : Type 0} (x : X) (f : E) → failed X f ≡ Ok x → ⊥
-apart_err x f h = cc
+known_ok {X = X} {E = E} x P F p one none = record { ok = λ y h. subst P (ok_same E x y h) p; is = λ y h. ap (λ z. Ok z) (sym (one y h)); err = λ f h. absurd (apart x f h); fails = λ f h. absurd (none f h) }
 
 -- a fault that is known
 pub known_err : {X E : Type 0} (f : E) (P : X → Type 0) (F : E → Type 0) → F f → ((x : X) → P x → ⊥) → ((g : E) → F g → g ≡ f) → Decides (failed X f) P F
-known_err {X = X} {E = E} f P F q none one = record { ok = λ x h. absurd (apart_err x f h); is = λ x h. absurd (none x h); err = λ g h. subst F (sym (same_err X g f h)) q; fails = λ g h. ap (λ z. Err z) (sym (one g h)) }
+known_err {X = X} {E = E} f P F q none one = record { ok = λ x h. absurd (apart x f (sym h)); is = λ x h. absurd (none x h); err = λ g h. subst F (err_same X f g h) q; fails = λ g h. ap (λ z. Err z) (sym (one g h)) }

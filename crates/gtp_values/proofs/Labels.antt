@@ -1,9 +1,10 @@
 -- Reading octets one by one finds labels exactly where they are labels.
-use Rattle.std.proofs.Common.{◌≡◌, ℕ, zero, suc, ◌+◌, ◌-◌, get_or, drop, ◌<◌, Bool, true, false, ◌&&◌, List, [], ◌∷◌, ◌++◌, length, refl, sym, ap, ◌∙◌, arith}
+use Rattle.std.proofs.Common.{◌≡◌, ℕ, zero, suc, ◌+◌, ◌-◌, get_or, drop, ◌<◌, true, List, [], ◌∷◌, ◌++◌, length, refl, sym, ap, ◌∙◌, arith}
 use Rattle.std.specs.Prelude.{IsTrue}
 use Rattle.std.specs.List.{AllByRecursion}
 use Rattle.std.proofs.lemmas.Bool.Decides.{nat_tests}
 use Rattle.std.proofs.lemmas.List.{at_drop_more}
+use Rattle.gtp_values.proofs.Outcomes.{both}
 use Rattle.gtp_values.specs.Apn.{is_label_octet, is_label_length, IsLabel, labels_text, AreLabels, are_labels_from}
 
 -- the rest of a label, and then labels
@@ -14,14 +15,6 @@ pub record Continues (left : ℕ) (octets : List ℕ) : Type 0 where
   pub good : AllByRecursion (λ octet. IsTrue (is_label_octet octet)) part
   pub each : AllByRecursion IsLabel labels
   pub text : octets ≡ part ++ labels_text labels
-
-pub record Both (a b : Bool) : Type 0 where
-  pub left : a ≡ true
-  pub right : b ≡ true
-
-pub both : (a b : Bool) → (a && b) ≡ true → Both a b
-both true b h = record { left = refl; right = h }
-both false b h = absurd cc
 
 label_here : (part : List ℕ) (octet : ℕ) → length part ≡ octet → is_label_length octet ≡ true → AllByRecursion (λ octet. IsTrue (is_label_octet octet)) part → IsLabel part
 label_here part octet count long good = record { least = grind (arith, nat_tests); most = grind (arith, nat_tests); octets = good }

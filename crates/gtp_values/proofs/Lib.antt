@@ -5,4 +5,5 @@ pub mod Same
 pub mod Labels
 pub mod Fills
 pub mod Digits
+pub mod Outcomes
 pub mod Decided

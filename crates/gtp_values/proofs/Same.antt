@@ -1,7 +1,7 @@
 -- Where `==` of two values is true, they are the same.
-use Rattle.std.proofs.Common.{◌≡◌, ℕ, Bool, List, Option, Some, None, refl, ap, subst}
-use Rattle.std.specs.Prelude.{◌==◌, ◌&&◌, nat_eq}
-use Rattle.std.specs.Bool.{Decides, beq}
+use Rattle.std.proofs.Common.{◌≡◌, ◌∙◌, ℕ, Bool, List, Option, Some, None, refl, ap, sym}
+use Rattle.std.specs.Prelude.{◌&&◌, nat_eq}
+use Rattle.std.specs.Bool.{Decides}
 use Rattle.std.specs.Option.{option_eq}
 use Rattle.std.specs.Cmp.{booleans_Decides}
 use Rattle.std.specs.Cmp.Lexicographic.{pointwise, bytes_decides}
@@ -38,6 +38,10 @@ and_then {p = p} {q = q} d e = Decides-and p q d e
 -- a test of parts is one of the whole
 pub whole_by : {p : Bool} {A B : Type 0} → (A → B) → (B → A) → Decides p A → Decides p B
 whole_by {p = p} join parts d = Decides-like p join parts d
+
+-- a view that can be turned back determines what is seen
+pub one_by : {X Y : Type 0} (view : X → Y) (back : Y → X) → ((x : X) → back (view x) ≡ x) → (a b : X) → view a ≡ view b → a ≡ b
+one_by view back returns a b e = sym (returns a) ∙ (ap back e ∙ returns b)
 
 pub options_same : {X : Type 0} (eq : X → X → Bool) → ((x y : X) → Decides (eq x y) (x ≡ y)) → (o p : Option X) → Decides (option_eq eq o p) (o ≡ p)
 options_same eq same (Some x) (Some y) = whole_by (λ e. ap (λ z. Some z) e) (λ e. cc) (same x y)

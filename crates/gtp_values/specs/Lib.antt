@@ -12,3 +12,4 @@ pub mod Teid
 pub mod TunnelEnd
 pub mod Steps
 pub mod Decides
+pub mod FiniteMap

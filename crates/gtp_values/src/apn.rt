@@ -41,7 +41,8 @@ impl Apn {
         ensures value { IfOk result (λ apn. apn ≡ octets.now) }
         ensures short { IsErrOf result ValueFault.TooShort ↔ (length octets.now < 1) }
         ensures long { IsErrOf result ValueFault.TooLong ↔ (100 < length octets.now) }
-        ensures label { IsErrOf result ValueFault.BadLabel ↔ (HasApnLength octets.now × ¬ AreLabels octets.now) }
+        ensures label { IsErrOf result ValueFault.BadLabel
+            ↔ (HasApnLength octets.now × ¬ AreLabels octets.now) }
     {
         if octets.is_empty() {
             return Err(ValueFault::TooShort);
@@ -144,7 +145,8 @@ fn are_labels(octets: &[u8]) -> bool
 /// length of each later one.
 fn write_labels<W: fmt::Write>(f: &mut fmt::Formatter<W>, first: u8, octets: &[u8]) -> fmt::Result
     requires labels { IsTrue (are_labels_from first octets.now) }
-    ensures written { WritesOnOk W.Write.write_str_gives f.old result (joined_from first octets.now) f.new }
+    ensures written { WritesOnOk W.Write.write_str_gives f.old result
+        (joined_from first octets.now) f.new }
 {
     let mut to_come = first;
     for octet in octets {

@@ -27,9 +27,16 @@ impl Model for FTeid {
 
     ghost view = { λ a. record { interface = a.interface; teid = a.teid.0; v4 = a.v4; v6 = a.v6 } };
 
-    ghost invariant = { λ a. IsTunnelEnd (record { interface = a.interface; teid = a.teid.0; v4 = a.v4; v6 = a.v6 }) };
+    ghost invariant = { λ a. IsTunnelEnd (record
+        { interface = a.interface; teid = a.teid.0; v4 = a.v4; v6 = a.v6 }) };
 
-    ghost inverse = { λ e. record { interface = e.interface; teid = record { 0 = e.teid }; v4 = e.v4; v6 = e.v6 } };
+    ghost inverse = { λ e. record {
+      interface = e.interface;
+      teid = record
+          { 0 = e.teid };
+      v4 = e.v4;
+      v6 = e.v6;
+    } };
 }
 
 impl FTeid {

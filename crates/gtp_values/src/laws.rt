@@ -20,18 +20,22 @@ pub fn texts_are_read_again()
         → apn_text (labels_text labels) ≡ joined labels }
 
     // No two names have the same text.
-    ensures name { (apn other : List ℕ) → IsApn apn → IsApn other → apn_text apn ≡ apn_text other → apn ≡ other }
+    ensures name { (apn other : List ℕ) → IsApn apn → IsApn other → apn_text apn ≡ apn_text other →
+        apn ≡ other }
 
     // The text of an identifier writes it, by eight digits.
-    ensures teid { (teid : ℕ) → teid < 2 ^ 32 → IsTeidText (teid_text teid) × WritesTeid (teid_text teid) teid }
+    ensures teid { (teid : ℕ) → teid < 2 ^ 32 →
+        IsTeidText (teid_text teid) × WritesTeid (teid_text teid) teid }
 
     // No text writes two identifiers.
-    ensures one_teid { (text : List ℕ) (teid other : ℕ) → WritesTeid text teid → WritesTeid text other
+    ensures one_teid { (text : List ℕ) (teid other : ℕ) → WritesTeid text teid →
+        WritesTeid text other
         → teid ≡ other }
 
     // The text of an address writes it.
     ensures address { (ip : Ip) → IsIp ip → IsIpText (ip_text ip) ip }
 
     // No text writes two addresses.
-    ensures one_address { (text : List ℕ) (ip other : Ip) → IsIpText text ip → IsIpText text other → ip ≡ other }
+    ensures one_address { (text : List ℕ) (ip other : Ip) → IsIpText text ip → IsIpText text other →
+        ip ≡ other }
 {}

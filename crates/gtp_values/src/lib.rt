@@ -34,6 +34,3 @@ pub use paa::{OtherPdnType, Paa};
 pub use plmn::Plmn;
 pub use qos::{Ambr, Qos, Rate, Rates};
 pub use tft::Tft;
-
-#[cfg(test)]
-mod tests;

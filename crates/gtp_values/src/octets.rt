@@ -24,7 +24,8 @@ impl<const N: usize> Model for Octets<N> {
 
     ghost inverse = { λ xs. record { cells = padded N xs; len = length xs } };
 
-    ghost inverse_ok = { λ a h. padded_back (λ cells len. record { cells = cells; len = len }) N a.cells a.len h };
+    ghost inverse_ok = { λ a h. padded_back (λ cells len. record
+        { cells = cells; len = len }) N a.cells a.len h };
 }
 
 impl<const N: usize> Octets<N> {

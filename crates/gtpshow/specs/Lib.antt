@@ -1,7 +1,4 @@
-pub mod Text
-pub mod Values
-pub mod Control
-pub mod User
-pub mod Lines
 pub mod Status
+pub mod Shown
+pub mod Watched
 pub mod Words

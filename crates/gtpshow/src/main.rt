@@ -2,24 +2,18 @@
 #![tactic(auto)]
 
 mod command;
-mod control;
-mod lines;
-mod plane;
 mod showing;
 #[cfg(test)]
 mod tests;
-mod text;
-mod user;
-mod values;
 mod watched;
 
 ghost use Rattle.std.specs.Prelude.{◌≤◌, IfOk};
 
 use crate::command::{Failure, command};
-use crate::plane::Plane;
 use crate::showing::show;
 use crate::watched::Watched;
 use clap::error::ErrorKind;
+use gtp_lines::Plane;
 use std::alloc::Global;
 use std::process::ExitCode;
 use std::rt::Env;

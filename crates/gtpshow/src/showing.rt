@@ -2,12 +2,11 @@
 
 ghost use Rattle.std.specs.Prelude.{◌≡◌, ◌↔◌, ◌⊎◌, false, IsTrue, IsErr, Err, IfOk};
 ghost use Rattle.hex.specs.Hex.{decode_of};
-ghost use Rattle.gtpshow.specs.Lines.{IsShown};
+ghost use Rattle.gtpshow.specs.Shown.{IsShown};
 
 use crate::command::Failure;
-use crate::lines::decode_lines;
-use crate::plane::Plane;
 use crate::watched::Watched;
+use gtp_lines::{Plane, decode_lines};
 use hex::FromHexError;
 use std::alloc::Global;
 use std::io::Write;

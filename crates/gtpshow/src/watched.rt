@@ -5,15 +5,25 @@ ghost use Rattle.std.specs.Io.KnownBytes.{Appends};
 
 use crate::command::Failure;
 use std::io::Write;
+use std::marker::Model;
 
-/// A writer, and whether a write to it has failed.
+/// A writer, and whether a write to it has failed: nothing else sets that.
 #[derive(Drop)]
 pub struct Watched<W> {
-    pub inner: W,
-    pub failed: bool,
+    inner: W,
+    failed: bool,
+}
+
+impl<W> Model for Watched<W> {
+    ghost use Rattle.gtpshow.specs.Watched.{Watch};
+
+    ghost Value = { Watch W };
+
+    ghost view = { λ a. record { inner = a.inner; failed = a.failed } };
 }
 
 impl<W: Write> Watched<W> {
+    /// A writer to which no write has failed.
     pub fn new(inner: W) -> Watched<W>
         ensures inner { result.inner ≡ inner }
         ensures failed { result.failed ≡ false }
@@ -37,5 +47,18 @@ impl<W: Write> Watched<W> {
             return Err(Failure::Write);
         }
         Ok(())
+    }
+    /// Whether a write has failed.
+    pub fn failed(&self) -> bool
+        ensures { result ≡ self.now.failed }
+    {
+        self.failed
+    }
+
+    /// The writer.
+    pub fn inner(&self) -> &W
+        ensures { result.now ≡ self.now.inner }
+    {
+        &self.inner
     }
 }

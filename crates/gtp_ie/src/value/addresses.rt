@@ -46,8 +46,8 @@ impl IeValue for FTeid {
         let [flags, ..] = body else {
             return Err(ReadFault::Short);
         };
-        let has_v4 = *flags / 128 % 2 == 1;
-        let has_v6 = *flags / 64 % 2 == 1;
+        let has_v4 = *flags >> 7 == 1;
+        let has_v6 = *flags >> 6 & 1 == 1;
         let after_v4 = if has_v4 { 9 } else { 5 };
         let end = if has_v6 { after_v4 + 16 } else { after_v4 };
         if body.len() < end {
@@ -64,7 +64,7 @@ impl IeValue for FTeid {
             None
         };
         let teid = Teid(BigEndian::read_u32(&body[1..]));
-        FTeid::try_new(*flags % 64, teid, v4, v6).map_err(|_| ReadFault::Bad)
+        FTeid::try_new(*flags & 0x3f, teid, v4, v6).map_err(|_| ReadFault::Bad)
     }
 
     #[tactic(auto, unfolding(crate::specs::Value::encoding_of), using(crate::proofs::AgainAddresses::fteid_again, crate::proofs::FreeKinds::encoding_free))]
@@ -99,7 +99,7 @@ impl IeValue for Paa {
         let [octet, rest @ ..] = body else {
             return Err(ReadFault::Short);
         };
-        match *octet % 8 {
+        match *octet & 0x07 {
             1 if rest.len() < 4 => Err(ReadFault::Short),
             1 => Ok(Paa::V4(first(rest))),
             2 if rest.len() < 17 => Err(ReadFault::Short),
@@ -155,8 +155,8 @@ impl IeValue for Plmn {
         let [first, second, third, ..] = body else {
             return Err(ReadFault::Short);
         };
-        let mcc = [*first % 16, *first / 16, *second % 16];
-        let mnc = [*third % 16, *third / 16, *second / 16];
+        let mcc = [*first & 0x0f, *first >> 4, *second & 0x0f];
+        let mnc = [*third & 0x0f, *third >> 4, *second >> 4];
         let count = if mnc[2] == 15 { 2 } else { 3 };
         match Plmn::try_new(&mcc, &mnc[..count]) {
             Ok(plmn) => Ok(plmn),

@@ -28,14 +28,14 @@ impl IeValue for Cause {
         } else {
             Some(Offending {
                 kind: body[2],
-                instance: Below::new(body[5] % 16),
+                instance: Below::new(body[5] & 0x0f),
             })
         };
         Ok(Cause {
             value: body[0],
-            pce: flags / 4 % 2 == 1,
-            bce: flags / 2 % 2 == 1,
-            cs: flags % 2 == 1,
+            pce: flags >> 2 & 1 == 1,
+            bce: flags >> 1 & 1 == 1,
+            cs: flags & 1 == 1,
             offending,
         })
     }

@@ -20,9 +20,9 @@ fn unpacked(body: &[u8]) -> Octets<16>
     let mut digits = Octets::new();
     let mut left = body;
     while let [octet, rest @ ..] = left {
-        digits.push(*octet % 16);
-        if !(rest.is_empty() && *octet / 16 == 15) {
-            digits.push(*octet / 16);
+        digits.push(*octet & 0x0f);
+        if !(rest.is_empty() && *octet >> 4 == 0x0f) {
+            digits.push(*octet >> 4);
         }
         left = rest;
     }

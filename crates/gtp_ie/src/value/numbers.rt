@@ -63,7 +63,8 @@ impl From<Ebi> for EbiValue {
 impl TryFrom<EbiValue> for Ebi {
     type Error = ValueFault;
 
-    ghost try_from_gives = { λ value result. OkIff result (IsEbi value.0) value.0 × IfErr result (λ f. f ≡ OutOfRange) };
+    ghost try_from_gives = { λ value result. OkIff result (IsEbi value.0) value.0
+        × IfErr result (λ f. f ≡ OutOfRange) };
 
     fn try_from(value: EbiValue) -> Result<Ebi, ValueFault> {
         Ebi::try_new(value.0.number())
@@ -83,7 +84,7 @@ impl IeValue for EbiValue {
     fn parse(body: &[u8]) -> Result<EbiValue, ReadFault> {
         match body {
             [] => Err(ReadFault::Short),
-            [octet, ..] => Ok(EbiValue(Below::new(*octet % 16))),
+            [octet, ..] => Ok(EbiValue(Below::new(*octet & 0x0f))),
         }
     }
 
@@ -185,7 +186,7 @@ impl IeValue for PdnType {
     fn parse(body: &[u8]) -> Result<PdnType, ReadFault> {
         match body {
             [] => Err(ReadFault::Short),
-            [octet, ..] => Ok(PdnType(Below::new(*octet % 8))),
+            [octet, ..] => Ok(PdnType(Below::new(*octet & 0x07))),
         }
     }
 

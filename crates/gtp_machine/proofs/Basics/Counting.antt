@@ -5,7 +5,7 @@ use Rattle.std.specs.FinMap.{get, insert, remove, len, find, from_entries, entri
 use Rattle.std.specs.Ordering.{nat_cmp, eq_by_cmp}
 use Rattle.std.specs.Cmp.{nat_cmp_total}
 use Rattle.std.proofs.lemmas.Bool.Decides.{nat_tests}
-use Rattle.gtp_machine.specs.FiniteMap.{FiniteMap, kept, passes}
+use Rattle.gtp_values.specs.FiniteMap.{FiniteMap, kept, passes}
 
 tied : (q k : ℕ) → eq_by_cmp nat_cmp q k ≡ true → q ≡ k
 tied q k h = grind (arith, nat_tests)

@@ -4,7 +4,7 @@ use Rattle.std.specs.FinMap.{get, insert, remove, get-retain_keys, get-entries, 
 use Rattle.std.proofs.lemmas.Bool.Decides.{nat_tests}
 use Rattle.std.specs.Ordering.{nat_cmp, eq_by_cmp}
 use Rattle.std.specs.Cmp.{nat_cmp_total}
-use Rattle.gtp_machine.specs.FiniteMap.{FiniteMap, Each, kept, passes, changed, with_value, Among}
+use Rattle.gtp_values.specs.FiniteMap.{FiniteMap, Each, kept, passes, changed, with_value, Among}
 
 -- where an inserted entry is found
 pub found-insert : {X : Type 0} (m : FiniteMap X) (key : ℕ) (x : X) (q : ℕ) (y : X) → get (insert m key x) q ≡ Some y → ((q ≡ key) × (x ≡ y)) ⊎ ((q ≢ key) × (get m q ≡ Some y))

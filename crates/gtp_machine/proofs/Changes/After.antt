@@ -5,7 +5,7 @@ use Rattle.gtp_values.specs.Counter.{age_of}
 use Rattle.gtp_values.specs.declared.counter.Age.{Age}
 use Rattle.gtp_values.specs.declared.counter.Age.TheVariants.{Same, Later, Earlier}
 use Rattle.gtp_values.specs.declared.address.Endpoint.{Endpoint}
-use Rattle.gtp_machine.specs.FiniteMap.{FiniteMap, Each, Among}
+use Rattle.gtp_values.specs.FiniteMap.{FiniteMap, Each, Among}
 use Rattle.gtp_machine.specs.Config.{control_end}
 use Rattle.gtp_machine.specs.Message.{CreateSessionRequest, CreateBearerRequest, Message, Create_session_request, Create_bearer_request, recovery_of}
 use Rattle.gtp_machine.specs.Node.{Role, Serving, Packet, Pending, Active, Session, Bearer, PendingRequest, Arrival, Held, Node, holding}

@@ -1,7 +1,7 @@
 -- What a packet that leaves or comes to an active bearer names.
 use Rattle.std.proofs.Common.{◌≡◌, inl, inr, ⊎_elim, ℕ, List, Some, sym, ◌∙◌, ap}
 use Rattle.std.specs.FinMap.{get}
-use Rattle.gtp_machine.specs.FiniteMap.{FiniteMap}
+use Rattle.gtp_values.specs.FiniteMap.{FiniteMap}
 use Rattle.gtp_machine.specs.Message.{CreateSessionResponse, subscriber_of}
 use Rattle.gtp_machine.specs.Node.{Role, Serving, Packet, Session, Bearer}
 use Rattle.gtp_machine.specs.Input.{Entry, entry_for}

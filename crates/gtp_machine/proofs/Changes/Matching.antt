@@ -1,7 +1,7 @@
 -- A pending request matches the session or bearer that it is about.
 use Rattle.std.proofs.Common.{◌≡◌, ◌≢◌, ⊎_elim, ℕ, Some, sym, ◌∙◌, ap}
 use Rattle.std.specs.FinMap.{get, insert}
-use Rattle.gtp_machine.specs.FiniteMap.{FiniteMap}
+use Rattle.gtp_values.specs.FiniteMap.{FiniteMap}
 use Rattle.gtp_machine.specs.Message.{CreateSessionRequest, CreateBearerRequest, Create_session_request, Create_bearer_request}
 use Rattle.gtp_machine.specs.Node.{Pending, Session, Bearer, PendingRequest, Node}
 use Rattle.gtp_machine.proofs.Basics.FiniteMaps.{found-insert}

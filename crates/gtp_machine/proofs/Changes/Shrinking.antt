@@ -3,7 +3,7 @@ use Rattle.std.proofs.Common.{◌≡◌, ◌≢◌, ◌⊎◌, inl, inr, ⊎_eli
 use Rattle.std.specs.FinMap.{get, insert}
 use Rattle.std.proofs.lemmas.Bool.{cases_eq}
 use Rattle.std.proofs.lemmas.Bool.Decides.{nat_tests}
-use Rattle.gtp_machine.specs.FiniteMap.{FiniteMap, kept}
+use Rattle.gtp_values.specs.FiniteMap.{FiniteMap, kept}
 use Rattle.gtp_machine.specs.Node.{State, Pending, Active, Closing, Session, Bearer, PendingRequest, Node}
 use Rattle.gtp_machine.specs.Removal.{on, without, without_bearer, finished_about, closing_session, closing_bearer, session_closing, is_pending, is_opened}
 use Rattle.gtp_machine.specs.Recovery.{peer_restarted}

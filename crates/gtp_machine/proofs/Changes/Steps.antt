@@ -2,7 +2,7 @@
 use Rattle.std.proofs.Common.{◌≡◌, ◌⊎◌, inl, inr, ⊎_elim, ℕ, List, [], ◌∷◌, Option, Some, None, refl, sym, ◌∙◌, subst}
 use Rattle.std.specs.FinMap.{get}
 use Rattle.gtp_values.specs.declared.address.Endpoint.{Endpoint}
-use Rattle.gtp_machine.specs.FiniteMap.{Among}
+use Rattle.gtp_values.specs.FiniteMap.{Among}
 use Rattle.gtp_machine.specs.Message.{Message, CreateBearerRequest, CreateBearerResponse, Create_bearer_request, Create_bearer_response, Packet_data, Owns, recovery_of, first_given, first_returned}
 use Rattle.gtp_machine.specs.Node.{Role, Packet, Session, Arrival, Held, Node}
 use Rattle.gtp_machine.specs.Input.{Entry, Out, Outcome, Effect, nothing, says, messages}

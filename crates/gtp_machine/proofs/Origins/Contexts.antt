@@ -1,7 +1,7 @@
 -- What each session and bearer goes back to.
 use Rattle.std.proofs.Common.{◌≡◌, ◌≢◌, ◌⊎◌, inl, inr, ⊎_elim, ℕ, List, Some, refl, sym, ◌∙◌, ap, arith}
 use Rattle.std.specs.FinMap.{get, insert}
-use Rattle.gtp_machine.specs.FiniteMap.{FiniteMap, Each}
+use Rattle.gtp_values.specs.FiniteMap.{FiniteMap, Each}
 use Rattle.gtp_machine.specs.Element.{teid_in, ipv4_of}
 use Rattle.gtp_machine.specs.Message.{CreateSessionRequest, CreateSessionResponse, CreateBearerRequest, CreateBearerResponse, Create_session_request, Create_session_response, Create_bearer_request, Create_bearer_response, subscriber_of, first_created, first_given, first_returned, first_identity}
 use Rattle.gtp_machine.specs.Node.{Serving, Packet, Pending, Active, Closing, Session, Bearer, Default, Dedicated}

@@ -1,6 +1,6 @@
 -- TEIDs are drawn once, over all restarts, and counters tell the start that they are of.
 use Rattle.std.proofs.Common.{◌≡◌, ◌⊎◌, inl, inr, ⊎_elim, ℕ, ◌+◌, ◌%◌, ◌<◌, ◌≤◌, List, [], ◌∷◌, ◌++◌, Some, refl, sym, ◌∙◌, ap, subst, arith}
-use Rattle.gtp_machine.specs.FiniteMap.{Among}
+use Rattle.gtp_values.specs.FiniteMap.{Among}
 use Rattle.gtp_machine.specs.Element.{IsAccepting, teid_in}
 use Rattle.gtp_machine.specs.Message.{Message, CreateSessionResponse, GivenBearer, CreateBearerResponse, Create_session_request, Create_session_response, Create_bearer_response, Owns, recovery_of, first_created, first_given}
 use Rattle.gtp_machine.specs.Node.{Arrival, Role, Serving, Packet, Node}

@@ -5,7 +5,7 @@ use Rattle.gtp_values.specs.declared.address.Endpoint.{Endpoint}
 use Rattle.gtp_values.specs.declared.counter.Age.{Age}
 use Rattle.gtp_values.specs.declared.counter.Age.TheVariants.{Same, Later, Earlier}
 use Rattle.gtp_values.specs.declared.qos.Qos.{Qos}
-use Rattle.gtp_machine.specs.FiniteMap.{Each, Among}
+use Rattle.gtp_values.specs.FiniteMap.{Each, Among}
 use Rattle.gtp_machine.specs.Message.{Message, CreateSessionRequest, CreateBearerRequest, DeleteBearerRequest, DeleteSessionRequest, Echo_request, Echo_response, Create_session_request, Create_session_response, Delete_session_request, Delete_session_response, Create_bearer_request, Create_bearer_response, Delete_bearer_request, Delete_bearer_response, Other_control, Packet_data, End_marker, Error_indication, User_echo_request, User_echo_response, Supported_extensions, Other_user, recovery_of}
 use Rattle.gtp_machine.specs.Node.{Role, Serving, Packet, Session, Bearer, PendingRequest, Arrival, Held, Node, written}
 use Rattle.gtp_machine.specs.Input.{Specification, Command, Create_session, Delete_session, Create_bearer, Delete_bearer, Release_session, Mark_end, Send_echo, Send_user, ControlReading, Control_message, Faulty, Control_fault, UserReading, User_message, Extension_needed, User_fault, Move, Resend, Give_up, Forget, Input, Commanded, Control_came, User_came, Moves_on, Effect, messages}

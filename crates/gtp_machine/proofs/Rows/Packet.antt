@@ -3,7 +3,7 @@ use Rattle.std.proofs.Common.{◌≡◌, ◌⊎◌, inl, inr, ⊎_elim, ℕ, ◌
 use Rattle.std.specs.FinMap.{get, insert, remove}
 use Rattle.gtp_values.specs.declared.cause.Cause.{Cause}
 use Rattle.gtp_values.specs.declared.qos.Qos.{Qos}
-use Rattle.gtp_machine.specs.FiniteMap.{FiniteMap, Each, Among}
+use Rattle.gtp_values.specs.FiniteMap.{FiniteMap, Each, Among}
 use Rattle.gtp_machine.specs.Element.{IsAccepting, cause_of, cause_at, teid_in}
 use Rattle.gtp_machine.specs.Message.{CreateSessionRequest, CreateSessionResponse, DeleteSessionRequest, DeleteSessionResponse, CreateBearerRequest, CreateBearerResponse, DeleteBearerResponse, Message, Create_session_request, Create_session_response, Delete_session_response, Create_bearer_request, Create_bearer_response, Packet_data, Owns, recovery_of, first_returned}
 use Rattle.gtp_machine.specs.Node.{Serving, Packet, State, Pending, Active, Closing, Session, Bearer, PendingRequest, Arrival, Node, holding, written}

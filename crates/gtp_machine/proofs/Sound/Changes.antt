@@ -3,7 +3,7 @@ use Rattle.std.proofs.Common.{◌≡◌, ◌≢◌, ◌⊎◌, inl, inr, ⊎_eli
 use Rattle.std.proofs.lemmas.Bool.{cases_eq}
 use Rattle.std.proofs.lemmas.Bool.Decides.{nat_tests}
 use Rattle.std.specs.FinMap.{get, insert, remove, len, gets}
-use Rattle.gtp_machine.specs.FiniteMap.{FiniteMap, Among, kept, changed}
+use Rattle.gtp_values.specs.FiniteMap.{FiniteMap, Among, kept, changed}
 use Rattle.gtp_machine.specs.Config.{Config}
 use Rattle.gtp_machine.specs.Message.{Message, Create_session_request, Create_bearer_request, CreateSessionRequest, CreateBearerRequest, CreateSessionResponse, CreateBearerResponse}
 use Rattle.gtp_machine.specs.Node.{Role, Serving, Packet, State, Pending, Active, Closing, Kind, Default, Dedicated, Session, Bearer, PendingRequest, Arrival, Node, holding, fresh_node}

@@ -6,7 +6,7 @@ use Rattle.std.specs.FinMap.{get, len, entries, len-entries, keys, contains_key-
 use Rattle.std.specs.Ordering.{nat_cmp, eq_by_cmp}
 use Rattle.std.proofs.lemmas.Bool.{cases_eq}
 use Rattle.std.proofs.lemmas.Bool.Decides.{nat_tests}
-use Rattle.gtp_machine.specs.FiniteMap.{FiniteMap, Among}
+use Rattle.gtp_values.specs.FiniteMap.{FiniteMap, Among}
 
 decides : (x : ℕ) (xs : List ℕ) → Among x xs ⊎ (Among x xs → ⊥)
 decides x [] = inr (λ none. none)

@@ -23,7 +23,7 @@ use Rattle.gtp_v2.specs.declared.body.create_bearer_request.BearerRequestContext
 use Rattle.gtp_v2.specs.Marks.{ContentMarked}
 use Rattle.gtp_v2.specs.Tables.{table_of}
 use Rattle.gtp_v2.proofs.MarksOf.{message_marked}
-use Rattle.gtp_machine.specs.FiniteMap.{Among}
+use Rattle.gtp_values.specs.FiniteMap.{Among}
 use Rattle.gtp_machine.specs.Element.{teid_in}
 use Rattle.gtp_values.specs.declared.cause.Cause.{Cause}
 use Rattle.gtp_machine.specs.Message.{CreatedBearer, GivenBearer}

@@ -1,6 +1,6 @@
 -- What the world keeps of each gateway: packets, and answers to requests for bearers.
 use Rattle.std.proofs.Common.{◌≡◌, ◌⊎◌, inl, inr, ⊎_elim, ℕ, List, [], ◌∷◌, ◌++◌, Some, refl, sym, ◌∙◌, ap, subst, arith}
-use Rattle.gtp_machine.specs.FiniteMap.{Each, Among}
+use Rattle.gtp_values.specs.FiniteMap.{Each, Among}
 use Rattle.gtp_machine.specs.Message.{Message, CreateBearerRequest, CreateBearerResponse, Create_bearer_request, Create_bearer_response, Packet_data, first_given, first_returned}
 use Rattle.gtp_machine.specs.Node.{Role, Serving, Packet, Session, Arrival}
 use Rattle.gtp_machine.specs.Input.{Entry, Effect, messages}

@@ -11,6 +11,7 @@ use Rattle.gtp_v2.specs.Datagram.{IsMessage}
 use Rattle.gtp_v2.specs.Encoding.{canonical_encoding, HeaderMeets}
 use Rattle.gtp_v2.specs.Kinds.{ContentHasKinds}
 use Rattle.gtp_v2.specs.Marks.{MeetsMarks}
+use Rattle.gtp_v2.proofs.Few.{many_where_long}
 use Rattle.gtp_v2.proofs.Marked.{marked_again}
 use Rattle.gtp_v2.proofs.MarksOf.{message_marked}
 use Rattle.gtp_v2.proofs.message.encode.Goals as goal
@@ -27,3 +28,6 @@ again m (Ok octets) written long header have =
 
 pub returns-clause-read_again : goal.returns-clause-read_again
 returns-clause-read_again c = again (message_value c.args.message.now) c.write_message.result c.write_message.ensures.written c.write_message.ensures.too_long c.write_message.ensures.range c.write_message.ensures.kinds
+
+pub returns-clause-few : goal.returns-clause-few
+returns-clause-few c long = many_where_long (message_value c.args.message.now) (c.write_message.ensures.rows long)

@@ -1,5 +1,5 @@
 use Rattle.std.proofs.Common.{rules, ◌≡◌}
-use Rattle.gtpshow.specs.Lines.{status_shown}
+use Rattle.gtpshow.specs.Shown.{status_shown}
 use Rattle.gtpshow.proofs.showing.show.Goals as goal
 use Rattle.gtpshow.proofs.showing.show.Goals.{then-shown, else-shown}
 

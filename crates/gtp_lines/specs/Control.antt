@@ -1,0 +1,108 @@
+-- The lines of a control datagram.
+use Rattle.std.specs.Prelude.{◌≡◌, ℕ, ◌+◌, ◌==◌, if◌then◌else◌, Bool, true, false, List, [], ◌++◌, drop, Option, Some, None, Result, Ok, Err, codes, decimal}
+use Rattle.std.specs.List.{flat_map}
+use Rattle.gtp_ie.specs.declared.fault.IeFault.{IeFault}
+use Rattle.gtp_ie.specs.declared.fault.IeFault.TheVariants as elements
+use Rattle.gtp_ie.specs.Element.{Element, elements_of}
+use Rattle.gtp_ie.specs.Octets.{AreElements}
+use Rattle.gtp_v2.specs.declared.fault.V2Fault.{V2Fault}
+use Rattle.gtp_v2.specs.declared.fault.V2Fault.TheVariants as faults
+use Rattle.gtp_v2.specs.Table.{Table}
+use Rattle.gtp_v2.specs.Tables.{table_of}
+use Rattle.gtp_v2.specs.Message.{Content, Fields, Raw, MessageValue}
+use Rattle.gtp_v2.specs.Datagram.{IsMessage, IsFault}
+use Rattle.gtp_v2.specs.Viewed.{place_of}
+use Rattle.gtp_lines.specs.Text.{octets_text, teid_text}
+use Rattle.gtp_lines.specs.Values.{field_shown, raw_shown, body_shown}
+
+-- what stands before an element's value
+abbrev pub element_head : Element → List ℕ
+element_head e = codes "ie " ++ (decimal e.kind ++ (codes " " ++ (decimal e.instance ++ codes " ")))
+
+-- the line of an element inside a group
+abbrev pub inner_line : Element → List ℕ
+inner_line e = codes "  " ++ (element_head e ++ (body_shown e.kind e.body ++ codes "\n"))
+
+-- a bearer context by its elements; or its octets where they are not whole elements
+abbrev pub group_shown : Element → Result (List Element) ℕ → List ℕ
+group_shown e (Ok inner) = codes "bearer-context\n" ++ flat_map inner_line inner
+group_shown e (Err at) = raw_shown e.body ++ codes "\n"
+
+-- the lines of an element
+abbrev pub element_lines : Element → List ℕ
+element_lines e = element_head e ++ (if e.kind == 93 then group_shown e (elements_of (e.at + 4) e.body) else (body_shown e.kind e.body ++ codes "\n"))
+
+-- the name of a type of message: that of its table, where it has one
+abbrev pub name_shown : Option Table → List ℕ
+name_shown None = codes "other"
+name_shown (Some table) = table.name
+
+abbrev pub message_name : ℕ → List ℕ
+message_name kind = name_shown (table_of kind)
+
+abbrev pub teid_shown : Option ℕ → List ℕ
+teid_shown None = []
+teid_shown (Some teid) = codes " teid " ++ teid_text teid
+
+abbrev pub priority_shown : Option ℕ → List ℕ
+priority_shown None = []
+priority_shown (Some priority) = codes " priority " ++ decimal priority
+
+-- the type of a message, by its number and its name
+unfoldable pub title_shown : ℕ → List ℕ
+title_shown kind = field_shown (codes "gtpv2 type ") kind ++ (codes " " ++ message_name kind)
+
+-- the first line of a message
+abbrev pub head_line : MessageValue → List ℕ
+head_line m = title_shown m.kind ++ (teid_shown m.teid ++ (field_shown (codes " seq ") m.seq ++ (priority_shown m.priority ++ codes "\n")))
+
+-- the lines after the first: those of the elements in the datagram's order, or the octets of a message of another type
+abbrev pub CarriedLines : List ℕ → MessageValue → Content → List ℕ → Type 0
+CarriedLines octets m (Raw carried) lines = lines ≡ codes "octets " ++ (octets_text carried ++ codes "\n")
+CarriedLines octets m (Fields fields) lines =
+    (es : List Element) × AreElements (place_of m.teid) (drop (place_of m.teid) octets) es × (lines ≡ flat_map element_lines es)
+
+-- the same of elements that are at hand
+abbrev pub carried_lines : Content → List Element → List ℕ
+carried_lines (Raw carried) es = codes "octets " ++ (octets_text carried ++ codes "\n")
+carried_lines (Fields fields) es = flat_map element_lines es
+
+-- a fault of elements
+abbrev pub element_fault : IeFault → List ℕ
+element_fault (elements.Truncated at) = codes "I1 at " ++ decimal at
+element_fault (elements.ShortValue kind instance at) =
+    codes "I2 type " ++ (decimal kind ++ (codes " instance " ++ (decimal instance ++ (codes " at " ++ decimal at))))
+element_fault (elements.BadValue kind instance at) =
+    codes "I3 type " ++ (decimal kind ++ (codes " instance " ++ (decimal instance ++ (codes " at " ++ decimal at))))
+element_fault elements.Memory = codes "I4"
+element_fault elements.TooLong = codes "I5"
+
+abbrev pub mark_shown : Bool → List ℕ
+mark_shown true = codes " conditional"
+mark_shown false = codes " mandatory"
+
+-- what follows the word of a fault
+abbrev pub fault_shown : V2Fault → List ℕ
+fault_shown (faults.Short held) = codes "H1 held " ++ decimal held
+fault_shown (faults.Version version) = codes "H2 version " ++ decimal version
+fault_shown (faults.Length stated held) = codes "H3 stated " ++ (decimal stated ++ (codes " held " ++ decimal held))
+fault_shown (faults.FlagT kind) = codes "H4 type " ++ decimal kind
+fault_shown faults.Piggyback = codes "H5"
+fault_shown (faults.Missing kind instance conditional head) =
+    codes "H6 type " ++ (decimal kind ++ (codes " instance " ++ (decimal instance ++ mark_shown conditional)))
+fault_shown (faults.Element fault head) = codes "H7 " ++ element_fault fault
+fault_shown faults.Memory = codes "H8"
+fault_shown faults.TooLong = codes "H9"
+
+-- the line of a fault
+abbrev pub fault_line : V2Fault → List ℕ
+fault_line f = codes "fault " ++ (fault_shown f ++ codes "\n")
+
+-- the text is other text, and then the lines of a message that the octets spell
+abbrev pub HasLines : List ℕ → List ℕ → MessageValue → List ℕ → Type 0
+HasLines before octets m text = (lines : List ℕ) × CarriedLines octets m m.content lines × (text ≡ before ++ (head_line m ++ lines))
+
+-- the lines of a control datagram, and whether they are a fault's
+abbrev pub ControlLines : List ℕ → List ℕ → Bool → Type 0
+ControlLines octets text true = (f : V2Fault) × IsFault octets f × (text ≡ fault_line f)
+ControlLines octets text false = (m : MessageValue) × IsMessage octets m × HasLines [] octets m text

@@ -1,0 +1,5 @@
+pub mod Text
+pub mod Values
+pub mod Control
+pub mod User
+pub mod Lines

@@ -1,0 +1,82 @@
+-- The lines of a datagram of the user plane.
+use Rattle.std.specs.Prelude.{◌≡◌, ℕ, Bool, true, false, List, [], ◌∷◌, ◌++◌, Option, Some, None, codes, decimal}
+use Rattle.std.specs.List.{flat_map}
+use Rattle.hex.specs.Hex.{encode_lower}
+use Rattle.gtp_user.specs.declared.fault.UserFault.{UserFault}
+use Rattle.gtp_user.specs.declared.fault.UserFault.TheVariants as faults
+use Rattle.gtp_user.specs.Chain.{Extension}
+use Rattle.gtp_user.specs.Message.{Content, EchoRequest, EchoResponse, ErrorIndication, Notification, EndMarker, Packet, Other, MessageValue}
+use Rattle.gtp_user.specs.Datagram.{IsUserMessage, IsUserFault}
+use Rattle.gtp_values.specs.Address.{ip_text}
+use Rattle.gtp_lines.specs.Text.{octets_text, teid_text}
+use Rattle.gtp_lines.specs.Values.{field_shown}
+
+-- the type of a message, by its number and its name
+abbrev pub named : ℕ → List ℕ → List ℕ
+named kind name = field_shown (codes "gtpu type ") kind ++ (codes " " ++ name)
+
+abbrev pub user_title : Content → List ℕ
+user_title EchoRequest = named 1 (codes "echo-request")
+user_title EchoResponse = named 2 (codes "echo-response")
+user_title (ErrorIndication teid peer) = named 26 (codes "error-indication")
+user_title (Notification types) = named 31 (codes "supported-extensions")
+user_title (EndMarker teid) = named 254 (codes "end-marker")
+user_title (Packet teid payload) = named 255 (codes "g-pdu")
+user_title (Other kind teid octets) = named kind (codes "other")
+
+-- the TEID of the header, of the messages of a tunnel and of other types
+abbrev pub target_shown : Content → List ℕ
+target_shown (EndMarker teid) = codes " teid " ++ teid_text teid
+target_shown (Packet teid payload) = codes " teid " ++ teid_text teid
+target_shown (Other kind teid octets) = codes " teid " ++ teid_text teid
+target_shown content = []
+
+-- a number, where there is one
+abbrev pub some_shown : List ℕ → Option ℕ → List ℕ
+some_shown mark None = []
+some_shown mark (Some number) = field_shown mark number
+
+abbrev pub user_head_line : MessageValue → List ℕ
+user_head_line m = user_title m.content ++ (target_shown m.content ++ (some_shown (codes " seq ") m.seq ++ (some_shown (codes " npdu ") m.npdu ++ codes "\n")))
+
+-- an extension header
+abbrev pub extension_line : Extension → List ℕ
+extension_line e = codes "ext " ++ (encode_lower (e.kind ∷ []) ++ (codes " " ++ (octets_text e.content ++ codes "\n")))
+
+-- a mark and octets
+abbrev pub octets_line : List ℕ → List ℕ → List ℕ
+octets_line mark octets = mark ++ (octets_text octets ++ codes "\n")
+
+-- what a message carries
+abbrev pub carried_shown : Content → List ℕ
+carried_shown (ErrorIndication teid peer) = codes "teid " ++ (teid_text teid ++ (codes "\npeer " ++ (ip_text peer ++ codes "\n")))
+carried_shown (Notification types) = octets_line (codes "types ") types
+carried_shown (Packet teid payload) = octets_line (codes "payload ") payload
+carried_shown (Other kind teid octets) = octets_line (codes "octets ") octets
+carried_shown content = []
+
+-- what follows the word of a fault
+abbrev pub user_fault_shown : UserFault → List ℕ
+user_fault_shown (faults.Short held) = codes "U1 held " ++ decimal held
+user_fault_shown (faults.Version version) = codes "U2 version " ++ decimal version
+user_fault_shown faults.Protocol = codes "U3"
+user_fault_shown (faults.Length stated held) = codes "U4 stated " ++ (decimal stated ++ (codes " held " ++ decimal held))
+user_fault_shown (faults.ExtensionZero at) = codes "U5 at " ++ decimal at
+user_fault_shown (faults.ExtensionPast at) = codes "U6 at " ++ decimal at
+user_fault_shown (faults.ExtensionNeeded kind) = codes "U7 type " ++ encode_lower (kind ∷ [])
+user_fault_shown (faults.Missing kind) = codes "U8 type " ++ decimal kind
+user_fault_shown (faults.Element at) = codes "U9 at " ++ decimal at
+user_fault_shown faults.Memory = codes "U10"
+user_fault_shown faults.TooLong = codes "U11"
+
+abbrev pub user_fault_line : UserFault → List ℕ
+user_fault_line f = codes "fault " ++ (user_fault_shown f ++ codes "\n")
+
+-- the lines of a message: its head, its extension headers in order, and what it carries
+abbrev pub user_lines : MessageValue → List ℕ
+user_lines m = user_head_line m ++ (flat_map extension_line m.ext ++ carried_shown m.content)
+
+-- the lines of a datagram of the user plane, and whether they are a fault's
+abbrev pub UserLines : List ℕ → List ℕ → Bool → Type 0
+UserLines octets text true = (f : UserFault) × IsUserFault octets f × (text ≡ user_fault_line f)
+UserLines octets text false = (m : MessageValue) × IsUserMessage octets m × (text ≡ user_lines m)

@@ -1,0 +1,90 @@
+//! The lines of a datagram.
+
+ghost use Rattle.std.specs.Prelude.{◌≡◌, ◌++◌, OnOk, IfOk};
+ghost use Rattle.gtp_lines.specs.Control.{ControlLines, head_line, carried_lines};
+ghost use Rattle.gtp_lines.specs.User.{UserLines};
+ghost use Rattle.gtp_lines.specs.Lines.{LinesOf};
+
+use crate::control::{put_elements, put_fault_line, put_head};
+use crate::plane::Plane;
+use crate::text::put;
+use crate::user::{put_user_fault_line, put_user_message};
+use crate::values::put_raw;
+use gtp_v2::{DatagramView, view};
+use gtp_values::Memory;
+use std::alloc::{AllocError, Global};
+
+/// The lines of a datagram, in ASCII, and whether they are those of a fault.
+#[derive(Debug, Drop)]
+pub struct Shown {
+    pub text: Vec<u8>,
+    pub faulty: bool,
+}
+
+/// Appends the lines of a message.
+#[tactic(auto, using(crate::proofs::Appends::appending, crate::proofs::Seen::raw_lines, crate::proofs::Seen::typed_lines))]
+fn put_message(out: &mut Vec<u8>, seen: &DatagramView) -> Result<(), AllocError>
+    ensures ok { OnOk result (out.new.items ≡ out.old.items
+        ++ (head_line seen.now.message
+        ++ carried_lines seen.now.message.content seen.now.elements)) }
+{
+    put_head(out, seen)?;
+    match seen.octets() {
+        Some(carried) => {
+            put_raw(out, carried)?;
+            put(out, b"\n")
+        }
+        None => put_elements(out, &seen.elements()),
+    }
+}
+
+/// The lines of a control datagram; `Memory` where an allocation was refused.
+fn control_lines(alloc: Global, octets: &[u8]) -> Result<Shown, Memory>
+    ensures { IfOk result (λ shown. ControlLines octets.now shown.text.items shown.faulty) }
+{
+    let mut text = Vec::new(alloc);
+    match view(octets) {
+        Ok(seen) => {
+            put_message(&mut text, &seen)?;
+            Ok(Shown {
+                text,
+                faulty: false,
+            })
+        }
+        Err(fault) => {
+            put_fault_line(&mut text, &fault)?;
+            Ok(Shown { text, faulty: true })
+        }
+    }
+}
+
+/// The lines of a datagram of the user plane; `Memory` where an allocation was refused.
+fn user_lines(alloc: Global, octets: &[u8]) -> Result<Shown, Memory>
+    ensures { IfOk result (λ shown. UserLines octets.now shown.text.items shown.faulty) }
+{
+    let mut text = Vec::new(alloc);
+    match gtp_user::decode(octets) {
+        Ok(message) => {
+            put_user_message(&mut text, &message)?;
+            Ok(Shown {
+                text,
+                faulty: false,
+            })
+        }
+        Err(fault) => {
+            put_user_fault_line(&mut text, &fault)?;
+            Ok(Shown { text, faulty: true })
+        }
+    }
+}
+
+/// The lines of a datagram: its message with each element in the order in which it came, or the one
+/// line of its first fault. `Memory` where an allocation was refused.
+pub fn decode_lines(alloc: Global, plane: Plane, octets: &[u8]) -> Result<Shown, Memory>
+    ensures { IfOk result (λ shown. LinesOf plane octets.now shown.text.items shown.faulty) }
+{
+    match plane {
+        Plane::Control => control_lines(alloc, octets),
+        Plane::User => user_lines(alloc, octets),
+    }
+}

@@ -1,0 +1,81 @@
+//! Pieces of text, appended to a buffer.
+
+ghost use Rattle.std.specs.Prelude.{◌≡◌, ◌<◌, ◌++◌, All, OnOk, IfSome, decimal, map, take};
+ghost use Rattle.hex.specs.Hex.{encode_lower};
+ghost use Rattle.gtp_values.specs.Imsi.{digits_text};
+ghost use Rattle.gtp_lines.specs.Text.{octets_text, teid_text};
+
+use byteorder::{BigEndian, ByteOrder};
+use gtp_values::Teid;
+use itoa::Buffer;
+use std::alloc::AllocError;
+use std::fmt::Display;
+
+/// Appends a text.
+pub fn put(out: &mut Vec<u8>, text: &[u8]) -> Result<(), AllocError>
+    ensures ok { OnOk result (out.new.items ≡ out.old.items ++ text.now) }
+{
+    out.extend_from_slice(text)?;
+    Ok(())
+}
+
+/// Appends a number in decimal.
+pub fn put_number(out: &mut Vec<u8>, number: u64) -> Result<(), AllocError>
+    ensures ok { OnOk result (out.new.items ≡ out.old.items ++ decimal number) }
+{
+    let mut buffer = Buffer::new();
+    out.extend_from_slice(buffer.format(number).as_bytes())?;
+    Ok(())
+}
+
+/// Appends octets in lower case hexadecimal.
+pub fn put_hex(out: &mut Vec<u8>, octets: &[u8]) -> Result<(), AllocError>
+    ensures ok { OnOk result (out.new.items ≡ out.old.items ++ encode_lower octets.now) }
+{
+    for octet in octets {
+        let mut digits = [0u8; 2];
+        let _ = hex::encode_to_slice([*octet].as_slice(), &mut digits);
+        out.extend_from_slice(&digits)?;
+    }
+    Ok(())
+}
+
+/// Appends octets in lower case hexadecimal, or a mark that there are none.
+pub fn put_octets(out: &mut Vec<u8>, octets: &[u8]) -> Result<(), AllocError>
+    ensures ok { OnOk result (out.new.items ≡ out.old.items ++ octets_text octets.now) }
+{
+    if octets.is_empty() {
+        put(out, b"-")
+    } else {
+        put_hex(out, octets)
+    }
+}
+
+/// Appends a tunnel endpoint identifier.
+pub fn put_teid(out: &mut Vec<u8>, teid: Teid) -> Result<(), AllocError>
+    ensures ok { OnOk result (out.new.items ≡ out.old.items ++ teid_text teid.0) }
+{
+    let mut octets = [0u8; 4];
+    BigEndian::write_u32(&mut octets, teid.0);
+    put_hex(out, &octets)
+}
+
+/// Appends what a value displays.
+pub fn put_display<D: Display>(out: &mut Vec<u8>, value: &D) -> Result<(), AllocError>
+    ensures ok { OnOk result
+        (IfSome (D.Display.output value.now) (λ text. out.new.items ≡ out.old.items ++ text)) }
+{
+    let text = value.to_string(*out.allocator())?;
+    put(out, text.as_bytes())
+}
+
+/// Appends decimal digits.
+pub fn put_digits(out: &mut Vec<u8>, digits: &[u8]) -> Result<(), AllocError>
+    requires { All (λ digit. digit < 10) digits.now }
+    ensures ok { OnOk result (out.new.items ≡ out.old.items ++ digits_text digits.now) }
+{
+    for digit in digits {
+        out.push(b'0' + *digit)?;
+    }
+    Ok(())
+}

@@ -1,8 +1,0 @@
-use Rattle.gtp_reliable.proofs.Numbers.{distance, ahead, IsReached}
-use Rattle.gtp_reliable.proofs.pending.next_free.Given as goal
-
-abbrev pub invariant-loop-number : goal.invariant-loop-number
-invariant-loop-number g l = IsReached l.start l.waiting l.number
-
-abbrev pub decreases-loop-number : goal.decreases-loop-number
-decreases-loop-number g l = ahead l.start (distance l.start l.number) l.waiting

@@ -1,0 +1,9 @@
+pub mod Entries
+pub mod Found
+pub mod Identities
+pub mod Kept
+pub mod Named
+pub mod Rows
+pub mod Seen
+pub mod Undrawn
+pub mod Windows

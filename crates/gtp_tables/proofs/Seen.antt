@@ -1,0 +1,147 @@
+-- Sessions and bearers that are seen.
+use Rattle.std.proofs.Common.{◌≡◌, ℕ, suc, Bool, true, false, cond, List, [], ◌∷◌, map, length, Option, Some, None, refl, sym, ap, ◌∙◌, nat_eq, arith}
+use Rattle.std.specs.Prelude.{not, ◌&&◌, filter}
+use Rattle.std.specs.List.{list_any}
+use Rattle.std.specs.Cmp.{nat_cmp_total}
+use Rattle.std.specs.FinMap.{get, len, entries, values, from_entries, get-entries, entries_sorted, same_map, nat_cmp-IsAntisymmetric}
+use Rattle.std.proofs.lemmas.Bool.Decides.{nat_tests}
+use Rattle.gtp_values.specs.FiniteMap.{FiniteMap, kept}
+use Rattle.gtp_tables.specs.declared.context.Bearer.{Bearer}
+use Rattle.gtp_tables.specs.declared.context.Session.{Session}
+use Rattle.gtp_tables.specs.Contexts.{Contexts, is_pending, is_opened, left, seen, is_seen, are_seen, takes}
+use Rattle.gtp_tables.specs.Identity.{IsUnused, IsBearerWith}
+use Rattle.gtp_tables.specs.Pool.{HasAddress, IsUnusedAddress, address_is}
+use Rattle.gtp_tables.proofs.Found.{meets, meets_not}
+use Rattle.gtp_tables.proofs.Identities.{both}
+use Rattle.gtp_tables.proofs.Kept.{passing, get_kept, table_kept}
+use Rattle.gtp_tables.proofs.Named.{same}
+use Rattle.gtp_tables.proofs.Rows.{same_rows, find_row, len_rows, ascend_filter}
+
+-- all values that pass are all that stand
+kept_all : {X : Type 0} (m : FiniteMap X) → m ≡ kept (λ _ _. true) m
+kept_all {X} m = same_map nat_cmp_total nat_cmp-IsAntisymmetric m (kept (λ _ _. true) m) (λ q. by q (get m q) ∙ sym (get_kept (λ _ _. true) m q))
+  where
+    by : (q : ℕ) (o : Option X) → o ≡ passing (λ _ _. true) q o
+    by q None = refl
+    by q (Some x) = refl
+
+-- the sessions that are seen are those that pass
+pub seen_sessions : (restarted : Bool) (c : Contexts) → (seen restarted c).sessions ≡ kept (λ _ s. is_seen restarted s) c.sessions
+seen_sessions false c = kept_all c.sessions
+seen_sessions true c = same_map nat_cmp_total nat_cmp-IsAntisymmetric (left c).sessions (kept (λ _ s. is_seen true s) c.sessions) (λ q.
+    get_kept (λ t (s : Session). not (is_opened (get c.sessions t))) c.sessions q
+    ∙ (by q (get c.sessions q) refl
+    ∙ sym (get_kept (λ _ s. is_seen true s) c.sessions q)))
+  where
+    twice : (b : Bool) → not (not b) ≡ b
+    twice true = refl
+    twice false = refl
+
+    by : (q : ℕ) (o : Option Session) → get c.sessions q ≡ o → passing (λ t (s : Session). not (is_opened (get c.sessions t))) q o ≡ passing (λ _ s. is_seen true s) q o
+    by q None is = refl
+    by q (Some s) is = ap (λ (b : Bool). cond b (Some s) None) (ap (λ (o : Option Session). not (is_opened o)) is ∙ twice (is_pending s.state))
+
+-- what a restart leaves of the sessions are those that are not opened
+pub pending_stay : (c : Contexts) → (left c).sessions ≡ kept (λ _ s. not (not (is_pending s.state))) c.sessions
+pending_stay c = seen_sessions true c ∙ (λ i. kept (λ _ s. twice (is_pending s.state) i) c.sessions)
+  where
+    twice : (b : Bool) → b ≡ not (not b)
+    twice true = refl
+    twice false = refl
+
+-- the bearers that are seen are those that pass
+pub seen_bearers : (restarted : Bool) (c : Contexts) → (seen restarted c).bearers ≡ kept (λ _ b. are_seen restarted (get c.sessions b.session)) c.bearers
+seen_bearers false c = kept_all c.bearers
+seen_bearers true c = refl
+
+-- ---- what stands among what passes
+
+pub stands_kept : {X : Type 0} (test : X → Bool) (m : FiniteMap X) (t : ℕ) (x : X) → get m t ≡ Some x → test x ≡ true → get (kept (λ _ y. test y) m) t ≡ Some x
+stands_kept {X} test m t x stands is = get_kept (λ _ y. test y) m t ∙ (ap (passing (λ _ y. test y) t) stands ∙ ap (λ (b : Bool). cond b (Some x) None) is)
+
+pub record Passes {X : Type 0} (test : X → Bool) (m : FiniteMap X) (t : ℕ) (x : X) : Type 0 where
+  pub stands : get m t ≡ Some x
+  pub is : test x ≡ true
+
+pub kept_stands : {X : Type 0} (test : X → Bool) (m : FiniteMap X) (t : ℕ) (x : X) → get (kept (λ _ y. test y) m) t ≡ Some x → Passes test m t x
+kept_stands {X} test m t x stands = by (get m t) refl (sym (get_kept (λ _ y. test y) m t) ∙ stands)
+  where
+    chosen : (y : X) (b : Bool) → get m t ≡ Some y → test y ≡ b → cond b (Some y) None ≡ Some x → Passes test m t x
+    chosen y true at is h = let same : y ≡ x = cc in record { stands = at ∙ h; is = ap test (sym same) ∙ is }
+    chosen y false at is h = absurd cc
+
+    by : (o : Option X) → get m t ≡ o → passing (λ _ y. test y) t o ≡ Some x → Passes test m t x
+    by None at h = absurd cc
+    by (Some y) at h = chosen y (test y) at refl h
+
+pub gone_kept : {X : Type 0} (test : X → Bool) (m : FiniteMap X) (t : ℕ) (x : X) → get m t ≡ Some x → test x ≡ false → get (kept (λ _ y. test y) m) t ≡ None
+gone_kept {X} test m t x stands is = get_kept (λ _ y. test y) m t ∙ (ap (passing (λ _ y. test y) t) stands ∙ ap (λ (b : Bool). cond b (Some x) None) is)
+
+pub none_kept : {X : Type 0} (test : X → Bool) (m : FiniteMap X) (t : ℕ) → get m t ≡ None → get (kept (λ _ y. test y) m) t ≡ None
+none_kept {X} test m t none = get_kept (λ _ y. test y) m t ∙ ap (passing (λ _ y. test y) t) none
+
+-- ---- how many pass
+
+count_values : {X : Type 0} (test : X → Bool) (rows : List (ℕ × X)) → length (filter test (map (λ e. e.1) rows)) ≡ length (filter (λ e. test e.1) rows)
+count_values test [] = refl
+count_values test (e ∷ es) = elim (test e.1) as (λ b. length (cond b (e.1 ∷ filter test (map (λ x. x.1) es)) (filter test (map (λ x. x.1) es))) ≡ length (cond b (e ∷ filter (λ x. test x.1) es) (filter (λ x. test x.1) es))) [ true ↦ ap suc (count_values test es) | false ↦ count_values test es ]
+
+pub count_kept : {X : Type 0} (test : X → Bool) (m : FiniteMap X) → length (filter test (values m)) ≡ len (kept (λ _ x. test x) m)
+count_kept {X} test m =
+    let rows : List (ℕ × X) = entries m in
+    let same : from_entries rows ≡ m = same_rows rows m (λ q. sym (find_row rows q) ∙ sym (get-entries m q)) in
+    count_values test rows
+    ∙ (sym (len_rows (filter (λ e. test e.1) rows) (ascend_filter (λ e. test e.1) rows (entries_sorted m)))
+    ∙ (ap len (table_kept (λ _ x. test x) rows (entries_sorted m))
+    ∙ ap (λ (n : FiniteMap X). len (kept (λ _ x. test x) n)) same))
+
+-- ---- identities
+
+-- a bearer that has the identity under its session's
+pub bearer_seen : (restarted : Bool) (c : Contexts) (session identity teid : ℕ) → are_seen restarted (get c.sessions session) ≡ true → IsBearerWith c.bearers session identity teid → IsBearerWith (seen restarted c).bearers session identity teid
+bearer_seen restarted c session identity teid is h =
+    let test : Bearer → Bool = λ b. are_seen restarted (get c.sessions b.session) in
+    record {
+      bearer = h.bearer;
+      stands = ap (λ (m : FiniteMap Bearer). get m teid) (seen_bearers restarted c) ∙ stands_kept test c.bearers teid h.bearer h.stands (ap (λ (k : ℕ). are_seen restarted (get c.sessions k)) h.of ∙ is);
+      of = h.of;
+      has = h.has;
+      lowest = λ t b stands. let p = kept_stands test c.bearers t b (ap (λ (m : FiniteMap Bearer). get m t) (sym (seen_bearers restarted c)) ∙ stands) in h.lowest t b p.stands;
+    }
+
+pub unused_seen : (restarted : Bool) (c : Contexts) (session identity : ℕ) → IsUnused c.bearers session identity → IsUnused (seen restarted c).bearers session identity
+unused_seen restarted c session identity unused t b stands =
+    let p = kept_stands (λ (x : Bearer). are_seen restarted (get c.sessions x.session)) c.bearers t b (ap (λ (m : FiniteMap Bearer). get m t) (sym (seen_bearers restarted c)) ∙ stands) in
+    unused t b p.stands
+
+pub unused_unseen : (restarted : Bool) (c : Contexts) (session identity : ℕ) → are_seen restarted (get c.sessions session) ≡ false → IsUnused (seen restarted c).bearers session identity
+unused_unseen restarted c session identity is t b stands of has =
+    let p = kept_stands (λ (x : Bearer). are_seen restarted (get c.sessions x.session)) c.bearers t b (ap (λ (m : FiniteMap Bearer). get m t) (sym (seen_bearers restarted c)) ∙ stands) in
+    let both : true ≡ false = sym p.is ∙ (ap (λ (k : ℕ). are_seen restarted (get c.sessions k)) of ∙ is) in
+    cc
+
+-- ---- addresses
+
+address : (a : ℕ) (o : Option ℕ) → address_is a o ≡ true → o ≡ Some a
+address a None h = absurd cc
+address a (Some n) h = ap Some (same n a h)
+
+pub address_taken : (restarted : Bool) (c : Contexts) (a : ℕ) → list_any (takes restarted a) (values c.sessions) ≡ true → HasAddress (seen restarted c).sessions a
+address_taken restarted c a any =
+    let r = meets (takes restarted a) c.sessions any in
+    let is = both (is_seen restarted r.value) (address_is a r.value.address) r.meets in
+    record {
+      teid = r.key;
+      session = r.value;
+      stands = ap (λ (m : FiniteMap Session). get m r.key) (seen_sessions restarted c) ∙ stands_kept (is_seen restarted) c.sessions r.key r.value r.stands is.0;
+      has = address a r.value.address is.1;
+    }
+
+pub address_free : (restarted : Bool) (c : Contexts) (a : ℕ) → list_any (takes restarted a) (values c.sessions) ≡ false → IsUnusedAddress (seen restarted c).sessions a
+address_free restarted c a none t s stands has =
+    let p = kept_stands (is_seen restarted) c.sessions t s (ap (λ (m : FiniteMap Session). get m t) (sym (seen_sessions restarted c)) ∙ stands) in
+    let not_it : takes restarted a s ≡ false = meets_not (takes restarted a) c.sessions none t s p.stands in
+    let itself : nat_eq a a ≡ true = grind (arith, nat_tests) in
+    let here : address_is a s.address ≡ true = ap (address_is a) has ∙ itself in
+    let it : takes restarted a s ≡ true = ap (λ (b : Bool). b && address_is a s.address) p.is ∙ here in
+    cc

@@ -1,0 +1,12 @@
+use Rattle.std.proofs.Common.{◌∙◌, ap, sym}
+use Rattle.std.specs.FinMap.{get}
+use Rattle.gtp_tables.specs.declared.context.Bearer.{Bearer}
+use Rattle.gtp_tables.specs.Index.{names}
+use Rattle.gtp_tables.specs.Rows.{Rows}
+use Rattle.gtp_tables.proofs.Named.{closed_named}
+use Rattle.gtp_tables.proofs.bearers.Bearers.close_of_session.Goals as goal
+
+pub invariant_of-self : goal.invariant_of-self
+invariant_of-self c = λ r o. c.self.invariant r o
+    ∙ (closed_named c.args.session.0 r o c.self.inside.table.table
+    ∙ ap (λ (t : Rows Bearer). names r (get t.table o)) (sym c.close_of_session.ensures))

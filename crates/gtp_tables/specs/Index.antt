@@ -1,0 +1,53 @@
+-- Bearers by the peer's TEID.
+use Rattle.std.specs.Prelude.{◌≡◌, ◌≢◌, ℕ, Bool, false, Option, Some, None, nat_eq}
+use Rattle.std.specs.FinMap.{get}
+use Rattle.std.specs.declared.cmp.Ordering.{Ordering}
+use Rattle.std.specs.Ordering.{nat_cmp, ordering_then}
+use Rattle.std.specs.BTreeSet.{BTreeSet, contains}
+use Rattle.gtp_tables.specs.declared.context.Bearer.{Bearer}
+use Rattle.gtp_values.specs.FiniteMap.{FiniteMap}
+
+-- by remote and then by own TEID
+abbrev pub pair_cmp : ℕ × ℕ → ℕ × ℕ → Ordering
+pair_cmp p q = ordering_then (nat_cmp p.0 q.0) (nat_cmp p.1 q.1)
+
+-- whether this is the remote
+abbrev pub remote_is : ℕ → Option ℕ → Bool
+remote_is remote None = false
+remote_is remote (Some t) = nat_eq t remote
+
+-- the remote of what stands at a place
+abbrev pub remote_at : Option Bearer → Option ℕ
+remote_at None = None
+remote_at (Some b) = b.remote
+
+-- whether a bearer with this remote stands at a place
+abbrev pub names : ℕ → Option Bearer → Bool
+names remote None = false
+names remote (Some b) = remote_is remote b.remote
+
+-- the index has exactly the bearers that have a remote
+abbrev pub IsIndexed : FiniteMap Bearer → BTreeSet (ℕ × ℕ) → Type 0
+IsIndexed bearers index = (remote own : ℕ) → contains pair_cmp index (remote, own) ≡ names remote (get bearers own)
+
+-- a bearer has this remote
+pub record HasRemote (bearers : FiniteMap Bearer) (remote teid : ℕ) : Type 0 where
+  pub bearer : Bearer
+  pub stands : get bearers teid ≡ Some bearer
+  pub has : bearer.remote ≡ Some remote
+
+-- no bearer has this remote
+abbrev pub IsUnnamed : FiniteMap Bearer → ℕ → Type 0
+IsUnnamed bearers remote = (t : ℕ) (b : Bearer) → get bearers t ≡ Some b → b.remote ≢ Some remote
+
+-- a bearer without a remote stands there
+pub record IsUnopened (bearers : FiniteMap Bearer) (teid : ℕ) : Type 0 where
+  pub bearer : Bearer
+  pub stands : get bearers teid ≡ Some bearer
+  pub blank : bearer.remote ≡ None
+
+-- a bearer with this remote, or with none, stands there
+pub record IsAt (bearers : FiniteMap Bearer) (teid : ℕ) (remote : Option ℕ) : Type 0 where
+  pub bearer : Bearer
+  pub stands : get bearers teid ≡ Some bearer
+  pub same : bearer.remote ≡ remote

@@ -1,0 +1,230 @@
+//! Bearers by own user plane TEID, and by the peer's.
+
+ghost use Rattle.std.specs.Prelude.{◌≡◌, ◌↔◌, ◌<◌, ◌≤◌, ℕ, Option, None, Some};
+ghost use Rattle.std.specs.Prelude.{true, false, IsTrue, IfSome, IfNone, IsOk, OnOk, OnErr};
+ghost use Rattle.std.specs.Prelude.{option_map, slice_get};
+ghost use Rattle.std.specs.FinMap as map;
+ghost use Rattle.std.specs.Prelude.{Bool, not, map as mapped};
+ghost use Rattle.indexmap.specs.IndexMap.{spare};
+ghost use Rattle.std.specs.Fn.{FnReturnsAt};
+ghost use Rattle.gtp_tables.specs.declared.context.Bearer.{Bearer as OneBearer};
+ghost use Rattle.gtp_values.specs.FiniteMap.{Each, kept, changed, with_value};
+ghost use Rattle.gtp_tables.specs.Deciding.{Answers};
+ghost use Rattle.gtp_tables.specs.Identity.{closing_bearer, has_number, IsUnused, IsBearerWith};
+ghost use Rattle.gtp_tables.specs.Index.{remote_at, HasRemote, IsUnnamed, IsUnopened, IsAt};
+
+use crate::context::{Bearer, State};
+use crate::fault::TablesFault;
+use crate::index::{first_named, keep_named, name_if, unname_if};
+use crate::table::Table;
+use gtp_values::{Ebi, Memory, Teid};
+use indexmap::IndexMap;
+use std::alloc::Global;
+use std::collections::BTreeSet;
+use std::marker::Model;
+
+/// Bearers by own user plane TEID. A second index finds them by the peer's. Contracts see a finite
+/// map.
+#[derive(Drop)]
+pub struct Bearers {
+    table: Table<Bearer>,
+    /// Exactly the pairs of a remote and an own TEID of the bearers that have a remote.
+    by_remote: BTreeSet<(u32, u32)>,
+}
+
+impl Model for Bearers {
+    ghost use Rattle.std.specs.Coded.{coded_ℕ};
+    ghost use Rattle.std.specs.FinMap as map;
+    ghost use Rattle.gtp_values.specs.FiniteMap.{FiniteMap};
+    ghost use Rattle.gtp_tables.specs.Index.{IsIndexed};
+    ghost use Rattle.gtp_tables.specs.declared.context.Bearer.{Bearer as OneBearer};
+    ghost use Rattle.gtp_tables.specs.contracts.context.Bearer as bearer;
+
+    ghost Value = { FiniteMap OneBearer };
+
+    ghost coded = { map.code coded_ℕ bearer.the_row.coded };
+
+    ghost view = { λ a. a.table.table };
+
+    ghost invariant = { λ a. IsIndexed a.table.table a.by_remote };
+}
+
+/// Closes a bearer where it is of the session.
+fn close_if(bearer: &mut Bearer, session: u32)
+    ensures { bearer.new ≡ closing_bearer session bearer.old }
+{
+    if bearer.session == session {
+        bearer.state = State::Closing;
+    }
+}
+
+/// Closes the bearers of a session.
+fn close_rows(rows: &mut IndexMap<u32, Bearer>, session: u32)
+    ensures rows { rows.new.entries
+        ≡ mapped (with_value (closing_bearer session)) rows.old.entries }
+    ensures room { spare rows.old ≡ spare rows.new }
+{
+    for i in 0..rows.len() {
+        close_if(&mut rows[i], session);
+    }
+}
+
+impl Table<Bearer> {
+    /// Closes the bearers of a session.
+    fn close_of_session(&mut self, session: u32)
+        ensures { self.new ≡ record self.old {
+          table = changed (closing_bearer session) self.old.table;
+        } }
+    {
+        close_rows(&mut self.rows, session);
+    }
+}
+
+impl Bearers {
+    /// No bearers. Takes no memory.
+    pub fn new(alloc: Global) -> Bearers
+        ensures { result ≡ map.empty }
+    {
+        Bearers {
+            table: Table::new(alloc),
+            by_remote: BTreeSet::new(alloc),
+        }
+    }
+
+    /// How many there are.
+    pub fn len(&self) -> usize
+        ensures { result ≡ map.len self.now }
+    {
+        self.table.len()
+    }
+
+    /// The bearer under a TEID.
+    pub fn get(&self, teid: Teid) -> Option<Bearer>
+        ensures { result ≡ map.get self.now teid.0 }
+    {
+        self.table.get(teid)
+    }
+
+    /// The bearer at an index in order of the TEIDs, from 0.
+    pub fn at(&self, index: usize) -> Option<(Teid, Bearer)>
+        ensures { option_map (λ e. (e.0.0, e.1)) result ≡ slice_get (map.entries self.now) index }
+    {
+        self.table.at(index)
+    }
+
+    /// The bearer that has this remote TEID: of several the one under the lowest TEID.
+    pub fn first_of_remote(&self, remote: Teid) -> Option<Teid>
+        ensures found { IfSome result (λ teid. HasRemote self.now remote.0 teid.0) }
+        ensures lowest { IfSome result (λ teid. (t : ℕ)
+            → HasRemote self.now remote.0 t → teid.0 ≤ t) }
+        ensures none { IfNone result (IsUnnamed self.now remote.0) }
+    {
+        match first_named(&self.by_remote, remote.0) {
+            Some(teid) => Some(Teid(teid)),
+            None => None,
+        }
+    }
+
+    /// Whether a TEID is above all those in the table, so that a bearer can be added under it.
+    pub fn is_above(&self, teid: Teid) -> bool
+        ensures { IsTrue result ↔ Each (λ key _. key < teid.0) self.now }
+    {
+        self.table.is_above(teid)
+    }
+
+    /// Adds a bearer under a TEID above all those in the table: `Memory` where an allocation was
+    /// refused, and then nothing has changed.
+    pub fn add(&mut self, teid: Teid, bearer: Bearer) -> Result<(), Memory>
+        requires rises { Each (λ key _. key < teid.0) self.old }
+        ensures ok { OnOk result (self.new ≡ map.insert self.old teid.0 bearer) }
+        ensures err { OnErr result (self.new ≡ self.old) }
+    {
+        self.table.reserve_one()?;
+        name_if(&mut self.by_remote, bearer.remote, teid.0)?;
+        self.table.add(teid, bearer);
+        Ok(())
+    }
+
+    /// Puts a bearer in the place of one that has no remote: `Memory` where an allocation was
+    /// refused, and then nothing has changed.
+    pub fn open(&mut self, teid: Teid, bearer: Bearer) -> Result<(), Memory>
+        requires unopened { IsUnopened self.old teid.0 }
+        ensures ok { OnOk result (self.new ≡ map.insert self.old teid.0 bearer) }
+        ensures err { OnErr result (self.new ≡ self.old) }
+        ensures unnamed { bearer.remote ≡ None → IsOk result }
+    {
+        name_if(&mut self.by_remote, bearer.remote, teid.0)?;
+        self.table.replace(teid, bearer);
+        Ok(())
+    }
+
+    /// Puts a bearer in the place of one with the same remote, or with none if it has none. Takes
+    /// no memory.
+    pub fn replace(&mut self, teid: Teid, bearer: Bearer)
+        requires same { IsAt self.old teid.0 bearer.remote }
+        ensures { self.new ≡ map.insert self.old teid.0 bearer }
+    {
+        self.table.replace(teid, bearer);
+    }
+
+    /// The bearer of the session that has the identity, whatever its state: the one under the
+    /// lowest TEID.
+    pub fn with_identity(&self, session: Teid, identity: Ebi) -> Option<Teid>
+        ensures found { IfSome result (λ teid.
+            IsBearerWith self.now session.0 identity teid.0) }
+        ensures none { IfNone result (IsUnused self.now session.0 identity) }
+    {
+        for index in 0..self.len() {
+            if let Some((teid, bearer)) = self.at(index)
+                && has(&bearer, session.0, identity)
+            {
+                return Some(teid);
+            }
+        }
+        None
+    }
+
+    /// Removes all bearers that meet the test, whose answer a bearer determines. Takes no memory.
+    pub fn remove_where<F: Fn(&Bearer) -> bool>(&mut self, test: F)
+        requires callable { F.IsAlwaysCallable test }
+        requires decides { (goes : OneBearer → Bool) × Answers (FnReturnsAt F.Fn test) goes }
+        ensures { (goes : OneBearer → Bool) → Answers (FnReturnsAt F.Fn test) goes
+            → self.new ≡ kept (λ _ b. not (goes b)) self.old }
+    {
+        self.table.remove_where(test);
+        keep_named(&mut self.by_remote, &self.table);
+    }
+
+    /// Closes the bearers of a session, whatever they were. Takes no memory.
+    pub fn close_of_session(&mut self, session: Teid)
+        ensures { self.new ≡ changed (closing_bearer session.0) self.old }
+    {
+        self.table.close_of_session(session.0);
+    }
+
+    /// Removes the bearer under a TEID, if there is one. Takes no memory.
+    pub fn remove(&mut self, teid: Teid)
+        ensures { self.new ≡ map.remove self.old teid.0 }
+    {
+        let remote = remote_of(&self.table, teid);
+        unname_if(&mut self.by_remote, remote, teid.0);
+        self.table.remove(teid);
+    }
+}
+
+/// Whether it is a bearer of the session, with the identity.
+fn has(bearer: &Bearer, session: u32, identity: Ebi) -> bool
+    ensures { result ≡ has_number session identity bearer.now }
+{
+    bearer.session == session && bearer.identity == Some(identity)
+}
+
+/// The remote TEID of a bearer.
+fn remote_of(table: &Table<Bearer>, teid: Teid) -> Option<u32>
+    ensures { result ≡ remote_at (map.get table.now.table teid.0) }
+{
+    match table.get(teid) {
+        Some(bearer) => bearer.remote,
+        None => None,
+    }
+}

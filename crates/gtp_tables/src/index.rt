@@ -1,0 +1,84 @@
+//! Own TEIDs by remote TEID.
+
+ghost use Rattle.std.specs.Prelude.{◌≡◌, ◌<◌, ◌≤◌, ◌^◌, ◌&&◌, ℕ, None, cond, true, false, nat_eq};
+ghost use Rattle.std.specs.Prelude.{IfSome, IfNone, IsOk, OnOk, OnErr};
+ghost use Rattle.std.specs.Prelude.{is_some};
+ghost use Rattle.std.specs.BTreeSet.{contains};
+ghost use Rattle.std.specs.FinMap.{get};
+ghost use Rattle.gtp_tables.specs.Index.{pair_cmp, remote_is};
+
+use crate::context::Bearer;
+use crate::table::Table;
+use gtp_values::Teid;
+use std::alloc::AllocError;
+use std::collections::BTreeSet;
+
+/// Names an own TEID under a remote one.
+fn name(index: &mut BTreeSet<(u32, u32)>, remote: u32, own: u32) -> Result<(), AllocError>
+    ensures ok { OnOk result ((r o : ℕ) → contains pair_cmp index.new (r, o)
+        ≡ cond (nat_eq remote r && nat_eq own o) true (contains pair_cmp index.old (r, o))) }
+    ensures err { OnErr result (index.new.keys ≡ index.old.keys) }
+{
+    index.insert((remote, own))?;
+    Ok(())
+}
+
+/// Names an own TEID under a remote one, where there is one.
+pub(crate) fn name_if(
+    index: &mut BTreeSet<(u32, u32)>,
+    remote: Option<u32>,
+    own: u32,
+) -> Result<(), AllocError>
+    ensures ok { OnOk result ((r o : ℕ) → contains pair_cmp index.new (r, o)
+        ≡ cond (remote_is r remote && nat_eq own o) true (contains pair_cmp index.old (r, o))) }
+    ensures err { OnErr result (index.new.keys ≡ index.old.keys) }
+    ensures none { remote ≡ None → IsOk result }
+{
+    match remote {
+        Some(remote) => name(index, remote, own),
+        None => Ok(()),
+    }
+}
+
+/// Names an own TEID no more under a remote one.
+fn unname(index: &mut BTreeSet<(u32, u32)>, remote: u32, own: u32)
+    ensures { (r o : ℕ) → contains pair_cmp index.new (r, o)
+        ≡ cond (nat_eq remote r && nat_eq own o) false (contains pair_cmp index.old (r, o)) }
+{
+    index.remove(&(remote, own));
+}
+
+/// Names an own TEID no more under a remote one, where there is one.
+pub(crate) fn unname_if(index: &mut BTreeSet<(u32, u32)>, remote: Option<u32>, own: u32)
+    ensures { (r o : ℕ) → contains pair_cmp index.new (r, o)
+        ≡ cond (remote_is r remote && nat_eq own o) false (contains pair_cmp index.old (r, o)) }
+{
+    if let Some(remote) = remote {
+        unname(index, remote, own);
+    }
+}
+
+/// The lowest own TEID that is named under a remote one.
+pub(crate) fn first_named(index: &BTreeSet<(u32, u32)>, remote: u32) -> Option<u32>
+    ensures found { IfSome result (λ o. contains pair_cmp index.now (remote, o) ≡ true) }
+    ensures lowest { IfSome result (λ own. (o : ℕ)
+        → contains pair_cmp index.now (remote, o) ≡ true → own ≤ o) }
+    ensures none { IfNone result ((o : ℕ) → contains pair_cmp index.now (remote, o) ≡ false) }
+{
+    match index.range((remote, 0)..).next() {
+        Some(&(r, own)) if r == remote => Some(own),
+        _ => None,
+    }
+}
+
+/// Keeps the own TEIDs under which a bearer stands.
+pub(crate) fn keep_named(index: &mut BTreeSet<(u32, u32)>, table: &Table<Bearer>)
+    ensures { (r o : ℕ) → contains pair_cmp index.new (r, o)
+        ≡ (is_some (get table.now.table o) && contains pair_cmp index.old (r, o)) }
+{
+    index.retain(
+        |pair: &(u32, u32)| -> bool
+            ensures { result ≡ is_some (get table.entry.now.table pair.now.1) }
+        { table.get(Teid(pair.1)).is_some() },
+    );
+}

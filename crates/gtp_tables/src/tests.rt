@@ -1,0 +1,132 @@
+//! Contexts of a gateway that has started for the seventh time, counted by hand.
+
+mod alike;
+mod lists;
+mod many;
+
+use super::*;
+use std::process::Abort;
+use std::test::Fail;
+
+/// A session of a subscriber, with an address.
+pub(crate) fn session(address: u32) -> Result<Session, Fail> {
+    Ok(Session {
+        remote: Some(0x0100_0001),
+        subscriber: Subscriber {
+            imsi: Imsi::from_text("001010123456789")?,
+            access_point: Apn::from_text("internet")?,
+            identity: Ebi::try_new(5)?,
+        },
+        address: Some(address),
+        state: State::Active,
+    })
+}
+
+/// A bearer of a session, with an identity and perhaps a remote.
+pub(crate) fn bearer(session: Teid, remote: Option<u32>, identity: u8) -> Result<Bearer, Fail> {
+    Ok(Bearer {
+        remote,
+        session: session.0,
+        identity: Some(Ebi::try_new(identity)?),
+        kind: Kind::Default,
+        state: State::Active,
+        ended: false,
+    })
+}
+
+/// Adds a session under the next TEID that is drawn.
+pub(crate) fn put_session(
+    rt: &impl Abort,
+    draws: &mut Draws,
+    sessions: &mut Sessions,
+    session: &Session,
+) -> Result<Teid, Fail> {
+    let teid = draws.draw()?;
+    sessions.prepare()?;
+    assert!(rt; sessions.is_above(teid));
+    sessions.add(teid, *session);
+    Ok(teid)
+}
+
+/// Adds a bearer under the next TEID that is drawn.
+pub(crate) fn add(
+    rt: &impl Abort,
+    draws: &mut Draws,
+    bearers: &mut Bearers,
+    bearer: &Bearer,
+) -> Result<Teid, Fail> {
+    let teid = draws.draw()?;
+    assert!(rt; bearers.is_above(teid));
+    bearers.add(teid, *bearer)?;
+    Ok(teid)
+}
+
+#[test]
+fn teids_count_from_one_below_the_counter(rt: HostRuntime) -> Result<(), Fail> {
+    let mut draws = Draws::new(Counter(7));
+    assert!(rt; draws.left() == 16_777_215);
+    assert!(rt; draws.draw()? == Teid(0x0700_0001));
+    assert!(rt; draws.draw()? == Teid(0x0700_0002));
+    assert!(rt; draws.left() == 16_777_213);
+    let mut last = Draws::new(Counter(255));
+    assert!(rt; last.draw()? == Teid(0xff00_0001));
+    Ok(())
+}
+
+#[test]
+fn all_teids_of_a_start(rt: HostRuntime) -> Result<(), Fail> {
+    let mut draws = Draws::new(Counter(7));
+    for _ in 0..16_777_215u32 {
+        draws.draw()?;
+    }
+    assert!(rt; draws.left() == 0);
+    assert!(rt; draws.draw() == Err(TablesFault::TeidsUsed));
+    Ok(())
+}
+
+#[test]
+fn the_first_counter_is_no_restart(rt: HostRuntime) -> Result<(), Fail> {
+    let mut peer = Peer::new();
+    assert!(rt; peer.hear(Counter(250)) == Age::Same);
+    assert!(rt; peer.hear(Counter(3)) == Age::Later);
+    assert!(rt; peer.hear(Counter(250)) == Age::Earlier);
+    assert!(rt; peer.known() == Some(Counter(3)));
+    Ok(())
+}
+
+#[test]
+fn bearers_of_one_remote_and_of_one_session(rt: HostRuntime) -> Result<(), Fail> {
+    let mut draws = Draws::new(Counter(7));
+    let mut bearers = Bearers::new(rt.alloc());
+    let (one, two) = (Teid(0x0700_0101), Teid(0x0700_0102));
+    let first = add(&rt, &mut draws, &mut bearers, &bearer(one, Some(9), 5)?)?;
+    let second = add(&rt, &mut draws, &mut bearers, &bearer(two, Some(9), 5)?)?;
+    assert!(rt; bearers.first_of_remote(Teid(9)) == Some(first));
+    bearers.close_of_session(one);
+    let closed = bearers.get(first).expect(&rt, "the first bearer");
+    assert!(rt; closed.state == State::Closing);
+    assert!(rt; bearers.with_identity(one, Ebi::try_new(5)?) == Some(first));
+    bearers.remove(first);
+    assert!(rt; bearers.first_of_remote(Teid(9)) == Some(second));
+    assert!(rt; bearers.with_identity(one, Ebi::try_new(5)?).is_none());
+    bearers.remove(second);
+    assert!(rt; bearers.first_of_remote(Teid(9)).is_none());
+    Ok(())
+}
+
+#[test]
+fn eleven_identities(rt: HostRuntime) -> Result<(), Fail> {
+    let mut draws = Draws::new(Counter(7));
+    let sessions: Sessions = Table::new(rt.alloc());
+    let mut bearers = Bearers::new(rt.alloc());
+    let one = Teid(0x0700_0101);
+    for identity in 5..16u8 {
+        let lowest = View::new(&sessions, &bearers).lowest_free_identity(one)?;
+        assert!(rt; lowest.number() == identity);
+        add(&rt, &mut draws, &mut bearers, &bearer(one, None, identity)?)?;
+    }
+    let view = View::new(&sessions, &bearers);
+    assert!(rt; view.lowest_free_identity(one) == Err(TablesFault::NoBearerIdentity));
+    assert!(rt; view.lowest_free_identity(Teid(1))? == Ebi::try_new(5)?);
+    Ok(())
+}

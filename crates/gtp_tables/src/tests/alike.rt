@@ -1,0 +1,359 @@
+//! The maps and the lists answer alike.
+
+ghost use Rattle.std.specs.Prelude.{◌≡◌};
+
+use super::lists::Lists;
+use super::*;
+use std::alloc::Global;
+use std::process::Abort;
+use std::test::Fail;
+
+const START: u32 = 0x0a01_0000;
+
+const COUNT: u32 = 60;
+
+/// The maps with their draws, the lists beside them, and how often each kind of call was met.
+#[derive(Drop)]
+struct Both {
+    draws: Draws,
+    pool: Pool,
+    sessions: Sessions,
+    bearers: Bearers,
+    lists: Lists,
+    seed: u64,
+    met: [u32; 16],
+}
+
+impl Both {
+    fn new(alloc: Global, seed: u64) -> Result<Both, Fail> {
+        Ok(Both {
+            draws: Draws::new(Counter(7)),
+            pool: Pool::try_new(START, COUNT)?,
+            sessions: Table::new(alloc),
+            bearers: Bearers::new(alloc),
+            lists: Lists::new(alloc),
+            seed,
+            met: [0; 16],
+        })
+    }
+
+    /// The next number of a linear congruential generator.
+    fn next(&mut self) -> u32 {
+        self.seed = self
+            .seed
+            .wrapping_mul(6_364_136_223_846_793_005)
+            .wrapping_add(1_442_695_040_888_963_407);
+        (self.seed >> 33) as u32
+    }
+
+    fn met(&mut self, kind: usize) {
+        if kind < 16 {
+            self.met[kind] = self.met[kind].wrapping_add(1);
+        }
+    }
+
+    /// A TEID of a session, mostly of one of the first twenty, and now and then of none.
+    fn some_session(&mut self) -> Teid {
+        let number = self.next() as usize;
+        let place = if number % 4 == 0 {
+            number / 4 % 1200
+        } else {
+            number / 4 % 20
+        };
+        match self.sessions.at(place) {
+            Some(entry) => entry.0,
+            None => Teid(0x0600_0001),
+        }
+    }
+
+    /// A TEID of a bearer, and now and then of none.
+    fn some_bearer(&mut self) -> Teid {
+        let place = self.next() as usize % 400;
+        match self.bearers.at(place) {
+            Some(entry) => entry.0,
+            None => Teid(0x0600_0002),
+        }
+    }
+
+    /// A remote TEID, the same one often.
+    fn some_remote(&mut self) -> u32 {
+        self.next() % 50
+    }
+}
+
+/// A session: pending without an address, or active with the lowest free one.
+fn some_new_session(both: &mut Both, free: Result<u32, TablesFault>) -> Result<Session, Fail> {
+    let mut made = session(0)?;
+    made.address = None;
+    if both.next() % 2 == 0 {
+        made.state = State::Pending;
+        made.remote = None;
+        both.met(1);
+    } else if let Ok(address) = free {
+        made.address = Some(address);
+        both.met(2);
+    } else {
+        both.met(3);
+    }
+    Ok(made)
+}
+
+fn free_address(both: &Both) -> Result<u32, TablesFault> {
+    let view = View::new(&both.sessions, &both.bearers);
+    view.lowest_free_address(both.pool)
+}
+
+fn free_identity(both: &Both, session: Teid) -> Result<Ebi, TablesFault> {
+    let view = View::new(&both.sessions, &both.bearers);
+    view.lowest_free_identity(session)
+}
+
+/// Adds a session where there is room for one more.
+fn add_session(both: &mut Both, rt: &impl Abort) -> Result<(), Fail> {
+    let full = both.sessions.is_full();
+    assert!(rt; full == (both.lists.sessions.len() >= 1000));
+    if full {
+        assert!(rt; both.sessions.prepare() == Err(TablesFault::SessionsFull));
+        both.met(0);
+        return Ok(());
+    }
+    let free = free_address(both);
+    assert!(rt; free == both.lists.lowest_free_address(START, COUNT));
+    let made = some_new_session(both, free)?;
+    let teid = put_session(rt, &mut both.draws, &mut both.sessions, &made)?;
+    both.lists.add_session(teid, &made)?;
+    Ok(())
+}
+
+/// Adds a bearer of a session, under the lowest free identity.
+fn add_bearer(both: &mut Both, rt: &impl Abort) -> Result<(), Fail> {
+    let of = both.some_session();
+    let free = free_identity(both, of);
+    assert!(rt; free == both.lists.lowest_free_identity(of));
+    let Ok(identity) = free else {
+        both.met(4);
+        return Ok(());
+    };
+    let remote = both.some_remote();
+    let mut made = bearer(of, Some(remote), identity.number())?;
+    if both.next() % 2 == 0 {
+        made.remote = None;
+        made.state = State::Pending;
+    }
+    let teid = add(rt, &mut both.draws, &mut both.bearers, &made)?;
+    both.lists.add_bearer(teid, &made)?;
+    both.met(5);
+    Ok(())
+}
+
+/// The bearer, active, with a remote.
+fn opened_bearer(bearer: Bearer, remote: u32) -> Bearer {
+    Bearer {
+        remote: Some(remote),
+        state: State::Active,
+        ..bearer
+    }
+}
+
+/// The bearer, ended.
+fn ended(bearer: Bearer) -> Bearer
+    ensures { result.remote ≡ bearer.remote }
+{
+    Bearer {
+        ended: true,
+        ..bearer
+    }
+}
+
+/// Opens a bearer that has no remote, and marks one that has one as ended.
+fn open_bearer(both: &mut Both) -> Result<(), Fail> {
+    let teid = both.some_bearer();
+    let remote = both.some_remote();
+    if let Some(bearer) = both.bearers.get(teid) {
+        if bearer.remote.is_none() {
+            let opened = opened_bearer(bearer, remote);
+            both.lists.replace_bearer(teid, &opened);
+            both.bearers.open(teid, opened)?;
+            both.met(6);
+        } else {
+            let marked = ended(bearer);
+            both.lists.replace_bearer(teid, &marked);
+            both.bearers.replace(teid, marked);
+            both.met(7);
+        }
+    }
+    Ok(())
+}
+
+/// The session, closing.
+fn closing(session: Session) -> Session {
+    Session {
+        state: State::Closing,
+        ..session
+    }
+}
+
+/// Closes a session with its bearers.
+fn close_session(both: &mut Both) {
+    let teid = both.some_session();
+    if let Some(session) = both.sessions.get(teid) {
+        let closed = closing(session);
+        both.lists.replace_session(teid, &closed);
+        both.sessions.replace(teid, closed);
+        both.bearers.close_of_session(teid);
+        both.lists.close_of_session(teid);
+        both.met(8);
+    }
+}
+
+/// Removes the bearers of a session.
+fn remove_of_session(bearers: &mut Bearers, session: Teid) {
+    bearers.remove_where(|bearer| bearer.session == session.0);
+}
+
+/// Removes a session with its bearers, or a bearer, or all bearers of a remote.
+fn remove(both: &mut Both, rt: &impl Abort) {
+    match both.next() % 4 {
+        0 => {
+            let teid = both.some_session();
+            both.sessions.remove(teid);
+            remove_of_session(&mut both.bearers, teid);
+            both.lists.remove_session(teid);
+            both.met(9);
+        }
+        1 => {
+            let remote = Teid(both.some_remote());
+            for _ in 0..1000 {
+                let first = both.bearers.first_of_remote(remote);
+                assert!(rt; first == both.lists.first_of_remote(remote));
+                let Some(teid) = first else { break };
+                both.bearers.remove(teid);
+                both.lists.remove_bearer(teid);
+            }
+            both.met(10);
+        }
+        _ => {
+            let teid = both.some_bearer();
+            both.bearers.remove(teid);
+            both.lists.remove_bearer(teid);
+            both.met(11);
+        }
+    }
+}
+
+/// The session, active, with a remote.
+fn active(session: Session, remote: u32) -> Session {
+    Session {
+        remote: Some(remote),
+        state: State::Active,
+        ..session
+    }
+}
+
+/// Opens a session that is pending.
+fn open_session(both: &mut Both) {
+    let teid = both.some_session();
+    let remote = both.some_remote();
+    if let Some(session) = both.sessions.get(teid)
+        && session.state == State::Pending
+    {
+        let opened = active(session, remote);
+        both.lists.replace_session(teid, &opened);
+        both.sessions.replace(teid, opened);
+        both.met(12);
+    }
+}
+
+/// What is asked of a view, and of the lists that it stands for.
+fn ask(
+    rt: &impl Abort,
+    view: &View<'_>,
+    lists: &Lists,
+    pool: Pool,
+    session: Teid,
+    bearer: Teid,
+) -> Result<(), Fail> {
+    let identity = Ebi::try_new(7)?;
+    assert!(rt; view.session(session) == lists.session(session));
+    assert!(rt; view.bearer(bearer) == lists.bearer(bearer));
+    assert!(rt; view.session_count() == lists.sessions.len());
+    assert!(rt; view.is_full() == (lists.sessions.len() >= 1000));
+    assert!(rt; view.with_identity(session, identity) == lists.with_identity(session, identity));
+    assert!(rt; view.lowest_free_identity(session) == lists.lowest_free_identity(session));
+    let free = lists.lowest_free_address(pool.start(), pool.count());
+    assert!(rt; view.lowest_free_address(pool) == free);
+    Ok(())
+}
+
+/// Asks of all that stands, or of what a restart of the peer leaves.
+fn ask_of_both(both: &mut Both, rt: &impl Abort, alloc: Global) -> Result<(), Fail> {
+    let session = both.some_session();
+    let bearer = both.some_bearer();
+    if both.next() % 10 == 0 {
+        let left = both.lists.left(alloc)?;
+        let view = View::after_restart(&both.sessions, &both.bearers);
+        ask(rt, &view, &left, both.pool, session, bearer)?;
+        both.met(13);
+    } else {
+        let view = View::new(&both.sessions, &both.bearers);
+        ask(rt, &view, &both.lists, both.pool, session, bearer)?;
+        both.met(14);
+    }
+    Ok(())
+}
+
+/// The peer restarts.
+fn restart(both: &mut Both, alloc: Global) -> Result<(), Fail> {
+    let left = both.lists.left(alloc)?;
+    end_opened(&mut both.sessions, &mut both.bearers);
+    both.lists = left;
+    both.met(15);
+    Ok(())
+}
+
+/// Whether the tables have what the lists have, in their order.
+fn are_alike(both: &Both) -> bool {
+    if both.sessions.len() != both.lists.sessions.len()
+        || both.bearers.len() != both.lists.bearers.len()
+    {
+        return false;
+    }
+    for (place, entry) in both.lists.sessions.iter().enumerate() {
+        if both.sessions.at(place) != Some(*entry) {
+            return false;
+        }
+    }
+    for (place, entry) in both.lists.bearers.iter().enumerate() {
+        if both.bearers.at(place) != Some(*entry) {
+            return false;
+        }
+    }
+    true
+}
+
+#[test]
+fn ten_thousand_calls(rt: HostRuntime) -> Result<(), Fail> {
+    let alloc = rt.alloc();
+    let mut both = Both::new(alloc, 15)?;
+    for call in 0..10_000u32 {
+        match both.next() % 100 {
+            0..=39 => add_session(&mut both, &rt)?,
+            40..=64 => add_bearer(&mut both, &rt)?,
+            65..=76 => open_bearer(&mut both)?,
+            77..=80 => open_session(&mut both),
+            81..=83 => close_session(&mut both),
+            84..=89 => remove(&mut both, &rt),
+            _ => ask_of_both(&mut both, &rt, alloc)?,
+        }
+        if call % 100 == 99 {
+            assert!(rt; are_alike(&both), "after call {call}");
+        }
+        if call % 4000 == 3999 {
+            restart(&mut both, alloc)?;
+        }
+    }
+    for (kind, times) in both.met.iter().enumerate() {
+        assert!(rt; *times > 0, "kind {kind}");
+    }
+    Ok(())
+}

@@ -1,0 +1,192 @@
+//! What is asked of sessions and bearers before anything changes.
+
+ghost use Rattle.std.specs.Prelude.{◌≡◌, ◌↔◌, ◌≤◌, true, not, filter, length};
+ghost use Rattle.std.specs.Prelude.{IsTrue, IfOk, IfErr, IfSome, IfNone};
+ghost use Rattle.std.specs.FinMap as map;
+ghost use Rattle.gtp_tables.specs.Contexts.{left, is_pending, is_opened, is_seen, are_seen};
+ghost use Rattle.gtp_tables.specs.Identity.{IsUnused, IsLowestUnused, IsBearerWith, HasAll};
+ghost use Rattle.gtp_tables.specs.Pool.{IsLowestFree, IsUsedUp};
+
+use crate::bearers::Bearers;
+use crate::context::{Bearer, Session, State};
+use crate::fault::TablesFault;
+use crate::pool::{Pool, is_seen};
+use crate::sessions::{MOST, Sessions};
+use gtp_values::{Ebi, Teid};
+use std::marker::Model;
+
+/// Sessions and bearers that a message is judged by: all, or what a restart of the peer leaves,
+/// where the message brings a later restart counter (TS 23.007 18). Nothing has changed yet, and no
+/// question takes memory. Contracts see the sessions and the bearers that are left.
+#[derive(Drop)]
+pub struct View<'a> {
+    sessions: &'a Sessions,
+    bearers: &'a Bearers,
+    restarted: bool,
+}
+
+impl<'a> Model for View<'a> {
+    ghost use Rattle.gtp_tables.specs.Contexts.{Contexts, contexts_code, seen};
+    ghost use Rattle.gtp_tables.specs.contracts.context.Bearer as bearer;
+    ghost use Rattle.gtp_tables.specs.contracts.context.Session as session;
+
+    ghost Value = { Contexts };
+
+    ghost coded = { contexts_code session.the_row.coded bearer.the_row.coded };
+
+    ghost view = { λ a. seen a.restarted (record {
+      sessions = a.sessions.now.table;
+      bearers = a.bearers.now;
+    }) };
+}
+
+impl<'a> View<'a> {
+    /// All that stands.
+    pub fn new(sessions: &'a Sessions, bearers: &'a Bearers) -> View<'a>
+        ensures { result ≡ record { sessions = sessions.now.table; bearers = bearers.now } }
+    {
+        View {
+            sessions,
+            bearers,
+            restarted: false,
+        }
+    }
+
+    /// What a restart of the peer leaves: pending sessions and their bearers.
+    pub fn after_restart(sessions: &'a Sessions, bearers: &'a Bearers) -> View<'a>
+        ensures { result ≡ left (record { sessions = sessions.now.table; bearers = bearers.now }) }
+    {
+        View {
+            sessions,
+            bearers,
+            restarted: true,
+        }
+    }
+
+    /// The session under a TEID.
+    pub fn session(&self, teid: Teid) -> Option<Session>
+        ensures { result ≡ map.get self.now.sessions teid.0 }
+    {
+        match self.sessions.get(teid) {
+            Some(session) if is_seen(&session, self.restarted) => Some(session),
+            _ => None,
+        }
+    }
+
+    /// How many sessions there are.
+    pub fn session_count(&self) -> usize
+        ensures { result ≡ map.len self.now.sessions }
+    {
+        count_seen(self.sessions.values(), self.restarted)
+    }
+
+    /// Whether there is no place for one more session.
+    pub fn is_full(&self) -> bool
+        ensures { IsTrue result ↔ (1000 ≤ map.len self.now.sessions) }
+    {
+        self.session_count() >= MOST
+    }
+
+    /// The lowest address of the pool that no session has, `PoolEmpty` where there is none.
+    pub fn lowest_free_address(&self, pool: Pool) -> Result<u32, TablesFault>
+        ensures free { IfOk result (λ address. IsLowestFree self.now.sessions pool address) }
+        ensures none { IfErr result (λ _. IsUsedUp self.now.sessions pool) }
+        ensures fault { IfErr result (λ fault. fault ≡ TablesFault.PoolEmpty) }
+    {
+        match pool.lowest_place(self.sessions.values(), self.restarted) {
+            Some(place) => Ok(pool.start() + place),
+            None => Err(TablesFault::PoolEmpty),
+        }
+    }
+
+    /// The bearer under a TEID.
+    pub fn bearer(&self, teid: Teid) -> Option<Bearer>
+        ensures { result ≡ map.get self.now.bearers teid.0 }
+    {
+        match self.bearers.get(teid) {
+            Some(bearer) if are_seen(self.sessions, Teid(bearer.session), self.restarted) => {
+                Some(bearer)
+            }
+            _ => None,
+        }
+    }
+
+    /// The bearer of the session that has the identity, whatever its state: the one under the
+    /// lowest TEID.
+    pub fn with_identity(&self, session: Teid, identity: Ebi) -> Option<Teid>
+        ensures found { IfSome result (λ teid.
+            IsBearerWith self.now.bearers session.0 identity teid.0) }
+        ensures none { IfNone result (IsUnused self.now.bearers session.0 identity) }
+    {
+        if are_seen(self.sessions, session, self.restarted) {
+            self.bearers.with_identity(session, identity)
+        } else {
+            None
+        }
+    }
+
+    /// The lowest identity from 5 to 15 that no bearer of the session has, `NoBearerIdentity` where
+    /// there is none.
+    pub fn lowest_free_identity(&self, session: Teid) -> Result<Ebi, TablesFault>
+        ensures free { IfOk result (λ identity.
+            IsLowestUnused self.now.bearers session.0 identity) }
+        ensures none { IfErr result (λ _. HasAll self.now.bearers session.0) }
+        ensures fault { IfErr result (λ fault. fault ≡ TablesFault.NoBearerIdentity) }
+    {
+        for number in 5..16u8 {
+            let Ok(identity) = Ebi::try_new(number) else {
+                unreachable!()
+            };
+            if self.with_identity(session, identity).is_none() {
+                return Ok(identity);
+            }
+        }
+        Err(TablesFault::NoBearerIdentity)
+    }
+}
+
+/// Removes what a restart of the peer ends: opened sessions with their bearers. Takes no memory.
+pub fn end_opened(sessions: &mut Sessions, bearers: &mut Bearers)
+    ensures sessions { sessions.new ≡ record sessions.old {
+      table = (left (record {
+        sessions = sessions.old.table;
+        bearers = bearers.old;
+      })).sessions;
+    } }
+    ensures bearers { bearers.new ≡ (left (record {
+      sessions = sessions.old.table;
+      bearers = bearers.old;
+    })).bearers }
+{
+    bearers.remove_where(
+        |bearer: &Bearer| -> bool
+            ensures { result ≡ is_opened (map.get sessions.entry.now.table bearer.now.session) }
+        { !are_seen(sessions, Teid(bearer.session), true) },
+    );
+    sessions.remove_where(
+        |session: &Session| -> bool
+            ensures { result ≡ not (is_pending session.now.state) }
+        { session.state != State::Pending },
+    );
+}
+
+/// How many of the sessions are seen.
+fn count_seen(sessions: &[Session], restarted: bool) -> usize
+    ensures { result ≡ length (filter (is_seen restarted) sessions.now) }
+{
+    sessions
+        .iter()
+        .filter(|session| is_seen(session, restarted))
+        .count()
+}
+
+/// Whether the bearers of the session under a TEID are seen: those of an opened session not after a
+/// restart.
+fn are_seen(sessions: &Sessions, session: Teid, restarted: bool) -> bool
+    ensures { result ≡ are_seen restarted (map.get sessions.now.table session.0) }
+{
+    match sessions.get(session) {
+        Some(session) => is_seen(&session, restarted),
+        None => true,
+    }
+}

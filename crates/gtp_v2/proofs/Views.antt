@@ -1,0 +1,219 @@
+-- What a view is told, and what it tells.
+use Rattle.std.proofs.Common.{rules, ◌≡◌, ℕ, Bool, true, false, cond, ◌&&◌, List, [], ◌∷◌, Option, Some, None, Result, Ok, Err, refl, sym, ap, subst, ◌∙◌}
+use Rattle.std.specs.Prelude.{IfOk, IfErr, IsOkAnd, ◌==◌, option_to_list, is_some}
+use Rattle.std.specs.Bool.{beq}
+use Rattle.gtp_values.specs.Steps.{◌>>=◌, Gives}
+use Rattle.gtp_values.proofs.Decided.{bind_ok}
+use Rattle.gtp_ie.specs.declared.fault.ReadFault.{ReadFault}
+use Rattle.gtp_ie.specs.declared.fault.ReadFault.TheVariants.{Short, Bad}
+use Rattle.gtp_ie.specs.Element.{Element, elements_of, list_of, first_of}
+use Rattle.gtp_ie.specs.Value.{Value, value_at}
+use Rattle.gtp_v2.specs.declared.fault.RowFault.{RowFault}
+use Rattle.gtp_v2.specs.declared.fault.Head.{Head}
+use Rattle.gtp_v2.specs.declared.fault.V2Fault.{V2Fault}
+use Rattle.gtp_v2.specs.declared.fault.V2Fault.TheVariants as faults
+use Rattle.gtp_v2.specs.Table.{Row, Mandatory, Conditional, Accepted, Optional, Line, Single, Grouped, Several, Field, Plain, State, start, after, Table, kind_of, instance_of}
+use Rattle.gtp_v2.specs.Rows.{row_at, needed, needed_at, needed_if_at, optional_at, one_at, named, welcome, value_or_none, line_at, lines_at, whole}
+use Rattle.gtp_v2.specs.Checked.{forgotten}
+use Rattle.gtp_v2.specs.Headed.{Headed}
+use Rattle.gtp_v2.specs.Message.{Content, Fields, MessageValue, head_of, told, sender_of, typed_at, by_table, content_at, message_at}
+use Rattle.gtp_v2.specs.Tables.{table_of}
+use Rattle.gtp_v2.specs.Datagram.{IsMessage, IsFault}
+use Rattle.gtp_v2.specs.Viewed.{Viewed, viewed, IsViewed, content_or_none, elements_by, list_or_none, values_among, values_by, in_row, front_value}
+use Rattle.gtp_v2.proofs.Checks.{was_read}
+use Rattle.gtp_v2.proofs.Told.{message_decided}
+
+-- ---- the public clauses
+
+pub found : {X : Type 0} (view : X → MessageValue) (r : Result X V2Fault) (octets : List ℕ) → Gives view r (message_at octets) → IfOk r (λ v. IsMessage octets (view v))
+found view (Ok v) octets h = (message_decided octets).ok (view v) h
+found view (Err f) octets h = tt
+
+pub fault : {X : Type 0} (view : X → MessageValue) (r : Result X V2Fault) (octets : List ℕ) → Gives view r (message_at octets) → IfErr r (λ f. IsFault octets f)
+fault view (Ok v) octets h = tt
+fault view (Err f) octets h = (message_decided octets).err f h
+
+abbrev message_ok : MessageValue → Result MessageValue V2Fault
+message_ok m = Ok m
+
+abbrev message_err : V2Fault → Result MessageValue V2Fault
+message_err f = Err f
+
+same_message : (m n : MessageValue) → message_ok m ≡ Ok n → m ≡ n
+same_message m n h = cc
+
+same_fault : (f g : V2Fault) → message_err f ≡ Err g → f ≡ g
+same_fault f g h = cc
+
+no_fault : (m : MessageValue) (f : V2Fault) → message_ok m ≡ Err f → ⊥
+no_fault m f h = cc
+
+pub only : {X : Type 0} (view : X → MessageValue) (r : Result X V2Fault) (octets : List ℕ) → Gives view r (message_at octets) → (m : MessageValue) → IsMessage octets m → IsOkAnd r (λ v. view v ≡ m)
+only view (Ok v) octets h m is = same_message (view v) m (sym h ∙ (message_decided octets).is m is)
+only view (Err f) octets h m is = absurd (no_fault m f (sym ((message_decided octets).is m is) ∙ h))
+
+pub first : {X : Type 0} (view : X → MessageValue) (r : Result X V2Fault) (octets : List ℕ) → Gives view r (message_at octets) → (f : V2Fault) → IsFault octets f → r ≡ Err f
+first view (Ok v) octets h f is = absurd (no_fault (view v) f (sym h ∙ (message_decided octets).fails f is))
+first view (Err g) octets h f is = ap (λ (e : V2Fault). Err e) (same_fault g f (sym h ∙ (message_decided octets).fails f is))
+
+-- ---- what a row has, an element has
+
+abbrev pub list_ok : List Value → Result (List Value) RowFault
+list_ok values = Ok values
+
+pub same_list : (a b : List Value) → list_ok a ≡ Ok b → a ≡ b
+same_list a b h = cc
+
+one_is : (kind instance : ℕ) (e : Element) (v : Value) → one_at kind instance e ≡ Ok v → value_or_none (value_at kind e.body) ≡ Some v
+unfolding one_at
+one_is kind instance e v h = by_value (value_at kind e.body) h where
+  by_value : (r : Result Value ReadFault) → named kind instance e.at r ≡ Ok v → value_or_none r ≡ Some v
+  by_value (Ok w) h = cc
+  by_value (Err Short) h = absurd cc
+  by_value (Err Bad) h = absurd cc
+
+needed_is : (conditional : Bool) (kind instance : ℕ) (es : List Element) (v : Value) → needed_at conditional kind instance es ≡ Ok v → optional_at kind instance es ≡ Some v
+unfolding needed_at optional_at
+needed_is conditional kind instance es v h = by_first (first_of kind instance es) h where
+  by_first : (o : Option Element) → needed conditional kind instance o ≡ Ok v → welcome kind o ≡ Some v
+  by_first None h = absurd cc
+  by_first (Some e) h = one_is kind instance e v h
+
+needed_row : (conditional : Bool) (kind instance : ℕ) (es : List Element) (values : List Value) → (needed_at conditional kind instance es >>= λ v. Ok (v ∷ [])) ≡ Ok values → optional_at kind instance es ≡ front_value values
+needed_row conditional kind instance es values h =
+    let b = bind_ok (needed_at conditional kind instance es) (λ v. list_ok (v ∷ [])) values h in
+    needed_is conditional kind instance es b.0 b.1 ∙ ap front_value (same_list (b.0 ∷ []) values b.2)
+
+optional_row : (o : Option Value) (values : List Value) → list_ok (option_to_list o) ≡ Ok values → o ≡ front_value values
+optional_row None values h = ap front_value (same_list [] values h)
+optional_row (Some v) values h = ap front_value (same_list (v ∷ []) values h)
+
+accepted_row : (accepting : Bool) (kind instance : ℕ) (es : List Element) (values : List Value) → (needed_if_at accepting kind instance es >>= λ o. Ok (option_to_list o)) ≡ Ok values → optional_at kind instance es ≡ front_value values
+unfolding needed_if_at
+accepted_row true kind instance es values h = needed_row true kind instance es values (sym (twice (needed_at true kind instance es)) ∙ h) where
+  twice : (r : Result Value RowFault) → ((r >>= λ v. Ok (Some v)) >>= λ o. list_ok (option_to_list o)) ≡ (r >>= λ v. Ok (v ∷ []))
+  twice (Ok v) = refl
+  twice (Err f) = refl
+accepted_row false kind instance es values h = optional_row (optional_at kind instance es) values h
+
+pub row_is : (accepting : Bool) (row : Row) (es : List Element) (values : List Value) → row_at accepting row es ≡ Ok values → optional_at (kind_of row) (instance_of row) es ≡ front_value values
+row_is accepting (Mandatory kind instance) es values h = needed_row false kind instance es values h
+row_is accepting (Conditional kind instance) es values h = needed_row true kind instance es values h
+row_is accepting (Accepted kind instance) es values h = accepted_row accepting kind instance es values h
+row_is accepting (Optional kind instance) es values h = optional_row (optional_at kind instance es) values h
+
+abbrev values_some : List Value → Option (List Value)
+values_some values = Some values
+
+same_some : (a b : List Value) → values_some a ≡ Some b → a ≡ b
+same_some a b h = cc
+
+abbrev pub field_ok : Field → Result Field RowFault
+field_ok field = Ok field
+
+abbrev pub fields_ok : List Field → Result (List Field) RowFault
+fields_ok fields = Ok fields
+
+pub same_field : (a b : Field) → field_ok a ≡ Ok b → a ≡ b
+same_field a b h = cc
+
+pub same_fields : (a b : List Field) → fields_ok a ≡ Ok b → a ≡ b
+same_fields a b h = cc
+
+pub both_same : (a b c d : ℕ) → ((a == b) && (c == d)) ≡ true → (a ≡ b) × (c ≡ d)
+both_same a b c d h = search rules
+
+at_row : (kind instance : ℕ) (accepting : Bool) (row : Row) (es : List Element) (vs values : List Value) (rest : Option (List Value)) (b : Bool) → ((kind_of row == kind) && (instance_of row == instance)) ≡ b
+    → row_at accepting row es ≡ Ok vs → (rest ≡ Some values → optional_at kind instance es ≡ front_value values) → cond b (Some vs) rest ≡ Some values → optional_at kind instance es ≡ front_value values
+at_row kind instance accepting row es vs values rest true same h others is =
+    let p = both_same (kind_of row) kind (instance_of row) instance same in
+    subst (λ (k : ℕ). optional_at k instance es ≡ front_value values) p.0
+    (subst (λ (i : ℕ). optional_at (kind_of row) i es ≡ front_value values) p.1 (row_is accepting row es vs h ∙ ap front_value (same_some vs values is)))
+at_row kind instance accepting row es vs values rest false same h others is = others is
+
+not_here : (goal : Type 0) (values : List Value) (rest : Option (List Value)) (b : Bool) → (rest ≡ Some values → goal) → cond b None rest ≡ Some values → goal
+not_here goal values rest true others is = absurd cc
+not_here goal values rest false others is = others is
+
+line_is : (kind instance : ℕ) (state : State) (line : Line) (lines : List Line) (es : List Element) (field : Field) (fields : List Field) (values : List Value)
+    → line_at state line es ≡ Ok field → (values_among kind instance lines fields ≡ Some values → optional_at kind instance es ≡ front_value values)
+    → values_among kind instance (line ∷ lines) (field ∷ fields) ≡ Some values → optional_at kind instance es ≡ front_value values
+line_is kind instance state (Single row) lines es field fields values one others is =
+    let b = bind_ok (row_at state.accepting row es) (λ vs. field_ok (Plain vs)) field one in
+    at_row kind instance state.accepting row es b.0 values (values_among kind instance lines fields) ((kind_of row == kind) && (instance_of row == instance)) refl b.1 others
+    (subst (λ (f : Field). values_among kind instance (Single row ∷ lines) (f ∷ fields) ≡ Some values) (sym (same_field (Plain b.0) field b.2)) is)
+line_is kind instance state (Grouped row rows) lines es field fields values one others is = others is
+line_is kind instance state (Several k i missed) lines es field fields values one others is =
+    not_here (optional_at kind instance es ≡ front_value values) values (values_among kind instance lines fields) ((k == kind) && (i == instance)) others is
+
+lines_is : (kind instance : ℕ) (state : State) (lines : List Line) (es : List Element) (fields : List Field) (values : List Value)
+    → lines_at state lines es ≡ Ok fields → values_among kind instance lines fields ≡ Some values → optional_at kind instance es ≡ front_value values
+unfolding lines_at
+lines_is kind instance state [] es fields values h is = absurd cc
+lines_is kind instance state (line ∷ lines) es fields values h is =
+    let b = bind_ok (line_at state line es) (λ field. lines_at (after state field) lines es >>= λ others. fields_ok (field ∷ others)) fields h in
+    let d = bind_ok (lines_at (after state b.0) lines es) (λ others. fields_ok (b.0 ∷ others)) fields b.2 in
+    line_is kind instance state line lines es b.0 d.0 values b.1 (λ rest. lines_is kind instance (after state b.0) lines es d.0 values d.1 rest)
+    (subst (λ (fs : List Field). values_among kind instance (line ∷ lines) fs ≡ Some values) (sym (same_fields (b.0 ∷ d.0) fields d.2)) is)
+
+abbrev told_ok : {X : Type 0} → X → Result X V2Fault
+told_ok x = Ok x
+
+pub told_is : {X : Type 0} (r : Result X RowFault) (head : Head) (x : X) → told head r ≡ Ok x → r ≡ Ok x
+told_is (Ok y) head x h = cc
+told_is (Err f) head x h = absurd cc
+
+pub whole_is : (r : Result (List Element) ℕ) (es : List Element) → whole r ≡ Ok es → list_of r ≡ es
+whole_is (Ok xs) es h = cc
+whole_is (Err at) es h = absurd cc
+
+pub typed_is : (has_teid : Bool) (lines : List Line) (h : Headed) (fields : List Field) → typed_at has_teid lines h ≡ Ok fields → lines_at start lines (list_of (elements_of h.at h.rest)) ≡ Ok fields
+unfolding typed_at
+typed_is has_teid lines h fields is = by_flag (beq (is_some h.teid) has_teid) is where
+  by_flag : (b : Bool) → cond b (told (head_of h None) (whole (elements_of h.at h.rest)) >>= λ es. told (head_of h (sender_of h.kind es)) (lines_at start lines es)) (Err (faults.FlagT h.kind)) ≡ Ok fields
+      → lines_at start lines (list_of (elements_of h.at h.rest)) ≡ Ok fields
+  by_flag true is =
+      let b = bind_ok (told (head_of h None) (whole (elements_of h.at h.rest))) (λ es. told (head_of h (sender_of h.kind es)) (lines_at start lines es)) fields is in
+      let all = whole_is (elements_of h.at h.rest) b.0 (told_is (whole (elements_of h.at h.rest)) (head_of h None) b.0 b.1) in
+      rw all (told_is (lines_at start lines b.0) (head_of h (sender_of h.kind b.0)) fields b.2)
+  by_flag false is = absurd cc
+
+abbrev pub content_ok : Content → Result Content V2Fault
+content_ok content = Ok content
+
+abbrev pub es_some : List Element → Option (List Element)
+es_some es = Some es
+
+pub same_elements : (a b : List Element) → es_some a ≡ Some b → a ≡ b
+same_elements a b h = cc
+
+pub content_is : (r : Result Content V2Fault) (c : Content) → r ≡ Ok c → content_or_none r ≡ c
+content_is r c h = ap content_or_none h
+
+by_table_is : (kind instance : ℕ) (table : Option Table) (h : Headed) (es : List Element) (values : List Value)
+    → forgotten (by_table table h) ≡ Ok tt → Some es ≡ elements_by table h → values_by kind instance table (content_or_none (by_table table h)) ≡ Some values → optional_at kind instance es ≡ front_value values
+by_table_is kind instance None h es values reads walked is = absurd cc
+by_table_is kind instance (Some table) h es values reads walked is =
+    let r = was_read (by_table (Some table) h) reads in
+    let b = bind_ok (typed_at table.has_teid table.lines h) (λ fields. content_ok (Fields fields)) r.0 r.1 in
+    let content : content_or_none (by_table (Some table) h) ≡ Fields b.0 = content_is (by_table (Some table) h) r.0 r.1 ∙ sym (content_is (content_ok (Fields b.0)) r.0 b.2) in
+    let all : es ≡ list_of (elements_of h.at h.rest) = same_elements es (list_of (elements_of h.at h.rest)) walked in
+    subst (λ (xs : List Element). optional_at kind instance xs ≡ front_value values) (sym all)
+    (lines_is kind instance start table.lines (list_of (elements_of h.at h.rest)) b.0 values (typed_is table.has_teid table.lines h b.0 b.1)
+    (subst (λ (c : Content). values_by kind instance (Some table) c ≡ Some values) content is))
+
+-- a field of the message is what the first element says
+pub field_is : (kind instance : ℕ) (h : Headed) (elements : Option (List Element)) (es : List Element) (m : Viewed) → elements ≡ Some es → viewed h elements ≡ m → IsViewed h elements
+    → (values : List Value) → in_row kind instance m.message ≡ Some values → optional_at kind instance es ≡ front_value values
+unfolding content_at
+field_is kind instance h elements es m some view inv values is =
+    by_table_is kind instance (table_of h.kind) h es values inv.reads (sym some ∙ inv.walked) (subst (λ (v : Viewed). in_row kind instance v.message ≡ Some values) (sym view) is)
+
+-- where no elements are kept there are none
+pub none_is : (kind instance : ℕ) (h : Headed) (elements : Option (List Element)) (m : Viewed) → elements ≡ None → viewed h elements ≡ m → None ≡ optional_at kind instance m.elements
+unfolding optional_at
+none_is kind instance h elements m none view = subst (λ (v : Viewed). None ≡ optional_at kind instance v.elements) view (subst (λ (es : Option (List Element)). None ≡ optional_at kind instance (list_or_none es)) (sym none) refl)
+
+pub none_in : (kind instance : ℕ) (elements : Option (List Element)) (es : List Element) → elements ≡ None → list_or_none elements ≡ es → None ≡ optional_at kind instance es
+unfolding optional_at
+none_in kind instance elements es none view = subst (λ (xs : List Element). None ≡ optional_at kind instance xs) view (subst (λ (o : Option (List Element)). None ≡ optional_at kind instance (list_or_none o)) (sym none) refl)

@@ -1,0 +1,22 @@
+use Rattle.std.proofs.Common.{◌∙◌, sym, ap, map}
+use Rattle.gtp_ie.specs.Element.{all_of}
+use Rattle.gtp_v2.specs.Headed.{headed_of}
+use Rattle.gtp_v2.specs.Viewed.{Viewed, list_or_none, values_in, inner_of}
+use Rattle.gtp_v2.proofs.GroupValues.{contexts_are}
+use Rattle.gtp_v2.proofs.viewing.DatagramView.contexts.Goals as goal
+
+pub returns-in-Some : goal.returns-in-Some
+returns-in-Some c = record {
+  groups = λ p is.
+      let kept = sym (ap (λ (v : Viewed). v.elements) c.self.view_is) ∙ ap list_or_none c.in-Some.is in
+      contexts_are 93 0 (headed_of c.self.inside.header) c.self.inside.elements c.args.self.now c.self.view_is c.self.invariant p is
+      ∙ ap (map (values_in p.0)) (ap (λ es. map inner_of (all_of 93 0 es)) kept ∙ sym c.of.ensures);
+}
+
+pub returns-in-None : goal.returns-in-None
+returns-in-None c = record {
+  groups = λ p is.
+      let kept = sym (ap (λ (v : Viewed). v.elements) c.self.view_is) ∙ ap list_or_none c.in-None.is in
+      contexts_are 93 0 (headed_of c.self.inside.header) c.self.inside.elements c.args.self.now c.self.view_is c.self.invariant p is
+      ∙ ap (map (values_in p.0)) (ap (λ es. map inner_of (all_of 93 0 es)) (kept ∙ sym c.none.ensures) ∙ sym c.of-in-None.ensures);
+}

@@ -1,0 +1,83 @@
+//! Bearer contexts in the place where they lie.
+
+ghost use Rattle.std.specs.Prelude.{◌≡◌, map, option_map};
+ghost use Rattle.gtp_ie.specs.Element.{all_of};
+ghost use Rattle.gtp_v2.specs.Viewed.{inner_of};
+ghost use Rattle.std.specs.Iterator.{YieldsFirstBy, item_count};
+ghost use Rattle.gtp_v2.specs.Rows.{optional_at};
+
+use crate::groups::BEARER_CONTEXT;
+use crate::rows::optional;
+use gtp_ie::{AllOf, Elements, IeValue};
+use std::marker::Model;
+
+/// A bearer context. Contracts see its elements.
+#[derive(Debug, Drop)]
+pub struct ContextView<'a> {
+    /// `None` where the group is not whole, which has no elements.
+    elements: Option<Elements<'a>>,
+}
+
+impl<'a> Model for ContextView<'a> {
+    ghost use Rattle.std.specs.Prelude.{List};
+    ghost use Rattle.gtp_ie.specs.Element.{Element};
+    ghost use Rattle.gtp_v2.specs.Viewed.{list_or_none};
+
+    ghost Value = { List Element };
+
+    ghost view = { λ a. list_or_none a.elements };
+}
+
+impl<'a> ContextView<'a> {
+    /// The value of the first element of the value's type and an instance.
+    pub fn value<T: IeValue>(&self, instance: u8) -> Option<T>
+        ensures { option_map T.value result ≡ optional_at T.KIND instance self.now }
+    {
+        match &self.elements {
+            Some(elements) => optional::<T>(elements, instance),
+            None => None,
+        }
+    }
+}
+
+/// Bearer contexts. Contracts see the list of those that are left, each by its elements.
+#[derive(Debug, Drop)]
+pub struct Contexts<'a> {
+    groups: AllOf<'a>,
+}
+
+impl<'a> Model for Contexts<'a> {
+    ghost use Rattle.std.specs.Prelude.{List, map};
+    ghost use Rattle.gtp_ie.specs.Element.{Element};
+    ghost use Rattle.gtp_v2.specs.Viewed.{inner_of};
+
+    ghost Value = { List (List Element) };
+
+    ghost view = { λ a. map inner_of a.groups };
+}
+
+impl<'a> Contexts<'a> {
+    /// The groups of these elements.
+    pub fn of(elements: &Elements<'a>) -> Contexts<'a>
+        ensures { result ≡ map inner_of (all_of 93 0 elements.now) }
+    {
+        Contexts {
+            groups: elements.all(BEARER_CONTEXT, 0),
+        }
+    }
+}
+
+impl<'a> Iterator for Contexts<'a> {
+    type Item = ContextView<'a>;
+
+    ghost next_gives = { YieldsFirstBy (λ c. c) (λ cs. cs) };
+
+    ghost remaining = { item_count (λ cs. cs) };
+
+    fn next(&mut self) -> Option<ContextView<'a>> {
+        let view = self.groups.next()?;
+        Some(ContextView {
+            elements: view.inner().ok(),
+        })
+    }
+}

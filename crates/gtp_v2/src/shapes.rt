@@ -1,0 +1,167 @@
+//! What each type of message asks (TS 29.274 7).
+//!
+//! Written by scripts/messages from messages/.
+
+ghost use Rattle.std.specs.Prelude.{◌≡◌, option_map};
+ghost use Rattle.gtp_v2.specs.Lines.{shape_of, shape_in};
+ghost use Rattle.gtp_v2.specs.Tables.{table_of};
+
+use crate::kinds::{
+    CREATE_BEARER_REQUEST, CREATE_BEARER_RESPONSE, CREATE_SESSION_REQUEST, CREATE_SESSION_RESPONSE,
+    DELETE_BEARER_REQUEST, DELETE_BEARER_RESPONSE, DELETE_SESSION_REQUEST, DELETE_SESSION_RESPONSE,
+    ECHO_REQUEST, ECHO_RESPONSE, VERSION_NOT_SUPPORTED,
+};
+use crate::table::{Line, Row, Shape};
+
+const ECHO_REQUEST_LINES: &[Line] = &[
+    Line::Single(Row::Mandatory(3, 0)), // Recovery
+];
+
+const ECHO_RESPONSE_LINES: &[Line] = &[
+    Line::Single(Row::Mandatory(3, 0)), // Recovery
+];
+
+const VERSION_NOT_SUPPORTED_LINES: &[Line] = &[];
+
+const SESSION_REQUEST_CONTEXT_ROWS: &[Row] = &[
+    Row::Mandatory(73, 0), // EPS Bearer ID
+    Row::Mandatory(80, 0), // Bearer QoS
+    Row::Conditional(87, 2), // F-TEID
+];
+
+const CREATE_SESSION_REQUEST_LINES: &[Line] = &[
+    Line::Single(Row::Conditional(1, 0)), // IMSI
+    Line::Single(Row::Mandatory(82, 0)), // RAT Type
+    Line::Single(Row::Optional(83, 0)), // Serving Network
+    Line::Single(Row::Mandatory(87, 0)), // F-TEID
+    Line::Single(Row::Mandatory(71, 0)), // APN
+    Line::Single(Row::Optional(128, 0)), // Selection Mode
+    Line::Single(Row::Conditional(99, 0)), // PDN Type
+    Line::Single(Row::Optional(79, 0)), // PAA
+    Line::Single(Row::Optional(72, 0)), // AMBR
+    Line::Grouped(Row::Mandatory(93, 0), SESSION_REQUEST_CONTEXT_ROWS), // Bearer Context
+    Line::Single(Row::Optional(3, 0)), // Recovery
+];
+
+const SESSION_RESPONSE_CONTEXT_ROWS: &[Row] = &[
+    Row::Mandatory(73, 0), // EPS Bearer ID
+    Row::Mandatory(2, 0), // Cause
+    Row::Accepted(87, 2), // F-TEID
+    Row::Optional(80, 0), // Bearer QoS
+    Row::Optional(94, 0), // Charging ID
+];
+
+const CREATE_SESSION_RESPONSE_LINES: &[Line] = &[
+    Line::Single(Row::Mandatory(2, 0)), // Cause
+    Line::Single(Row::Accepted(87, 1)), // F-TEID
+    Line::Single(Row::Accepted(79, 0)), // PAA
+    Line::Single(Row::Optional(72, 0)), // AMBR
+    Line::Grouped(Row::Accepted(93, 0), SESSION_RESPONSE_CONTEXT_ROWS), // Bearer Context
+    Line::Single(Row::Optional(3, 0)), // Recovery
+];
+
+const DELETE_SESSION_REQUEST_LINES: &[Line] = &[
+    Line::Single(Row::Optional(73, 0)), // EPS Bearer ID
+];
+
+const DELETE_SESSION_RESPONSE_LINES: &[Line] = &[
+    Line::Single(Row::Mandatory(2, 0)), // Cause
+    Line::Single(Row::Optional(3, 0)), // Recovery
+];
+
+const BEARER_REQUEST_CONTEXT_ROWS: &[Row] = &[
+    Row::Mandatory(73, 0), // EPS Bearer ID
+    Row::Mandatory(84, 0), // Bearer TFT
+    Row::Conditional(87, 1), // F-TEID
+    Row::Mandatory(80, 0), // Bearer QoS
+    Row::Optional(94, 0), // Charging ID
+];
+
+const CREATE_BEARER_REQUEST_LINES: &[Line] = &[
+    Line::Single(Row::Optional(100, 0)), // PTI
+    Line::Single(Row::Mandatory(73, 0)), // EPS Bearer ID
+    Line::Grouped(Row::Mandatory(93, 0), BEARER_REQUEST_CONTEXT_ROWS), // Bearer Context
+];
+
+const BEARER_RESPONSE_CONTEXT_ROWS: &[Row] = &[
+    Row::Mandatory(73, 0), // EPS Bearer ID
+    Row::Mandatory(2, 0), // Cause
+    Row::Accepted(87, 2), // F-TEID
+    Row::Accepted(87, 3), // F-TEID
+];
+
+const CREATE_BEARER_RESPONSE_LINES: &[Line] = &[
+    Line::Single(Row::Mandatory(2, 0)), // Cause
+    Line::Grouped(Row::Accepted(93, 0), BEARER_RESPONSE_CONTEXT_ROWS), // Bearer Context
+    Line::Single(Row::Optional(3, 0)), // Recovery
+];
+
+const DELETE_BEARER_REQUEST_LINES: &[Line] = &[
+    Line::Single(Row::Optional(73, 0)), // EPS Bearer ID
+    Line::Several(73, 1, 0), // EPS Bearer ID
+];
+
+const REMOVAL_RESPONSE_CONTEXT_ROWS: &[Row] = &[
+    Row::Mandatory(73, 0), // EPS Bearer ID
+    Row::Mandatory(2, 0), // Cause
+];
+
+const DELETE_BEARER_RESPONSE_LINES: &[Line] = &[
+    Line::Single(Row::Mandatory(2, 0)), // Cause
+    Line::Single(Row::Optional(73, 0)), // EPS Bearer ID
+    Line::Grouped(Row::Optional(93, 0), REMOVAL_RESPONSE_CONTEXT_ROWS), // Bearer Context
+    Line::Single(Row::Optional(3, 0)), // Recovery
+];
+
+/// What a type of message asks, where it has a table.
+pub fn asked_of(kind: u8) -> Option<Shape>
+    ensures { option_map shape_of result ≡ option_map shape_in (table_of kind) }
+{
+    match kind {
+        ECHO_REQUEST => Some(Shape {
+            has_teid: false,
+            lines: ECHO_REQUEST_LINES,
+        }),
+        ECHO_RESPONSE => Some(Shape {
+            has_teid: false,
+            lines: ECHO_RESPONSE_LINES,
+        }),
+        VERSION_NOT_SUPPORTED => Some(Shape {
+            has_teid: false,
+            lines: VERSION_NOT_SUPPORTED_LINES,
+        }),
+        CREATE_SESSION_REQUEST => Some(Shape {
+            has_teid: true,
+            lines: CREATE_SESSION_REQUEST_LINES,
+        }),
+        CREATE_SESSION_RESPONSE => Some(Shape {
+            has_teid: true,
+            lines: CREATE_SESSION_RESPONSE_LINES,
+        }),
+        DELETE_SESSION_REQUEST => Some(Shape {
+            has_teid: true,
+            lines: DELETE_SESSION_REQUEST_LINES,
+        }),
+        DELETE_SESSION_RESPONSE => Some(Shape {
+            has_teid: true,
+            lines: DELETE_SESSION_RESPONSE_LINES,
+        }),
+        CREATE_BEARER_REQUEST => Some(Shape {
+            has_teid: true,
+            lines: CREATE_BEARER_REQUEST_LINES,
+        }),
+        CREATE_BEARER_RESPONSE => Some(Shape {
+            has_teid: true,
+            lines: CREATE_BEARER_RESPONSE_LINES,
+        }),
+        DELETE_BEARER_REQUEST => Some(Shape {
+            has_teid: true,
+            lines: DELETE_BEARER_REQUEST_LINES,
+        }),
+        DELETE_BEARER_RESPONSE => Some(Shape {
+            has_teid: true,
+            lines: DELETE_BEARER_RESPONSE_LINES,
+        }),
+        _ => None,
+    }
+}

@@ -1,0 +1,221 @@
+//! Messages read in the place where they lie.
+
+ghost use Rattle.std.specs.Prelude.{◌≡◌, Ok, Err, IfOk, IfErr, IfSome, IsOkAnd, List, map, Some, option_map};
+ghost use Rattle.gtp_values.specs.Steps.{Gives};
+ghost use Rattle.gtp_ie.specs.Element.{elements_of, list_of};
+ghost use Rattle.gtp_ie.specs.Value.{Value};
+ghost use Rattle.gtp_v2.specs.Lines.{line_of};
+ghost use Rattle.gtp_v2.specs.Table.{Row};
+ghost use Rattle.gtp_v2.specs.Headed.{headed_of};
+ghost use Rattle.gtp_v2.specs.Checked.{forgotten};
+ghost use Rattle.gtp_v2.specs.Rows.{optional_at};
+ghost use Rattle.gtp_v2.specs.Message.{MessageValue, raw_of, typed_at, content_at, message_at, MessageGives, MessageAllocates};
+ghost use Rattle.gtp_v2.specs.Body.{message_value, OctetsOnlyWithoutTable};
+ghost use Rattle.gtp_v2.specs.Datagram.{IsMessage, IsFault};
+ghost use Rattle.gtp_v2.specs.Viewed.{Viewed, Carries, in_row, front_value, in_groups, values_in};
+ghost use Rattle.gtp_v2.specs.Tables.{table_of};
+ghost use Rattle.gtp_v2.specs.Viewed.{elements_by, IsViewed};
+ghost use Rattle.gtp_v2.specs.declared.fault.V2Fault.{V2Fault as AnyFault};
+
+use crate::body::read_body;
+use crate::check::check_lines;
+use crate::contexts::Contexts;
+use crate::fault::V2Fault;
+use crate::header::Header;
+use crate::message::Message;
+use crate::reading::read_header;
+use crate::rows::optional;
+use crate::shapes::asked_of;
+use crate::table::Line;
+use crate::typed::{head, sender, with_head};
+use gtp_ie::{Elements, IeValue, elements_at};
+use gtp_values::{Below, Seq, Teid};
+use std::alloc::Global;
+use std::marker::Model;
+
+/// A datagram that spells a message, where it lies. Contracts see the message, and the elements after
+/// its header.
+#[derive(Debug, Drop)]
+pub struct DatagramView<'a> {
+    header: Header<'a>,
+    /// The elements after the header, where the type has a table.
+    elements: Option<Elements<'a>>,
+}
+
+impl<'a> Model for DatagramView<'a> {
+    ghost use Rattle.gtp_v2.specs.Headed.{headed_of};
+    ghost use Rattle.gtp_v2.specs.Viewed.{Viewed, viewed, IsViewed};
+
+    ghost Value = { Viewed };
+
+    ghost view = { λ a. viewed (headed_of a.header) a.elements };
+
+    ghost invariant = { λ a. IsViewed (headed_of a.header) a.elements };
+}
+
+/// The elements after a header, which have what these lines ask.
+#[tactic(auto, unfolding(crate::specs::Message::typed_at))]
+fn view_typed<'a>(
+    has_teid: bool,
+    lines: &[Line],
+    header: &Header<'a>,
+) -> Result<Elements<'a>, V2Fault>
+    ensures reads { Gives (λ _. tt) result (forgotten (typed_at has_teid (map line_of lines.now) (headed_of header.now))) }
+    ensures elements { IfOk result (λ es. es ≡ list_of (elements_of header.now.at header.now.rest.now)) }
+{
+    if header.teid.is_some() != has_teid {
+        return Err(V2Fault::FlagT { kind: header.kind });
+    }
+    let elements = match elements_at(header.rest, header.at) {
+        Ok(elements) => elements,
+        Err(fault) => {
+            let head = head(header, None);
+            return Err(V2Fault::Element { fault, head });
+        }
+    };
+    match check_lines(lines, &elements) {
+        Ok(()) => Ok(elements),
+        Err(fault) => {
+            let head = head(header, sender(header.kind, &elements));
+            Err(with_head(head, fault))
+        }
+    }
+}
+
+/// The elements after a header, where its type has a table, all of whose lines read.
+#[tactic(auto, unfolding(crate::specs::Message::content_at))]
+fn view_content<'a>(header: &Header<'a>) -> Result<Option<Elements<'a>>, V2Fault>
+    ensures reads { Gives (λ _. tt) result (forgotten (content_at (headed_of header.now))) }
+    ensures elements { IfOk result (λ es. es ≡ elements_by (table_of header.now.kind) (headed_of header.now)) }
+{
+    match asked_of(header.kind) {
+        Some(asked) => {
+            let elements = view_typed(asked.has_teid, asked.lines, header)?;
+            Ok(Some(elements))
+        }
+        None => Ok(None),
+    }
+}
+
+/// A view of the message that a datagram spells, by one reading.
+#[tactic(auto, unfolding(crate::specs::Message::message_at))]
+fn view_message(octets: &[u8]) -> Result<DatagramView<'_>, V2Fault>
+    ensures message { Gives (λ v. v.message) result (message_at octets.now) }
+    ensures elements { IfOk result (Carries octets.now) }
+{
+    let header = match read_header(octets) {
+        Ok(header) => header,
+        Err(fault) => return Err(fault),
+    };
+    let elements = match view_content(&header) {
+        Ok(elements) => elements,
+        Err(fault) => return Err(fault),
+    };
+    Ok(DatagramView { header, elements })
+}
+
+/// A view of the message that a datagram spells, or its first fault. Takes no memory.
+pub fn view(octets: &[u8]) -> Result<DatagramView<'_>, V2Fault>
+    // What is answered is spelled so.
+    ensures found { IfOk result (λ v. IsMessage octets.now v.message) }
+    // What is spelled so is answered.
+    ensures only { (m : MessageValue) → IsMessage octets.now m → IsOkAnd result (λ v. v.message ≡ m) }
+    // The first fault is answered.
+    ensures first { (f : AnyFault) → IsFault octets.now f → result ≡ Err f }
+    // A fault is the first one.
+    ensures fault { IfErr result (λ f. IsFault octets.now f) }
+    // The elements are those that the datagram carries.
+    ensures elements { IfOk result (Carries octets.now) }
+{
+    view_message(octets)
+}
+
+impl<'a> DatagramView<'a> {
+    /// The type of the message.
+    pub fn kind(&self) -> u8
+        ensures { result ≡ self.now.message.kind }
+    {
+        self.header.kind
+    }
+
+    /// The receiver's TEID.
+    pub fn teid(&self) -> Option<Teid>
+        ensures { option_map (λ t. t.0) result ≡ self.now.message.teid }
+    {
+        self.header.teid
+    }
+
+    /// The sequence number.
+    pub fn seq(&self) -> Seq
+        ensures { result ≡ self.now.message.seq }
+    {
+        self.header.seq
+    }
+
+    /// The message's priority, where the header has one.
+    pub fn priority(&self) -> Option<Below<16>>
+        ensures { result ≡ self.now.message.priority }
+    {
+        self.header.priority
+    }
+
+    /// The octets after the header of a message that is kept as octets; `None` of one whose type has a table.
+    pub fn octets(&self) -> Option<&'a [u8]>
+        ensures { option_map (λ octets. octets.now) result ≡ raw_of self.now.message.content }
+    {
+        match &self.elements {
+            Some(_) => None,
+            None => Some(self.header.rest),
+        }
+    }
+
+    /// The elements after the header, in order; none of a message that is kept as octets.
+    pub fn elements(&self) -> Elements<'a>
+        ensures { result ≡ self.now.elements }
+    {
+        match &self.elements {
+            Some(elements) => elements.iter(),
+            None => Elements::none(),
+        }
+    }
+
+    /// The value of the first element of the value's type and an instance, where there is one that reads.
+    pub fn value<T: IeValue>(&self, instance: u8) -> Option<T>
+        // It is of the elements.
+        ensures element { option_map T.value result ≡ optional_at T.KIND instance self.now.elements }
+        // And it is what the message has in the row of that type and instance, where its table has one.
+        ensures field { (values : List Value) → in_row T.KIND instance self.now.message ≡ Some values → option_map T.value result ≡ front_value values }
+    {
+        match &self.elements {
+            Some(elements) => optional::<T>(elements, instance),
+            None => None,
+        }
+    }
+
+    /// The message, owned. `Memory` is the only fault, and only of a message for which some is allocated:
+    /// a list in it has a member, or it is kept as octets and has some.
+    pub fn to_message(&self, alloc: Global) -> Result<Message, V2Fault>
+        ensures message { MessageGives MessageAllocates message_value result (Ok self.now.message) }
+        ensures kind { IfOk result (λ m. OctetsOnlyWithoutTable m.body) }
+    {
+        let body = read_body(alloc, &self.header)?;
+        Ok(Message {
+            teid: self.header.teid,
+            seq: self.header.seq,
+            priority: self.header.priority,
+            body,
+        })
+    }
+
+    /// The bearer contexts, in order; none of a message whose table has none.
+    pub fn contexts(&self) -> Contexts<'a>
+        // What its groups have is what these elements say, row by row.
+        ensures groups { (p : List Row × List (List (List Value))) →
+            in_groups 93 0 self.now.message ≡ Some p → p.1 ≡ map (values_in p.0) result }
+    {
+        match &self.elements {
+            Some(elements) => Contexts::of(elements),
+            None => Contexts::of(&Elements::none()),
+        }
+    }
+}

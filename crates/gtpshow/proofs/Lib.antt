@@ -1,3 +1,0 @@
-pub mod Appends
-pub mod Pieces
-pub mod Whole
