@@ -112,23 +112,6 @@ fn vectors_stand(rt: HostRuntime) -> Result<(), Fail> {
     Ok(())
 }
 
-#[test]
-fn fields_are_read(rt: HostRuntime) -> Result<(), Fail> {
-    let octets = octets_of(rt.alloc(), SESSION_REQUEST)?;
-    let datagram = decode(rt.alloc(), &octets)?;
-    assert!(rt; datagram.message.teid == Some(Teid(0)));
-    let Body::CreateSessionRequest(request) = &datagram.message.body else {
-        return Err("of another kind".into());
-    };
-    let digits = [0, 0, 1, 0, 1, 0, 1, 2, 3, 4, 5, 6, 7, 8, 9];
-    assert!(rt; Ok(request.imsi) == Imsi::try_new(&digits));
-    assert_eq!(rt; request.apn.octets(), b"\x08internet".as_slice());
-    assert!(rt; request.control.teid() == Teid(0x0100_0001));
-    assert_eq!(rt; request.contexts.as_slice().len(), 1);
-    assert!(rt; request.recovery == Some(Recovery(Counter(1))));
-    Ok(())
-}
-
 /// Whether a message has these octets, and they are read as that message.
 fn is_text_of(alloc: Global, message: &Message, digits: &str) -> Result<bool, Fail>
     requires header { PriorityNeedsTeid message.now.teid message.now.priority }
@@ -357,24 +340,6 @@ fn bearers_made_by_hand(rt: HostRuntime) -> Result<(), Fail> {
         recovery: Some(Recovery(Counter(1))),
     });
     assert!(rt; stands(alloc, Some(0x01000001), 0, body, BEARER_RESPONSE)?);
-    Ok(())
-}
-
-/// The first of two counters is the message's, whatever stands around it.
-#[test]
-fn first_of_repeated(rt: HostRuntime) -> Result<(), Fail> {
-    let alloc = rt.alloc();
-    for digits in [
-        "4001000e0000010003000100070300010008",
-        "43010015000001ffc80003f06162630300010007030001f008",
-    ] {
-        let octets = octets_of(alloc, digits)?;
-        let datagram = decode(alloc, &octets)?;
-        let Body::EchoRequest(request) = &datagram.message.body else {
-            return Err("of another kind".into());
-        };
-        assert!(rt; request.recovery == Recovery(Counter(7)), "of {digits}");
-    }
     Ok(())
 }
 
@@ -658,11 +623,7 @@ fn messages_in_place(rt: HostRuntime) -> Result<(), Fail> {
     let octets = octets_of(alloc, "482200080100000100000700")?;
     let seen = view(&octets)?;
     assert!(rt; seen.octets() == Some([].as_slice()) && seen.contexts().next().is_none());
-    assert!(rt;
-        matches!(
-            view(&octets[..9]),
-            Err(V2Fault::Length { stated: 8, held: 5 })
-        )
-    );
+    let cut = octets_of(alloc, "482200080100000100")?;
+    assert!(rt; matches!(view(&cut), Err(V2Fault::Length { stated: 8, held: 5 })));
     Ok(())
 }
