@@ -174,7 +174,8 @@ fn check_each(
     rows: &[Row],
     elements: &Elements,
 ) -> Result<bool, RowFault>
-    ensures { Gives (λ b. b) result (groups_silent accepting rows.now (all_of kind instance elements.now)) }
+    ensures { Gives (λ b. b) result (groups_silent accepting rows.now
+        (all_of kind instance elements.now)) }
 {
     let mut silent = true;
     for view in elements.all(kind, instance) {
@@ -194,7 +195,8 @@ fn check_groups(
     rows: &[Row],
     elements: &Elements,
 ) -> Result<State, RowFault>
-    ensures { Gives (λ s. s) result (groups_say need kind instance accepting rows.now (all_of kind instance elements.now)) }
+    ensures { Gives (λ s. s) result (groups_say need kind instance accepting rows.now
+        (all_of kind instance elements.now)) }
 {
     let silent = check_each(kind, instance, accepting, rows, elements)?;
     let conditional = match need {
@@ -309,7 +311,8 @@ fn check_from(state: State, lines: &[Line], elements: &Elements) -> Result<State
 /// That elements have what the lines ask: the first fault, or none.
 #[tactic(auto, using(crate::proofs::Checks::lines_forget))]
 pub fn check_lines(lines: &[Line], elements: &Elements) -> Result<(), RowFault>
-    ensures { Gives (λ u. u) result (forgotten (lines_at start (map line_of lines.now) elements.now)) }
+    ensures { Gives (λ u. u) result (forgotten (lines_at start
+        (map line_of lines.now) elements.now)) }
 {
     let state = State {
         accepting: true,

@@ -60,8 +60,10 @@ fn view_typed<'a>(
     lines: &[Line],
     header: &Header<'a>,
 ) -> Result<Elements<'a>, V2Fault>
-    ensures reads { Gives (λ _. tt) result (forgotten (typed_at has_teid (map line_of lines.now) (headed_of header.now))) }
-    ensures elements { IfOk result (λ es. es ≡ list_of (elements_of header.now.at header.now.rest.now)) }
+    ensures reads { Gives (λ _. tt) result (forgotten (typed_at has_teid (map line_of lines.now)
+        (headed_of header.now))) }
+    ensures elements { IfOk result (λ es. es
+        ≡ list_of (elements_of header.now.at header.now.rest.now)) }
 {
     if header.teid.is_some() != has_teid {
         return Err(V2Fault::FlagT { kind: header.kind });
@@ -86,7 +88,8 @@ fn view_typed<'a>(
 #[tactic(auto, unfolding(crate::specs::Message::content_at))]
 fn view_content<'a>(header: &Header<'a>) -> Result<Option<Elements<'a>>, V2Fault>
     ensures reads { Gives (λ _. tt) result (forgotten (content_at (headed_of header.now))) }
-    ensures elements { IfOk result (λ es. es ≡ elements_by (table_of header.now.kind) (headed_of header.now)) }
+    ensures elements { IfOk result (λ es. es
+        ≡ elements_by (table_of header.now.kind) (headed_of header.now)) }
 {
     match asked_of(header.kind) {
         Some(asked) => {
@@ -119,7 +122,8 @@ pub fn view(octets: &[u8]) -> Result<DatagramView<'_>, V2Fault>
     // What is answered is spelled so.
     ensures found { IfOk result (λ v. IsMessage octets.now v.message) }
     // What is spelled so is answered.
-    ensures only { (m : MessageValue) → IsMessage octets.now m → IsOkAnd result (λ v. v.message ≡ m) }
+    ensures only { (m : MessageValue) → IsMessage octets.now m →
+        IsOkAnd result (λ v. v.message ≡ m) }
     // The first fault is answered.
     ensures first { (f : AnyFault) → IsFault octets.now f → result ≡ Err f }
     // A fault is the first one.
@@ -182,9 +186,12 @@ impl<'a> DatagramView<'a> {
     /// The value of the first element of the value's type and an instance, where there is one that reads.
     pub fn value<T: IeValue>(&self, instance: u8) -> Option<T>
         // It is of the elements.
-        ensures element { option_map T.value result ≡ optional_at T.KIND instance self.now.elements }
+        ensures element { option_map T.value result
+            ≡ optional_at T.KIND instance self.now.elements }
         // And it is what the message has in the row of that type and instance, where its table has one.
-        ensures field { (values : List Value) → in_row T.KIND instance self.now.message ≡ Some values → option_map T.value result ≡ front_value values }
+        ensures field { (values : List Value) →
+            in_row T.KIND instance self.now.message ≡ Some values →
+            option_map T.value result ≡ front_value values }
     {
         match &self.elements {
             Some(elements) => optional::<T>(elements, instance),
