@@ -2,7 +2,7 @@
 
 ghost use Rattle.std.specs.Prelude.{◌≡◌, Ok, Err, IfOk, IfErr, IfSome, IsOkAnd, List, map, Some, option_map};
 ghost use Rattle.gtp_values.specs.Steps.{Gives};
-ghost use Rattle.gtp_ie.specs.Element.{elements_of, list_of};
+ghost use Rattle.gtp_ie.specs.Element.{elements_of, list_of, all_of};
 ghost use Rattle.gtp_ie.specs.Value.{Value};
 ghost use Rattle.gtp_v2.specs.Lines.{line_of};
 ghost use Rattle.gtp_v2.specs.Table.{Row};
@@ -12,7 +12,7 @@ ghost use Rattle.gtp_v2.specs.Rows.{optional_at};
 ghost use Rattle.gtp_v2.specs.Message.{MessageValue, raw_of, typed_at, content_at, message_at, MessageGives, MessageAllocates};
 ghost use Rattle.gtp_v2.specs.Body.{message_value, OctetsOnlyWithoutTable};
 ghost use Rattle.gtp_v2.specs.Datagram.{IsMessage, IsFault};
-ghost use Rattle.gtp_v2.specs.Viewed.{Viewed, Carries, in_row, front_value, in_groups, values_in};
+ghost use Rattle.gtp_v2.specs.Viewed.{Viewed, Carries, in_row, front_value, in_groups, inner_of, values_in};
 ghost use Rattle.gtp_v2.specs.Tables.{table_of};
 ghost use Rattle.gtp_v2.specs.Viewed.{elements_by, IsViewed};
 ghost use Rattle.gtp_v2.specs.declared.fault.V2Fault.{V2Fault as AnyFault};
@@ -214,9 +214,12 @@ impl<'a> DatagramView<'a> {
         })
     }
 
-    /// The bearer contexts, in order; none of a message whose table has none.
+    /// The bearer contexts of instance 0 among the elements, in order, whether or not the message's table
+    /// has a row of them.
     pub fn contexts(&self) -> Contexts<'a>
-        // What its groups have is what these elements say, row by row.
+        // They are of the elements.
+        ensures elements { result ≡ map inner_of (all_of 93 0 self.now.elements) }
+        // What the message's groups have is what these contexts say, row by row.
         ensures groups { (p : List Row × List (List (List Value))) →
             in_groups 93 0 self.now.message ≡ Some p → p.1 ≡ map (values_in p.0) result }
     {

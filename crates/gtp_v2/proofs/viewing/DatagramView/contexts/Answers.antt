@@ -6,17 +6,19 @@ use Rattle.gtp_v2.proofs.GroupValues.{contexts_are}
 use Rattle.gtp_v2.proofs.viewing.DatagramView.contexts.Goals as goal
 
 pub returns-in-Some : goal.returns-in-Some
-returns-in-Some c = record {
-  groups = λ p is.
-      let kept = sym (ap (λ (v : Viewed). v.elements) c.self.view_is) ∙ ap list_or_none c.in-Some.is in
-      contexts_are 93 0 (headed_of c.self.inside.header) c.self.inside.elements c.args.self.now c.self.view_is c.self.invariant p is
-      ∙ ap (map (values_in p.0)) (ap (λ es. map inner_of (all_of 93 0 es)) kept ∙ sym c.of.ensures);
-}
+returns-in-Some c =
+    let kept = sym (ap (λ (v : Viewed). v.elements) c.self.view_is) ∙ ap list_or_none c.in-Some.is in
+    let are = ap (λ es. map inner_of (all_of 93 0 es)) kept ∙ sym c.of.ensures in
+    record {
+      elements = sym are;
+      groups = λ p is. contexts_are 93 0 (headed_of c.self.inside.header) c.self.inside.elements c.args.self.now c.self.view_is c.self.invariant p is ∙ ap (map (values_in p.0)) are;
+    }
 
 pub returns-in-None : goal.returns-in-None
-returns-in-None c = record {
-  groups = λ p is.
-      let kept = sym (ap (λ (v : Viewed). v.elements) c.self.view_is) ∙ ap list_or_none c.in-None.is in
-      contexts_are 93 0 (headed_of c.self.inside.header) c.self.inside.elements c.args.self.now c.self.view_is c.self.invariant p is
-      ∙ ap (map (values_in p.0)) (ap (λ es. map inner_of (all_of 93 0 es)) (kept ∙ sym c.none.ensures) ∙ sym c.of-in-None.ensures);
-}
+returns-in-None c =
+    let kept = sym (ap (λ (v : Viewed). v.elements) c.self.view_is) ∙ ap list_or_none c.in-None.is in
+    let are = ap (λ es. map inner_of (all_of 93 0 es)) (kept ∙ sym c.none.ensures) ∙ sym c.of-in-None.ensures in
+    record {
+      elements = sym are;
+      groups = λ p is. contexts_are 93 0 (headed_of c.self.inside.header) c.self.inside.elements c.args.self.now c.self.view_is c.self.invariant p is ∙ ap (map (values_in p.0)) are;
+    }
