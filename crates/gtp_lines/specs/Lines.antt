@@ -1,7 +1,7 @@
 -- The lines of a datagram.
 use Rattle.std.specs.Prelude.{ℕ, Bool, List}
-use Rattle.gtp_lines.specs.declared.plane.Plane.{Plane}
-use Rattle.gtp_lines.specs.declared.plane.Plane.TheVariants as planes
+use Rattle.gtp_values.specs.declared.plane.Plane.{Plane}
+use Rattle.gtp_values.specs.declared.plane.Plane.TheVariants as planes
 use Rattle.gtp_lines.specs.Control.{ControlLines}
 use Rattle.gtp_lines.specs.User.{UserLines}
 

@@ -6,12 +6,11 @@ ghost use Rattle.gtp_lines.specs.User.{UserLines};
 ghost use Rattle.gtp_lines.specs.Lines.{LinesOf};
 
 use crate::control::{put_elements, put_fault_line, put_head};
-use crate::plane::Plane;
 use crate::text::put;
 use crate::user::{put_user_fault_line, put_user_message};
 use crate::values::put_raw;
 use gtp_v2::{DatagramView, view};
-use gtp_values::Memory;
+use gtp_values::{Memory, Plane};
 use std::alloc::{AllocError, Global};
 
 /// The lines of a datagram, in ASCII, and whether they are those of a fault.

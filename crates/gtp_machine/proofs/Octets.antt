@@ -1,3 +1,5 @@
 -- What octets read as.
+pub mod ByName
+pub mod ByGrammar
 pub mod Readings
-pub mod ReadOnce
+pub mod Spelled

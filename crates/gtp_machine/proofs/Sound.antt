@@ -5,3 +5,5 @@ pub mod Rows
 pub mod Free
 pub mod Steps
 pub mod Reads
+pub mod Ticks
+pub mod Broken

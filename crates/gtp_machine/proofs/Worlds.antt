@@ -1,6 +1,9 @@
 -- What holds of the world in each run.
 pub mod Hearing
 pub mod Kept
+pub mod Ticking
 pub mod Runs
 pub mod Safety
 pub mod Possible
+pub mod Further
+pub mod Logs

@@ -5,9 +5,10 @@ use Rattle.gtp_values.specs.declared.cause.Cause.{Cause}
 use Rattle.gtp_values.specs.FiniteMap.{Among}
 use Rattle.gtp_machine.specs.Ordered.{Unless}
 use Rattle.gtp_machine.specs.Element.{cause_at, teid_in}
-use Rattle.gtp_machine.specs.Message.{Message, Echo, Echo_response, Create_session_response, Delete_session_response, Create_bearer_response, Delete_bearer_response, recovery_of}
+use Rattle.gtp_machine.specs.Message.{Message, Control, Echo, Echo_response, Create_session_response, Delete_session_response, Create_bearer_response, Delete_bearer_response, recovery_of}
 use Rattle.gtp_machine.specs.Node.{Pending, Active, Closing, State, Session, Arrival, Held, Node, holding, written}
-use Rattle.gtp_machine.specs.Input.{RequestKind, Of_create_session, Of_delete_session, Of_create_bearer, Of_delete_bearer, Defect, Mandatory_missing, Conditional_missing, Too_short, Out_of_range, FaultyRequest, Effect, Answered, Echoed, Repeated, says, dropped, Not_peer, ControlReading, Control_message, Faulty, Control_fault, Undecodable, Unexpected}
+use Rattle.gtp_machine.specs.Input.{RequestKind, Of_create_session, Of_delete_session, Of_create_bearer, Of_delete_bearer, Defect, Mandatory_missing, Conditional_missing, Too_short, Out_of_range, FaultyRequest, Effect, Answered, Echoed, Repeated, says, dropped, HeldFull, NotPeer, ControlReading, Control_message, Faulty, Control_fault, undecodable, Unexpected}
+use Rattle.gtp_machine.specs.Choice.{HasHeldRoom}
 use Rattle.gtp_machine.specs.Recovery.{Hears}
 
 -- an answer goes to where the request came from, and is held
@@ -76,6 +77,12 @@ refusing Of_delete_bearer header number cause counter = Delete_bearer_response (
 abbrev pub faulted : Arrival → FaultyRequest → Node → Effect
 faulted request f old = record { out = says request.source (refusing f.kind (faulty_header old f.kind f) f.number (cause_at (defect_cause f.defect) f.element f.instance) old.counter); outcome = Answered (defect_cause f.defect); node = old }
 
+-- A request whose answer is to be held: with 4,096 held answers it is dropped, and else it is judged.
+abbrev pub UnlessFull : (Node → Effect → Type 0) → Node → Effect → Type 0
+UnlessFull Judged old e =
+    Unless (HasHeldRoom old) (e ≡ dropped old HeldFull) (λ room.
+    Judged old e)
+
 -- What was read, where the gateway takes such kinds, does so with a message and does so with a faulty request: a message of another kind is
 -- dropped before its counter is heard.
 abbrev pub TakesReading : (Message → Bool) → (Arrival → Message → Node → Effect → Type 0) → (Arrival → FaultyRequest → RequestKind → Node → Effect → Type 0) → ControlReading → Arrival → Node → Effect → Type 0
@@ -83,10 +90,10 @@ TakesReading takes Takes Faulted (Control_message message) request old e =
     Unless (takes message ≡ true) (e ≡ dropped old Unexpected) (λ taken.
     Hears (Takes request message) old (recovery_of message) e)
 TakesReading takes Takes Faulted (Faulty f) request old e = Faulted request f f.kind old e
-TakesReading takes Takes Faulted (Control_fault fault) request old e = e ≡ dropped old (Undecodable fault)
+TakesReading takes Takes Faulted (Control_fault fault) request old e = e ≡ dropped old (undecodable Control fault)
 
 -- A control plane datagram: first its source address is looked at, then the answers that are held, then what was read.
 abbrev pub ControlStep : (Arrival → Node → Effect → Type 0) → Arrival → Node → Effect → Type 0
 ControlStep Reads request old e =
-    Unless (request.source.ip ≡ old.config.peer.control) (e ≡ dropped old Not_peer) (λ peer.
+    Unless (request.source.ip ≡ old.config.peer.control) (e ≡ dropped old NotPeer) (λ peer.
     Repeats old request e ⊎ (IsNew old request × Reads request old e))

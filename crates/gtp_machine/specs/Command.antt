@@ -7,7 +7,7 @@ use Rattle.gtp_machine.specs.Config.{control_end, user_end}
 use Rattle.gtp_machine.specs.Element.{Ipv4, tunnel_end}
 use Rattle.gtp_machine.specs.Message.{CreateSessionRequest, CreateBearerRequest, Echo_request, Create_session_request, Delete_session_request, Create_bearer_request, Delete_bearer_request, Packet_data, End_marker, subscriber_of}
 use Rattle.gtp_machine.specs.Node.{Role, Serving, Packet, Pending, Active, Closing, Session, Default, Dedicated, Bearer, PendingRequest, Node, written}
-use Rattle.gtp_machine.specs.Input.{Specification, Command, Create_session, Delete_session, Create_bearer, Delete_bearer, Release_session, Mark_end, Send_echo, Send_user, Effect, Begun, Gone_out, entry_for, says, refused, No_such_context, Not_active, Wrong_role, Sessions_full, Teids_used, Pending_full, Bearer_ended, Packet_too_long}
+use Rattle.gtp_machine.specs.Input.{Specification, Command, Create_session, Delete_session, Create_bearer, Delete_bearer, Release_session, Mark_end, Send_echo, Send_user, Effect, Begun, GoneOut, entry_for, says, refused, NoSuchContext, NotActive, WrongRole, SessionsFull, TeidsUsed, PendingFull, BearerEnded, PacketTooLong}
 use Rattle.gtp_machine.specs.Choice.{IsFree, HasDraws, IsFreeNumber, HasSessionRoom, HasPendingRoom, HasSession, HasBearer}
 use Rattle.gtp_machine.specs.Removal.{session_closing}
 use Rattle.gtp_machine.specs.User.{ended_bearer}
@@ -123,7 +123,7 @@ pub record SendsEcho (old : Node) (e : Effect) : Type 0 where
 -- A packet is handed in for a bearer, and sent.
 pub record SendsPacket (old : Node) (at : Bearer) (payload : List ℕ) (e : Effect) : Type 0 where
   pub of : HasSession old at.session
-  pub gives : e ≡ record { out = record (says (user_end old.config.peer.user) (Packet_data (written at.remote) payload)) { handed = entry_for (written at.remote) payload of.session.subscriber at.identity ∷ [] }; outcome = Gone_out; node = old }
+  pub gives : e ≡ record { out = record (says (user_end old.config.peer.user) (Packet_data (written at.remote) payload)) { handed = entry_for (written at.remote) payload of.session.subscriber at.identity ∷ [] }; outcome = GoneOut; node = old }
 
 -- no End Marker was sent before: that counts at the packet gateway alone
 abbrev pub MayGo : Role → Bearer → Type 0
@@ -132,73 +132,73 @@ MayGo Packet b = b.ended ≡ false
 
 -- create_session: at the serving gateway
 abbrev pub SessionBegun : Role → Specification → Node → Effect → Type 0
-SessionBegun Packet spec old e = e ≡ refused old Wrong_role
+SessionBegun Packet spec old e = e ≡ refused old WrongRole
 SessionBegun Serving spec old e =
-    Unless (HasSessionRoom old) (e ≡ refused old Sessions_full) (λ room.
-    Unless (HasDraws old 2) (e ≡ refused old Teids_used) (λ draws.
-    Unless (HasPendingRoom old) (e ≡ refused old Pending_full) (λ few.
+    Unless (HasSessionRoom old) (e ≡ refused old SessionsFull) (λ room.
+    Unless (HasDraws old 2) (e ≡ refused old TeidsUsed) (λ draws.
+    Unless (HasPendingRoom old) (e ≡ refused old PendingFull) (λ few.
     BeginsSession old spec e)))
 
 -- delete_session: at the serving gateway, of an active session
 abbrev pub SessionDeleted : Role → ℕ → Node → Effect → Type 0
-SessionDeleted Packet session old e = e ≡ refused old Wrong_role
+SessionDeleted Packet session old e = e ≡ refused old WrongRole
 SessionDeleted Serving session old e =
-    Unless (HasSession old session) (e ≡ refused old No_such_context) (λ at.
-    Unless (at.session.state ≡ Active) (e ≡ refused old Not_active) (λ active.
-    Unless (HasPendingRoom old) (e ≡ refused old Pending_full) (λ few.
+    Unless (HasSession old session) (e ≡ refused old NoSuchContext) (λ at.
+    Unless (at.session.state ≡ Active) (e ≡ refused old NotActive) (λ active.
+    Unless (HasPendingRoom old) (e ≡ refused old PendingFull) (λ few.
     ClosesSession old session at.session e)))
 
 -- create_bearer: at the packet gateway, for an active session
 abbrev pub BearerBegun : Role → ℕ → List ℕ → Qos → Node → Effect → Type 0
-BearerBegun Serving session tft qos old e = e ≡ refused old Wrong_role
+BearerBegun Serving session tft qos old e = e ≡ refused old WrongRole
 BearerBegun Packet session tft qos old e =
-    Unless (HasSession old session) (e ≡ refused old No_such_context) (λ at.
-    Unless (at.session.state ≡ Active) (e ≡ refused old Not_active) (λ active.
-    Unless (HasDraws old 1) (e ≡ refused old Teids_used) (λ draws.
-    Unless (HasPendingRoom old) (e ≡ refused old Pending_full) (λ few.
+    Unless (HasSession old session) (e ≡ refused old NoSuchContext) (λ at.
+    Unless (at.session.state ≡ Active) (e ≡ refused old NotActive) (λ active.
+    Unless (HasDraws old 1) (e ≡ refused old TeidsUsed) (λ draws.
+    Unless (HasPendingRoom old) (e ≡ refused old PendingFull) (λ few.
     BeginsBearer old session at.session tft qos e))))
 
 -- delete_bearer: at the packet gateway, of an active dedicated bearer in an active session
 abbrev pub BearerDeleted : Role → ℕ → ℕ → Node → Effect → Type 0
-BearerDeleted Serving session identity old e = e ≡ refused old Wrong_role
+BearerDeleted Serving session identity old e = e ≡ refused old WrongRole
 BearerDeleted Packet session identity old e =
-    Unless (HasSession old session) (e ≡ refused old No_such_context) (λ at.
-    Unless (NamesBearer old session identity) (e ≡ refused old No_such_context) (λ named.
-    Unless ((at.session.state ≡ Active) × (named.at.bearer.state ≡ Active)) (e ≡ refused old Not_active) (λ active.
-    Unless (HasPendingRoom old) (e ≡ refused old Pending_full) (λ few.
+    Unless (HasSession old session) (e ≡ refused old NoSuchContext) (λ at.
+    Unless (NamesBearer old session identity) (e ≡ refused old NoSuchContext) (λ named.
+    Unless ((at.session.state ≡ Active) × (named.at.bearer.state ≡ Active)) (e ≡ refused old NotActive) (λ active.
+    Unless (HasPendingRoom old) (e ≡ refused old PendingFull) (λ few.
     ClosesBearer old session at.session identity named.key named.at.bearer e))))
 
 -- release_session: at the packet gateway, of an active session
 abbrev pub SessionReleased : Role → ℕ → Node → Effect → Type 0
-SessionReleased Serving session old e = e ≡ refused old Wrong_role
+SessionReleased Serving session old e = e ≡ refused old WrongRole
 SessionReleased Packet session old e =
-    Unless (HasSession old session) (e ≡ refused old No_such_context) (λ at.
-    Unless (at.session.state ≡ Active) (e ≡ refused old Not_active) (λ active.
-    Unless (HasPendingRoom old) (e ≡ refused old Pending_full) (λ few.
+    Unless (HasSession old session) (e ≡ refused old NoSuchContext) (λ at.
+    Unless (at.session.state ≡ Active) (e ≡ refused old NotActive) (λ active.
+    Unless (HasPendingRoom old) (e ≡ refused old PendingFull) (λ few.
     ReleasesSession old session at.session e)))
 
 -- end_marker: at the packet gateway, once on an active bearer
 abbrev pub EndMarked : Role → ℕ → Node → Effect → Type 0
-EndMarked Serving bearer old e = e ≡ refused old Wrong_role
+EndMarked Serving bearer old e = e ≡ refused old WrongRole
 EndMarked Packet bearer old e =
-    Unless (HasBearer old bearer) (e ≡ refused old No_such_context) (λ at.
-    Unless (at.bearer.state ≡ Active) (e ≡ refused old Not_active) (λ active.
-    Unless (at.bearer.ended ≡ false) (e ≡ refused old Bearer_ended) (λ before.
-    e ≡ record { out = says (user_end old.config.peer.user) (End_marker (written at.bearer.remote)); outcome = Gone_out; node = record old { bearers = insert old.bearers bearer (ended_bearer at.bearer) } })))
+    Unless (HasBearer old bearer) (e ≡ refused old NoSuchContext) (λ at.
+    Unless (at.bearer.state ≡ Active) (e ≡ refused old NotActive) (λ active.
+    Unless (at.bearer.ended ≡ false) (e ≡ refused old BearerEnded) (λ before.
+    e ≡ record { out = says (user_end old.config.peer.user) (End_marker (written at.bearer.remote)); outcome = GoneOut; node = record old { bearers = insert old.bearers bearer (ended_bearer at.bearer) } })))
 
 -- echo: at both
 abbrev pub EchoBegun : Node → Effect → Type 0
 EchoBegun old e =
-    Unless (HasPendingRoom old) (e ≡ refused old Pending_full) (λ few.
+    Unless (HasPendingRoom old) (e ≡ refused old PendingFull) (λ few.
     SendsEcho old e)
 
 -- send_user: at both, on an active bearer, at most 65,000 octets
 abbrev pub PacketSent : Role → ℕ → List ℕ → Node → Effect → Type 0
 PacketSent role bearer payload old e =
-    Unless (HasBearer old bearer) (e ≡ refused old No_such_context) (λ at.
-    Unless (at.bearer.state ≡ Active) (e ≡ refused old Not_active) (λ active.
-    Unless (MayGo role at.bearer) (e ≡ refused old Bearer_ended) (λ goes.
-    Unless (length payload ≤ 65000) (e ≡ refused old Packet_too_long) (λ short.
+    Unless (HasBearer old bearer) (e ≡ refused old NoSuchContext) (λ at.
+    Unless (at.bearer.state ≡ Active) (e ≡ refused old NotActive) (λ active.
+    Unless (MayGo role at.bearer) (e ≡ refused old BearerEnded) (λ goes.
+    Unless (length payload ≤ 65000) (e ≡ refused old PacketTooLong) (λ short.
     SendsPacket old at.bearer payload e))))
 
 -- a command

@@ -2,6 +2,8 @@
 use Rattle.std.specs.Prelude.{ℕ, List}
 use Rattle.gtp_values.specs.declared.address.Ip.{Ip}
 use Rattle.gtp_values.specs.declared.address.Endpoint.{Endpoint}
+use Rattle.gtp_values.specs.declared.plane.Plane.{Plane}
+use Rattle.gtp_values.specs.declared.plane.Plane.TheVariants.{Control, User}
 
 -- the address of each plane
 pub record Addresses : Type 0 where
@@ -23,3 +25,8 @@ control_end ip = record { ip = ip; port = 2123 }
 -- where user plane datagrams go: UDP port 2152 (TS 29.281, 4.4.2.3)
 abbrev pub user_end : Ip → Endpoint
 user_end ip = record { ip = ip; port = 2152 }
+
+-- where datagrams of a plane leave from: the gateway's own address, at the plane's port
+abbrev pub own_end : Config → Plane → Endpoint
+own_end config Control = control_end config.own.control
+own_end config User = user_end config.own.user

@@ -5,12 +5,7 @@ use Rattle.gtp_values.specs.declared.address.Ip.{Ip}
 use Rattle.gtp_values.specs.declared.address.Ip.TheVariants.{V4, V6}
 use Rattle.gtp_values.specs.declared.cause.Cause.{Cause}
 use Rattle.gtp_values.specs.declared.paa.Paa.{Paa}
-
--- who a session is for: subscriber, access point and identity of the default bearer
-pub record Subscriber : Type 0 where
-  pub imsi : List ℕ  -- its digits
-  pub access_point : List ℕ  -- the octets of its labels
-  pub identity : ℕ  -- the EPS bearer identity of the default bearer
+pub use Rattle.gtp_tables.specs.declared.context.Subscriber.{Subscriber}
 
 -- a PDN Address Allocation (8.14): an IPv4 address as a number, or one of another type, at which no gateway looks
 pub data PdnAddress : Type 0 where

@@ -6,8 +6,15 @@ use Rattle.gtp_values.specs.declared.address.Endpoint.{Endpoint}
 use Rattle.gtp_values.specs.declared.qos.Ambr.{Ambr}
 use Rattle.gtp_values.specs.declared.qos.Qos.{Qos}
 use Rattle.gtp_machine.specs.Element.{Subscriber}
-use Rattle.gtp_machine.specs.Message.{Message}
+use Rattle.gtp_machine.specs.Message.{Message, Plane}
 use Rattle.gtp_machine.specs.Node.{Arrival, Node}
+pub use Rattle.gtp_machine.specs.declared.outcome.Refusal.{Refusal}
+pub use Rattle.gtp_machine.specs.declared.outcome.Refusal.TheVariants.{NoSuchContext, NotActive, WrongRole, SessionsFull, TeidsUsed, PendingFull, BearerEnded, PacketTooLong}
+pub use Rattle.gtp_machine.specs.declared.outcome.FaultName.{FaultName}
+pub use Rattle.gtp_machine.specs.declared.outcome.DropReason.{DropReason}
+pub use Rattle.gtp_machine.specs.declared.outcome.DropReason.TheVariants.{Undecodable, OldCounter, NoPending, Mismatch, ContextNotActive, UnknownContext, AfterEnd, HeldFull, Unexpected, UnknownExtension, NotPeer}
+pub use Rattle.gtp_machine.specs.declared.outcome.Outcome.{Outcome}
+pub use Rattle.gtp_machine.specs.declared.outcome.Outcome.TheVariants.{Begun, GoneOut, Refused, Answered, Echoed, Repeated, Opened, Closed, Clash, Rejected, Alive, Accepted, Ended, Broken, Dropped, Moved}
 
 -- what a session is to be made with; where a command is well formed (Sound) the identity of its default bearer is 5 to 15
 pub record Specification : Type 0 where
@@ -79,50 +86,6 @@ pub data Input : Type 0 where
   User_came : Endpoint → UserReading → Input
   Moves_on : Move → Input
 
--- why a command is refused (printed G1 to G5 and G7, with S1, S4 or B1 for what is full)
-pub data Refusal : Type 0 where
-  No_such_context : Refusal  -- G1
-  Not_active : Refusal  -- G2
-  Wrong_role : Refusal  -- G3
-  Sessions_full : Refusal  -- G4 S1
-  Teids_used : Refusal  -- G4 S4
-  Pending_full : Refusal  -- G4 B1
-  Bearer_ended : Refusal  -- G5
-  Packet_too_long : Refusal  -- G7
-
--- why a datagram is dropped (printed X1 to X11)
-pub data Drop : Type 0 where
-  Undecodable : ℕ → Drop  -- X1, with the fault's printed number
-  Old_counter : Drop  -- X2
-  No_pending : Drop  -- X3
-  Mismatch : Drop  -- X4
-  Context_not_active : Drop  -- X5
-  Unknown_context : Drop  -- X6
-  After_end : Drop  -- X7
-  Held_full : Drop  -- X8
-  Unexpected : Drop  -- X9
-  Unknown_extension : Drop  -- X10
-  Not_peer : Drop  -- X11
-
--- what a step comes to
-pub data Outcome : Type 0 where
-  Begun : Option ℕ → Outcome  -- a command, with the TEID of its context
-  Gone_out : Outcome  -- a packet or an End Marker was sent
-  Refused : Refusal → Outcome
-  Answered : ℕ → Outcome  -- a request, with this cause
-  Echoed : Outcome
-  Repeated : Outcome
-  Opened : Outcome
-  Closed : Outcome
-  Clash : Outcome
-  Rejected : ℕ → Outcome  -- by the peer, with this cause
-  Alive : Outcome
-  Accepted : Outcome
-  Ended : Outcome
-  Broken : Outcome
-  Dropped : Drop → Outcome
-  Moved : Outcome  -- a move of a tick, which has no outcome of its own
-
 -- a user packet, and the context that it is for
 pub record Entry : Type 0 where
   pub target : ℕ  -- the TEID that the packet names
@@ -174,6 +137,10 @@ pub record Effect : Type 0 where
 abbrev pub refused : Node → Refusal → Effect
 refused node why = record { out = nothing; outcome = Refused why; node = node }
 
+-- a datagram of this plane with the fault of this printed number
+abbrev pub undecodable : Plane → ℕ → DropReason
+undecodable plane number = Undecodable (record { plane = plane; number = number })
+
 -- nothing changes, and the datagram is dropped
-abbrev pub dropped : Node → Drop → Effect
+abbrev pub dropped : Node → DropReason → Effect
 dropped node why = record { out = nothing; outcome = Dropped why; node = node }

@@ -1,19 +1,24 @@
 -- What holds of each run.
-use Rattle.std.specs.Prelude.{◌≡◌, ◌≢◌, ℕ, ◌+◌, ◌%◌, ◌≤◌, List, [], ◌∷◌, Option, Some, None}
+use Rattle.std.specs.Prelude.{◌⊎◌, ◌≡◌, ◌≢◌, ℕ, ◌+◌, ◌%◌, ◌≤◌, List, [], ◌∷◌, Option, Some, None, ◌++◌, length}
 use Rattle.std.specs.FinMap.{get}
 use Rattle.gtp_values.specs.Counter.{age_of}
 use Rattle.gtp_values.specs.declared.counter.Age.TheVariants.{Later}
 use Rattle.gtp_values.specs.FiniteMap.{FiniteMap, Among}
 use Rattle.gtp_machine.specs.Config.{Config}
-use Rattle.gtp_machine.specs.Message.{CreateSessionRequest, CreateSessionResponse, CreateBearerRequest, CreateBearerResponse, Message, Create_session_request, Create_session_response, Create_bearer_request, Create_bearer_response, Packet_data, End_marker, Error_indication, Owns, header_of, recovery_of, first_given, first_returned}
-use Rattle.gtp_machine.specs.Node.{Arrival, Role, Serving, Packet, Pending, Active, Closing, Session, Bearer, Dedicated}
-use Rattle.gtp_machine.specs.Input.{Entry}
+use Rattle.gtp_machine.specs.Message.{Plane, Control, User, first_created, CreateSessionRequest, CreateSessionResponse, CreateBearerRequest, CreateBearerResponse, Message, Create_session_request, Create_session_response, Create_bearer_request, Create_bearer_response, Packet_data, End_marker, Error_indication, Owns, header_of, recovery_of, first_given, first_returned}
+use Rattle.gtp_machine.specs.Element.{teid_in}
+use Rattle.gtp_machine.specs.Node.{Node, fresh_node, Arrival, Role, Serving, Packet, Pending, Active, Closing, Session, Bearer, Dedicated}
+use Rattle.gtp_machine.specs.Input.{Entry, Effect, Outcome, Repeated, Closed, messages}
 use Rattle.gtp_machine.specs.Choice.{counter_of}
-use Rattle.gtp_machine.specs.World.{World, Event, Run, start, other, side_of, Side, Sent, HasSent}
+use Rattle.gtp_machine.specs.Serving.{BearerAsked}
+use Rattle.gtp_machine.specs.Packet.{SessionAsked}
+use Rattle.gtp_machine.specs.Step.{Done, Steps}
+use Rattle.gtp_machine.specs.Once.{Makes, Takes, NeverForgets, IsOnce}
+use Rattle.gtp_machine.specs.World.{World, steps_of, Event, Deliver, Note, Came_to, Stands, signed, Run, start, other, side_of, Side, HasBy, Sent, HasSent}
 
--- P holds at the end of each run, however messages are spelled and the gateways are configured
+-- P holds at the end of each run, however the gateways are configured
 abbrev pub Always : (World → Type 0) → Type 0
-Always P = (spelled : Message → List ℕ) (serving packet : Config) (serving_counter packet_counter : ℕ) (events : List Event) (w : World) → Run spelled (start serving packet serving_counter packet_counter) events w → P w
+Always P = (serving packet : Config) (serving_counter packet_counter : ℕ) (events : List Event) (w : World) → Run (start serving packet serving_counter packet_counter) events w → P w
 
 -- a session of each gateway, both active, each under the TEID that the other has for it
 pub record MutualSessions (w : World) (c d : ℕ) (at_serving at_packet : Session) : Type 0 where
@@ -71,15 +76,30 @@ NoneOver w = (role : Role) (t : ℕ) (s : Session) → get (side_of w role).node
 
 -- an accepted packet is owed: it was handed in at the other gateway, octet for octet, for the same target, subscriber, access point and identity
 abbrev pub IsOwed : World → Role → Entry → Type 0
-IsOwed w role entry = Among entry (side_of w (other role)).handed
+IsOwed w role entry = HasBy w.handed (other role) entry
 
 -- where no delivery was late, each packet that was accepted is owed
 abbrev pub EachOwed : World → Type 0
-EachOwed w = w.late ≡ 0 → (role : Role) (entry : Entry) → Among entry (side_of w role).accepted → IsOwed w role entry
+EachOwed w = w.late ≡ 0 → (role : Role) (entry : Entry) → HasBy w.accepted role entry → IsOwed w role entry
 
 -- each TEID stands as its sender's own in one message and its repeats
 abbrev pub OneMessage : World → Type 0
 OneMessage w = (role : Role) (m n : Message) (t : ℕ) → HasSent w.history role m → HasSent w.history role n → Owns m t → Owns n t → m ≡ n
+
+-- t stands in the message as an F-TEID of this plane that its sender drew for it
+abbrev pub OwnsOn : Plane → Message → ℕ → Type 0
+OwnsOn Control (Create_session_request q) t = t ≡ q.control.teid
+OwnsOn Control (Create_session_response a) t = teid_in a.control ≡ Some t
+OwnsOn Control m t = ⊥
+OwnsOn User (Create_session_request q) t = t ≡ q.context.user.teid
+OwnsOn User (Create_session_response a) t = first_created a.contexts ≡ Some t
+OwnsOn User (Create_bearer_request r) t = t ≡ r.context.user.teid
+OwnsOn User (Create_bearer_response x) t = first_given x.contexts ≡ Some t
+OwnsOn User m t = ⊥
+
+-- no TEID stands for both planes: each message that has one of each has two
+abbrev pub PlanesApart : World → Type 0
+PlanesApart w = (role : Role) (m : Message) (t : ℕ) → HasSent w.history role m → OwnsOn Control m t → OwnsOn User m t → ⊥
 
 -- the role has sent a message in which t stands as its own
 pub record IsFrom (history : List Sent) (role : Role) (t : ℕ) : Type 0 where
@@ -87,15 +107,21 @@ pub record IsFrom (history : List Sent) (role : Role) (t : ℕ) : Type 0 where
   pub sent : HasSent history role message
   pub owns : Owns message t
 
--- the TEIDs of a context go back to a draw by its gateway, and to one by the other
-pub record GoesBack (history : List Sent) (role : Role) (own : ℕ) (remote : Option ℕ) : Type 0 where
-  pub here : IsFrom history role own
-  pub there : (t : ℕ) → remote ≡ Some t → IsFrom history (other role) t
+-- the role has sent a message with an F-TEID of this plane in which t stands as its own
+pub record IsFromOn (plane : Plane) (history : List Sent) (role : Role) (t : ℕ) : Type 0 where
+  pub message : Message
+  pub sent : HasSent history role message
+  pub owns : OwnsOn plane message t
 
--- the TEIDs of each session and bearer go back to draws
+-- the TEIDs of a context go back to a draw by its gateway, and to one by the other
+pub record GoesBack (plane : Plane) (history : List Sent) (role : Role) (own : ℕ) (remote : Option ℕ) : Type 0 where
+  pub here : IsFromOn plane history role own
+  pub there : (t : ℕ) → remote ≡ Some t → IsFromOn plane history (other role) t
+
+-- the TEIDs of each session go back to draws for the control plane, and those of each bearer to draws for the user plane
 pub record EachGoesBack (w : World) : Type 0 where
-  pub sessions : (role : Role) (t : ℕ) (s : Session) → get (side_of w role).node.sessions t ≡ Some s → GoesBack w.history role t s.remote
-  pub bearers : (role : Role) (t : ℕ) (b : Bearer) → get (side_of w role).node.bearers t ≡ Some b → GoesBack w.history role t b.remote
+  pub sessions : (role : Role) (t : ℕ) (s : Session) → get (side_of w role).node.sessions t ≡ Some s → GoesBack Control w.history role t s.remote
+  pub bearers : (role : Role) (t : ℕ) (b : Bearer) → get (side_of w role).node.bearers t ≡ Some b → GoesBack User w.history role t b.remote
 
 -- the TEID that a message of this gateway names, but 0, goes back to a draw: that of its header, of a packet or of an End Marker to one by the other
 -- gateway; that of an Error Indication, which comes back from a packet, to one of its own
@@ -112,12 +138,21 @@ EachNamesBack history = (role : Role) (m : Message) → HasSent history role m �
 abbrev pub NamesGoBack : World → Type 0
 NamesGoBack w = EachNamesBack w.history
 
+-- The message was sent in a step that took a request by these rules: it is what they made of the request, or their refusal of it.
+pub record IsAnswerBy (Asked : Arrival → Node → Effect → Type 0) (answer : Message) : Type 0 where
+  pub request : Arrival
+  pub old : Node
+  pub effect : Effect
+  pub asked : Asked request old effect
+  pub answers : messages effect.out.sent ≡ answer ∷ []
+
 -- the request that a Create Session Response answers, of its number, for the session that its header names
 pub record AnswersSession (history : List Sent) (a : CreateSessionResponse) : Type 0 where
   pub request : CreateSessionRequest
   pub sent : HasSent history Serving (Create_session_request request)
   pub number : a.number ≡ request.number
   pub header : a.header ≡ request.control.teid
+  pub given : IsAnswerBy (λ at. SessionAsked at request) (Create_session_response a)
 
 -- the request that a Create Bearer Response answers, of its number; where it gives back a TEID, that is the request's
 pub record AnswersBearer (history : List Sent) (x : CreateBearerResponse) : Type 0 where
@@ -125,8 +160,9 @@ pub record AnswersBearer (history : List Sent) (x : CreateBearerResponse) : Type
   pub sent : HasSent history Packet (Create_bearer_request request)
   pub number : x.number ≡ request.number
   pub returned : (t : ℕ) → first_returned x.contexts ≡ Some t → t ≡ request.context.user.teid
+  pub given : IsAnswerBy (λ at. BearerAsked at request) (Create_bearer_response x)
 
--- responses go back to requests
+-- each response goes back to a request of the other gateway, which was answered with it
 pub record ResponsesGoBack (w : World) : Type 0 where
   pub sessions : (a : CreateSessionResponse) → HasSent w.history Packet (Create_session_response a) → AnswersSession w.history a
   pub bearers : (x : CreateBearerResponse) → HasSent w.history Serving (Create_bearer_response x) → AnswersBearer w.history x
@@ -165,6 +201,24 @@ AtMostOnce x (y ∷ ys) = (y ≡ x → Among x ys → ⊥) × AtMostOnce x ys
 abbrev pub MadeOnce : World → Type 0
 MadeOnce w = (role : Role) (request : Arrival) → (Among request (side_of w role).came_late → ⊥) → AtMostOnce request (side_of w role).made
 
+-- the steps that are kept of each gateway lead from its start to what it is now
+abbrev pub StepsAreKept : World → Type 0
+StepsAreKept w = (role : Role) → (config : Config) × Steps role (fresh_node config (((side_of w role).first + (side_of w role).restarts) % 256)) (steps_of w role) (side_of w role).node
+
+-- two of the steps, one after the other, and those between them
+pub record Follow (steps : List Done) (first second : Done) : Type 0 where
+  pub before : List Done
+  pub between : List Done
+  pub after : List Done
+  pub are : steps ≡ before ++ (first ∷ (between ++ (second ∷ after)))
+
+-- Each create request acts once in the present start of its gateway: of two steps that took it, the second made no context where the first made one, and both
+-- sent the same; where no delivery of it was late, or else where its answer was not given up between the two.
+abbrev pub EachActsOnce : World → Type 0
+EachActsOnce w =
+    (role : Role) (request : Arrival) (message : Message) (first second : Done) (two : Follow (steps_of w role) first second) → Makes role message → Takes first request message → Takes second request message →
+    (Among request (side_of w role).came_late → ⊥) ⊎ NeverForgets two.between request → IsOnce first second
+
 -- a context has a remote once it is active, and a pending session has none
 pub record EachOpened (w : World) : Type 0 where
   pub named : (role : Role) (t : ℕ) (s : Session) → get (side_of w role).node.sessions t ≡ Some s → s.state ≢ Pending → (remote : ℕ) × (s.remote ≡ Some remote)
@@ -179,17 +233,36 @@ ClosesWhole sessions bearers = (t : ℕ) (b : Bearer) (s : Session) → get bear
 abbrev pub EachClosesWhole : World → Type 0
 EachClosesWhole w = (role : Role) → ClosesWhole (side_of w role).node.sessions (side_of w role).node.bearers
 
--- different messages are spelled differently
-abbrev pub IsFaithful : (Message → List ℕ) → Type 0
-IsFaithful spelled = (m n : Message) → spelled m ≡ spelled n → m ≡ n
+-- an event came to this
+abbrev pub HasOutcome : World → Outcome → Type 0
+HasOutcome w outcome = (note : Note) × Among note w.notes × (note.outcome ≡ Came_to outcome)
+
+-- A run goes on from there: a request comes again, a datagram is lost, two packets come in the other order, a dedicated bearer is deleted, and a restart is
+-- heard, with which the packet gateway's session goes.
+pub record GoesOn (before : World) (session_there : ℕ) : Type 0 where
+  pub events : List Event
+  pub world : World
+  pub run : Run before events world
+  pub repeated : HasOutcome world Repeated
+  pub lost : Stands world.history (length before.history)
+  pub never_comes : Among (Deliver (length before.history)) events → ⊥
+  pub first : Entry
+  pub second : Entry
+  pub apart : first ≢ second
+  pub handed : world.handed ≡ before.handed ++ signed Serving (first ∷ second ∷ [])
+  pub accepted : world.accepted ≡ before.accepted ++ signed Packet (second ∷ first ∷ [])
+  pub closed : HasOutcome world Closed
+  pub restarts : world.serving.restarts ≡ 1 + before.serving.restarts
+  pub heard : Among world.serving.node.counter world.packet.seen
+  pub gone : (s : Session) → get world.packet.node.sessions session_there ≡ Some s → ⊥
 
 -- a run to sessions and dedicated bearers that name each other and to a packet that was accepted on them, with no late delivery
-pub record GetsThrough (spelled : Message → List ℕ) : Type 0 where
+pub record GetsThrough : Type 0 where
   pub serving : Config
   pub packet : Config
   pub events : List Event
   pub world : World
-  pub run : Run spelled (start serving packet 1 1) events world
+  pub run : Run (start serving packet 1 1) events world
   pub session : ℕ
   pub session_there : ℕ
   pub at_serving : Session
@@ -204,11 +277,12 @@ pub record GetsThrough (spelled : Message → List ℕ) : Type 0 where
   pub of_session : bearer_at_serving.session ≡ session
   pub of_session_there : bearer_at_packet.session ≡ session_there
   pub taken : Entry
-  pub handed : Among taken world.serving.handed
-  pub accepted : Among taken world.packet.accepted
+  pub handed : HasBy world.handed Serving taken
+  pub accepted : HasBy world.accepted Packet taken
   pub on_bearer : taken.target ≡ bearer_there
   pub on_time : world.late ≡ 0
+  pub goes_on : GoesOn world session_there
 
--- however messages are spelled apart, there is such a run
+-- there is such a run
 abbrev pub ARunIsPossible : Type 0
-ARunIsPossible = (spelled : Message → List ℕ) → IsFaithful spelled → GetsThrough spelled
+ARunIsPossible = GetsThrough

@@ -7,6 +7,8 @@ use Rattle.gtp_values.specs.declared.address.Ip.{Ip}
 use Rattle.gtp_values.specs.declared.cause.Cause.{Cause}
 use Rattle.gtp_values.specs.declared.qos.Ambr.{Ambr}
 use Rattle.gtp_values.specs.declared.qos.Qos.{Qos}
+pub use Rattle.gtp_values.specs.declared.plane.Plane.{Plane}
+pub use Rattle.gtp_values.specs.declared.plane.Plane.TheVariants.{Control, User}
 use Rattle.gtp_machine.specs.Element.{Subscriber, PdnAddress, teid_in}
 
 -- Echo Request and Echo Response (7.1.1, 7.1.2)
@@ -142,11 +144,6 @@ pub data Message : Type 0 where
   User_echo_response : ℕ → Message
   Supported_extensions : List ℕ → Message  -- the extension header types that are understood
   Other_user : ℕ → Message  -- a user message of another type
-
--- control plane (GTPv2-C) or user plane (GTP-U)
-pub data Plane : Type 0 where
-  Control : Plane
-  User : Plane
 
 -- the plane that a message is of
 abbrev pub plane_of : Message → Plane

@@ -6,18 +6,7 @@ use Rattle.gtp_machine.specs.Config.{Config}
 use Rattle.gtp_machine.specs.Message.{Message, Create_session_request, Create_bearer_request}
 use Rattle.gtp_machine.specs.Node.{Role, Serving, Packet, Bearer, Arrival, Held, Node, fresh_node}
 use Rattle.gtp_machine.specs.Input.{Input, Control_came, Control_message, Effect, messages}
-use Rattle.gtp_machine.specs.World.{Step}
-
--- a step: the gateway before it, what it took, and what that gave
-pub record Done : Type 0 where
-  pub before : Node
-  pub input : Input
-  pub effect : Effect
-
--- the gateway goes from one node to the other by these steps
-abbrev pub Steps : Role → Node → List Done → Node → Type 0
-Steps role old [] new = new ≡ old
-Steps role old (done ∷ log) new = (done.before ≡ old) × Step role old done.input done.effect × Steps role done.effect.node log new
+use Rattle.gtp_machine.specs.Step.{Step, Done, Steps}
 
 -- a request by which this gateway makes a session or a bearer
 abbrev pub Makes : Role → Message → Type 0

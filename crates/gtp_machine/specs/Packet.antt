@@ -5,13 +5,13 @@ use Rattle.gtp_values.specs.declared.cause.Cause.{Cause}
 use Rattle.gtp_machine.specs.Ordered.{Unless}
 use Rattle.gtp_values.specs.FiniteMap.{Among}
 use Rattle.gtp_machine.specs.Element.{IsAccepting, Ipv4, cause_of, cause_at, teid_in, tunnel_end}
-use Rattle.gtp_machine.specs.Message.{CreateSessionRequest, CreateSessionResponse, DeleteSessionRequest, CreateBearerRequest, GivenBearer, CreateBearerResponse, DeleteBearerRequest, DeleteBearerResponse, Message, Echo_request, Echo_response, Create_session_request, Create_session_response, Delete_session_request, Delete_session_response, Create_bearer_request, Create_bearer_response, Delete_bearer_request, Delete_bearer_response, subscriber_of, first_given, first_identity}
+use Rattle.gtp_machine.specs.Message.{CreateSessionRequest, CreateSessionResponse, DeleteSessionRequest, CreateBearerRequest, GivenBearer, CreateBearerResponse, DeleteBearerRequest, DeleteBearerResponse, Message, Control, Echo_request, Echo_response, Create_session_request, Create_session_response, Delete_session_request, Delete_session_response, Create_bearer_request, Create_bearer_response, Delete_bearer_request, Delete_bearer_response, subscriber_of, first_given, first_identity}
 use Rattle.gtp_machine.specs.Node.{Active, Closing, Session, Bearer, Default, PendingRequest, Arrival, Node, written}
-use Rattle.gtp_machine.specs.Input.{ControlReading, RequestKind, Of_create_session, Of_delete_session, Of_create_bearer, Of_delete_bearer, FaultyRequest, Effect, Opened, Closed, Clash, Rejected, nothing, dropped, Undecodable, No_pending, Mismatch, Held_full, Unexpected}
-use Rattle.gtp_machine.specs.Choice.{IsFree, HasDraws, IsFreeAddress, HasFreeAddress, IsIdentity, IsUnused, HasSessionRoom, HasHeldRoom, HasSession, HasBearer, HasPending}
+use Rattle.gtp_machine.specs.Input.{ControlReading, RequestKind, Of_create_session, Of_delete_session, Of_create_bearer, Of_delete_bearer, FaultyRequest, Effect, Opened, Closed, Clash, Rejected, nothing, dropped, undecodable, NoPending, Mismatch, Unexpected}
+use Rattle.gtp_machine.specs.Choice.{IsFree, HasDraws, IsFreeAddress, HasFreeAddress, IsIdentity, IsUnused, HasSessionRoom, HasSession, HasBearer, HasPending}
 use Rattle.gtp_machine.specs.Removal.{without_session}
 use Rattle.gtp_machine.specs.Response.{Named, finishing, EchoAnswered}
-use Rattle.gtp_machine.specs.Answer.{answered, making, echoed, refusing, faulted, fault_number, TakesReading}
+use Rattle.gtp_machine.specs.Answer.{UnlessFull, answered, making, echoed, refusing, faulted, fault_number, TakesReading}
 
 -- 18 (new PDN type due to network preference) where IPv4v6 was asked for, else 16
 abbrev pub session_cause : ℕ → ℕ
@@ -63,30 +63,36 @@ pub record MakesSession (request : Arrival) (old : Node) (q : CreateSessionReque
 abbrev pub session_refused : Arrival → CreateSessionRequest → Cause → Node → Effect
 session_refused request q cause old = answered request (refusing Of_create_session q.control.teid q.number cause old.counter) cause.value old
 
--- A Create Session Request (7.2.1), with its refusals in their order.
-abbrev pub SessionAsked : Arrival → CreateSessionRequest → Node → Effect → Type 0
-SessionAsked request q old e =
-    Unless (HasHeldRoom old) (e ≡ dropped old Held_full) (λ room.
+-- A Create Session Request (7.2.1) whose answer can be held, with its refusals in their order.
+abbrev pub SessionJudged : Arrival → CreateSessionRequest → Node → Effect → Type 0
+SessionJudged request q old e =
     Unless (q.further ≡ []) (e ≡ session_refused request q (cause_of 94) old) (λ one.
     Unless (IsIdentity q.context.identity) (e ≡ session_refused request q (cause_at 69 73 0) old) (λ identity.
     Unless (Among q.access_point old.config.access_points) (e ≡ session_refused request q (cause_of 78) old) (λ configured.
     Unless ((q.pdn ≡ 1) ⊎ (q.pdn ≡ 3)) (e ≡ session_refused request q (cause_of 83) old) (λ pdn.
     Unless (HasSessionRoom old × HasDraws old 2) (e ≡ session_refused request q (cause_of 73) old) (λ few.
     Unless (HasFreeAddress old) (e ≡ session_refused request q (cause_of 84) old) (λ address.
-    MakesSession request old q e)))))))
+    MakesSession request old q e))))))
+
+-- A Create Session Request.
+abbrev pub SessionAsked : Arrival → CreateSessionRequest → Node → Effect → Type 0
+SessionAsked request q old e = UnlessFull (SessionJudged request q) old e
 
 -- the linked identity is absent, or the session's default
 abbrev pub IsLinkedTo : Option ℕ → Session → Type 0
 IsLinkedTo None s = Unit {0}
 IsLinkedTo (Some identity) s = identity ≡ s.subscriber.identity
 
--- A Delete Session Request (7.2.9.1), in any state of the session.
-abbrev pub DeletionAsked : Arrival → DeleteSessionRequest → Node → Effect → Type 0
-DeletionAsked request d old e =
-    Unless (HasHeldRoom old) (e ≡ dropped old Held_full) (λ room.
+-- A Delete Session Request (7.2.9.1) whose answer can be held, in any state of the session.
+abbrev pub DeletionJudged : Arrival → DeleteSessionRequest → Node → Effect → Type 0
+DeletionJudged request d old e =
     Unless (HasSession old d.header) (e ≡ answered request (refusing Of_delete_session 0 d.number (cause_of 64) old.counter) 64 old) (λ at.
     Unless (IsLinkedTo d.linked at.session) (e ≡ answered request (refusing Of_delete_session (written at.session.remote) d.number (cause_of 64) old.counter) 64 old) (λ linked.
-    e ≡ answered request (Delete_session_response (record { header = written at.session.remote; number = d.number; cause = cause_of 16; recovery = Some old.counter })) 16 (without_session old d.header))))
+    e ≡ answered request (Delete_session_response (record { header = written at.session.remote; number = d.number; cause = cause_of 16; recovery = Some old.counter })) 16 (without_session old d.header)))
+
+-- A Delete Session Request.
+abbrev pub DeletionAsked : Arrival → DeleteSessionRequest → Node → Effect → Type 0
+DeletionAsked request d old e = UnlessFull (DeletionJudged request d) old e
 
 -- the request is a Create Bearer Request for the session that the response names
 pub record FitsBearer (p : PendingRequest) (x : CreateBearerResponse) : Type 0 where
@@ -122,7 +128,7 @@ pub record OpensBearer (old : Node) (x : CreateBearerResponse) (bearer : ℕ) (e
 -- A Create Bearer Response (7.2.4). What does not accept, or clashes, removes the pending bearer.
 abbrev pub BearerAnswered : CreateBearerResponse → Node → Effect → Type 0
 BearerAnswered x old e =
-    Unless (HasPending old x.number) (e ≡ dropped old No_pending) (λ at.
+    Unless (HasPending old x.number) (e ≡ dropped old NoPending) (λ at.
     Unless (FitsBearer at.pending x) (e ≡ dropped old Mismatch) (λ fits.
     Unless (IsAccepting x.cause) (e ≡ finishing old x.number at.pending (Rejected x.cause.value)) (λ accepts.
     Unless (DescribesBearer x) (e ≡ dropped old Mismatch) (λ new.
@@ -140,7 +146,7 @@ pub record FitsRemoval (p : PendingRequest) (d : DeleteBearerResponse) : Type 0 
 -- A Delete Bearer Response (7.2.10.2): with any cause the closing session or bearer goes.
 abbrev pub RemovalAnswered : DeleteBearerResponse → Node → Effect → Type 0
 RemovalAnswered d old e =
-    Unless (HasPending old d.number) (e ≡ dropped old No_pending) (λ at.
+    Unless (HasPending old d.number) (e ≡ dropped old NoPending) (λ at.
     Unless (FitsRemoval at.pending d) (e ≡ dropped old Mismatch) (λ fits.
     e ≡ finishing old d.number at.pending Closed))
 
@@ -168,8 +174,8 @@ packet_takes _ = false
 abbrev pub PacketFaulted : Arrival → FaultyRequest → RequestKind → Node → Effect → Type 0
 PacketFaulted request f Of_create_session old e = e ≡ faulted request f old
 PacketFaulted request f Of_delete_session old e = e ≡ faulted request f old
-PacketFaulted request f Of_create_bearer old e = e ≡ dropped old (Undecodable (fault_number f.defect))
-PacketFaulted request f Of_delete_bearer old e = e ≡ dropped old (Undecodable (fault_number f.defect))
+PacketFaulted request f Of_create_bearer old e = e ≡ dropped old (undecodable Control (fault_number f.defect))
+PacketFaulted request f Of_delete_bearer old e = e ≡ dropped old (undecodable Control (fault_number f.defect))
 
 -- what the packet gateway does with what was read
 abbrev pub PacketReads : ControlReading → Arrival → Node → Effect → Type 0

@@ -1,8 +1,6 @@
 -- How datagrams read: what the decoders of the two planes tell, as the machine sees it.
-use Rattle.std.specs.Prelude.{◌≡◌, ◌⊎◌, ℕ, ◌+◌, ◌*◌, ◌==◌, Bool, true, false, List, [], ◌∷◌, map, Option, Some, None, option_map, unwrap_or, if◌then◌else◌}
+use Rattle.std.specs.Prelude.{◌≡◌, ◌⊎◌, ◌↔◌, ℕ, ◌<◌, ◌==◌, nat_lt, Bool, true, false, List, [], ◌∷◌, map, length, take, Option, Some, None, option_map, unwrap_or, Result, Ok, Err, if◌then◌else◌}
 use Rattle.gtp_values.specs.declared.identifiers.Teid.{Teid}
-use Rattle.gtp_values.specs.declared.paa.Paa.{Paa}
-use Rattle.gtp_values.specs.declared.paa.Paa.TheVariants as paas
 use Rattle.gtp_ie.specs.declared.fault.IeFault.{IeFault}
 use Rattle.gtp_ie.specs.declared.fault.IeFault.TheVariants as elements
 use Rattle.gtp_ie.specs.declared.value.numbers.Recovery.{Recovery}
@@ -21,6 +19,7 @@ use Rattle.gtp_v2.specs.declared.fault.Head.{Head}
 use Rattle.gtp_v2.specs.declared.fault.V2Fault.{V2Fault}
 use Rattle.gtp_v2.specs.declared.fault.V2Fault.TheVariants as faults
 use Rattle.gtp_v2.specs.Body.{kind_of, message_value}
+use Rattle.gtp_v2.specs.Message.{MessageValue, message_at}
 use Rattle.gtp_v2.specs.Datagram.{IsMessage, IsFault}
 use Rattle.gtp_user.specs.declared.message.UserBody.{UserBody}
 use Rattle.gtp_user.specs.declared.message.UserBody.TheVariants as user_bodies
@@ -28,24 +27,13 @@ use Rattle.gtp_user.specs.declared.message.UserMessage.{UserMessage}
 use Rattle.gtp_user.specs.declared.fault.UserFault.{UserFault}
 use Rattle.gtp_user.specs.declared.fault.UserFault.TheVariants as user_faults
 use Rattle.gtp_user.specs.Message as user_messages
+use Rattle.gtp_user.specs.Reading as user_octets
 use Rattle.gtp_user.specs.Datagram.{IsUserMessage, IsUserFault}
-use Rattle.gtp_machine.specs.Element.{PdnAddress, Ipv4, Other_address}
 use Rattle.gtp_machine.specs.Message.{CreateSessionRequest, CreateBearerRequest, RequestedBearer, CreatedBearer, WantedBearer, GivenBearer, RemovedBearer, Message, Echo_request, Echo_response, Create_session_request, Create_session_response, Delete_session_request, Delete_session_response, Create_bearer_request, Create_bearer_response, Delete_bearer_request, Delete_bearer_response, Other_control, Packet_data, End_marker, Error_indication, User_echo_request, User_echo_response, Supported_extensions, Other_user}
 use Rattle.gtp_machine.specs.Input.{RequestKind, Of_create_session, Of_delete_session, Of_create_bearer, Of_delete_bearer, Defect, Mandatory_missing, Conditional_missing, Too_short, Out_of_range, ControlReading, Control_message, Faulty, Control_fault, UserReading, User_message, Extension_needed, User_fault}
 use Rattle.gtp_machine.specs.Node.{written}
+use Rattle.gtp_machine.specs.Decoded.{address_of, message_of}
 use Rattle.gtp_machine.specs.Answer.{fault_number}
-
--- the number that octets stand for, the highest first, after what stands before them
-abbrev pub number_from : ℕ → List ℕ → ℕ
-number_from before [] = before
-number_from before (octet ∷ octets) = number_from (256 * before + octet) octets
-
--- a PDN Address Allocation (TS 29.274, 8.14): an IPv4 address as a number, another one as it is
-abbrev pub address_of : Paa → PdnAddress
-address_of (paas.V4 octets) = Ipv4 (number_from 0 octets)
-address_of (paas.V6 prefix octets) = Other_address (paas.V6 prefix octets)
-address_of (paas.V4V6 prefix v6 v4) = Other_address (paas.V4V6 prefix v6 v4)
-address_of (paas.Other number) = Other_address (paas.Other number)
 
 -- the TEID of a header (5.1), 0 where it has none
 abbrev pub header_in : Option Teid → ℕ
@@ -79,11 +67,10 @@ given_bearer c = record { identity = c.ebi.0; cause = c.cause; serving_user = c.
 abbrev pub removed_bearer : RemovalResponseContext → RemovedBearer
 removed_bearer c = record { identity = c.ebi.0; cause = c.cause }
 
--- a Create Session Request (7.2.1) with these bearer contexts; each that is decoded has one
-abbrev pub session_request_of : ℕ → ℕ → session_requests.CreateSessionRequest → List SessionRequestContext → Message
-session_request_of header number q [] = Other_control 32
-session_request_of header number q (first ∷ further) =
-    Create_session_request (record {
+-- what a Create Session Request (7.2.1) with these bearer contexts reads as
+abbrev pub session_requested : ℕ → ℕ → session_requests.CreateSessionRequest → SessionRequestContext → List SessionRequestContext → CreateSessionRequest
+session_requested header number q first further =
+    record {
       header = header;
       number = number;
       imsi = q.imsi;
@@ -98,7 +85,12 @@ session_request_of header number q (first ∷ further) =
       context = requested_bearer first;
       further = map requested_bearer further;
       recovery = counter_in q.recovery;
-    })
+    }
+
+-- a Create Session Request by its bearer contexts; each that is decoded has one
+abbrev pub session_request_of : ℕ → ℕ → session_requests.CreateSessionRequest → List SessionRequestContext → Message
+session_request_of header number q [] = Other_control 32
+session_request_of header number q (first ∷ further) = Create_session_request (session_requested header number q first further)
 
 -- a Create Bearer Request (7.2.3) with these bearer contexts; each that is decoded has one
 abbrev pub bearer_request_of : ℕ → ℕ → bearer_requests.CreateBearerRequest → List BearerRequestContext → Message
@@ -170,11 +162,23 @@ control_fault (faults.Element fault head) = element_fault head fault
 control_fault faults.Memory = Control_fault 8
 control_fault faults.TooLong = Control_fault 9
 
--- The octets of a control datagram (TS 29.274, 5 to 8) read so: they spell this message, or this is their first fault.
+-- what the outcome of reading says: a message, or the first fault
+abbrev pub control_reading_of : Result MessageValue V2Fault → ControlReading
+control_reading_of (Ok m) = Control_message (message_of m)
+control_reading_of (Err fault) = control_fault fault
+
+-- How the octets of a control datagram (5 to 8) read: as the message that they spell, or as their first fault.
+abbrev pub control_reading : List ℕ → ControlReading
+control_reading octets = control_reading_of (message_at octets)
+
+-- The octets of a control datagram read so.
 abbrev pub ControlReads : List ℕ → ControlReading → Type 0
-ControlReads octets reading =
-    ((m : decoded.Message) × IsMessage octets (message_value m) × (reading ≡ Control_message (control_message m)))
-    ⊎ ((fault : V2Fault) × IsFault octets fault × (reading ≡ control_fault fault))
+ControlReads octets reading = reading ≡ control_reading octets
+
+-- the fault of a control datagram of which only so many first octets come, by its printed number: H1, fewer than the first four of a header, or H3,
+-- fewer than these state (5.5.1)
+abbrev pub cut_fault : ℕ → ℕ
+cut_fault count = if nat_lt count 4 then 1 else 3
 
 -- what a user plane message carries, by its type (TS 29.281, 6.1); the sequence number counts in Echo messages alone
 abbrev pub user_body_message : Option ℕ → UserBody → Message
@@ -204,19 +208,37 @@ user_fault (user_faults.Element at) = User_fault 9
 user_fault user_faults.Memory = User_fault 10
 user_fault user_faults.TooLong = User_fault 11
 
--- The octets of a user plane datagram (TS 29.281, 5, 7 and 8) read so: they spell this message, or this is their first fault.
+-- what a user plane message says, by its type (6.1)
+abbrev pub user_content_message : Option ℕ → user_messages.Content → Message
+user_content_message number user_messages.EchoRequest = User_echo_request (unwrap_or number 0)
+user_content_message number user_messages.EchoResponse = User_echo_response (unwrap_or number 0)
+user_content_message number (user_messages.ErrorIndication teid peer) = Error_indication teid peer
+user_content_message number (user_messages.Notification types) = Supported_extensions types
+user_content_message number (user_messages.EndMarker teid) = End_marker teid
+user_content_message number (user_messages.Packet teid payload) = Packet_data teid payload
+user_content_message number (user_messages.Other kind teid octets) = Other_user kind
+
+-- what a message of the user plane says (5.1), as a message of the machine; its N-PDU number and its extension headers are not looked at
+abbrev pub user_message_of : user_messages.MessageValue → Message
+user_message_of m = user_content_message m.seq m.content
+
+-- what the outcome of reading says: a message, or the first fault
+abbrev pub user_reading_of : Result user_messages.MessageValue UserFault → UserReading
+user_reading_of (Ok m) = User_message (user_message_of m)
+user_reading_of (Err fault) = user_fault fault
+
+-- How the octets of a user plane datagram (5, 7 and 8) read: as the message that they spell, or as their first fault.
+abbrev pub user_reading : List ℕ → UserReading
+user_reading octets = user_reading_of (user_octets.message_at octets)
+
+-- The octets of a user plane datagram read so.
 abbrev pub UserReads : List ℕ → UserReading → Type 0
-UserReads octets reading =
-    ((m : UserMessage) × IsUserMessage octets (user_messages.message_value m) × (reading ≡ User_message (user_message m)))
-    ⊎ ((fault : UserFault) × IsUserFault octets fault × (reading ≡ user_fault fault))
+UserReads octets reading = reading ≡ user_reading octets
 
--- Octets of the control plane read in at most one way.
-abbrev pub ControlReadsOnce : Type 0
-ControlReadsOnce = (octets : List ℕ) (r s : ControlReading) → ControlReads octets r → ControlReads octets s → r ≡ s
-
--- Octets of the user plane read in at most one way.
-abbrev pub UserReadsOnce : Type 0
-UserReadsOnce = (octets : List ℕ) (r s : UserReading) → UserReads octets r → UserReads octets s → r ≡ s
+-- the fault of a user plane datagram of which only so many first octets come, by its printed number: U1, fewer than the first eight of a header, or U4,
+-- fewer than these state (5.1)
+abbrev pub user_cut_fault : ℕ → ℕ
+user_cut_fault count = if nat_lt count 8 then 1 else 4
 
 -- Each Create Session Request that is decoded reads as one, for the subscriber and the access point that it names.
 abbrev pub KeepsSubscriber : Type 0
@@ -225,3 +247,47 @@ KeepsSubscriber = (octets : List ℕ) (m : decoded.Message) (q : session_request
 -- Each Create Bearer Request that is decoded reads as one, for the session that its header names and with its linked identity.
 abbrev pub KeepsSession : Type 0
 KeepsSession = (octets : List ℕ) (m : decoded.Message) (q : bearer_requests.CreateBearerRequest) → IsMessage octets (message_value m) → m.body ≡ bodies.CreateBearerRequest q → (r : CreateBearerRequest) × (control_message m ≡ Create_bearer_request r) × (r.header ≡ header_in m.teid) × (r.linked ≡ q.linked_ebi.0)
+
+-- What a decoded message of the control plane reads as is what its fields say, each by its name.
+abbrev pub ControlByName : Type 0
+ControlByName = (m : decoded.Message) → message_of (message_value m) ≡ control_message m
+
+-- What a decoded message of the user plane reads as is what it carries.
+abbrev pub UserByName : Type 0
+UserByName = (m : UserMessage) → user_message_of (user_messages.message_value m) ≡ user_message m
+
+-- Octets that spell a decoded message of the control plane read as that message.
+abbrev pub DecodedReads : Type 0
+DecodedReads = (octets : List ℕ) (m : decoded.Message) → IsMessage octets (message_value m) → ControlReads octets (Control_message (control_message m))
+
+-- Octets that spell a decoded message of the user plane read as that message.
+abbrev pub UserDecodedReads : Type 0
+UserDecodedReads = (octets : List ℕ) (m : UserMessage) → IsUserMessage octets (user_messages.message_value m) → UserReads octets (User_message (user_message m))
+
+-- the octets spell a message that reads so, or their first fault reads so
+abbrev pub IsReadOf : List ℕ → ControlReading → Type 0
+IsReadOf octets reading =
+    ((m : MessageValue) × IsMessage octets m × (reading ≡ Control_message (message_of m)))
+    ⊎ ((fault : V2Fault) × IsFault octets fault × (reading ≡ control_fault fault))
+
+-- Octets of the control plane read as the message that the grammar says they spell, or as the fault that it says is their first, and not otherwise.
+abbrev pub ControlByGrammar : Type 0
+ControlByGrammar = (octets : List ℕ) (reading : ControlReading) → ControlReads octets reading ↔ IsReadOf octets reading
+
+-- the octets spell a message of the user plane that reads so, or their first fault reads so
+abbrev pub IsUserReadOf : List ℕ → UserReading → Type 0
+IsUserReadOf octets reading =
+    ((m : user_messages.MessageValue) × IsUserMessage octets m × (reading ≡ User_message (user_message_of m)))
+    ⊎ ((fault : UserFault) × IsUserFault octets fault × (reading ≡ user_fault fault))
+
+-- Octets of the user plane read as the message that the grammar says they spell, or as the fault that it says is their first, and not otherwise.
+abbrev pub UserByGrammar : Type 0
+UserByGrammar = (octets : List ℕ) (reading : UserReading) → UserReads octets reading ↔ IsUserReadOf octets reading
+
+-- The first octets of a control message, but not all, read as the fault of a cut.
+abbrev pub CutsRead : Type 0
+CutsRead = (octets : List ℕ) (m : MessageValue) (count : ℕ) → IsMessage octets m → count < length octets → ControlReads (take count octets) (Control_fault (cut_fault count))
+
+-- The first octets of a user plane message, but not all, read as the fault of a cut.
+abbrev pub UserCutsRead : Type 0
+UserCutsRead = (octets : List ℕ) (m : user_messages.MessageValue) (count : ℕ) → IsUserMessage octets m → count < length octets → UserReads (take count octets) (User_fault (user_cut_fault count))

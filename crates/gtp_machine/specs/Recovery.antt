@@ -5,7 +5,7 @@ use Rattle.gtp_values.specs.Counter.{age_of}
 use Rattle.gtp_values.specs.declared.counter.Age.{Age}
 use Rattle.gtp_values.specs.declared.counter.Age.TheVariants.{Same, Later, Earlier}
 use Rattle.gtp_machine.specs.Node.{Node}
-use Rattle.gtp_machine.specs.Input.{Effect, dropped, Old_counter}
+use Rattle.gtp_machine.specs.Input.{Effect, dropped, OldCounter}
 use Rattle.gtp_machine.specs.Removal.{without, is_opened}
 
 -- The peer has restarted: all active and closing sessions go, and pending ones stay with their requests.
@@ -16,7 +16,7 @@ peer_restarted node counter = without (λ t. is_opened (get node.sessions t)) (�
 abbrev pub Judges : (Node → Effect → Type 0) → Node → ℕ → Age → Effect → Type 0
 Judges Takes old counter Same e = Takes old e
 Judges Takes old counter Later e = Takes (peer_restarted old counter) e
-Judges Takes old counter Earlier e = e ≡ dropped old Old_counter
+Judges Takes old counter Earlier e = e ≡ dropped old OldCounter
 
 -- the first counter that is heard is kept
 abbrev pub Weighs : (Node → Effect → Type 0) → Node → ℕ → Option ℕ → Effect → Type 0

@@ -1,8 +1,9 @@
 -- How sessions and bearers go and close.
-use Rattle.std.specs.Prelude.{ℕ, ◌==◌, ◌||◌, Option, Some, None, Bool, true, false, not, if◌then◌else◌}
+use Rattle.std.specs.Prelude.{ℕ, ◌==◌, ◌||◌, Option, Some, None, Bool, false, not, if◌then◌else◌}
 use Rattle.std.specs.FinMap.{insert, remove}
 use Rattle.gtp_values.specs.FiniteMap.{kept, changed}
-use Rattle.gtp_machine.specs.Node.{State, Pending, Active, Closing, Session, Bearer, PendingRequest, Node}
+use Rattle.gtp_machine.specs.Node.{Closing, Session, Bearer, PendingRequest, Node}
+pub use Rattle.gtp_tables.specs.Contexts.{is_pending, is_opened}
 
 -- the test of what a request is about, where it is about something
 abbrev pub on : (ℕ → Bool) → Option ℕ → Bool
@@ -51,14 +52,3 @@ session_closing node session s =
       sessions = insert node.sessions session (closing_session s);
       bearers = changed (closing_bearer session) node.bearers;
     }
-
--- the state is pending
-abbrev pub is_pending : State → Bool
-is_pending Pending = true
-is_pending Active = false
-is_pending Closing = false
-
--- a session that was opened stands there
-abbrev pub is_opened : Option Session → Bool
-is_opened None = false
-is_opened (Some s) = not (is_pending s.state)

@@ -4,7 +4,7 @@ use Rattle.gtp_values.specs.declared.cause.Cause.{Cause}
 use Rattle.gtp_machine.specs.Ordered.{Unless}
 use Rattle.gtp_machine.specs.Message.{Echo, Echo_request, header_of}
 use Rattle.gtp_machine.specs.Node.{PendingRequest, Node}
-use Rattle.gtp_machine.specs.Input.{Effect, Outcome, Alive, nothing, dropped, No_pending, Mismatch}
+use Rattle.gtp_machine.specs.Input.{Effect, Outcome, Alive, nothing, dropped, NoPending, Mismatch}
 use Rattle.gtp_machine.specs.Choice.{HasPending}
 use Rattle.gtp_machine.specs.Removal.{finished}
 
@@ -24,6 +24,6 @@ pub record IsEcho (p : PendingRequest) : Type 0 where
 -- An Echo Response: its number and kind are enough.
 abbrev pub EchoAnswered : Echo → Node → Effect → Type 0
 EchoAnswered a old e =
-    Unless (HasPending old a.number) (e ≡ dropped old No_pending) (λ at.
+    Unless (HasPending old a.number) (e ≡ dropped old NoPending) (λ at.
     Unless (IsEcho at.pending) (e ≡ dropped old Mismatch) (λ fits.
     e ≡ finishing old a.number at.pending Alive))

@@ -3,14 +3,14 @@ use Rattle.std.specs.Prelude.{◌≡◌, ◌≢◌, ℕ, ◌≤◌, ◌==◌, �
 use Rattle.std.specs.FinMap.{insert, remove}
 use Rattle.gtp_machine.specs.Ordered.{Unless}
 use Rattle.gtp_machine.specs.Element.{IsAccepting, Ipv4, cause_of, teid_in, tunnel_end}
-use Rattle.gtp_machine.specs.Message.{CreateSessionRequest, CreatedBearer, CreateSessionResponse, DeleteSessionRequest, DeleteSessionResponse, CreateBearerRequest, CreateBearerResponse, DeleteBearerRequest, RemovedBearer, Message, Echo_request, Echo_response, Create_session_request, Create_session_response, Delete_session_request, Delete_session_response, Create_bearer_request, Create_bearer_response, Delete_bearer_request, Delete_bearer_response, first_created}
+use Rattle.gtp_machine.specs.Message.{CreateSessionRequest, CreatedBearer, CreateSessionResponse, DeleteSessionRequest, DeleteSessionResponse, CreateBearerRequest, CreateBearerResponse, DeleteBearerRequest, RemovedBearer, Message, Control, Echo_request, Echo_response, Create_session_request, Create_session_response, Delete_session_request, Delete_session_response, Create_bearer_request, Create_bearer_response, Delete_bearer_request, Delete_bearer_response, first_created}
 use Rattle.gtp_machine.specs.Node.{Pending, Active, Session, Bearer, Dedicated, PendingRequest, Arrival, Node, written}
-use Rattle.gtp_machine.specs.Input.{ControlReading, RequestKind, Of_create_session, Of_delete_session, Of_create_bearer, Of_delete_bearer, FaultyRequest, Effect, Opened, Closed, Rejected, nothing, dropped, Undecodable, No_pending, Mismatch, Context_not_active, Held_full, Unexpected}
-use Rattle.gtp_machine.specs.Choice.{IsFree, HasDraws, IsFreeIdentity, HasFreeIdentity, HasHeldRoom, HasSession, HasBearer, HasPending}
+use Rattle.gtp_machine.specs.Input.{ControlReading, RequestKind, Of_create_session, Of_delete_session, Of_create_bearer, Of_delete_bearer, FaultyRequest, Effect, Opened, Closed, Rejected, nothing, dropped, undecodable, NoPending, Mismatch, ContextNotActive, Unexpected}
+use Rattle.gtp_machine.specs.Choice.{IsFree, HasDraws, IsFreeIdentity, HasFreeIdentity, HasSession, HasBearer, HasPending}
 use Rattle.gtp_machine.specs.Removal.{without_session, without_bearer}
 use Rattle.gtp_machine.specs.Response.{Named, finishing, EchoAnswered}
 use Rattle.gtp_machine.specs.Command.{NamesBearer}
-use Rattle.gtp_machine.specs.Answer.{answered, making, echoed, refusing, faulted, fault_number, TakesReading}
+use Rattle.gtp_machine.specs.Answer.{UnlessFull, answered, making, echoed, refusing, faulted, fault_number, TakesReading}
 
 -- the request is a Create Session Request for the session that the response names
 pub record FitsSession (p : PendingRequest) (a : CreateSessionResponse) : Type 0 where
@@ -53,7 +53,7 @@ pub record OpensSession (old : Node) (a : CreateSessionResponse) (q : CreateSess
 -- A Create Session Response (7.2.2). What does not accept removes the pending session.
 abbrev pub SessionAnswered : CreateSessionResponse → Node → Effect → Type 0
 SessionAnswered a old e =
-    Unless (HasPending old a.number) (e ≡ dropped old No_pending) (λ at.
+    Unless (HasPending old a.number) (e ≡ dropped old NoPending) (λ at.
     Unless (FitsSession at.pending a) (e ≡ dropped old Mismatch) (λ fits.
     Unless (IsAccepting a.cause) (e ≡ finishing old a.number at.pending (Rejected a.cause.value)) (λ accepts.
     Unless (DescribesSession old fits.session a) (e ≡ dropped old Mismatch) (λ new.
@@ -69,7 +69,7 @@ pub record FitsDeletion (p : PendingRequest) (d : DeleteSessionResponse) : Type 
 -- A Delete Session Response (7.2.10.1): with any cause the closing session goes.
 abbrev pub DeletionAnswered : DeleteSessionResponse → Node → Effect → Type 0
 DeletionAnswered d old e =
-    Unless (HasPending old d.number) (e ≡ dropped old No_pending) (λ at.
+    Unless (HasPending old d.number) (e ≡ dropped old NoPending) (λ at.
     Unless (FitsDeletion at.pending d) (e ≡ dropped old Mismatch) (λ fits.
     e ≡ finishing old d.number at.pending Closed))
 
@@ -107,16 +107,19 @@ no_resources node r header =
       recovery = Some node.counter;
     }
 
--- A Create Bearer Request (7.2.3), with its refusals in their order.
-abbrev pub BearerAsked : Arrival → CreateBearerRequest → Node → Effect → Type 0
-BearerAsked request r old e =
-    Unless (HasHeldRoom old) (e ≡ dropped old Held_full) (λ room.
+-- A Create Bearer Request (7.2.3) whose answer can be held, with its refusals in their order.
+abbrev pub BearerJudged : Arrival → CreateBearerRequest → Node → Effect → Type 0
+BearerJudged request r old e =
     Unless (HasSession old r.header) (e ≡ answered request (refusing Of_create_bearer 0 r.number (cause_of 64) old.counter) 64 old) (λ at.
-    Unless (at.session.state ≡ Active) (e ≡ dropped old Context_not_active) (λ active.
+    Unless (at.session.state ≡ Active) (e ≡ dropped old ContextNotActive) (λ active.
     Unless (r.further ≡ []) (e ≡ answered request (refusing Of_create_bearer (written at.session.remote) r.number (cause_of 94) old.counter) 94 old) (λ one.
     Unless (r.linked ≡ at.session.subscriber.identity) (e ≡ answered request (refusing Of_create_bearer (written at.session.remote) r.number (cause_of 64) old.counter) 64 old) (λ linked.
     Unless (HasFreeIdentity old r.header × HasDraws old 1) (e ≡ answered request (Create_bearer_response (no_resources old r (written at.session.remote))) 73 old) (λ free.
-    MakesBearer request old r at.session e))))))
+    MakesBearer request old r at.session e)))))
+
+-- A Create Bearer Request.
+abbrev pub BearerAsked : Arrival → CreateBearerRequest → Node → Effect → Type 0
+BearerAsked request r old e = UnlessFull (BearerJudged request r) old e
 
 -- Each identity in turn: the session's dedicated bearer that has it is removed (16), and without one its context says 64.
 abbrev pub RemovesEach : ℕ → List ℕ → Node → List RemovedBearer → Node → Type 0
@@ -156,13 +159,16 @@ RemovalTaken request d None old s e =
     Unless (length d.identities ≤ 11) (e ≡ answered request (refusing Of_delete_bearer (written s.remote) d.number (cause_of 94) old.counter) 94 old) (λ few.
     RemovesBearers request d old s e)
 
--- A Delete Bearer Request (7.2.9.2), with its refusals in their order.
-abbrev pub RemovalAsked : Arrival → DeleteBearerRequest → Node → Effect → Type 0
-RemovalAsked request d old e =
-    Unless (HasHeldRoom old) (e ≡ dropped old Held_full) (λ room.
+-- A Delete Bearer Request (7.2.9.2) whose answer can be held, with its refusals in their order.
+abbrev pub RemovalJudged : Arrival → DeleteBearerRequest → Node → Effect → Type 0
+RemovalJudged request d old e =
     Unless (HasSession old d.header) (e ≡ answered request (refusing Of_delete_bearer 0 d.number (cause_of 64) old.counter) 64 old) (λ at.
-    Unless (at.session.state ≢ Pending) (e ≡ dropped old Context_not_active) (λ opened.
-    RemovalTaken request d d.linked old at.session e)))
+    Unless (at.session.state ≢ Pending) (e ≡ dropped old ContextNotActive) (λ opened.
+    RemovalTaken request d d.linked old at.session e))
+
+-- A Delete Bearer Request.
+abbrev pub RemovalAsked : Arrival → DeleteBearerRequest → Node → Effect → Type 0
+RemovalAsked request d old e = UnlessFull (RemovalJudged request d) old e
 
 -- what the serving gateway does with a message of a kind that it takes, once the peer's counter was heard
 abbrev pub ServingTakes : Arrival → Message → Node → Effect → Type 0
@@ -186,8 +192,8 @@ serving_takes _ = false
 
 -- a faulty request is answered where the serving gateway takes its kind
 abbrev pub ServingFaulted : Arrival → FaultyRequest → RequestKind → Node → Effect → Type 0
-ServingFaulted request f Of_create_session old e = e ≡ dropped old (Undecodable (fault_number f.defect))
-ServingFaulted request f Of_delete_session old e = e ≡ dropped old (Undecodable (fault_number f.defect))
+ServingFaulted request f Of_create_session old e = e ≡ dropped old (undecodable Control (fault_number f.defect))
+ServingFaulted request f Of_delete_session old e = e ≡ dropped old (undecodable Control (fault_number f.defect))
 ServingFaulted request f Of_create_bearer old e = e ≡ faulted request f old
 ServingFaulted request f Of_delete_bearer old e = e ≡ faulted request f old
 

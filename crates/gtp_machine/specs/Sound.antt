@@ -1,16 +1,17 @@
 -- What holds of one gateway alone, whatever comes to it.
-use Rattle.std.specs.Prelude.{◌≡◌, ◌≢◌, ◌⊎◌, ℕ, ◌≤◌, List, [], ◌∷◌, Option, Some, None, length}
+use Rattle.std.specs.Prelude.{◌≡◌, ◌≢◌, ◌⊎◌, ◌↔◌, ℕ, ◌≤◌, true, List, [], ◌∷◌, Option, Some, None, length}
 use Rattle.std.specs.FinMap.{get, len}
 use Rattle.gtp_values.specs.FiniteMap.{FiniteMap, Each, Among}
+use Rattle.gtp_machine.specs.Step.{Step, Done, Steps}
 use Rattle.gtp_machine.specs.Element.{IsAccepting, teid_in}
 use Rattle.gtp_machine.specs.Message.{Echo, CreateSessionRequest, DeleteSessionRequest, CreateBearerRequest, DeleteBearerRequest, Message, Echo_request, Create_session_request, Create_session_response, Delete_session_request, Create_bearer_request, Create_bearer_response, Delete_bearer_request, CreatedBearer, GivenBearer}
 use Rattle.gtp_machine.specs.Node.{Role, Serving, Packet, State, Pending, Active, Closing, Kind, Default, Dedicated, Session, Bearer, PendingRequest, Held, Arrival, Node, fresh_node}
 use Rattle.gtp_machine.specs.Config.{Config}
-use Rattle.gtp_machine.specs.Input.{Create_session, Input, Commanded, Control_came, Moves_on, ControlReading, Control_message, Move, Resend, Give_up, Forget, Effect}
+use Rattle.gtp_machine.specs.Input.{Create_session, Input, Commanded, Control_came, Moves_on, ControlReading, Control_message, Move, Resend, Give_up, Forget, Out, Effect}
+use Rattle.gtp_machine.specs.Tick.{TickStep, Due, Ticks}
 use Rattle.gtp_machine.specs.Choice.{IsIdentity, HasPending}
-use Rattle.gtp_machine.specs.World.{Step}
+use Rattle.gtp_machine.specs.User.{is_default_to, default_among}
 use Rattle.gtp_machine.specs.Reading.{ControlReads}
-use Rattle.gtp_machine.specs.Once.{Done, Steps}
 
 -- something stands under the key, and P holds of it
 abbrev pub At : {X : Type 0} → FiniteMap X → ℕ → (X → Type 0) → Type 0
@@ -175,6 +176,18 @@ abbrev pub CanCome : Node → Input → Type 0
 CanCome node (Moves_on move) = CanMove node move
 CanCome node _ = Unit {0}
 
+-- no two of the list are the same
+abbrev pub AreDistinct : List Arrival → Type 0
+AreDistinct [] = Unit {0}
+AreDistinct (request ∷ requests) = (Among request requests → ⊥) × AreDistinct requests
+
+-- what is due is there: the requests to send again wait, and the answers to forget are held, each due once; a request that is due to be given up need not
+-- wait
+pub record CanTick (node : Node) (due : Due) : Type 0 where
+  pub waits : (number : ℕ) → Among number due.resends → HasPending node number
+  pub held : (request : Arrival) → Among request due.forgets → CanMove node (Forget request)
+  pub once : AreDistinct due.forgets
+
 -- it is not so that nothing has the property
 abbrev pub IsNotEmpty : {X : Type 0} → (X → Type 0) → Type 0
 IsNotEmpty {X} P = ((x : X) → P x → ⊥) → ⊥
@@ -182,6 +195,22 @@ IsNotEmpty {X} P = ((x : X) → P x → ⊥) → ⊥
 -- Whatever comes to a sound gateway, there is an effect.
 abbrev pub AlwaysSteps : Type 0
 AlwaysSteps = (role : Role) (old : Node) (input : Input) → IsSound role old → CanCome old input → IsNotEmpty (λ effect. Step role old input effect)
+
+-- A tick of a sound gateway leaves it sound.
+abbrev pub TickStaysSound : Type 0
+TickStaysSound = (role : Role) (old : Node) (moves : List Move) (out : Out) (new : Node) → IsSound role old → TickStep old moves out new → IsSound role new
+
+-- Whatever is due and there, a gateway can tick.
+abbrev pub AlwaysTicks : Type 0
+AlwaysTicks = (node : Node) (due : Due) → CanTick node due → IsNotEmpty (λ (effect : Effect). Ticks node due effect.out effect.node)
+
+-- What a tick gives up was due to be given up, and waited when the tick began.
+abbrev pub GivesUpDue : Type 0
+GivesUpDue = (old : Node) (due : Due) (out : Out) (new : Node) → Ticks old due out new → (number : ℕ) → Among number out.gave_up → Among number due.give_ups × HasPending old number
+
+-- A session goes with an Error Indication exactly where one of the bearers is its default one and has that remote.
+abbrev pub BreaksByDefault : Type 0
+BreaksByDefault = (remote session : ℕ) (bearers : FiniteMap Bearer) → (default_among remote session bearers ≡ true) ↔ ((t : ℕ) × (b : Bearer) × (get bearers t ≡ Some b) × (is_default_to remote session b ≡ true))
 
 -- each step takes what is well formed
 abbrev pub AreWellFormed : List Done → Type 0

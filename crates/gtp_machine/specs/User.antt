@@ -1,12 +1,13 @@
 -- The user plane (TS 29.281, 5 and 7), and the Echo Request that each gateway answers.
-use Rattle.std.specs.Prelude.{◌≡◌, ℕ, ◌==◌, ◌&&◌, ◌||◌, List, [], ◌∷◌, Option, Some, None, Bool, true, false}
-use Rattle.std.specs.FinMap.{get, insert, entries}
+use Rattle.std.specs.Prelude.{◌≡◌, ℕ, ◌==◌, nat_lt, ◌&&◌, List, [], ◌∷◌, Option, Some, None, Bool, true, false}
+use Rattle.std.specs.FinMap.{get, insert, len}
 use Rattle.gtp_values.specs.declared.address.Endpoint.{Endpoint}
+use Rattle.gtp_values.specs.FiniteMap.{FiniteMap, kept}
 use Rattle.gtp_machine.specs.Ordered.{Unless}
 use Rattle.gtp_machine.specs.Config.{user_end}
-use Rattle.gtp_machine.specs.Message.{Message, Packet_data, End_marker, Error_indication, User_echo_request, User_echo_response, Supported_extensions}
+use Rattle.gtp_machine.specs.Message.{Message, User, Packet_data, End_marker, Error_indication, User_echo_request, User_echo_response, Supported_extensions}
 use Rattle.gtp_machine.specs.Node.{Role, Serving, Packet, Active, Bearer, Kind, Default, Dedicated, Node}
-use Rattle.gtp_machine.specs.Input.{UserReading, User_message, Extension_needed, User_fault, Effect, Accepted, Ended, Broken, Echoed, Dropped, entry_for, nothing, says, dropped, Undecodable, Context_not_active, Unknown_context, After_end, Unexpected, Unknown_extension, Not_peer}
+use Rattle.gtp_machine.specs.Input.{UserReading, User_message, Extension_needed, User_fault, Effect, Accepted, Ended, Broken, Echoed, Dropped, entry_for, nothing, says, dropped, undecodable, ContextNotActive, UnknownContext, AfterEnd, Unexpected, UnknownExtension, NotPeer}
 use Rattle.gtp_machine.specs.Choice.{HasSession, HasBearer}
 use Rattle.gtp_machine.specs.Removal.{without}
 
@@ -23,9 +24,9 @@ MayCome Packet b = Unit {0}
 -- A G-PDU: for no bearer it is answered with an Error Indication (7.3.1).
 abbrev pub PacketCame : Role → ℕ → List ℕ → Node → Effect → Type 0
 PacketCame role target payload old e =
-    Unless (HasBearer old target) (e ≡ record { out = says (user_end old.config.peer.user) (Error_indication target old.config.own.user); outcome = Dropped Unknown_context; node = old }) (λ at.
-    Unless (at.bearer.state ≡ Active) (e ≡ dropped old Context_not_active) (λ open_to_packets.
-    Unless (MayCome role at.bearer) (e ≡ dropped old After_end) (λ comes.
+    Unless (HasBearer old target) (e ≡ record { out = says (user_end old.config.peer.user) (Error_indication target old.config.own.user); outcome = Dropped UnknownContext; node = old }) (λ at.
+    Unless (at.bearer.state ≡ Active) (e ≡ dropped old ContextNotActive) (λ open_to_packets.
+    Unless (MayCome role at.bearer) (e ≡ dropped old AfterEnd) (λ comes.
     Accepts old target payload at.bearer e)))
 
 -- the bearer, with an End Marker
@@ -36,7 +37,7 @@ ended_bearer b = record b { ended = true }
 abbrev pub EndCame : Role → ℕ → Node → Effect → Type 0
 EndCame Serving target old e =
     Unless (HasBearer old target) (e ≡ dropped old Unexpected) (λ at.
-    Unless (at.bearer.state ≡ Active) (e ≡ dropped old Context_not_active) (λ active.
+    Unless (at.bearer.state ≡ Active) (e ≡ dropped old ContextNotActive) (λ active.
     e ≡ record { out = nothing; outcome = Ended; node = record old { bearers = insert old.bearers target (ended_bearer at.bearer) } }))
 EndCame Packet target old e = e ≡ dropped old Unexpected
 
@@ -55,14 +56,17 @@ abbrev pub bearer_is_to : ℕ → Option Bearer → Bool
 bearer_is_to remote None = false
 bearer_is_to remote (Some b) = is_to remote b.remote
 
--- one of the bearers is the session's default bearer and has that remote
-abbrev pub default_among : ℕ → ℕ → List (ℕ × Bearer) → Bool
-default_among remote session [] = false
-default_among remote session (b ∷ rest) = (is_default b.1.kind && is_to remote b.1.remote && (b.1.session == session)) || default_among remote session rest
+-- the bearer is the session's default one and has that remote
+abbrev pub is_default_to : ℕ → ℕ → Bearer → Bool
+is_default_to remote session b = is_default b.kind && is_to remote b.remote && (b.session == session)
+
+-- the session's default bearer has that remote: of the bearers, some are so
+abbrev pub default_among : ℕ → ℕ → FiniteMap Bearer → Bool
+default_among remote session bearers = nat_lt 0 (len (kept (λ t (b : Bearer). is_default_to remote session b) bearers))
 
 -- without each bearer with that remote, and the whole session where that is its default bearer
 abbrev pub broken : Node → ℕ → Node
-broken node remote = without (λ t. default_among remote t (entries node.bearers)) (λ t. bearer_is_to remote (get node.bearers t)) node
+broken node remote = without (λ t. default_among remote t node.bearers) (λ t. bearer_is_to remote (get node.bearers t)) node
 
 -- a bearer has that remote
 pub record HasRemote (node : Node) (remote : ℕ) : Type 0 where
@@ -87,11 +91,11 @@ UserTaken role source _ old e = e ≡ dropped old Unexpected
 -- what was read; a needed extension header that is not known is told of, with one type that may stand, 64 (5.2.1, 7.2.3)
 abbrev pub UserRead : Role → Endpoint → UserReading → Node → Effect → Type 0
 UserRead role source (User_message message) old e = UserTaken role source message old e
-UserRead role source Extension_needed old e = e ≡ record { out = says (user_end old.config.peer.user) (Supported_extensions (64 ∷ [])); outcome = Dropped Unknown_extension; node = old }
-UserRead role source (User_fault fault) old e = e ≡ dropped old (Undecodable fault)
+UserRead role source Extension_needed old e = e ≡ record { out = says (user_end old.config.peer.user) (Supported_extensions (64 ∷ [])); outcome = Dropped UnknownExtension; node = old }
+UserRead role source (User_fault fault) old e = e ≡ dropped old (undecodable User fault)
 
 -- a user plane datagram: first its source address is looked at
 abbrev pub UserStep : Role → Endpoint → UserReading → Node → Effect → Type 0
 UserStep role source reading old e =
-    Unless (source.ip ≡ old.config.peer.user) (e ≡ dropped old Not_peer) (λ peer.
+    Unless (source.ip ≡ old.config.peer.user) (e ≡ dropped old NotPeer) (λ peer.
     UserRead role source reading old e)

@@ -5,31 +5,25 @@ use Rattle.gtp_values.specs.FiniteMap.{Among}
 use Rattle.gtp_machine.specs.Config.{Addresses, Config, control_end, user_end}
 use Rattle.gtp_machine.specs.Message.{Message, Plane, Control, User, plane_of}
 use Rattle.gtp_machine.specs.Node.{Role, Serving, Packet, Arrival, Node, fresh_node}
-use Rattle.gtp_machine.specs.Input.{Command, Move, Input, Commanded, Control_came, User_came, Moves_on, Control_message, Control_fault, User_message, User_fault, Outcome, Entry, Out, Effect, nothing, messages}
-use Rattle.gtp_machine.specs.Move.{MoveStep}
-use Rattle.gtp_machine.specs.User.{UserStep}
-use Rattle.gtp_machine.specs.Command.{CommandStep}
-use Rattle.gtp_machine.specs.Answer.{ControlStep}
-use Rattle.gtp_machine.specs.Serving.{ServingReads}
-use Rattle.gtp_machine.specs.Packet.{PacketReads}
-
--- A step of a gateway: what it may give for an input.
-abbrev pub Step : Role → Node → Input → Effect → Type 0
-Step role old (Commanded command) e = CommandStep role command old e
-Step Serving old (Control_came request reading) e = ControlStep (ServingReads reading) request old e
-Step Packet old (Control_came request reading) e = ControlStep (PacketReads reading) request old e
-Step role old (User_came source reading) e = UserStep role source reading old e
-Step role old (Moves_on move) e = MoveStep old move e
+use Rattle.gtp_machine.specs.Input.{Command, Move, Input, Commanded, Control_came, User_came, Control_message, Control_fault, User_message, User_fault, Outcome, Entry, Out, Effect, messages}
+use Rattle.gtp_machine.specs.Tick.{TickStep, ticked}
+use Rattle.gtp_machine.specs.Step.{Step, Done, tick_steps}
+use Rattle.gtp_machine.specs.Reading.{cut_fault, user_cut_fault}
+use Rattle.gtp_machine.specs.Spelling.{spelled}
 
 -- the other gateway
 abbrev pub other : Role → Role
 other Serving = Packet
 other Packet = Serving
 
+-- what a gateway sent, was handed or accepted, and which gateway it was
+pub record By (X : Type 0) : Type 0 where
+  pub role : Role
+  pub what : X
+
 -- a message that was sent, and who sent it
-pub record Sent : Type 0 where
-  pub sender : Role
-  pub message : Message
+abbrev pub Sent : Type 0
+Sent = By Message
 
 -- a gateway of the world, and what is kept of it
 pub record Side : Type 0 where
@@ -40,8 +34,6 @@ pub record Side : Type 0 where
   pub forgotten : List Arrival  -- requests whose answers were given up since it started
   pub came_late : List Arrival  -- requests that came late since it started
   pub made : List Arrival  -- create requests for which a context was made since it started
-  pub handed : List Entry  -- packets handed in
-  pub accepted : List Entry  -- packets accepted
 
 -- what an event comes to
 pub data EventOutcome : Type 0 where
@@ -65,12 +57,20 @@ pub record World : Type 0 where
   pub serving : Side
   pub packet : Side
   pub history : List Sent  -- each message that was ever sent, in order
+  pub handed : List (By Entry)  -- each packet that was handed in, in order
+  pub accepted : List (By Entry)  -- each packet that was accepted, in order
   pub late : ℕ  -- deliveries of requests whose answers were given up
   pub notes : List Note  -- one for each event, the latest first
+  pub serving_steps : List Done  -- the steps of the serving gateway since it started, in order
+  pub packet_steps : List Done  -- those of the packet gateway
+
+-- the log has this of this gateway
+abbrev pub HasBy : {X : Type 0} → List (By X) → Role → X → Type 0
+HasBy log role what = Among (record { role = role; what = what }) log
 
 -- the role has sent the message
 abbrev pub HasSent : List Sent → Role → Message → Type 0
-HasSent history role message = Among (record { sender = role; message = message }) history
+HasSent history role message = HasBy history role message
 
 -- the gateway with this role
 abbrev pub side_of : World → Role → Side
@@ -82,6 +82,20 @@ abbrev pub with_side : World → Role → Side → World
 with_side w Serving side = record w { serving = side }
 with_side w Packet side = record w { packet = side }
 
+-- the steps of the gateway with this role since it started
+abbrev pub steps_of : World → Role → List Done
+steps_of w Serving = w.serving_steps
+steps_of w Packet = w.packet_steps
+
+-- the world with other steps of that gateway
+abbrev pub with_steps : World → Role → List Done → World
+with_steps w Serving steps = record w { serving_steps = steps }
+with_steps w Packet steps = record w { packet_steps = steps }
+
+-- the world after some more steps of that gateway
+abbrev pub logged : World → Role → List Done → World
+logged w role steps = with_steps w role (steps_of w role ++ steps)
+
 -- what may happen next
 pub data Event : Type 0 where
   Does : Role → Command → Event
@@ -90,9 +104,9 @@ pub data Event : Type 0 where
   Cut : ℕ → ℕ → Event  -- so many of its first octets come
   Restart : Role → Event
 
--- the messages, each with its sender
-abbrev pub signed : Role → List Message → List Sent
-signed role sent = map (λ message. record { sender = role; message = message }) sent
+-- each of the list, by this gateway
+abbrev pub signed : {X : Type 0} → Role → List X → List (By X)
+signed role list = map (λ what. record { role = role; what = what }) list
 
 -- the counters heard, with one more
 abbrev pub with_heard : Option ℕ → List ℕ → List ℕ
@@ -105,15 +119,18 @@ stepped side e =
     record side {
       node = e.node;
       seen = with_heard e.out.heard side.seen;
-      forgotten = e.out.forgot ++ side.forgotten;
+      forgotten = side.forgotten ++ e.out.forgot;
       made = e.out.made ++ side.made;
-      handed = e.out.handed ++ side.handed;
-      accepted = e.out.accepted ++ side.accepted;
     }
 
 -- the world after a step of a gateway
 abbrev pub moved : World → Role → Effect → World
-moved w role e = record (with_side w role (stepped (side_of w role) e)) { history = w.history ++ signed role (messages e.out.sent) }
+moved w role e =
+    record (with_side w role (stepped (side_of w role) e)) {
+      history = w.history ++ signed role (messages e.out.sent);
+      handed = w.handed ++ signed role e.out.handed;
+      accepted = w.accepted ++ signed role e.out.accepted;
+    }
 
 -- the world with one more note
 abbrev pub noted : World → Note → World
@@ -131,68 +148,48 @@ note_of outcome out = record { outcome = outcome; learned = out.learned; sent = 
 pub record Moves (old : World) (role : Role) (input : Input) (new : World) : Type 0 where
   pub effect : Effect
   pub step : Step role (side_of old role).node input effect
-  pub becomes : new ≡ noted (moved old role effect) (note_of (Came_to effect.outcome) effect.out)
-
--- what two steps give, one after the other
-abbrev pub joined : Out → Out → Out
-joined first rest =
-    record {
-      sent = first.sent ++ rest.sent;
-      heard = rest.heard;
-      learned = rest.learned;
-      gave_up = first.gave_up ++ rest.gave_up;
-      forgot = first.forgot ++ rest.forgot;
-      made = first.made ++ rest.made;
-      handed = first.handed ++ rest.handed;
-      accepted = first.accepted ++ rest.accepted;
-    }
-
--- a gateway moves on by these moves, one after the other
-abbrev pub Ticks : World → Role → List Move → Out → World → Type 0
-Ticks old role [] out new = (out ≡ nothing) × (new ≡ old)
-Ticks old role (move ∷ moves) out new = (effect : Effect) × (rest : Out) × Step role (side_of old role).node (Moves_on move) effect × Ticks (moved old role effect) role moves rest new × (out ≡ joined effect.out rest)
+  pub becomes : new ≡ logged (noted (moved old role effect) (note_of (Came_to effect.outcome) effect.out)) role (record { before = (side_of old role).node; input = input; effect = effect } ∷ [])
 
 -- A tick is any list of moves.
 pub record TicksOn (old : World) (role : Role) (new : World) : Type 0 where
   pub moves : List Move
   pub out : Out
-  pub after : World
-  pub ticks : Ticks old role moves out after
-  pub becomes : new ≡ noted after (note_of Ticked out)
+  pub after : Node
+  pub tick : TickStep (side_of old role).node moves out after
+  pub becomes : new ≡ logged (noted (moved old role (ticked out after)) (note_of Ticked out)) role (tick_steps (side_of old role).node moves out after tick)
 
 -- a request as it comes over the path: the octets that spell it, from its sender's control address
-abbrev pub arrival : (Message → List ℕ) → Addresses → Message → Arrival
-arrival spelled from message = record { source = control_end from.control; octets = spelled message }
+abbrev pub arrival : Addresses → Message → Arrival
+arrival from message = record { source = control_end from.control; octets = spelled message }
 
 -- a datagram as it comes
-abbrev pub delivered_on : Plane → (Message → List ℕ) → Addresses → Message → Input
-delivered_on Control spelled from message = Control_came (arrival spelled from message) (Control_message message)
-delivered_on User spelled from message = User_came (user_end from.user) (User_message message)
+abbrev pub delivered_on : Plane → Addresses → Message → Input
+delivered_on Control from message = Control_came (arrival from message) (Control_message message)
+delivered_on User from message = User_came (user_end from.user) (User_message message)
 
--- its first octets as they come: they read as no message
-abbrev pub cut_on : Plane → (Message → List ℕ) → Addresses → Message → ℕ → ℕ → Input
-cut_on Control spelled from message count fault = Control_came (record { source = control_end from.control; octets = take count (spelled message) }) (Control_fault fault)
-cut_on User spelled from message count fault = User_came (user_end from.user) (User_fault fault)
+-- its first octets as they come: they read as no message, and with the fault of a cut
+abbrev pub cut_on : Plane → Addresses → Message → ℕ → Input
+cut_on Control from message count = Control_came (record { source = control_end from.control; octets = take count (spelled message) }) (Control_fault (cut_fault count))
+cut_on User from message count = User_came (user_end from.user) (User_fault (user_cut_fault count))
 
 -- the delivery is late: it is of a request whose answer the receiver has given up
-abbrev pub IsLateOn : Plane → (Message → List ℕ) → Addresses → Side → Message → Type 0
-IsLateOn Control spelled from side message = Among (arrival spelled from message) side.forgotten
-IsLateOn User spelled from side message = ⊥
+abbrev pub IsLateOn : Plane → Addresses → Side → Message → Type 0
+IsLateOn Control from side message = Among (arrival from message) side.forgotten
+IsLateOn User from side message = ⊥
 
 -- the world where one more delivery was late: of this request, to that gateway
 abbrev pub late_once : World → Role → Arrival → World
 late_once w role request = record (with_side w role (record (side_of w role) { came_late = request ∷ (side_of w role).came_late })) { late = 1 + w.late }
 
 -- A datagram comes to the gateway that did not send it; it stays in the list. A late delivery is counted.
-abbrev pub Delivers : (Message → List ℕ) → World → Role → Message → World → Type 0
-Delivers spelled old sender message new =
-    Unless (IsLateOn (plane_of message) spelled (side_of old sender).node.config.own (side_of old (other sender)) message) (Moves old (other sender) (delivered_on (plane_of message) spelled (side_of old sender).node.config.own message) new) (λ late.
-    Moves (late_once old (other sender) (arrival spelled (side_of old sender).node.config.own message)) (other sender) (delivered_on (plane_of message) spelled (side_of old sender).node.config.own message) new)
+abbrev pub Delivers : World → Role → Message → World → Type 0
+Delivers old sender message new =
+    Unless (IsLateOn (plane_of message) (side_of old sender).node.config.own (side_of old (other sender)) message) (Moves old (other sender) (delivered_on (plane_of message) (side_of old sender).node.config.own message) new) (λ late.
+    Moves (late_once old (other sender) (arrival (side_of old sender).node.config.own message)) (other sender) (delivered_on (plane_of message) (side_of old sender).node.config.own message) new)
 
 -- The first octets of a datagram come to the gateway that did not send it.
-pub record Cuts (spelled : Message → List ℕ) (old : World) (sent : Sent) (count : ℕ) (new : World) : Type 0 where
-  pub fault : ℕ
-  pub moves : Moves old (other sent.sender) (cut_on (plane_of sent.message) spelled (side_of old sent.sender).node.config.own sent.message count fault) new
+abbrev pub Cuts : World → Sent → ℕ → World → Type 0
+Cuts old sent count new = Moves old (other sent.role) (cut_on (plane_of sent.what) (side_of old sent.role).node.config.own sent.what count) new
 
 -- the datagram with this number
 pub record Stands (history : List Sent) (number : ℕ) : Type 0 where
@@ -208,29 +205,29 @@ abbrev pub restarted : Side → Side
 restarted side = record side { node = fresh_node side.node.config (next_counter side); restarts = side.restarts + 1; seen = []; forgotten = []; came_late = []; made = [] }
 
 -- One event. A datagram that is not there, a cut that is too long and a restart beyond 127 change nothing.
-abbrev pub Happens : (Message → List ℕ) → World → Event → World → Type 0
-Happens spelled old (Does role command) new = Moves old role (Commanded command) new
-Happens spelled old (Tick role) new = TicksOn old role new
-Happens spelled old (Deliver number) new =
+abbrev pub Happens : World → Event → World → Type 0
+Happens old (Does role command) new = Moves old role (Commanded command) new
+Happens old (Tick role) new = TicksOn old role new
+Happens old (Deliver number) new =
     Unless (Stands old.history number) (new ≡ noted old (quiet_note No_such_datagram)) (λ found.
-    Delivers spelled old found.sent.sender found.sent.message new)
-Happens spelled old (Cut number count) new =
+    Delivers old found.sent.role found.sent.what new)
+Happens old (Cut number count) new =
     Unless (Stands old.history number) (new ≡ noted old (quiet_note No_such_datagram)) (λ found.
-    Unless (count < length (spelled found.sent.message)) (new ≡ noted old (quiet_note Cut_too_long)) (λ short.
-    Cuts spelled old found.sent count new))
-Happens spelled old (Restart role) new =
+    Unless (count < length (spelled found.sent.what)) (new ≡ noted old (quiet_note Cut_too_long)) (λ short.
+    Cuts old found.sent count new))
+Happens old (Restart role) new =
     Unless ((side_of old role).restarts < 127) (new ≡ noted old (quiet_note Restarts_used)) (λ few.
-    new ≡ noted (with_side old role (restarted (side_of old role))) (quiet_note (Restarted (next_counter (side_of old role)))))
+    new ≡ with_steps (noted (with_side old role (restarted (side_of old role))) (quiet_note (Restarted (next_counter (side_of old role))))) role [])
 
--- The events take one world to the other. `spelled` gives the octets of each message.
-abbrev pub Run : (Message → List ℕ) → World → List Event → World → Type 0
-Run spelled old [] new = new ≡ old
-Run spelled old (event ∷ events) new = (mid : World) × Happens spelled old event mid × Run spelled mid events new
+-- The events take one world to the other.
+abbrev pub Run : World → List Event → World → Type 0
+Run old [] new = new ≡ old
+Run old (event ∷ events) new = (mid : World) × Happens old event mid × Run mid events new
 
 -- a gateway that has just started for the first time
 abbrev pub begun : Config → ℕ → Side
-begun config first = record { node = fresh_node config (first % 256); first = first; restarts = 0; seen = []; forgotten = []; came_late = []; made = []; handed = []; accepted = [] }
+begun config first = record { node = fresh_node config (first % 256); first = first; restarts = 0; seen = []; forgotten = []; came_late = []; made = [] }
 
 -- two gateways that have just started, so configured and with these counters
 abbrev pub start : Config → Config → ℕ → ℕ → World
-start serving packet serving_counter packet_counter = record { serving = begun serving serving_counter; packet = begun packet packet_counter; history = []; late = 0; notes = [] }
+start serving packet serving_counter packet_counter = record { serving = begun serving serving_counter; packet = begun packet packet_counter; history = []; handed = []; accepted = []; late = 0; notes = []; serving_steps = []; packet_steps = [] }

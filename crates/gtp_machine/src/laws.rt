@@ -5,6 +5,7 @@ ghost use Rattle.gtp_machine.specs.Laws.{
   Always,
   BearersAgree,
   BearersOnce,
+  EachActsOnce,
   EachClosesWhole,
   EachGoesBack,
   EachOpened,
@@ -15,12 +16,36 @@ ghost use Rattle.gtp_machine.specs.Laws.{
   NoneAhead,
   NoneOver,
   OneMessage,
+  PlanesApart,
   ResponsesGoBack,
   SessionsAgree,
+  StepsAreKept,
 };
-ghost use Rattle.gtp_machine.specs.Reading.{ControlReadsOnce, KeepsSession, KeepsSubscriber, UserReadsOnce};
+ghost use Rattle.gtp_machine.specs.Reading.{
+  ControlByGrammar,
+  ControlByName,
+  CutsRead,
+  DecodedReads,
+  KeepsSession,
+  KeepsSubscriber,
+  UserByGrammar,
+  UserByName,
+  UserCutsRead,
+  UserDecodedReads,
+};
+ghost use Rattle.gtp_machine.specs.Spelling.{SpelledApart, SpelledReads};
 ghost use Rattle.gtp_machine.specs.Once.{ActsOnce, ActsOnceInTime, HeldUntilForgotten};
-ghost use Rattle.gtp_machine.specs.Sound.{AlwaysSteps, ReachedIsSound, ReadsWhole, StartsSound, StaysSound};
+ghost use Rattle.gtp_machine.specs.Sound.{
+  AlwaysSteps,
+  AlwaysTicks,
+  BreaksByDefault,
+  GivesUpDue,
+  ReachedIsSound,
+  ReadsWhole,
+  StartsSound,
+  StaysSound,
+  TickStaysSound,
+};
 
 /// Tunnel safety: what holds at the end of each run, whatever is lost, cut, repeated, held back or
 /// delivered in another order, and whenever a gateway restarts.
@@ -45,7 +70,11 @@ pub fn foundations()
     // Each TEID stands as its sender's own in one message and its repeats.
     ensures one_message { Always OneMessage }
 
-    // The TEIDs of each session and bearer go back to such messages.
+    // No TEID stands for both planes.
+    ensures planes_apart { Always PlanesApart }
+
+    // The TEIDs of each session go back to F-TEIDs of the control plane in such messages, and those
+    // of each bearer to F-TEIDs of the user plane.
     ensures goes_back { Always EachGoesBack }
 
     // The TEIDs that messages name, in their headers and for their packets, go back to such
@@ -87,6 +116,13 @@ pub fn acts_once()
 
     // An answer that is held stays so until it is forgotten.
     ensures held { HeldUntilForgotten }
+
+    // In each run the steps that are kept of a gateway lead from its start to what it is.
+    ensures steps { Always StepsAreKept }
+
+    // And in these a create request acts once: where no delivery of it was late, or where its answer
+    // was not given up between two.
+    ensures runs { Always EachActsOnce }
 {}
 
 /// No law is empty: there is a run to sessions and dedicated bearers that name each other, and to
@@ -109,17 +145,55 @@ pub fn sound_nodes()
     // For a sound gateway no input is without an effect, but for a move of what is not there.
     ensures steps { AlwaysSteps }
 
+    // A tick of a sound gateway leaves it sound.
+    ensures ticks { TickStaysSound }
+
+    // Whatever is due and there, a gateway can tick: it sends requests again, gives up those that
+    // still wait, and forgets answers.
+    ensures always_ticks { AlwaysTicks }
+
+    // What a tick gives up was due to be given up, and waited when the tick began.
+    ensures gives_up { GivesUpDue }
+
+    // A session goes with an Error Indication exactly where one of the bearers is its default one
+    // and has that remote.
+    ensures breaks { BreaksByDefault }
+
     // What is read from octets names the F-TEIDs that its table asks for.
     ensures whole { ReadsWhole }
 {}
 
 /// How datagrams read.
 pub fn readings()
-    // Octets of the control plane read in at most one way.
-    ensures control { ControlReadsOnce }
+    // Octets of the control plane read as the message that they spell, or as their first fault.
+    ensures grammar { ControlByGrammar }
 
-    // Octets of the user plane read in at most one way.
-    ensures user { UserReadsOnce }
+    // Octets of the user plane read as the message that they spell, or as their first fault.
+    ensures user_grammar { UserByGrammar }
+
+    // What a decoded message of the control plane reads as is what its fields say, each by its name.
+    ensures named { ControlByName }
+
+    // What a decoded message of the user plane reads as is what it carries.
+    ensures user_named { UserByName }
+
+    // Octets that spell a decoded message of the control plane read as that message.
+    ensures decoded { DecodedReads }
+
+    // Octets that spell a decoded message of the user plane read as that message.
+    ensures user_decoded { UserDecodedReads }
+
+    // A control message that is cut short reads as the fault of a cut.
+    ensures cuts { CutsRead }
+
+    // So does a user plane message.
+    ensures user_cuts { UserCutsRead }
+
+    // What a gateway sends for a message reads as that message.
+    ensures spelled { SpelledReads }
+
+    // Messages that a gateway can send, with one text, are one.
+    ensures apart { SpelledApart }
 
     // A Create Session Request reads as one, for the subscriber and the access point that it names.
     ensures subscriber { KeepsSubscriber }

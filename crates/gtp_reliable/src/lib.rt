@@ -17,8 +17,3 @@ pub use pending::{Due, Pending, Resend};
 
 /// What the signatures and contracts here name of the crate below.
 pub use gtp_values::{Endpoint, Seq};
-
-#[cfg(test)]
-mod listed;
-#[cfg(test)]
-mod tests;

@@ -25,6 +25,3 @@ pub use view::{View, end_opened};
 
 /// What the signatures and contracts here name of the crate below.
 pub use gtp_values::{Age, Apn, Counter, Ebi, Imsi, Memory, Teid, ValueFault};
-
-#[cfg(test)]
-mod tests;

@@ -1,4 +1,4 @@
-//! Tests of values and of both codecs: vectors from outside, printed texts, and calls that allocate where there is
+//! Tests of values, of both codecs, of tables and of reliable delivery: vectors from outside, printed texts, and calls that allocate where there is
 //! memory. What their contracts say is not tested again.
 #![tactic(auto)]
 
@@ -6,6 +6,10 @@
 mod control;
 #[cfg(test)]
 mod elements;
+#[cfg(test)]
+mod reliable;
+#[cfg(test)]
+mod tables;
 #[cfg(test)]
 mod user;
 #[cfg(test)]

@@ -2,7 +2,7 @@
 use Rattle.std.specs.Prelude.{◌≡◌, ℕ, Bool, true, false, List, Option, Ok}
 use Rattle.std.specs.Io.KnownBytes.{Appends}
 use Rattle.hex.specs.Hex.{decode_of}
-use Rattle.gtp_lines.specs.declared.plane.Plane.{Plane}
+use Rattle.gtp_values.specs.declared.plane.Plane.{Plane}
 use Rattle.gtp_lines.specs.Lines.{LinesOf}
 
 -- the exit status where lines were shown: 1 for those of a fault

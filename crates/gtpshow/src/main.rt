@@ -3,8 +3,6 @@
 
 mod command;
 mod showing;
-#[cfg(test)]
-mod tests;
 mod watched;
 
 ghost use Rattle.std.specs.Prelude.{◌≤◌, IfOk};

@@ -48,17 +48,11 @@ impl<W: Write> Watched<W> {
         }
         Ok(())
     }
+
     /// Whether a write has failed.
     pub fn failed(&self) -> bool
         ensures { result ≡ self.now.failed }
     {
         self.failed
-    }
-
-    /// The writer.
-    pub fn inner(&self) -> &W
-        ensures { result.now ≡ self.now.inner }
-    {
-        &self.inner
     }
 }

@@ -1,5 +1,5 @@
 -- What a step of a gateway leaves, and the steps by which sessions and bearers only go or close.
-use Rattle.std.proofs.Common.{◌≡◌, ◌≢◌, inl, inr, ℕ, List, [], ◌∷◌, ◌++◌, Option, Some, None, refl, sym, ◌∙◌, subst}
+use Rattle.std.proofs.Common.{◌≡◌, ◌≢◌, inl, inr, ⊎_elim, ℕ, List, [], ◌∷◌, ◌++◌, Option, Some, None, refl, sym, ◌∙◌, subst}
 use Rattle.std.specs.FinMap.{insert, get}
 use Rattle.gtp_values.specs.Counter.{age_of}
 use Rattle.gtp_values.specs.declared.counter.Age.{Age}
@@ -15,8 +15,8 @@ use Rattle.gtp_machine.specs.Command.{asks}
 use Rattle.gtp_machine.specs.Answer.{answered}
 use Rattle.gtp_machine.specs.World.{other, Sent, HasSent, signed}
 use Rattle.gtp_machine.specs.Laws.{ClosesWhole}
-use Rattle.gtp_machine.proofs.Basics.FiniteMaps.{Each-insert, Each-weaker, get-insert_other}
-use Rattle.gtp_machine.proofs.Origins.Drawing.{Extends, Extends-signed, Draws, Draws-nothing, Draws-one, IsMadeNow, sent_now}
+use Rattle.gtp_machine.proofs.Basics.FiniteMaps.{Each-insert, Each-weaker, get-insert_other, Among-left, Among-one_more}
+use Rattle.gtp_machine.proofs.Origins.Drawing.{Extends, Extends-signed, Draws, Draws-nothing, Draws-one, IsMadeNow, by_now}
 use Rattle.gtp_machine.proofs.Origins.Contexts.{ServingContexts, ServingContexts-later, ServingContexts-shrinks, PacketContexts, PacketContexts-later, PacketContexts-shrinks, closes-shrinks}
 use Rattle.gtp_machine.proofs.Changes.Shrinking.{NodeShrinks, Shrunk, Shrunk-itself}
 use Rattle.gtp_machine.proofs.Changes.Matching.{IsMatched, IsMatched-shrinks, IsMatched-session, IsMatched-bearer}
@@ -189,9 +189,10 @@ module _ (role : Role) (history : List Sent) (taken : Arrival → Message → Ty
   pub held_now : (request : Arrival) (m : Message) (new : Node) → Knows role (history ++ signed role (m ∷ [])) new → Knows role (history ++ signed role (m ∷ [])) (holding request m new)
   held_now request m new k = record { contexts = k.contexts; drawn = k.drawn; standing = k.standing; ready = k.ready; closed = k.closed; pending = k.pending; matched = k.matched; held = held }
     where
-      held : (h : Held) → Among h (record { request = request; answer = m } ∷ new.held) → HasSent (history ++ signed role (m ∷ [])) role h.answer
-      held h (inl is) = subst (λ (k : Held). HasSent (history ++ signed role (m ∷ [])) role k.answer) (sym is) (sent_now history role (m ∷ []) m (inl refl))
-      held h (inr there) = k.held h there
+      held : (h : Held) → Among h (new.held ++ (record { request = request; answer = m } ∷ [])) → HasSent (history ++ signed role (m ∷ [])) role h.answer
+      held h among = ⊎_elim (λ there. k.held h there)
+          (λ is. subst (λ (k : Held). HasSent (history ++ signed role (m ∷ [])) role k.answer) (sym is) (by_now history role (m ∷ []) m (inl refl)))
+          (Among-one_more h (record { request = request; answer = m }) new.held among)
 
   -- a step that only shrinks, and gives an answer, which is held
   pub answers : (request : Arrival) (m : Message) (cause : ℕ) (new : Node) → Shrunk old new → IsPlain m → IsMadeNow history old (holding request m new) m → After role history taken old (answered request m cause new)
@@ -200,7 +201,7 @@ module _ (role : Role) (history : List Sent) (taken : Arrival → Message → Ty
     known = s.known;
     told = nothing_told history (other role);
     draws = Draws-one history role old (holding request m new) m s.config s.counter s.drawn (inr made);
-    logs = Logs-plain history role taken old (holding request m new) (Answered cause) (λ h was. inr (subst (Among h) (sym s.held) was)) request.source m plain;
+    logs = Logs-plain history role taken old (holding request m new) (Answered cause) (λ h was. Among-left h new.held _ (subst (Among h) (sym s.held) was)) request.source m plain;
   }
 
   -- a pending request is added to what only shrinks
@@ -216,7 +217,7 @@ module _ (role : Role) (history : List Sent) (taken : Arrival → Message → Ty
           standing = k.standing;
           ready = k.ready;
           closed = k.closed;
-          pending = Each-insert (IsPending after role) old.pending number p (record { sent = sent_now history role (m ∷ []) m (inl refl); names = names }) (later (m ∷ [])).pending;
+          pending = Each-insert (IsPending after role) old.pending number p (record { sent = by_now history role (m ∷ []) m (inl refl); names = names }) (later (m ∷ [])).pending;
           matched = Each-insert (IsMatched new.sessions new.bearers) old.pending number p matched (Each-weaker (IsMatched old.sessions old.bearers) (IsMatched new.sessions new.bearers) old.pending (IsMatched-shrinks old new s.shrinks) knows.matched);
           held = k.held;
         };

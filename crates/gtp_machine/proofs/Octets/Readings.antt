@@ -27,7 +27,7 @@ some_context values [] groups same some = let few : 0 < 0 = subst (λ (g : List 
 some_context values (first ∷ further) groups same some = (first, further, refl)
 
 -- the fields of a message whose type has a table are those of its lines
-typed_lines : (kind : ℕ) (table : Table) (octets : List ℕ) (m : MessageValue) (fields : List Field) → ((h : Headed) (content : Content) → h.kind ≡ kind → CarriesBy (table_of h.kind) h content → CarriesBy (Some table) h content) → m.kind ≡ kind → m.content ≡ Fields fields → IsMessage octets m → (es : List Element) × LinesAre start table.lines es fields
+pub typed_lines : (kind : ℕ) (table : Table) (octets : List ℕ) (m : MessageValue) (fields : List Field) → ((h : Headed) (content : Content) → h.kind ≡ kind → CarriesBy (table_of h.kind) h content → CarriesBy (Some table) h content) → m.kind ≡ kind → m.content ≡ Fields fields → IsMessage octets m → (es : List Element) × LinesAre start table.lines es fields
 typed_lines kind table octets m fields has of says is =
     let h = is.0 in
     let content = is.2.0 in

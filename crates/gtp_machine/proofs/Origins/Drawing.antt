@@ -1,12 +1,12 @@
 -- TEIDs are drawn once, over all restarts, and counters tell the start that they are of.
-use Rattle.std.proofs.Common.{◌≡◌, ◌⊎◌, inl, inr, ⊎_elim, ℕ, ◌+◌, ◌%◌, ◌<◌, ◌≤◌, List, [], ◌∷◌, ◌++◌, Some, refl, sym, ◌∙◌, ap, subst, arith}
+use Rattle.std.proofs.Common.{◌≡◌, ◌≢◌, ◌⊎◌, inl, inr, ⊎_elim, ℕ, ◌+◌, ◌%◌, ◌<◌, ◌≤◌, List, [], ◌∷◌, ◌++◌, Some, refl, sym, ◌∙◌, ap, subst, arith}
 use Rattle.gtp_values.specs.FiniteMap.{Among}
 use Rattle.gtp_machine.specs.Element.{IsAccepting, teid_in}
 use Rattle.gtp_machine.specs.Message.{Message, CreateSessionResponse, GivenBearer, CreateBearerResponse, Create_session_request, Create_session_response, Create_bearer_response, Owns, recovery_of, first_created, first_given}
 use Rattle.gtp_machine.specs.Node.{Arrival, Role, Serving, Packet, Node}
 use Rattle.gtp_machine.specs.Input.{Effect, messages}
 use Rattle.gtp_machine.specs.Choice.{IsFree, counter_of}
-use Rattle.gtp_machine.specs.World.{other, Sent, Side, HasSent, signed, restarted, stepped}
+use Rattle.gtp_machine.specs.World.{other, By, Sent, Side, HasBy, HasSent, signed, restarted, stepped}
 use Rattle.gtp_machine.specs.Laws.{IsOfStart, AnswersSession, AnswersBearer}
 use Rattle.gtp_machine.proofs.Basics.FiniteMaps.{Among-left, Among-right, Among-cases}
 
@@ -26,19 +26,21 @@ TellsStart (Create_session_request q) = Unit {0}
 TellsStart (Create_session_response a) = Unit {0}
 TellsStart _ = ⊥
 
--- a Create Session Response answers a request, and names both TEIDs where it accepts
+-- a Create Session Response answers a request, names both TEIDs where it accepts, and not one for both
 pub record ProperSession (history : List Sent) (a : CreateSessionResponse) : Type 0 where
   pub answers : AnswersSession history a
   pub control : IsAccepting a.cause → (t : ℕ) × (teid_in a.control ≡ Some t)
   pub user : IsAccepting a.cause → (t : ℕ) × (first_created a.contexts ≡ Some t)
+  pub apart : (t : ℕ) → teid_in a.control ≡ Some t → first_created a.contexts ≡ Some t → ⊥
 
 -- a Create Bearer Response answers a request, and names a TEID where both causes accept
 pub record ProperBearer (history : List Sent) (x : CreateBearerResponse) : Type 0 where
   pub answers : AnswersBearer history x
   pub user : (c : GivenBearer) → x.contexts ≡ c ∷ [] → IsAccepting x.cause → IsAccepting c.cause → (t : ℕ) × (first_given x.contexts ≡ Some t)
 
--- what holds of each response that a gateway makes
+-- what holds of each request for a session and of each response that a gateway makes
 abbrev pub IsProper : List Sent → Message → Type 0
+IsProper history (Create_session_request q) = q.control.teid ≢ q.context.user.teid
 IsProper history (Create_session_response a) = ProperSession history a
 IsProper history (Create_bearer_response x) = ProperBearer history x
 IsProper history _ = Unit {0}
@@ -74,41 +76,42 @@ pub record Draws (history : List Sent) (role : Role) (old new : Node) (sent : Li
 pub starts_apart : (first i j : ℕ) → i < j → j ≤ 127 → (first + i) % 256 ≡ (first + j) % 256 → ⊥
 starts_apart first i j before few same = omega arith
 
--- a signed message is one that was sent
-pub signed_among : (role by : Role) (sent : List Message) (m : Message) → HasSent (signed by sent) role m → (role ≡ by) × Among m sent
-signed_among role by [] m none = absurd none
-signed_among role by (x ∷ sent) m (inl here) = (ap (λ (s : Sent). s.sender) here, inl (ap (λ (s : Sent). s.message) here))
-signed_among role by (x ∷ sent) m (inr there) = let rest = signed_among role by sent m there in (rest.0, inr rest.1)
+-- what is signed is in the list
+pub signed_among : {X : Type 0} (role by : Role) (list : List X) (x : X) → HasBy (signed by list) role x → (role ≡ by) × Among x list
+signed_among role by [] x none = absurd none
+signed_among {X} role by (y ∷ list) x (inl here) = (ap (λ (s : By X). s.role) here, inl (ap (λ (s : By X). s.what) here))
+signed_among role by (y ∷ list) x (inr there) = let rest = signed_among role by list x there in (rest.0, inr rest.1)
 
-among_signed : (role : Role) (sent : List Message) (m : Message) → Among m sent → HasSent (signed role sent) role m
-among_signed role [] m none = absurd none
-among_signed role (x ∷ sent) m (inl here) = inl (ap (λ y. record { sender = role; message = y }) here)
-among_signed role (x ∷ sent) m (inr there) = inr (among_signed role sent m there)
+among_signed : {X : Type 0} (role : Role) (list : List X) (x : X) → Among x list → HasBy (signed role list) role x
+among_signed role [] x none = absurd none
+among_signed role (y ∷ list) x (inl here) = inl (ap (λ k. record { role = role; what = k }) here)
+among_signed role (y ∷ list) x (inr there) = inr (among_signed role list x there)
 
-pub sent_before : (history : List Sent) (role by : Role) (sent : List Message) (m : Message) → HasSent history role m → HasSent (history ++ signed by sent) role m
-sent_before history role by sent m h = Among-left _ history (signed by sent) h
+pub by_before : {X : Type 0} (log : List (By X)) (role by : Role) (list : List X) (x : X) → HasBy log role x → HasBy (log ++ signed by list) role x
+by_before log role by list x h = Among-left _ log (signed by list) h
 
 pub Extends-signed : (history : List Sent) (role : Role) (sent : List Message) → Extends history (history ++ signed role sent)
-Extends-signed history role sent = record { keeps = λ r m. sent_before history r role sent m }
+Extends-signed history role sent = record { keeps = λ r m. by_before history r role sent m }
 
-pub sent_now : (history : List Sent) (role : Role) (sent : List Message) (m : Message) → Among m sent → HasSent (history ++ signed role sent) role m
-sent_now history role sent m h = Among-right _ history (signed role sent) (among_signed role sent m h)
+pub by_now : {X : Type 0} (log : List (By X)) (role : Role) (list : List X) (x : X) → Among x list → HasBy (log ++ signed role list) role x
+by_now log role list x h = Among-right _ log (signed role list) (among_signed role list x h)
 
-pub sent_cases : (history : List Sent) (role by : Role) (sent : List Message) (m : Message) → HasSent (history ++ signed by sent) role m → HasSent history role m ⊎ ((role ≡ by) × Among m sent)
-sent_cases history role by sent m h = ⊎_elim (λ l. inl l) (λ r. inr (signed_among role by sent m r)) (Among-cases _ history (signed by sent) h)
+pub by_cases : {X : Type 0} (log : List (By X)) (role by : Role) (list : List X) (x : X) → HasBy (log ++ signed by list) role x → HasBy log role x ⊎ ((role ≡ by) × Among x list)
+by_cases log role by list x h = ⊎_elim (λ l. inl l) (λ r. inr (signed_among role by list x r)) (Among-cases _ log (signed by list) h)
 
 not_other : (role : Role) → role ≡ other role → ⊥
 not_other Serving e = cc
 not_other Packet e = cc
 
--- what the other gateway has sent is as before
-pub sent_by_other : (history : List Sent) (role : Role) (sent : List Message) (m : Message) → HasSent (history ++ signed (other role) sent) role m → HasSent history role m
-sent_by_other history role sent m h = ⊎_elim (λ l. l) (λ r. absurd (not_other role r.0)) (sent_cases history role (other role) sent m h)
+-- what the log has of one gateway is as before, where it grows by the other's
+pub by_other : {X : Type 0} (log : List (By X)) (role : Role) (list : List X) (x : X) → HasBy (log ++ signed (other role) list) role x → HasBy log role x
+by_other log role list x h = ⊎_elim (λ l. l) (λ r. absurd (not_other role r.0)) (by_cases log role (other role) list x h)
 
 -- a proper response stays one
 pub IsProper-later : (before after : List Sent) → Extends before after → (m : Message) → IsProper before m → IsProper after m
-IsProper-later before after extends (Create_session_response a) p = record { answers = record { request = p.answers.request; sent = extends.keeps Serving _ p.answers.sent; number = p.answers.number; header = p.answers.header }; control = p.control; user = p.user }
-IsProper-later before after extends (Create_bearer_response x) p = record { answers = record { request = p.answers.request; sent = extends.keeps Packet _ p.answers.sent; number = p.answers.number; returned = p.answers.returned }; user = p.user }
+IsProper-later before after extends (Create_session_request q) p = p
+IsProper-later before after extends (Create_session_response a) p = record { answers = record { request = p.answers.request; sent = extends.keeps Serving _ p.answers.sent; number = p.answers.number; header = p.answers.header; given = p.answers.given }; control = p.control; user = p.user; apart = p.apart }
+IsProper-later before after extends (Create_bearer_response x) p = record { answers = record { request = p.answers.request; sent = extends.keeps Packet _ p.answers.sent; number = p.answers.number; returned = p.answers.returned; given = p.answers.given }; user = p.user }
 IsProper-later before after extends _ p = tt
 
 module _ (side : Side) (role : Role) (history : List Sent) (drawing : Drawing side role history) where
@@ -138,7 +141,7 @@ module _ (side : Side) (role : Role) (history : List Sent) (drawing : Drawing si
       before m t was owns = ⊎_elim (λ drawn. inl (draws.extends t drawn)) (λ earlier. inr (record { start = earlier.start; before = earlier.before; is = earlier.is })) (drawing.drawn m t was owns)
 
       cases : (m : Message) → HasSent (history ++ signed role (messages e.out.sent)) role m → HasSent history role m ⊎ (Among m (messages e.out.sent) × IsMadeNow history side.node e.node m)
-      cases m has = elim (sent_cases history role role (messages e.out.sent) m has) [
+      cases m has = elim (by_cases history role role (messages e.out.sent) m has) [
         | inl was ↦ inl was
         | inr now ↦ ⊎_elim (λ was. inl was) (λ fresh. inr (now.1, fresh)) (draws.each m now.1)
       ]
@@ -154,11 +157,11 @@ module _ (side : Side) (role : Role) (history : List Sent) (drawing : Drawing si
     counter = drawing.counter;
     few = drawing.few;
     present = drawing.present;
-    drawn = λ m t has owns. drawing.drawn m t (sent_by_other history role sent m has) owns;
-    once = λ m n t m_has n_has. drawing.once m n t (sent_by_other history role sent m m_has) (sent_by_other history role sent n n_has);
-    told = λ m r has. drawing.told m r (sent_by_other history role sent m has);
-    dated = λ m t has. drawing.dated m t (sent_by_other history role sent m has);
-    proper = λ m has. IsProper-later history (history ++ signed (other role) sent) (Extends-signed history (other role) sent) m (drawing.proper m (sent_by_other history role sent m has));
+    drawn = λ m t has owns. drawing.drawn m t (by_other history role sent m has) owns;
+    once = λ m n t m_has n_has. drawing.once m n t (by_other history role sent m m_has) (by_other history role sent n n_has);
+    told = λ m r has. drawing.told m r (by_other history role sent m has);
+    dated = λ m t has. drawing.dated m t (by_other history role sent m has);
+    proper = λ m has. IsProper-later history (history ++ signed (other role) sent) (Extends-signed history (other role) sent) m (drawing.proper m (by_other history role sent m has));
   }
 
   pub Drawing-restart : side.restarts < 127 → Drawing (restarted side) role history

@@ -6,6 +6,7 @@ use Rattle.gtp_values.specs.declared.counter.Age.{Age}
 use Rattle.gtp_values.specs.declared.counter.Age.TheVariants.{Same, Later, Earlier}
 use Rattle.gtp_values.specs.declared.qos.Qos.{Qos}
 use Rattle.gtp_values.specs.FiniteMap.{Each, Among}
+use Rattle.gtp_machine.specs.Step.{Step}
 use Rattle.gtp_machine.specs.Message.{Message, CreateSessionRequest, CreateBearerRequest, DeleteBearerRequest, DeleteSessionRequest, Echo_request, Echo_response, Create_session_request, Create_session_response, Delete_session_request, Delete_session_response, Create_bearer_request, Create_bearer_response, Delete_bearer_request, Delete_bearer_response, Other_control, Packet_data, End_marker, Error_indication, User_echo_request, User_echo_response, Supported_extensions, Other_user, recovery_of}
 use Rattle.gtp_machine.specs.Node.{Role, Serving, Packet, Session, Bearer, PendingRequest, Arrival, Held, Node, written}
 use Rattle.gtp_machine.specs.Input.{Specification, Command, Create_session, Delete_session, Create_bearer, Delete_bearer, Release_session, Mark_end, Send_echo, Send_user, ControlReading, Control_message, Faulty, Control_fault, UserReading, User_message, Extension_needed, User_fault, Move, Resend, Give_up, Forget, Input, Commanded, Control_came, User_came, Moves_on, Effect, messages}
@@ -17,7 +18,7 @@ use Rattle.gtp_machine.specs.Answer.{ControlStep}
 use Rattle.gtp_machine.specs.Move.{MoveStep}
 use Rattle.gtp_machine.specs.Serving.{SessionAnswered, DeletionAnswered, BearerAsked, RemovalTaken, RemovalAsked, ServingTakes, ServingReads}
 use Rattle.gtp_machine.specs.Packet.{SessionAsked, DeletionAsked, BearerAnswered, RemovalAnswered, PacketTakes, PacketReads}
-use Rattle.gtp_machine.specs.World.{Step, other, Sent, HasSent, signed}
+use Rattle.gtp_machine.specs.World.{other, Sent, HasSent, signed}
 use Rattle.gtp_machine.specs.Laws.{IsFrom, NamesBack, EachNamesBack}
 use Rattle.gtp_machine.proofs.Basics.FiniteMaps.{Among-cases}
 use Rattle.gtp_machine.proofs.Origins.Drawing.{Extends, Extends-signed, signed_among}
@@ -384,4 +385,4 @@ Names-step history role e named told by m has =
     (λ now.
     let is = signed_among by role (messages e.out.sent) m now in
     subst (λ k. NamesBack (history ++ signed role (messages e.out.sent)) k m) (sym is.0) (names_later history _ extends role m (⊎_elim (λ was. named role m was) (λ back. back) (told m is.1))))
-    (Among-cases (record { sender = by; message = m }) history (signed role (messages e.out.sent)) has)
+    (Among-cases (record { role = by; what = m }) history (signed role (messages e.out.sent)) has)

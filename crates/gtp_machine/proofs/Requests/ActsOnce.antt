@@ -5,18 +5,18 @@ use Rattle.gtp_values.specs.Counter.{age_of}
 use Rattle.gtp_values.specs.declared.counter.Age.{Age}
 use Rattle.gtp_values.specs.declared.counter.Age.TheVariants.{Same, Later, Earlier}
 use Rattle.gtp_values.specs.FiniteMap.{Among}
+use Rattle.gtp_machine.specs.Step.{Step, Done, Steps}
 use Rattle.gtp_machine.specs.Config.{Config}
 use Rattle.gtp_machine.specs.Message.{CreateSessionRequest, CreateBearerRequest, Message, Echo_request, Echo_response, Create_session_request, Create_session_response, Delete_session_request, Delete_session_response, Create_bearer_request, Create_bearer_response, Delete_bearer_request, Delete_bearer_response, Other_control, Packet_data, End_marker, Error_indication, User_echo_request, User_echo_response, Supported_extensions, Other_user}
 use Rattle.gtp_machine.specs.Node.{Role, Serving, Packet, Bearer, Arrival, Held, Node, fresh_node}
-use Rattle.gtp_machine.specs.Input.{Input, Commanded, Control_came, User_came, Moves_on, Control_message, Resend, Give_up, Forget, Drop, Effect, dropped, messages}
+use Rattle.gtp_machine.specs.Input.{Input, Commanded, Control_came, User_came, Moves_on, Control_message, Resend, Give_up, Forget, DropReason, Effect, dropped, messages}
 use Rattle.gtp_machine.specs.Recovery.{Judges, Weighs, Hears, peer_restarted}
 use Rattle.gtp_machine.specs.Move.{Forgets}
 use Rattle.gtp_machine.specs.Answer.{making, Repeats, IsNew, ControlStep, answered}
 use Rattle.gtp_machine.specs.Serving.{BearerAsked, ServingTakes, ServingReads}
 use Rattle.gtp_machine.specs.Packet.{SessionAsked, PacketTakes, PacketReads}
-use Rattle.gtp_machine.specs.World.{Step}
-use Rattle.gtp_machine.specs.Once.{Done, Steps, Makes, NeverForgets, IsOnce, ActsOnce, ActsOnceInTime, HeldUntilForgotten}
-use Rattle.gtp_machine.proofs.Basics.FiniteMaps.{Among-right}
+use Rattle.gtp_machine.specs.Once.{Takes, Makes, NeverForgets, IsOnce, ActsOnce, ActsOnceInTime, HeldUntilForgotten}
+use Rattle.gtp_machine.proofs.Basics.FiniteMaps.{Among-left, Among-right, Among-last, Among-one_more}
 use Rattle.gtp_machine.proofs.Changes.Shrinking.{Shrunk-finished, Shrinks-restart}
 use Rattle.gtp_machine.proofs.Requests.Holding.{held_in, Keeps, Adds, Holds, command_held, user_held, serving_reads_holds, packet_reads_holds}
 use Rattle.gtp_machine.proofs.Changes.Forgetting.{leaves}
@@ -38,15 +38,21 @@ keeps old e same = record {
 
 adds : (request : Arrival) (old : Node) (e : Effect) → IsNew old request → Adds request old e → HeldStep old e
 adds request old e is_new a = record {
-  stays = λ h was. inl (subst (Among h) (sym a.held) (inr was));
+  stays = λ h was. inl (subst (Among h) (sym a.held) (Among-left h old.held _ was));
   once = λ o. record { once = λ g h x y. both o g h (subst (Among g) a.held x) (subst (Among h) a.held y) };
 }
   where
-    both : HeldOnce old → (g h : Held) → Among g (record { request = request; answer = a.answer } ∷ old.held) → Among h (record { request = request; answer = a.answer } ∷ old.held) → g.request ≡ h.request → g.answer ≡ h.answer
-    both o g h (inl g_is) (inl h_is) same = ap (λ (k : Held). k.answer) (g_is ∙ sym h_is)
-    both o g h (inl g_is) (inr h_in) same = absurd (is_new h h_in (sym same ∙ ap (λ (k : Held). k.request) g_is))
-    both o g h (inr g_in) (inl h_is) same = absurd (is_new g g_in (same ∙ ap (λ (k : Held). k.request) h_is))
-    both o g h (inr g_in) (inr h_in) same = o.once g h g_in h_in same
+    added : Held
+    added = record { request = request; answer = a.answer }
+
+    one_of : HeldOnce old → (g h : Held) → Among g old.held ⊎ (g ≡ added) → Among h old.held ⊎ (h ≡ added) → g.request ≡ h.request → g.answer ≡ h.answer
+    one_of o g h (inr g_is) (inr h_is) same = ap (λ (k : Held). k.answer) (g_is ∙ sym h_is)
+    one_of o g h (inr g_is) (inl h_in) same = absurd (is_new h h_in (sym same ∙ ap (λ (k : Held). k.request) g_is))
+    one_of o g h (inl g_in) (inr h_is) same = absurd (is_new g g_in (same ∙ ap (λ (k : Held). k.request) h_is))
+    one_of o g h (inl g_in) (inl h_in) same = o.once g h g_in h_in same
+
+    both : HeldOnce old → (g h : Held) → Among g (old.held ++ (added ∷ [])) → Among h (old.held ++ (added ∷ [])) → g.request ≡ h.request → g.answer ≡ h.answer
+    both o g h g_in h_in same = one_of o g h (Among-one_more g added old.held g_in) (Among-one_more h added old.held h_in) same
 
 control_held : (Reads : Arrival → Node → Effect → Type 0) (request : Arrival) (old : Node) (e : Effect) → (Reads request old e → Holds request old e) → ControlStep Reads request old e → HeldStep old e
 control_held Reads request old e holds (inl f) = keeps old e (ap held_in f.1)
@@ -104,14 +110,14 @@ pub record IsAnswered (request : Arrival) (e : Effect) : Type 0 where
 abbrev Responds : Arrival → Node → Effect → Type 0
 Responds request old e = IsQuiet old e ⊎ IsAnswered request e
 
-quiet : (request : Arrival) (old : Node) (e : Effect) (why : Drop) → e ≡ dropped old why → Responds request old e
+quiet : (request : Arrival) (old : Node) (e : Effect) (why : DropReason) → e ≡ dropped old why → Responds request old e
 quiet request old e why gives = inl (record { silent = ap (λ (f : Effect). messages f.out.sent) gives; none_comes = λ key b is. (b, ap (λ (f : Effect). get f.node.bearers key) (sym gives) ∙ is) })
 
 made : (request : Arrival) (old : Node) (e : Effect) (m : Message) (cause : ℕ) (new : Node) → e ≡ making request m cause new → Responds request old e
-made request old e m cause new gives = inr (record { answer = m; sends = ap (λ (f : Effect). messages f.out.sent) gives; held = subst (λ (f : Effect). Among (record { request = request; answer = m }) f.node.held) (sym gives) (inl refl) })
+made request old e m cause new gives = inr (record { answer = m; sends = ap (λ (f : Effect). messages f.out.sent) gives; held = subst (λ (f : Effect). Among (record { request = request; answer = m }) f.node.held) (sym gives) (Among-last {X = Held} (record { request = request; answer = m }) new.held) })
 
 gave : (request : Arrival) (old : Node) (e : Effect) (m : Message) (cause : ℕ) (new : Node) → e ≡ answered request m cause new → Responds request old e
-gave request old e m cause new gives = inr (record { answer = m; sends = ap (λ (f : Effect). messages f.out.sent) gives; held = subst (λ (f : Effect). Among (record { request = request; answer = m }) f.node.held) (sym gives) (inl refl) })
+gave request old e m cause new gives = inr (record { answer = m; sends = ap (λ (f : Effect). messages f.out.sent) gives; held = subst (λ (f : Effect). Among (record { request = request; answer = m }) f.node.held) (sym gives) (Among-last {X = Held} (record { request = request; answer = m }) new.held) })
 
 bearer_asked : (request : Arrival) (q : CreateBearerRequest) (old : Node) (e : Effect) → BearerAsked request q old e → Responds request old e
 bearer_asked request q old e (inl f) = quiet request old e _ f.1
@@ -294,25 +300,30 @@ steps_until role old (x ∷ xs) d ys new s =
     let r = steps_until role x.effect.node xs d ys new s.2 in
     (r.0, (s.0, s.1, r.1))
 
-pub acts_once_in_time : ActsOnceInTime
-acts_once_in_time role request message first second t =
-    let from = steps_after role (fresh_node t.config t.counter) t.before (first ∷ (t.between ++ (second ∷ t.after))) t.finish t.steps in
-    let until = steps_until role first.effect.node t.between second t.after t.finish from.2.2 in
-    let never = t.in_time (t.before ++ (first ∷ t.between)) t.after second message (sym (append_assoc t.before (first ∷ t.between) (second ∷ t.after))) t.second_takes in
+-- two steps of one start, with no giving up between them
+pub acts_once_from : (role : Role) (request : Arrival) (message : Message) (first second : Done) (config : Config) (counter : ℕ) (before between after : List Done) (finish : Node) → Makes role message → Steps role (fresh_node config counter) (before ++ (first ∷ (between ++ (second ∷ after)))) finish → Takes first request message → Takes second request message → NeverForgets between request → IsOnce first second
+acts_once_from role request message first second config counter before between after finish makes steps first_takes second_takes kept =
+    let from = steps_after role (fresh_node config counter) before (first ∷ (between ++ (second ∷ after))) finish steps in
+    let until = steps_until role first.effect.node between second after finish from.2.2 in
     acts_once role request message first second (record {
-      makes = t.makes;
-      config = t.config;
-      counter = t.counter;
-      before = t.before;
-      between = t.between;
+      makes = makes;
+      config = config;
+      counter = counter;
+      before = before;
+      between = between;
       start = from.0;
       finish = until.0;
       reached = from.1;
       steps = (from.2.0, from.2.1, until.1);
-      first_takes = t.first_takes;
-      second_takes = t.second_takes;
-      kept = λ done among. never done (Among-right done t.before (first ∷ t.between) (inr among));
+      first_takes = first_takes;
+      second_takes = second_takes;
+      kept = kept;
     })
+
+pub acts_once_in_time : ActsOnceInTime
+acts_once_in_time role request message first second t =
+    let never = t.in_time (t.before ++ (first ∷ t.between)) t.after second message (sym (append_assoc t.before (first ∷ t.between) (second ∷ t.after))) t.second_takes in
+    acts_once_from role request message first second t.config t.counter t.before t.between t.after t.finish t.makes t.steps t.first_takes t.second_takes (λ done among. never done (Among-right done t.before (first ∷ t.between) (inr among)))
 
 pub held_until_forgotten : HeldUntilForgotten
 held_until_forgotten role old input e r = (step_held role old input e r).stays

@@ -1,5 +1,5 @@
 -- What each step does with the answers that are held.
-use Rattle.std.proofs.Common.{◌≡◌, ◌⊎◌, inl, inr, ⊎_elim, ℕ, List, ◌∷◌, Option, Some, None, refl, ◌∙◌, ap}
+use Rattle.std.proofs.Common.{◌≡◌, ◌⊎◌, inl, inr, ⊎_elim, ℕ, List, [], ◌∷◌, ◌++◌, Option, Some, None, refl, ◌∙◌, ap}
 use Rattle.gtp_values.specs.Counter.{age_of}
 use Rattle.gtp_values.specs.declared.address.Endpoint.{Endpoint}
 use Rattle.gtp_values.specs.declared.counter.Age.{Age}
@@ -139,7 +139,7 @@ user_held role source reading old e (inr (peer, r)) = user_read_held role source
 -- a step that holds one more answer to the request
 pub record Adds (request : Arrival) (old : Node) (e : Effect) : Type 0 where
   pub answer : Message
-  pub held : e.node.held ≡ record { request = request; answer = answer } ∷ old.held
+  pub held : e.node.held ≡ old.held ++ (record { request = request; answer = answer } ∷ [])
 
 -- what taking a control message does with what is held
 abbrev pub Holds : Arrival → Node → Effect → Type 0
@@ -152,7 +152,7 @@ module _ (request : Arrival) (old : Node) (e : Effect) where
   ends : (number : ℕ) (p : PendingRequest) (outcome : Outcome) → e ≡ finishing old number p outcome → Holds request old e
   ends number p outcome gives = inl (ap held_in gives ∙ (Shrunk-finished old number p.session p.bearer).held)
 
-  answers : (m : Message) (f : Effect) → e ≡ f → f.node.held ≡ record { request = request; answer = m } ∷ old.held → Holds request old e
+  answers : (m : Message) (f : Effect) → e ≡ f → f.node.held ≡ old.held ++ (record { request = request; answer = m } ∷ []) → Holds request old e
   answers m f gives same = inr (record { answer = m; held = ap held_in gives ∙ same })
 
   echo_answered_holds : (a : _) → EchoAnswered a old e → Holds request old e
@@ -188,7 +188,7 @@ module _ (request : Arrival) (old : Node) (e : Effect) where
   removal_taken_holds d None s (inl f) = answers _ _ f.1 refl
   removal_taken_holds d None s (inr (a, r)) =
       let m = Delete_bearer_response (record { header = written s.remote; number = d.number; cause = cause_of (removal_cause r.contexts); linked = None; contexts = r.contexts; recovery = Some old.counter }) in
-      inr (record { answer = m; held = ap held_in r.gives ∙ ap (λ hs. record { request = request; answer = m } ∷ hs) (removes_each d.header d.identities old r.contexts r.left r.removes).held })
+      inr (record { answer = m; held = ap held_in r.gives ∙ ap (λ (hs : List Held). hs ++ (record { request = request; answer = m } ∷ [])) (removes_each d.header d.identities old r.contexts r.left r.removes).held })
 
   removal_asked_holds : (d : DeleteBearerRequest) → RemovalAsked request d old e → Holds request old e
   removal_asked_holds d (inl f) = drops _ f.1 refl
@@ -265,7 +265,7 @@ module _ (request : Arrival) (old : Node) (e : Effect) where
 module _ (request : Arrival) (Takes : Node → Effect → Type 0) (holds : (old : Node) (e : Effect) → Takes old e → Holds request old e) where
   from : (old mid : Node) (e : Effect) → mid.held ≡ old.held → Holds request mid e → Holds request old e
   from old mid e same (inl kept) = inl (kept ∙ same)
-  from old mid e same (inr adds) = inr (record { answer = adds.answer; held = adds.held ∙ ap (λ hs. record { request = request; answer = adds.answer } ∷ hs) same })
+  from old mid e same (inr adds) = inr (record { answer = adds.answer; held = adds.held ∙ ap (λ (hs : List Held). hs ++ (record { request = request; answer = adds.answer } ∷ [])) same })
 
   judged : (old : Node) (c : ℕ) (a : Age) (e : Effect) → Judges Takes old c a e → Holds request old e
   judged old c Same e r = holds old e r

@@ -1,6 +1,6 @@
 -- The steps that both gateways have keep what each knows.
 use Rattle.std.proofs.Common.{◌≡◌, ◌⊎◌, inl, inr, ⊎_elim, ℕ, List, [], ◌∷◌, Option, Some, None, refl, sym, ◌∙◌, ap, subst}
-use Rattle.std.specs.FinMap.{get, insert, entries}
+use Rattle.std.specs.FinMap.{get, insert}
 use Rattle.gtp_values.specs.Counter.{age_of}
 use Rattle.gtp_values.specs.declared.counter.Age.{Age}
 use Rattle.gtp_values.specs.declared.counter.Age.TheVariants.{Same, Later, Earlier}
@@ -9,7 +9,7 @@ use Rattle.gtp_values.specs.FiniteMap.{Among}
 use Rattle.gtp_machine.specs.Config.{control_end, user_end}
 use Rattle.gtp_machine.specs.Message.{Echo, CreateSessionRequest, CreateBearerRequest, CreateBearerResponse, Message, Echo_request, Echo_response, Create_session_request, Create_session_response, Delete_session_request, Delete_session_response, Create_bearer_request, Create_bearer_response, Delete_bearer_request, Delete_bearer_response, Other_control, Packet_data, End_marker, Error_indication, User_echo_request, User_echo_response, Supported_extensions, Other_user, Owns, recovery_of, first_given}
 use Rattle.gtp_machine.specs.Node.{Role, Serving, Packet, Active, Closing, Session, Bearer, PendingRequest, Arrival, Node, written}
-use Rattle.gtp_machine.specs.Input.{UserReading, User_message, Extension_needed, User_fault, Move, Resend, Give_up, Forget, Entry, entry_for, Outcome, Moved, Gone_out, Dropped, Unknown_context, Unknown_extension, Echoed, Repeated, Effect, nothing, says, messages}
+use Rattle.gtp_machine.specs.Input.{UserReading, User_message, Extension_needed, User_fault, Move, Resend, Give_up, Forget, Entry, entry_for, Outcome, Moved, GoneOut, Dropped, UnknownContext, UnknownExtension, Echoed, Repeated, Effect, nothing, says, messages}
 use Rattle.gtp_machine.specs.Removal.{finished, session_closing}
 use Rattle.gtp_machine.specs.Recovery.{peer_restarted, Judges, Weighs, Hears, learned_by}
 use Rattle.gtp_machine.specs.Move.{MoveStep, Forgets}
@@ -135,7 +135,7 @@ module _ (role : Role) (history : List Sent) (taken : Arrival → Message → Ty
   end_marked Packet bearer e (inl f) = unchanged _ e f.1
   end_marked Packet bearer e (inr (at, inl f)) = unchanged _ e f.1
   end_marked Packet bearer e (inr (at, inr (active, inl f))) = unchanged _ e f.1
-  end_marked Packet bearer e (inr (at, inr (active, inr (before, gives)))) = at_result (After role history taken old) e _ gives (tells_plain _ (End_marker (written at.bearer.remote)) Gone_out (record old { bearers = insert old.bearers bearer (ended_bearer at.bearer) }) (Shrunk-bearer old bearer at.bearer (ended_bearer at.bearer) at.stands (ended_same at.bearer)) tt (λ t none. none) (λ c e. absurd (cc e)) tt)
+  end_marked Packet bearer e (inr (at, inr (active, inr (before, gives)))) = at_result (After role history taken old) e _ gives (tells_plain _ (End_marker (written at.bearer.remote)) GoneOut (record old { bearers = insert old.bearers bearer (ended_bearer at.bearer) }) (Shrunk-bearer old bearer at.bearer (ended_bearer at.bearer) at.stands (ended_same at.bearer)) tt (λ t none. none) (λ c e. absurd (cc e)) tt)
 
   pub echo_begun : (e : Effect) → EchoBegun old e → After role history taken old e
   echo_begun e (inl f) = unchanged _ e f.1
@@ -211,7 +211,7 @@ module _ (role : Role) (history : List Sent) (taken : Arrival → Message → Ty
       accepted entry delivered is e (inr none) = absurd none
 
   packet_came : (by : Role) (target : ℕ) (payload : List ℕ) (e : Effect) → HasSent history (other role) (Packet_data target payload) → PacketCame by target payload old e → After role history taken old e
-  packet_came by target payload e came (inl f) = at_result (After role history taken old) e _ f.1 (tells_plain (user_end old.config.peer.user) (Error_indication target old.config.own.user) (Dropped Unknown_context) old (Shrunk-itself old) tt (λ t none. none) (λ c e. absurd (cc e)) tt)
+  packet_came by target payload e came (inl f) = at_result (After role history taken old) e _ f.1 (tells_plain (user_end old.config.peer.user) (Error_indication target old.config.own.user) (Dropped UnknownContext) old (Shrunk-itself old) tt (λ t none. none) (λ c e. absurd (cc e)) tt)
   packet_came by target payload e came (inr (at, inl f)) = unchanged _ e f.1
   packet_came by target payload e came (inr (at, inr (active, inl f))) = unchanged _ e f.1
   packet_came by target payload e came (inr (at, inr (active, inr (comes, r)))) = accepts target payload at.bearer e at.stands active came r
@@ -224,7 +224,7 @@ module _ (role : Role) (history : List Sent) (taken : Arrival → Message → Ty
 
   error_came : (remote : ℕ) (e : Effect) → ErrorCame remote old e → After role history taken old e
   error_came remote e (inl f) = unchanged _ e f.1
-  error_came remote e (inr (named, gives)) = at_result (After role history taken old) e _ gives (shrunk role history taken old knows _ (Shrunk-without (λ t. default_among remote t (entries old.bearers)) (λ t. bearer_is_to remote (get old.bearers t)) old) [] _)
+  error_came remote e (inr (named, gives)) = at_result (After role history taken old) e _ gives (shrunk role history taken old knows _ (Shrunk-without (λ t. default_among remote t old.bearers) (λ t. bearer_is_to remote (get old.bearers t)) old) [] _)
 
   user_taken : (by : Role) (source : Endpoint) (m : Message) (e : Effect) → HasSent history (other role) m → UserTaken by source m old e → After role history taken old e
   user_taken by source (Packet_data target payload) e came r = packet_came by target payload e came r
@@ -248,7 +248,7 @@ module _ (role : Role) (history : List Sent) (taken : Arrival → Message → Ty
 
   user_read : (by : Role) (source : Endpoint) (reading : UserReading) (e : Effect) → UserCarried role history reading → UserRead by source reading old e → After role history taken old e
   user_read by source (User_message m) e came r = user_taken by source m e came r
-  user_read by source Extension_needed e came r = at_result (After role history taken old) e _ r (tells_plain (user_end old.config.peer.user) (Supported_extensions (64 ∷ [])) (Dropped Unknown_extension) old (Shrunk-itself old) tt (λ t none. none) (λ c e. absurd (cc e)) tt)
+  user_read by source Extension_needed e came r = at_result (After role history taken old) e _ r (tells_plain (user_end old.config.peer.user) (Supported_extensions (64 ∷ [])) (Dropped UnknownExtension) old (Shrunk-itself old) tt (λ t none. none) (λ c e. absurd (cc e)) tt)
   user_read by source (User_fault fault) e came r = unchanged _ e r
 
   pub user_step : (by : Role) (source : Endpoint) (reading : UserReading) (e : Effect) → UserCarried role history reading → UserStep by source reading old e → After role history taken old e

@@ -6,16 +6,16 @@ use Rattle.gtp_values.specs.declared.qos.Qos.{Qos}
 use Rattle.gtp_values.specs.FiniteMap.{FiniteMap, Each, Among}
 use Rattle.gtp_machine.specs.Element.{IsAccepting, cause_of, cause_at, teid_in}
 use Rattle.gtp_machine.specs.Message.{CreateSessionRequest, CreateSessionResponse, DeleteSessionRequest, DeleteSessionResponse, CreateBearerRequest, CreateBearerResponse, DeleteBearerResponse, Message, Create_session_request, Create_session_response, Delete_session_response, Create_bearer_request, Create_bearer_response, Packet_data, Owns, recovery_of, first_returned}
-use Rattle.gtp_machine.specs.Node.{Serving, Packet, State, Pending, Active, Closing, Session, Bearer, PendingRequest, Arrival, Node, holding, written}
-use Rattle.gtp_machine.specs.Input.{ControlReading, Control_message, Begun, Opened, Answered, Effect}
+use Rattle.gtp_machine.specs.Node.{Serving, Packet, State, Pending, Active, Closing, Session, Bearer, PendingRequest, Arrival, Held, Node, holding, written}
+use Rattle.gtp_machine.specs.Input.{messages, ControlReading, Control_message, Begun, Opened, Answered, Effect}
 use Rattle.gtp_machine.specs.Choice.{IsFree, HasPending, counter_of}
 use Rattle.gtp_machine.specs.Removal.{without_session}
 use Rattle.gtp_machine.specs.Command.{bearer_request, pending_dedicated, BeginsBearer, BearerBegun}
 use Rattle.gtp_machine.specs.Answer.{IsNew, answered, ControlStep}
 use Rattle.gtp_machine.specs.Packet.{session_cause, session_response, made_session, made_bearer, session_made, MakesSession, session_refused, SessionAsked, DeletionAsked, FitsBearer, DescribesBearer, CanOpen, opened_dedicated, OpensBearer, BearerAnswered, RemovalAnswered, PacketTakes, packet_takes, PacketFaulted, PacketReads}
 use Rattle.gtp_machine.specs.World.{Sent, HasSent, signed}
-use Rattle.gtp_machine.proofs.Basics.FiniteMaps.{Each-insert, Each-remove, found-remove, get-insert_same}
-use Rattle.gtp_machine.proofs.Origins.Drawing.{Draws-nothing, Draws-new, TellsStart, IsProper, sent_before, sent_now, sent_cases}
+use Rattle.gtp_machine.proofs.Basics.FiniteMaps.{Each-insert, Each-remove, found-remove, get-insert_same, Among-left, Among-last}
+use Rattle.gtp_machine.proofs.Origins.Drawing.{Draws-nothing, Draws-new, TellsStart, IsProper, by_before, by_now, by_cases}
 use Rattle.gtp_machine.proofs.Origins.Contexts.{IsMade, IsWanted, IsAtPacket, closes-session, closes-bearer}
 use Rattle.gtp_machine.proofs.Changes.Shrinking.{Shrunk, Shrunk-itself, Shrunk-without}
 use Rattle.gtp_machine.proofs.Changes.Matching.{IsMatched, IsMatched-bearer}
@@ -57,7 +57,7 @@ module _ (history : List Sent) (taken : Arrival → Message → Type 0) (serving
       let m = Create_bearer_request q in
       let after = history ++ signed Packet (m ∷ []) in
       let was = was_later (m ∷ []) in
-      let now : HasSent after Packet m = sent_now history Packet (m ∷ []) m (inl refl) in
+      let now : HasSent after Packet m = by_now history Packet (m ∷ []) m (inl refl) in
       let made = was.contexts.sessions_made session at stands in
       let new_node : Node = record old { drawn = r.user ∷ old.drawn; bearers = insert old.bearers r.user (pending_dedicated session); pending = insert old.pending r.number p } in
       at_result (After Packet history taken old) e _ r.gives (record {
@@ -110,14 +110,14 @@ module _ (history : List Sent) (taken : Arrival → Message → Type 0) (serving
   bearer_begun_here unowned session tft qos e (inr (at, inr (active, inr (draws, inr (few, r))))) = begins unowned session at.session tft qos e at.stands active r
 
   module _ (dated : (m : Message) (t : ℕ) → HasSent history Serving m → TellsStart m → Owns m t → recovery_of m ≡ Some (counter_of t)) (proper : (m : Message) → HasSent history Serving m → IsProper history m) where
-    makes : (unowned : NothingOwns history Packet old) (request : Arrival) (q : CreateSessionRequest) (e : Effect) → HasSent history Serving (Create_session_request q) → taken request (Create_session_request q) → ((c : ℕ) → q.recovery ≡ Some c → old.known ≡ Some c) → MakesSession request old q e → Took Packet history taken old e
-    makes unowned request q e came is_taken told r =
+    makes : (unowned : NothingOwns history Packet old) (request : Arrival) (q : CreateSessionRequest) (e : Effect) → HasSent history Serving (Create_session_request q) → taken request (Create_session_request q) → ((c : ℕ) → q.recovery ≡ Some c → old.known ≡ Some c) → SessionAsked request q old e → MakesSession request old q e → Took Packet history taken old e
+    makes unowned request q e came is_taken told asked_so r =
         let a = session_response old q r.control r.user r.address in
         let m = Create_session_response a in
         let after = history ++ signed Packet (m ∷ []) in
         let was = was_later (m ∷ []) in
-        let now : HasSent after Packet m = sent_now history Packet (m ∷ []) m (inl refl) in
-        let asked : HasSent after Serving (Create_session_request q) = sent_before history Serving Packet (m ∷ []) (Create_session_request q) came in
+        let now : HasSent after Packet m = by_now history Packet (m ∷ []) m (inl refl) in
+        let asked : HasSent after Serving (Create_session_request q) = by_before history Serving Packet (m ∷ []) (Create_session_request q) came in
         let s = made_session q r.address in
         let b = made_bearer q r.control in
         let new = session_made old q r.control r.user r.address in
@@ -139,15 +139,15 @@ module _ (history : List Sent) (taken : Arrival → Message → Type 0) (serving
           });
           known = refl;
           told = nothing_told history Serving;
-          draws = Draws-new history Packet old (holding request m new) m refl refl (λ t stood. inr (inr stood)) present (record { free = free; drawn = drawn; told = λ c e. cc e; tells = λ t is owns. refl; proper = record { answers = record { request = q; sent = came; number = refl; header = refl }; control = λ accepts. (r.control, refl); user = λ accepts. (r.user, refl) } });
+          draws = Draws-new history Packet old (holding request m new) m refl refl (λ t stood. inr (inr stood)) present (record { free = free; drawn = drawn; told = λ c e. cc e; tells = λ t is owns. refl; proper = record { answers = record { request = q; sent = came; number = refl; header = refl; given = record { request = request; old = old; effect = e; asked = asked_so; answers = ap (λ (f : Effect). messages f.out.sent) r.gives } }; control = λ accepts. (r.control, refl); user = λ accepts. (r.user, refl); apart = λ t control user. r.apart (same_some r.control t control ∙ sym (same_some r.user t user)) } });
           logs =
-              let l = Logs-plain history Packet taken old (holding request m new) (Answered (session_cause q.pdn)) (λ h stood. inr stood) request.source m tt in record {
+              let l = Logs-plain history Packet taken old (holding request m new) (Answered (session_cause q.pdn)) (λ h stood. Among-left h old.held _ stood) request.source m tt in record {
                 held_stays = l.held_stays;
                 packets = λ t p among. absurd (no_packet a t p among);
                 handed = l.handed;
                 accepted = l.accepted;
                 answers = l.answers;
-                made = inr (record { arrival = request; is = refl; message = Create_session_request q; came = is_taken; answer = m; held = inl refl });
+                made = inr (record { arrival = request; is = refl; message = Create_session_request q; came = is_taken; answer = m; held = Among-last {X = Held} (record { request = request; answer = m }) old.held });
               };
         })
       where
@@ -171,9 +171,9 @@ module _ (history : List Sent) (taken : Arrival → Message → Type 0) (serving
         drawn t (inl is) = inr (inl (sym (same_some r.control t is)))
         drawn t (inr is) = inl (sym (same_some r.user t is))
 
-    refuses : (request : Arrival) (q : CreateSessionRequest) (cause : Cause) (e : Effect) → HasSent history Serving (Create_session_request q) → 64 ≤ cause.value → e ≡ session_refused request q cause old → Took Packet history taken old e
-    refuses request q cause e came high gives = gives_answer Packet history taken old knows request _ cause.value old e gives (Shrunk-itself old) tt none (λ c e. cc e)
-        (record { answers = record { request = q; sent = came; number = refl; header = refl }; control = λ accepts. absurd (impossible accepts.high); user = λ accepts. absurd (impossible accepts.high) })
+    refuses : (request : Arrival) (q : CreateSessionRequest) (cause : Cause) (e : Effect) → HasSent history Serving (Create_session_request q) → SessionAsked request q old e → 64 ≤ cause.value → e ≡ session_refused request q cause old → Took Packet history taken old e
+    refuses request q cause e came asked_so high gives = gives_answer Packet history taken old knows request _ cause.value old e gives (Shrunk-itself old) tt none (λ c e. cc e)
+        (record { answers = record { request = q; sent = came; number = refl; header = refl; given = record { request = request; old = old; effect = e; asked = asked_so; answers = ap (λ (f : Effect). messages f.out.sent) gives } }; control = λ accepts. absurd (impossible accepts.high); user = λ accepts. absurd (impossible accepts.high); apart = λ t control user. none_some t control })
       where
         none : (t : ℕ) → (None ≡ Some t) ⊎ (None ≡ Some t) → ⊥
         none t (inl e) = none_some t e
@@ -182,15 +182,18 @@ module _ (history : List Sent) (taken : Arrival → Message → Type 0) (serving
         impossible : cause.value < 64 → ⊥
         impossible low = omega (arith, high)
 
+    session_row : (unowned : NothingOwns history Packet old) (request : Arrival) (q : CreateSessionRequest) (e : Effect) → HasSent history Serving (Create_session_request q) → taken request (Create_session_request q) → ((c : ℕ) → q.recovery ≡ Some c → old.known ≡ Some c) → SessionAsked request q old e → SessionAsked request q old e → Took Packet history taken old e
+    session_row unowned request q e came is told whole (inl f) = drops Packet history taken old knows _ e f.1
+    session_row unowned request q e came is told whole (inr (room, inl f)) = refuses request q (cause_of 94) e came whole (omega arith) f.1
+    session_row unowned request q e came is told whole (inr (room, inr (one, inl f))) = refuses request q (cause_at 69 73 0) e came whole (omega arith) f.1
+    session_row unowned request q e came is told whole (inr (room, inr (one, inr (identity, inl f)))) = refuses request q (cause_of 78) e came whole (omega arith) f.1
+    session_row unowned request q e came is told whole (inr (room, inr (one, inr (identity, inr (configured, inl f))))) = refuses request q (cause_of 83) e came whole (omega arith) f.1
+    session_row unowned request q e came is told whole (inr (room, inr (one, inr (identity, inr (configured, inr (pdn, inl f)))))) = refuses request q (cause_of 73) e came whole (omega arith) f.1
+    session_row unowned request q e came is told whole (inr (room, inr (one, inr (identity, inr (configured, inr (pdn, inr (few, inl f))))))) = refuses request q (cause_of 84) e came whole (omega arith) f.1
+    session_row unowned request q e came is told whole (inr (room, inr (one, inr (identity, inr (configured, inr (pdn, inr (few, inr (address, r)))))))) = makes unowned request q e came is told whole r
+
     session_asked : (unowned : NothingOwns history Packet old) (request : Arrival) (q : CreateSessionRequest) (e : Effect) → HasSent history Serving (Create_session_request q) → taken request (Create_session_request q) → ((c : ℕ) → q.recovery ≡ Some c → old.known ≡ Some c) → SessionAsked request q old e → Took Packet history taken old e
-    session_asked unowned request q e came is told (inl f) = drops Packet history taken old knows _ e f.1
-    session_asked unowned request q e came is told (inr (room, inl f)) = refuses request q (cause_of 94) e came (omega arith) f.1
-    session_asked unowned request q e came is told (inr (room, inr (one, inl f))) = refuses request q (cause_at 69 73 0) e came (omega arith) f.1
-    session_asked unowned request q e came is told (inr (room, inr (one, inr (identity, inl f)))) = refuses request q (cause_of 78) e came (omega arith) f.1
-    session_asked unowned request q e came is told (inr (room, inr (one, inr (identity, inr (configured, inl f))))) = refuses request q (cause_of 83) e came (omega arith) f.1
-    session_asked unowned request q e came is told (inr (room, inr (one, inr (identity, inr (configured, inr (pdn, inl f)))))) = refuses request q (cause_of 73) e came (omega arith) f.1
-    session_asked unowned request q e came is told (inr (room, inr (one, inr (identity, inr (configured, inr (pdn, inr (few, inl f))))))) = refuses request q (cause_of 84) e came (omega arith) f.1
-    session_asked unowned request q e came is told (inr (room, inr (one, inr (identity, inr (configured, inr (pdn, inr (few, inr (address, r)))))))) = makes unowned request q e came is told r
+    session_asked unowned request q e came is told asked = session_row unowned request q e came is told asked asked
 
     -- an answer to a Delete Session Request
     says_deleted : (request : Arrival) (cause : ℕ) (new : Node) (d : DeleteSessionResponse) (e : Effect) → e ≡ answered request (Delete_session_response d) cause new → Shrunk old new → ((r : ℕ) → d.recovery ≡ Some r → r ≡ old.counter) → Took Packet history taken old e
@@ -214,13 +217,13 @@ module _ (history : List Sent) (taken : Arrival → Message → Type 0) (serving
       user_is = some_same at.pending.bearer fits.request.context.user.teid fits.bearer (matched_now.names_bearer fits.request fits.asked) fits.about_bearer
 
       request_sent : HasSent (history ++ []) Packet (Create_bearer_request fits.request)
-      request_sent = sent_before history Packet Packet [] (Create_bearer_request fits.request) (subst (λ m. HasSent history Packet m) fits.asked pending.sent)
+      request_sent = by_before history Packet Packet [] (Create_bearer_request fits.request) (subst (λ m. HasSent history Packet m) fits.asked pending.sent)
 
       later_once : Once (history ++ []) Packet
       later_once m n t m_has n_has = packet_once m n t (before m m_has) (before n n_has)
         where
           before : (m : Message) → HasSent (history ++ []) Packet m → HasSent history Packet m
-          before m has = ⊎_elim (λ was. was) (λ now. absurd now.1) (sent_cases history Packet Packet [] m has)
+          before m has = ⊎_elim (λ was. was) (λ now. absurd now.1) (by_cases history Packet Packet [] m has)
 
       opens : (e : Effect) → OpensBearer old x fits.bearer e → Took Packet history taken old e
       opens e r =
@@ -282,7 +285,7 @@ module _ (history : List Sent) (taken : Arrival → Message → Type 0) (serving
             answered = w.answered;
             control = w.control;
             header = w.header;
-            opened = λ t is. record { answer = x; sent = sent_before history Serving Packet [] (Create_bearer_response x) came; header = session_is; echoed = ap first_returned new.alone ∙ returned; remote = refl; identity = refl };
+            opened = λ t is. record { answer = x; sent = by_before history Serving Packet [] (Create_bearer_response x) came; header = session_is; echoed = ap first_returned new.alone ∙ returned; remote = refl; identity = refl };
           }
 
     bearer_answered : (x : CreateBearerResponse) (e : Effect) → HasSent history Serving (Create_bearer_response x) → BearerAnswered x old e → Took Packet history taken old e

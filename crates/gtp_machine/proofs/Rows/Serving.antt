@@ -5,16 +5,16 @@ use Rattle.std.specs.FinMap.{get, insert, remove}
 use Rattle.gtp_values.specs.FiniteMap.{Each, Among}
 use Rattle.gtp_machine.specs.Element.{IsAccepting, cause_of, ipv4_of}
 use Rattle.gtp_machine.specs.Message.{CreateSessionRequest, CreateSessionResponse, DeleteSessionResponse, CreateBearerRequest, GivenBearer, CreateBearerResponse, DeleteBearerRequest, DeleteBearerResponse, Message, Create_session_request, Create_session_response, Create_bearer_request, Create_bearer_response, Delete_bearer_response, Packet_data, Owns, recovery_of, first_given}
-use Rattle.gtp_machine.specs.Node.{Serving, Packet, State, Pending, Active, Closing, Session, Bearer, PendingRequest, Arrival, Node, holding, written}
-use Rattle.gtp_machine.specs.Input.{Specification, ControlReading, Control_message, Of_create_bearer, Begun, Opened, Effect}
+use Rattle.gtp_machine.specs.Node.{Serving, Packet, State, Pending, Active, Closing, Session, Bearer, PendingRequest, Arrival, Held, Node, holding, written}
+use Rattle.gtp_machine.specs.Input.{messages, Specification, ControlReading, Control_message, Of_create_bearer, Begun, Opened, Effect}
 use Rattle.gtp_machine.specs.Choice.{IsFree, HasPending, HasSession, counter_of}
 use Rattle.gtp_machine.specs.Removal.{without_session}
 use Rattle.gtp_machine.specs.Command.{session_request, pending_session, pending_bearer, session_begun, BeginsSession, SessionBegun}
 use Rattle.gtp_machine.specs.Answer.{answered, refusing, IsNew, ControlStep}
 use Rattle.gtp_machine.specs.Serving.{FitsSession, DescribesSession, opened_session, opened_bearer, OpensSession, SessionAnswered, DeletionAnswered, bearer_response, granted_bearer, MakesBearer, no_resources, BearerAsked, RemovalTaken, RemovalAsked, ServingTakes, serving_takes, ServingFaulted, ServingReads, removal_cause}
 use Rattle.gtp_machine.specs.World.{Sent, HasSent, signed}
-use Rattle.gtp_machine.proofs.Basics.FiniteMaps.{Each-insert, Each-remove, found-remove, get-insert_same, get-insert_other}
-use Rattle.gtp_machine.proofs.Origins.Drawing.{Draws-nothing, Draws-new, TellsStart, IsProper, sent_before, sent_now}
+use Rattle.gtp_machine.proofs.Basics.FiniteMaps.{Each-insert, Each-remove, found-remove, get-insert_same, get-insert_other, Among-left, Among-last}
+use Rattle.gtp_machine.proofs.Origins.Drawing.{Draws-nothing, Draws-new, TellsStart, IsProper, by_before, by_now}
 use Rattle.gtp_machine.proofs.Origins.Contexts.{IsAsked, IsAtServing, closes-session, closes-bearer}
 use Rattle.gtp_machine.proofs.Changes.Shrinking.{Shrunk, Shrunk-itself, Shrunk-without, removes_each}
 use Rattle.gtp_machine.proofs.Changes.Matching.{IsMatched, IsMatched-session, IsMatched-bearer}
@@ -42,7 +42,7 @@ module _ (history : List Sent) (taken : Arrival → Message → Type 0) (serving
       let m = Create_session_request q in
       let after = history ++ signed Serving (m ∷ []) in
       let was = was_later (m ∷ []) in
-      let now : HasSent after Serving m = sent_now history Serving (m ∷ []) m (inl refl) in
+      let now : HasSent after Serving m = by_now history Serving (m ∷ []) m (inl refl) in
       let new_node = record (session_begun old r.control r.user q) { pending = insert old.pending r.number p } in
       at_result (After Serving history taken old) e _ r.gives (record {
         knows = record {
@@ -73,7 +73,7 @@ module _ (history : List Sent) (taken : Arrival → Message → Type 0) (serving
         };
         known = refl;
         told = nothing_told history Packet;
-        draws = Draws-new history Serving old new_node m refl refl (λ t stood. inr (inr stood)) present (record { free = free; drawn = drawn; told = λ c e. cc e; tells = λ t is owns. refl; proper = tt });
+        draws = Draws-new history Serving old new_node m refl refl (λ t stood. inr (inr stood)) present (record { free = free; drawn = drawn; told = λ c e. cc e; tells = λ t is owns. refl; proper = r.apart });
         logs = Logs-plain history Serving taken old new_node (Begun (Some r.control)) (λ h stood. stood) _ m tt;
       })
     where
@@ -168,7 +168,7 @@ module _ (history : List Sent) (taken : Arrival → Message → Type 0) (serving
           let was = was_later [] in
           let q = fits.request in
           let asked = was.contexts.sessions_asked fits.session new.at.session new.at.stands in
-          let came_after : HasSent after Packet (Create_session_response a) = sent_before history Packet Serving [] (Create_session_response a) came in
+          let came_after : HasSent after Packet (Create_session_response a) = by_before history Packet Serving [] (Create_session_response a) came in
           let opened : Bearer = opened_bearer r.default.bearer a in
           let new_node : Node = record old { sessions = insert old.sessions fits.session now; bearers = insert old.bearers q.context.user.teid opened; pending = remove old.pending a.number } in
           took Serving history taken old knows e _ r.gives refl (record {
@@ -238,7 +238,7 @@ module _ (history : List Sent) (taken : Arrival → Message → Type 0) (serving
                 origin = inl (record {
                   kind = o.kind;
                   request = o.request;
-                  sent = sent_before history Serving Serving [] (Create_session_request o.request) o.sent;
+                  sent = by_before history Serving Serving [] (Create_session_request o.request) o.sent;
                   user = o.user;
                   control = o.control;
                   identity = o.identity;
@@ -261,13 +261,13 @@ module _ (history : List Sent) (taken : Arrival → Message → Type 0) (serving
     deletion_answered d e (inr (at, inl f)) = drops Serving history taken old knows _ e f.1
     deletion_answered d e (inr (at, inr (fits, gives))) = ends Serving history taken old knows d.number at.pending _ e gives
 
-    makes : (unowned : NothingOwns history Serving old) (request : Arrival) (q : CreateBearerRequest) (at : HasSession old q.header) (e : Effect) → at.session.state ≡ Active → HasSent history Packet (Create_bearer_request q) → taken request (Create_bearer_request q) → MakesBearer request old q at.session e → Took Serving history taken old e
-    makes unowned request q at e active came is_taken r =
+    makes : (unowned : NothingOwns history Serving old) (request : Arrival) (q : CreateBearerRequest) (at : HasSession old q.header) (e : Effect) → at.session.state ≡ Active → HasSent history Packet (Create_bearer_request q) → taken request (Create_bearer_request q) → BearerAsked request q old e → MakesBearer request old q at.session e → Took Serving history taken old e
+    makes unowned request q at e active came is_taken asked_so r =
         let x = bearer_response old q at.session r.user r.identity in
         let m = Create_bearer_response x in
         let after = history ++ signed Serving (m ∷ []) in
         let was = was_later (m ∷ []) in
-        let now : HasSent after Serving m = sent_now history Serving (m ∷ []) m (inl refl) in
+        let now : HasSent after Serving m = by_now history Serving (m ∷ []) m (inl refl) in
         let new : Node = record old { drawn = r.user ∷ old.drawn; bearers = insert old.bearers r.user (granted_bearer q r.identity) } in
         let remote = (knows.standing q.header at.session at.stands).named (active_not_pending at.session.state active) in
         took Serving history taken old knows e _ r.gives refl (record {
@@ -281,7 +281,7 @@ module _ (history : List Sent) (taken : Arrival → Message → Type 0) (serving
                     origin = inr (record {
                       kind = refl;
                       request = q;
-                      asked = sent_before history Packet Serving (m ∷ []) (Create_bearer_request q) came;
+                      asked = by_before history Packet Serving (m ∷ []) (Create_bearer_request q) came;
                       remote = refl;
                       to_session = refl;
                       answer = x;
@@ -310,15 +310,15 @@ module _ (history : List Sent) (taken : Arrival → Message → Type 0) (serving
             drawn = λ t is. inl (let same : t ≡ r.user = cc is in same);
             told = λ c e. cc e;
             tells = λ t none. absurd none;
-            proper = record { answers = record { request = q; sent = came; number = refl; returned = λ t is. cc is }; user = λ c is low high. (r.user, refl) };
+            proper = record { answers = record { request = q; sent = came; number = refl; returned = λ t is. cc is; given = record { request = request; old = old; effect = e; asked = asked_so; answers = ap (λ (f : Effect). messages f.out.sent) r.gives } }; user = λ c is low high. (r.user, refl) };
           });
           logs = record {
-            held_stays = λ h stood. inl (inr stood);
+            held_stays = λ h stood. inl (Among-left h old.held _ stood);
             packets = λ t p among. absurd (no_packet x t p among);
             handed = λ e none. absurd none;
             accepted = λ e none. absurd none;
-            answers = answers x (holding request m new) (record { request = q; sent = came; echoed = refl; arrival = request; came = is_taken; session = at.session; stands = at.stands; held = inl refl });
-            made = inr (record { arrival = request; is = refl; message = Create_bearer_request q; came = is_taken; answer = m; held = inl refl });
+            answers = answers x (holding request m new) (record { request = q; sent = came; echoed = refl; arrival = request; came = is_taken; session = at.session; stands = at.stands; held = Among-last {X = Held} (record { request = request; answer = m }) old.held });
+            made = inr (record { arrival = request; is = refl; message = Create_bearer_request q; came = is_taken; answer = m; held = Among-last {X = Held} (record { request = request; answer = m }) old.held });
           };
         })
       where
@@ -346,28 +346,31 @@ module _ (history : List Sent) (taken : Arrival → Message → Type 0) (serving
         answers x new here y t (inr none) gives = absurd none
 
     -- a refusal of a Create Bearer Request with no bearer context
-    refuses : (request : Arrival) (q : CreateBearerRequest) (header cause : ℕ) (e : Effect) → HasSent history Packet (Create_bearer_request q) → e ≡ answered request (refusing Of_create_bearer header q.number (cause_of cause) old.counter) cause old → Took Serving history taken old e
-    refuses request q header cause e came gives = gives_answer Serving history taken old knows request _ cause old e gives (Shrunk-itself old) refl (λ t none. none_some t none) (λ c e. cc e)
-        (record { answers = record { request = q; sent = came; number = refl; returned = λ t none. absurd (none_some t none) }; user = λ c is low high. absurd (impossible c is) })
+    refuses : (request : Arrival) (q : CreateBearerRequest) (header cause : ℕ) (e : Effect) → HasSent history Packet (Create_bearer_request q) → BearerAsked request q old e → e ≡ answered request (refusing Of_create_bearer header q.number (cause_of cause) old.counter) cause old → Took Serving history taken old e
+    refuses request q header cause e came asked_so gives = gives_answer Serving history taken old knows request _ cause old e gives (Shrunk-itself old) refl (λ t none. none_some t none) (λ c e. cc e)
+        (record { answers = record { request = q; sent = came; number = refl; returned = λ t none. absurd (none_some t none); given = record { request = request; old = old; effect = e; asked = asked_so; answers = ap (λ (f : Effect). messages f.out.sent) gives } }; user = λ c is low high. absurd (impossible c is) })
       where
         impossible : (c : GivenBearer) → [] ≡ c ∷ [] → ⊥
         impossible c is = cc
 
-    lacks : (request : Arrival) (q : CreateBearerRequest) (header : ℕ) (e : Effect) → HasSent history Packet (Create_bearer_request q) → e ≡ answered request (Create_bearer_response (no_resources old q header)) 73 old → Took Serving history taken old e
-    lacks request q header e came gives = gives_answer Serving history taken old knows request _ 73 old e gives (Shrunk-itself old) refl (λ t none. none_some t none) (λ c e. cc e)
-        (record { answers = record { request = q; sent = came; number = refl; returned = λ t is. cc is }; user = λ c is both all. absurd (impossible both.high) })
+    lacks : (request : Arrival) (q : CreateBearerRequest) (header : ℕ) (e : Effect) → HasSent history Packet (Create_bearer_request q) → BearerAsked request q old e → e ≡ answered request (Create_bearer_response (no_resources old q header)) 73 old → Took Serving history taken old e
+    lacks request q header e came asked_so gives = gives_answer Serving history taken old knows request _ 73 old e gives (Shrunk-itself old) refl (λ t none. none_some t none) (λ c e. cc e)
+        (record { answers = record { request = q; sent = came; number = refl; returned = λ t is. cc is; given = record { request = request; old = old; effect = e; asked = asked_so; answers = ap (λ (f : Effect). messages f.out.sent) gives } }; user = λ c is both all. absurd (impossible both.high) })
       where
         impossible : 73 < 64 → ⊥
         impossible h = omega arith
 
+    bearer_row : (unowned : NothingOwns history Serving old) (request : Arrival) (q : CreateBearerRequest) (e : Effect) → HasSent history Packet (Create_bearer_request q) → taken request (Create_bearer_request q) → BearerAsked request q old e → BearerAsked request q old e → Took Serving history taken old e
+    bearer_row unowned request q e came is whole (inl f) = drops Serving history taken old knows _ e f.1
+    bearer_row unowned request q e came is whole (inr (room, inl f)) = refuses request q 0 64 e came whole f.1
+    bearer_row unowned request q e came is whole (inr (room, inr (at, inl f))) = drops Serving history taken old knows _ e f.1
+    bearer_row unowned request q e came is whole (inr (room, inr (at, inr (active, inl f)))) = refuses request q (written at.session.remote) 94 e came whole f.1
+    bearer_row unowned request q e came is whole (inr (room, inr (at, inr (active, inr (one, inl f))))) = refuses request q (written at.session.remote) 64 e came whole f.1
+    bearer_row unowned request q e came is whole (inr (room, inr (at, inr (active, inr (one, inr (linked, inl f)))))) = lacks request q (written at.session.remote) e came whole f.1
+    bearer_row unowned request q e came is whole (inr (room, inr (at, inr (active, inr (one, inr (linked, inr (free, r))))))) = makes unowned request q at e active came is whole r
+
     bearer_asked : (unowned : NothingOwns history Serving old) (request : Arrival) (q : CreateBearerRequest) (e : Effect) → HasSent history Packet (Create_bearer_request q) → taken request (Create_bearer_request q) → BearerAsked request q old e → Took Serving history taken old e
-    bearer_asked unowned request q e came is (inl f) = drops Serving history taken old knows _ e f.1
-    bearer_asked unowned request q e came is (inr (room, inl f)) = refuses request q 0 64 e came f.1
-    bearer_asked unowned request q e came is (inr (room, inr (at, inl f))) = drops Serving history taken old knows _ e f.1
-    bearer_asked unowned request q e came is (inr (room, inr (at, inr (active, inl f)))) = refuses request q (written at.session.remote) 94 e came f.1
-    bearer_asked unowned request q e came is (inr (room, inr (at, inr (active, inr (one, inl f))))) = refuses request q (written at.session.remote) 64 e came f.1
-    bearer_asked unowned request q e came is (inr (room, inr (at, inr (active, inr (one, inr (linked, inl f)))))) = lacks request q (written at.session.remote) e came f.1
-    bearer_asked unowned request q e came is (inr (room, inr (at, inr (active, inr (one, inr (linked, inr (free, r))))))) = makes unowned request q at e active came is r
+    bearer_asked unowned request q e came is asked = bearer_row unowned request q e came is asked asked
 
     -- an answer to a Delete Bearer Request
     says_removed : (request : Arrival) (cause : ℕ) (new : Node) (d : DeleteBearerResponse) (e : Effect) → e ≡ answered request (Delete_bearer_response d) cause new → Shrunk old new → ((r : ℕ) → d.recovery ≡ Some r → r ≡ old.counter) → Took Serving history taken old e

@@ -1,13 +1,14 @@
 -- A step of a gateway, whatever it takes, leaves what both know.
 use Rattle.std.proofs.Common.{◌≡◌, ℕ, List, Some, ap}
 use Rattle.gtp_values.specs.declared.qos.Qos.{Qos}
+use Rattle.gtp_machine.specs.Step.{Step}
 use Rattle.gtp_machine.specs.Message.{Message, Owns, recovery_of}
 use Rattle.gtp_machine.specs.Node.{Role, Serving, Packet, Arrival, Node}
 use Rattle.gtp_machine.specs.Input.{Command, Create_session, Delete_session, Create_bearer, Delete_bearer, Release_session, Mark_end, Send_echo, Send_user, Specification, ControlReading, Control_message, Input, Commanded, Control_came, User_came, Moves_on, Effect}
 use Rattle.gtp_machine.specs.Choice.{counter_of}
 use Rattle.gtp_machine.specs.Answer.{IsNew}
 use Rattle.gtp_machine.specs.Command.{SessionBegun, BearerBegun, CommandStep}
-use Rattle.gtp_machine.specs.World.{Step, other, Sent, HasSent}
+use Rattle.gtp_machine.specs.World.{other, Sent, HasSent}
 use Rattle.gtp_machine.proofs.Origins.Drawing.{TellsStart, IsProper}
 use Rattle.gtp_machine.proofs.Origins.Entries.{Once}
 use Rattle.gtp_machine.proofs.Changes.Steps.{NothingOwns}

@@ -2,7 +2,7 @@
 use Rattle.std.proofs.Common.{◌≡◌, inl, inr, ℕ, List, [], Option, Some, None, refl, sym, ◌∙◌, ap}
 use Rattle.gtp_machine.specs.Message.{Echo, Message, Echo_response, Owns, recovery_of}
 use Rattle.gtp_machine.specs.Node.{Role, PendingRequest, Arrival, Node, holding, written}
-use Rattle.gtp_machine.specs.Input.{Drop, Outcome, Echoed, Effect, dropped}
+use Rattle.gtp_machine.specs.Input.{DropReason, Outcome, Echoed, Effect, dropped}
 use Rattle.gtp_machine.specs.Removal.{finished}
 use Rattle.gtp_machine.specs.Response.{EchoAnswered, finishing}
 use Rattle.gtp_machine.specs.Answer.{answered, echoed}
@@ -24,7 +24,7 @@ module _ (role : Role) (history : List Sent) (taken : Arrival → Message → Ty
   pub took : (e f : Effect) → e ≡ f → f.out.heard ≡ None → After role history taken old f → Took role history taken old e
   took e f gives quiet after = at_result (Took role history taken old) e f gives (after, quiet)
 
-  pub drops : (why : Drop) (e : Effect) → e ≡ dropped old why → Took role history taken old e
+  pub drops : (why : DropReason) (e : Effect) → e ≡ dropped old why → Took role history taken old e
   drops why e gives = took e _ gives refl (stays role history taken old knows _)
 
   pub ends : (number : ℕ) (p : PendingRequest) (outcome : Outcome) (e : Effect) → e ≡ finishing old number p outcome → Took role history taken old e

@@ -1,5 +1,5 @@
 -- Each change of a node that a row makes leaves it sound.
-use Rattle.std.proofs.Common.{◌≡◌, ◌≢◌, ◌⊎◌, inl, inr, ⊎_elim, ℕ, ◌+◌, ◌≤◌, ◌<◌, eqb, cond, Bool, true, false, not, ◌||◌, ◌∷◌, length, Option, Some, None, refl, sym, ◌∙◌, ap, subst, arith}
+use Rattle.std.proofs.Common.{◌≡◌, ◌≢◌, ◌⊎◌, inl, inr, ⊎_elim, ℕ, ◌+◌, ◌≤◌, ◌<◌, eqb, cond, Bool, true, false, not, ◌||◌, [], ◌∷◌, length, length-append, Option, Some, None, refl, sym, ◌∙◌, ap, subst, arith}
 use Rattle.std.proofs.lemmas.Bool.{cases_eq}
 use Rattle.std.proofs.lemmas.Bool.Decides.{nat_tests}
 use Rattle.std.specs.FinMap.{get, insert, remove, len, gets}
@@ -136,7 +136,7 @@ module _ (role : Role) where
     holding_sound request answer room = record {
       contexts = sound.contexts;
       requests = sound.requests;
-      within = record { sessions_few = sound.within.sessions_few; pending_few = sound.within.pending_few; numbers = sound.within.numbers; held_few = omega (arith, room); drawn_few = sound.within.drawn_few };
+      within = record { sessions_few = sound.within.sessions_few; pending_few = sound.within.pending_few; numbers = sound.within.numbers; held_few = omega (arith, length-append old.held (record { request = request; answer = answer } ∷ []), room); drawn_few = sound.within.drawn_few };
     }
 
     pub known_sound : (counter : Option ℕ) → IsSound role (record old { known = counter })

@@ -1,112 +1,225 @@
 -- What is read from octets names the F-TEIDs that its table asks for.
-use Rattle.std.proofs.Common.{◌≡◌, inl, inr, ℕ, ◌≤◌, ◌<◌, Bool, true, ◌&&◌, List, [], ◌∷◌, map, Option, Some, None, refl, sym, ◌∙◌, ap, subst, arith}
+use Rattle.std.proofs.Common.{◌≡◌, inl, inr, ℕ, ◌≤◌, ◌<◌, Bool, true, false, ◌&&◌, List, [], ◌∷◌, map, Option, Some, None, Result, Ok, Err, refl, sym, ◌∙◌, ap, subst, arith, if◌then◌else◌}
 use Rattle.std.proofs.lemmas.Bool.Decides.{nat_tests}
-use Rattle.std.proofs.lemmas.List.Elements.{All-head, All-tail}
-use Rattle.std.specs.Prelude.{All, option_map}
-use Rattle.std.specs.Option.{option_to_list}
-use Rattle.gtp_values.specs.TunnelEnd.{TunnelEnd}
+use Rattle.std.specs.Prelude.{◌==◌}
 use Rattle.gtp_values.specs.Cause.{is_accepting_value}
-use Rattle.gtp_ie.specs.Value.{Value, OfFTeid, OfPaa, OfAmbr}
-use Rattle.gtp_v2.specs.Needs.{need_where}
-use Rattle.gtp_v2.specs.Grammar.{IsEnough}
-use Rattle.gtp_v2.specs.Table.{accepts}
-use Rattle.gtp_v2.specs.Marks.{RowsMarked}
-use Rattle.gtp_v2.specs.CreateSessionResponse.{session_response_context_rows, session_response_context_values}
-use Rattle.gtp_v2.specs.CreateBearerResponse.{bearer_response_context_rows, bearer_response_context_values}
-use Rattle.gtp_v2.specs.Body.{kind_of, content_of, message_value}
-use Rattle.gtp_v2.specs.declared.body.Body.{Body}
-use Rattle.gtp_v2.specs.declared.body.Body.TheVariants as bodies
-use Rattle.gtp_v2.specs.declared.body.create_session_response.CreateSessionResponse as session_responses
-use Rattle.gtp_v2.specs.declared.body.create_bearer_response.CreateBearerResponse as bearer_responses
-use Rattle.gtp_v2.specs.declared.body.create_session_request.SessionRequestContext.{SessionRequestContext}
-use Rattle.gtp_v2.specs.declared.body.create_bearer_request.BearerRequestContext.{BearerRequestContext}
-use Rattle.gtp_v2.specs.Marks.{ContentMarked}
-use Rattle.gtp_v2.specs.Tables.{table_of}
-use Rattle.gtp_v2.proofs.MarksOf.{message_marked}
 use Rattle.gtp_values.specs.FiniteMap.{Among}
-use Rattle.gtp_machine.specs.Element.{teid_in}
-use Rattle.gtp_values.specs.declared.cause.Cause.{Cause}
-use Rattle.gtp_machine.specs.Message.{CreatedBearer, GivenBearer}
-use Rattle.gtp_machine.specs.Node.{Arrival}
+use Rattle.gtp_ie.specs.Element.{Element}
+use Rattle.gtp_ie.specs.Value.{Value, OfCause, OfFTeid, fteid_in}
+use Rattle.gtp_ie.specs.Spelling.{Says}
 use Rattle.gtp_ie.specs.declared.fault.IeFault.{IeFault}
 use Rattle.gtp_ie.specs.declared.fault.IeFault.TheVariants as elements
+use Rattle.gtp_v2.specs.Grammar.{One, AtMostOne, RowIs, RowsAre, EachIs, GroupIs, LinesAre}
+use Rattle.gtp_v2.specs.declared.table.Row.TheVariants.{Accepted}
+use Rattle.gtp_v2.specs.Table.{Field, Plain, Groups, accepts, start}
+use Rattle.gtp_v2.specs.CreateSessionResponse.{create_session_response, session_response_context_rows}
+use Rattle.gtp_v2.specs.CreateBearerResponse.{create_bearer_response, bearer_response_context_rows}
+use Rattle.gtp_v2.specs.Message.{Content, Fields, Raw, MessageValue, message_at}
+use Rattle.gtp_v2.specs.Datagram.{IsMessage, CarriesBy}
+use Rattle.gtp_v2.specs.Tables.{table_of}
 use Rattle.gtp_v2.specs.declared.fault.Head.{Head}
 use Rattle.gtp_v2.specs.declared.fault.V2Fault.{V2Fault}
 use Rattle.gtp_v2.specs.declared.fault.V2Fault.TheVariants as faults
+use Rattle.gtp_v2.proofs.Told.{message_decided}
+use Rattle.gtp_machine.specs.Element.{IsAccepting, cause_of, teid_in}
+use Rattle.gtp_machine.specs.Message.{CreatedBearer, GivenBearer, Message}
+use Rattle.gtp_machine.specs.Node.{Arrival, written}
 use Rattle.gtp_machine.specs.Input.{Control_came, RequestKind, Defect, Too_short, Out_of_range}
-use Rattle.gtp_machine.specs.Reading.{created_bearer, given_bearer, body_message, session_request_of, bearer_request_of, control_fault, element_fault, defect_in, request_kind, missing_in, header_in}
+use Rattle.gtp_machine.specs.Decoded.{end_in, first_in, cause_at, values_in, groups_in, created, given, session_request_in, bearer_request_in, message_in, message_of}
+use Rattle.gtp_machine.specs.Reading.{control_fault, control_reading_of, element_fault, defect_in, request_kind, missing_in}
 use Rattle.gtp_machine.specs.Sound.{IsWhole, IsWellFormed, ReadsWhole}
-
--- an element that is needed is there
-enough : (o : Option TunnelEnd) (b : Bool) → b ≡ true → IsEnough (need_where b) (option_to_list (option_map OfFTeid o)) → (t : ℕ) × (teid_in o ≡ Some t)
-enough (Some e) b is h = (e.teid, refl)
-enough None b is h = let none : 0 < 0 = subst (λ x. IsEnough (need_where x) (option_to_list (option_map OfFTeid None))) is h in absurd (omega (arith, none))
+use Rattle.gtp_machine.proofs.Octets.Readings.{typed_lines}
 
 is_accepting : (value : ℕ) → 16 ≤ value → value < 64 → is_accepting_value value ≡ true
 is_accepting value low high = grind (arith, nat_tests)
 
--- what is no cause changes nothing
-neutral : {X : Type 0} (of : X → Value) → ((x : X) → accepts (of x ∷ []) ≡ true) → (o : Option X) → accepts (option_to_list (option_map of o)) ≡ true
-neutral of is (Some x) = is x
-neutral of is None = refl
-
 both : (a b : Bool) → a ≡ true → b ≡ true → (a && b) ≡ true
 both a b x y = ap (λ k. k && b) x ∙ y
 
--- what holds of each group holds of each context's
-among_all : {X C G : Type 0} (to : X → C) (values : X → G) (P : G → Type 0) (xs : List X) → All P (map values xs) → (c : C) → Among c (map to xs) → (x : X) × (c ≡ to x) × P (values x)
-among_all to values P [] all c none = absurd none
-among_all to values P (x ∷ xs) all c (inl here) = (x, here, All-head P (values x) (map values xs) all)
-among_all to values P (x ∷ xs) all c (inr there) = among_all to values P xs (All-tail P (values x) (map values xs) all) c there
+-- a cause that is not there accepts nothing
+none_accepts : IsAccepting (cause_of 0) → ⊥
+none_accepts a = let low : 16 ≤ 0 = a.low in omega (arith, low)
 
-abbrev Marked : Body → Type 0
-Marked body = (has_teid : Bool) × ContentMarked (table_of (kind_of body)) has_teid (content_of body)
+groups_not_plain : (groups : List (List (List Value))) (values : List Value) → Groups groups ≡ Plain values → ⊥
+groups_not_plain groups values same = cc same
 
-whole_session : (header number : ℕ) (a : session_responses.CreateSessionResponse) → Marked (bodies.CreateSessionResponse a) → IsWhole (body_message header number (bodies.CreateSessionResponse a))
-whole_session header number a marked accepting =
-    let lines = marked.1.1 in
-    let accepted = is_accepting a.cause.value accepting.low accepting.high in
-    let so_far = both _ _ (both _ _ (both _ _ accepted (neutral OfFTeid (λ x. refl) a.control)) (neutral OfPaa (λ x. refl) a.paa)) (neutral OfAmbr (λ x. refl) a.ambr) in (
-      enough a.control (is_accepting_value a.cause.value) accepted lines.1.0,
-      λ c among here.
-          let group = among_all created_bearer session_response_context_values (λ g. RowsMarked (((is_accepting_value a.cause.value && accepts (option_to_list (option_map OfFTeid a.control))) && accepts (option_to_list (option_map OfPaa a.paa))) && accepts (option_to_list (option_map OfAmbr a.ambr))) session_response_context_rows g) a.contexts lines.1.1.1.1.0.1 c among in
-          let its = ap (λ (k : CreatedBearer). k.cause) group.1 in
-          let accepts_too = is_accepting group.0.cause.value (subst (λ (k : Cause). 16 ≤ k.value) its here.low) (subst (λ (k : Cause). k.value < 64) its here.high) in
-          let is = enough group.0.user _ (both _ _ (both _ _ so_far refl) accepts_too) group.2.1.1.0 in
-          (is.0, ap (λ (k : CreatedBearer). teid_in k.user) group.1 ∙ is.1),
-    )
+plain_not_groups : (values : List Value) (groups : List (List (List Value))) → Plain values ≡ Groups groups → ⊥
+plain_not_groups values groups same = cc same
 
-whole_bearer : (header number : ℕ) (x : bearer_responses.CreateBearerResponse) → Marked (bodies.CreateBearerResponse x) → IsWhole (body_message header number (bodies.CreateBearerResponse x))
-whole_bearer header number x marked accepting c among here =
-    let lines = marked.1.1 in
-    let accepted = is_accepting x.cause.value accepting.low accepting.high in
-    let group = among_all given_bearer bearer_response_context_values (λ g. RowsMarked (is_accepting_value x.cause.value) bearer_response_context_rows g) x.contexts lines.1.0.1 c among in
-    let its = ap (λ (k : GivenBearer). k.cause) group.1 in
-    let accepts_too = is_accepting group.0.cause.value (subst (λ (k : Cause). 16 ≤ k.value) its here.low) (subst (λ (k : Cause). k.value < 64) its here.high) in
-    let is = enough group.0.serving_user _ (both _ _ (both _ _ accepted refl) accepts_too) group.2.1.1.0 in
-    (is.0, ap (λ (k : GivenBearer). teid_in k.serving_user) group.1 ∙ is.1)
+-- a cause that accepts does so for the rows after it
+accepted : (values : List Value) → IsAccepting (cause_at values) → accepts values ≡ true
+accepted (OfCause c ∷ values) a = is_accepting c.value a.low a.high
+accepted _ a = refl
 
-whole_body : (header number : ℕ) (body : Body) → Marked body → IsWhole (body_message header number body)
-whole_body header number (bodies.CreateSessionResponse a) marked = whole_session header number a marked
-whole_body header number (bodies.CreateBearerResponse x) marked = whole_bearer header number x marked
-whole_body header number (bodies.CreateSessionRequest q) marked = with_contexts q.contexts
+-- an element of this type says its value, and no cause
+end_said : (body : List ℕ) (v : Value) → Says 87 body v → v ≡ OfFTeid (fteid_in body)
+unfolding Says
+end_said body v says = says.1
+
+ebi_accepts : (body : List ℕ) (v : Value) → Says 73 body v → accepts (v ∷ []) ≡ true
+unfolding Says
+ebi_accepts body v says = ap (λ k. accepts (k ∷ [])) says
+
+end_accepts : (body : List ℕ) (v : Value) → Says 87 body v → accepts (v ∷ []) ≡ true
+end_accepts body v says = ap (λ k. accepts (k ∷ [])) (end_said body v says)
+
+paa_accepts : (body : List ℕ) (v : Value) → Says 79 body v → accepts (v ∷ []) ≡ true
+unfolding Says
+paa_accepts body v says = ap (λ k. accepts (k ∷ [])) says
+
+ambr_accepts : (body : List ℕ) (v : Value) → Says 72 body v → accepts (v ∷ []) ≡ true
+unfolding Says
+ambr_accepts body v says = ap (λ k. accepts (k ∷ [])) says
+
+-- rows of a type that is no cause change nothing
+one_neutral : (kind instance : ℕ) (es : List Element) (values : List Value) → ((body : List ℕ) (v : Value) → Says kind body v → accepts (v ∷ []) ≡ true) → One kind instance es values → accepts values ≡ true
+one_neutral kind instance es values neutral one = ap accepts one.2 ∙ neutral one.1.0.body one.0 one.1.2.says
+
+most_neutral : (kind instance : ℕ) (es : List Element) (values : List Value) → ((body : List ℕ) (v : Value) → Says kind body v → accepts (v ∷ []) ≡ true) → AtMostOne kind instance es values → accepts values ≡ true
+most_neutral kind instance es [] neutral most = refl
+most_neutral kind instance es (v ∷ []) neutral most = neutral most.0.body v most.2.says
+most_neutral kind instance es (v ∷ w ∷ values) neutral most = absurd most
+
+-- a row that is needed where the causes accept, and they do
+needed : (kind instance : ℕ) (b : Bool) (es : List Element) (values : List Value) → b ≡ true → RowIs b (Accepted kind instance) es values → One kind instance es values
+needed kind instance b es values is row = subst (λ k. RowIs k (Accepted kind instance) es values) is row
+
+-- its F-TEID
+end_there : (instance : ℕ) (es : List Element) (values : List Value) → One 87 instance es values → (t : ℕ) × (teid_in (first_in end_in values) ≡ Some t)
+end_there instance es values one = ((fteid_in one.1.0.body).teid, ap (λ k. teid_in (first_in end_in k)) (one.2 ∙ ap (λ k. k ∷ []) (end_said one.1.0.body one.0 one.1.2.says)))
+
+-- what is one of some things that were read from elements
+record From {X C : Type 0} (Is : Element → X → Type 0) (to : X → C) (c : C) : Type 0 where
+  element : Element
+  x : X
+  same : c ≡ to x
+  is : Is element x
+
+each_from : {X C : Type 0} (Is : Element → X → Type 0) (to : X → C) (es : List Element) (xs : List X) → EachIs Is es xs → (c : C) → Among c (map to xs) → From Is to c
+each_from Is to es [] each c none = absurd none
+each_from Is to [] (x ∷ xs) each c among = absurd (cc each)
+each_from Is to (e ∷ es) (x ∷ xs) each c (inl here) = record { element = e; x = x; same = here; is = each.0 }
+each_from Is to (e ∷ es) (x ∷ xs) each c (inr there) = each_from Is to es xs each.1 c there
+
+-- a bearer context of a Create Session Response that accepts, where what stands before it does
+session_context : (b : Bool) (es : List Element) (rows : List (List Value)) → b ≡ true → RowsAre b session_response_context_rows es rows → IsAccepting (created rows).cause → (t : ℕ) × (teid_in (created rows).user ≡ Some t)
+session_context b es [] is are a = absurd (none_accepts a)
+session_context b es (ebi ∷ []) is are a = absurd (none_accepts a)
+session_context b es (ebi ∷ cause ∷ []) is are a = absurd are.1.1
+session_context b es (ebi ∷ cause ∷ user ∷ rows) is are a =
+    end_there 2 es user (needed 87 2 ((b && accepts ebi) && accepts cause) es user (both _ _ (both _ _ is (one_neutral 73 0 es ebi ebi_accepts are.0)) (accepted cause a)) are.1.1.0)
+
+bearer_context : (b : Bool) (es : List Element) (rows : List (List Value)) → b ≡ true → RowsAre b bearer_response_context_rows es rows → IsAccepting (given rows).cause → (t : ℕ) × (teid_in (given rows).serving_user ≡ Some t)
+bearer_context b es [] is are a = absurd (none_accepts a)
+bearer_context b es (ebi ∷ []) is are a = absurd (none_accepts a)
+bearer_context b es (ebi ∷ cause ∷ []) is are a = absurd are.1.1
+bearer_context b es (ebi ∷ cause ∷ user ∷ rows) is are a =
+    end_there 2 es user (needed 87 2 ((b && accepts ebi) && accepts cause) es user (both _ _ (both _ _ is (one_neutral 73 0 es ebi ebi_accepts are.0)) (accepted cause a)) are.1.1.0)
+
+-- the message of a type with these fields
+abbrev message_by : ℕ → ℕ → ℕ → List Field → Message
+message_by kind header number f = message_in kind header number f
+
+-- a Create Session Response
+session_whole : (header number : ℕ) (es : List Element) (f : List Field) → LinesAre start create_session_response.lines es f → IsWhole (message_by 33 header number f)
+session_whole header number es [] lines a = absurd lines
+session_whole header number es (cause ∷ []) lines a = absurd lines.1
+session_whole header number es (cause ∷ control ∷ []) lines a = absurd lines.1.1
+session_whole header number es (cause ∷ control ∷ paa ∷ []) lines a = absurd lines.1.1.1
+session_whole header number es (cause ∷ control ∷ paa ∷ ambr ∷ []) lines a = absurd lines.1.1.1.1
+session_whole header number es (Groups g ∷ control ∷ paa ∷ ambr ∷ contexts ∷ rest) lines a = absurd (none_accepts a)
+session_whole header number es (Plain cause ∷ Groups g ∷ paa ∷ ambr ∷ contexts ∷ rest) lines a = absurd (groups_not_plain g _ lines.1.0.2)
+session_whole header number es (Plain cause ∷ Plain control ∷ Groups g ∷ ambr ∷ contexts ∷ rest) lines a = absurd (groups_not_plain g _ lines.1.1.0.2)
+session_whole header number es (Plain cause ∷ Plain control ∷ Plain paa ∷ Groups g ∷ contexts ∷ rest) lines a = absurd (groups_not_plain g _ lines.1.1.1.0.2)
+session_whole header number es (Plain cause ∷ Plain control ∷ Plain paa ∷ Plain ambr ∷ Plain values ∷ rest) lines a = absurd (plain_not_groups values _ lines.1.1.1.1.0.2)
+session_whole header number es (Plain cause ∷ Plain control ∷ Plain paa ∷ Plain ambr ∷ Groups contexts ∷ rest) lines a = (end_there 1 es control control_is, each)
   where
-    with_contexts : (contexts : List SessionRequestContext) → IsWhole (session_request_of header number q contexts)
-    with_contexts [] = tt
-    with_contexts (first ∷ further) = tt
-whole_body header number (bodies.CreateBearerRequest r) marked = with_contexts r.contexts
+    plain : (values others : List Value) → Plain values ≡ Plain others → others ≡ values
+    plain values others same = sym (ap values_in same)
+
+    first : accepts cause ≡ true
+    first = accepted cause a
+
+    control_is : One 87 1 es control
+    control_is = subst (One 87 1 es) (plain control _ lines.1.0.2) (needed 87 1 (accepts cause) es _ first lines.1.0.1)
+
+    second : (accepts cause && accepts control) ≡ true
+    second = both _ _ first (one_neutral 87 1 es control end_accepts control_is)
+
+    paa_is : One 79 0 es paa
+    paa_is = subst (One 79 0 es) (plain paa _ lines.1.1.0.2) (needed 79 0 (accepts cause && accepts control) es _ second lines.1.1.0.1)
+
+    third : ((accepts cause && accepts control) && accepts paa) ≡ true
+    third = both _ _ second (one_neutral 79 0 es paa paa_accepts paa_is)
+
+    ambr_is : AtMostOne 72 0 es ambr
+    ambr_is = subst (AtMostOne 72 0 es) (plain ambr _ lines.1.1.1.0.2) lines.1.1.1.0.1
+
+    fourth : (((accepts cause && accepts control) && accepts paa) && accepts ambr) ≡ true
+    fourth = both _ _ third (most_neutral 72 0 es ambr ambr_accepts ambr_is)
+
+    each : (c : CreatedBearer) → Among c (map created contexts) → IsAccepting c.cause → (t : ℕ) × (teid_in c.user ≡ Some t)
+    each c among accepting =
+        let line = lines.1.1.1.1.0 in
+        let there = subst (λ (k : List (List (List Value))). Among c (map created k)) (ap groups_in line.2) among in
+        let found = each_from (GroupIs (((accepts cause && accepts control) && accepts paa) && accepts ambr) session_response_context_rows) created _ line.0 line.1.0 c there in
+        let its = session_context (((accepts cause && accepts control) && accepts paa) && accepts ambr) found.is.0 found.x fourth found.is.2 (subst (λ (k : CreatedBearer). IsAccepting k.cause) found.same accepting) in
+        (its.0, ap (λ (k : CreatedBearer). teid_in k.user) found.same ∙ its.1)
+
+-- a Create Bearer Response
+bearer_whole : (header number : ℕ) (es : List Element) (f : List Field) → LinesAre start create_bearer_response.lines es f → IsWhole (message_by 96 header number f)
+bearer_whole header number es [] lines a = absurd lines
+bearer_whole header number es (cause ∷ []) lines a = absurd lines.1
+bearer_whole header number es (Groups g ∷ contexts ∷ rest) lines a = absurd (none_accepts a)
+bearer_whole header number es (Plain cause ∷ Plain values ∷ rest) lines a = absurd (plain_not_groups values _ lines.1.0.2)
+bearer_whole header number es (Plain cause ∷ Groups contexts ∷ rest) lines a = each
   where
-    with_contexts : (contexts : List BearerRequestContext) → IsWhole (bearer_request_of header number r contexts)
-    with_contexts [] = tt
-    with_contexts (first ∷ further) = tt
-whole_body header number (bodies.EchoRequest m) marked = tt
-whole_body header number (bodies.EchoResponse m) marked = tt
-whole_body header number (bodies.VersionNotSupported m) marked = tt
-whole_body header number (bodies.DeleteSessionRequest m) marked = tt
-whole_body header number (bodies.DeleteSessionResponse m) marked = tt
-whole_body header number (bodies.DeleteBearerRequest m) marked = tt
-whole_body header number (bodies.DeleteBearerResponse m) marked = tt
-whole_body header number (bodies.Other kind octets) marked = tt
+    each : (c : GivenBearer) → Among c (map given contexts) → IsAccepting c.cause → (t : ℕ) × (teid_in c.serving_user ≡ Some t)
+    each c among accepting =
+        let line = lines.1.0 in
+        let there = subst (λ (k : List (List (List Value))). Among c (map given k)) (ap groups_in line.2) among in
+        let found = each_from (GroupIs (accepts cause) bearer_response_context_rows) given _ line.0 line.1.0 c there in
+        let its = bearer_context (accepts cause) found.is.0 found.x (accepted cause a) found.is.2 (subst (λ (k : GivenBearer). IsAccepting k.cause) found.same accepting) in
+        (its.0, ap (λ (k : GivenBearer). teid_in k.serving_user) found.same ∙ its.1)
+
+session_request_whole : (header number : ℕ) (f : List Field) (contexts : List (List (List Value))) → IsWhole (session_request_in header number f contexts)
+session_request_whole header number f [] = tt
+session_request_whole header number f (first ∷ further) = tt
+
+bearer_request_whole : (header number : ℕ) (f : List Field) (contexts : List (List (List Value))) → IsWhole (bearer_request_in header number f contexts)
+bearer_request_whole header number f [] = tt
+bearer_request_whole header number f (first ∷ further) = tt
+
+-- one of two messages, by a test
+either : (b : Bool) (x y : Message) → (b ≡ true → IsWhole x) → IsWhole y → IsWhole (if b then x else y)
+either true x y this other = this refl
+either false x y this other = other
+
+same_number : (a b : ℕ) → (a == b) ≡ true → a ≡ b
+same_number a b e = grind (arith, nat_tests)
+
+-- what octets spell is whole
+fields_whole : (octets : List ℕ) (m : MessageValue) (f : List Field) → m.content ≡ Fields f → IsMessage octets m → IsWhole (message_in m.kind (written m.teid) m.seq f)
+fields_whole octets m f says is =
+    either (m.kind == 1) _ _ (λ e. tt) (either (m.kind == 2) _ _ (λ e. tt) (either (m.kind == 32) _ _ (λ e. session_request_whole (written m.teid) m.seq f _) (either (m.kind == 33) _ _ session (either (m.kind == 36) _ _ (λ e. tt) (either (m.kind == 37) _ _ (λ e. tt)
+    (either (m.kind == 95) _ _ (λ e. bearer_request_whole (written m.teid) m.seq f _) (either (m.kind == 96) _ _ bearer (either (m.kind == 99) _ _ (λ e. tt) (either (m.kind == 100) _ _ (λ e. tt) tt)))))))))
+  where
+    session : (m.kind == 33) ≡ true → IsWhole (message_by 33 (written m.teid) m.seq f)
+    session e =
+        let lines = typed_lines 33 create_session_response octets m f (λ h content kind c. subst (λ k. CarriesBy (table_of k) h content) kind c) (same_number m.kind 33 e) says is in
+        session_whole (written m.teid) m.seq lines.0 f lines.1
+
+    bearer : (m.kind == 96) ≡ true → IsWhole (message_by 96 (written m.teid) m.seq f)
+    bearer e =
+        let lines = typed_lines 96 create_bearer_response octets m f (λ h content kind c. subst (λ k. CarriesBy (table_of k) h content) kind c) (same_number m.kind 96 e) says is in
+        bearer_whole (written m.teid) m.seq lines.0 f lines.1
+
+message_whole : (octets : List ℕ) (m : MessageValue) → IsMessage octets m → IsWhole (message_of m)
+message_whole octets m is = by_content m.content refl
+  where
+    by_content : (content : Content) → m.content ≡ content → IsWhole (message_of m)
+    by_content (Fields f) says = subst (λ (k : Content). IsWhole (message_of (record m { content = k }))) (sym says) (fields_whole octets m f says is)
+    by_content (Raw rest) says = subst (λ (k : Content). IsWhole (message_of (record m { content = k }))) (sym says) tt
 
 defect_read : (request : Arrival) (kind : Option RequestKind) (head : Head) (defect : Defect) (element instance : ℕ) → IsWellFormed (Control_came request (defect_in kind head defect element instance))
 defect_read request None head defect element instance = tt
@@ -131,6 +244,10 @@ fault_read request (faults.Element fault head) = element_read request head fault
 fault_read request faults.Memory = tt
 fault_read request faults.TooLong = tt
 
+-- a message is whole, and a fault is none
+read_whole : (request : Arrival) (r : Result MessageValue V2Fault) → message_at request.octets ≡ r → IsWellFormed (Control_came request (control_reading_of r))
+read_whole request (Ok m) e = message_whole request.octets m ((message_decided request.octets).ok m e)
+read_whole request (Err f) e = fault_read request f
+
 pub reads_whole : ReadsWhole
-reads_whole request reading (inl found) = subst (λ r. IsWellFormed (Control_came request r)) (sym found.2) (whole_body (header_in found.0.teid) found.0.seq found.0.body (_, message_marked request.octets (message_value found.0) found.1))
-reads_whole request reading (inr fault) = subst (λ r. IsWellFormed (Control_came request r)) (sym fault.2) (fault_read request fault.0)
+reads_whole request reading is = subst (λ r. IsWellFormed (Control_came request r)) (sym is) (read_whole request (message_at request.octets) refl)

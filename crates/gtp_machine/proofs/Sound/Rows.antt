@@ -1,12 +1,13 @@
 -- Each row leaves a sound node sound.
 use Rattle.std.proofs.Common.{◌≡◌, inl, inr, ⊎_elim, ℕ, ◌+◌, ◌≤◌, ◌<◌, Bool, false, List, [], ◌∷◌, length, Option, Some, None, refl, sym, ◌∙◌, ap, subst, arith}
-use Rattle.std.specs.FinMap.{get, insert, remove, len, entries}
+use Rattle.std.specs.FinMap.{get, insert, remove, len}
 use Rattle.gtp_values.specs.Counter.{age_of}
 use Rattle.gtp_values.specs.declared.counter.Age.{Age}
 use Rattle.gtp_values.specs.declared.counter.Age.TheVariants.{Same, Later, Earlier}
 use Rattle.gtp_values.specs.declared.qos.Qos.{Qos}
 use Rattle.gtp_values.specs.declared.address.Endpoint.{Endpoint}
 use Rattle.gtp_values.specs.FiniteMap.{Among}
+use Rattle.gtp_machine.specs.Step.{Done, Steps}
 use Rattle.gtp_machine.specs.Element.{IsAccepting}
 use Rattle.gtp_machine.specs.Message.{Echo, CreateSessionRequest, CreateSessionResponse, DeleteSessionRequest, DeleteSessionResponse, CreateBearerRequest, CreateBearerResponse, DeleteBearerRequest, RemovedBearer, DeleteBearerResponse, Message, Echo_request, Echo_response, Create_session_request, Create_session_response, Delete_session_request, Delete_session_response, Create_bearer_request, Create_bearer_response, Delete_bearer_request, Delete_bearer_response, Other_control, Packet_data, End_marker, Error_indication, User_echo_request, User_echo_response, Supported_extensions, Other_user, recovery_of, first_created, first_given, first_identity}
 use Rattle.gtp_machine.specs.Node.{Role, Serving, Packet, Pending, Active, Closing, Default, Dedicated, Session, Bearer, Arrival, Held, Node, holding, fresh_node}
@@ -21,7 +22,6 @@ use Rattle.gtp_machine.specs.Command.{session_request, pending_session, pending_
 use Rattle.gtp_machine.specs.Answer.{ControlStep}
 use Rattle.gtp_machine.specs.Serving.{FitsSession, DescribesSession, opened_session, opened_bearer, OpensSession, SessionAnswered, DeletionAnswered, granted_bearer, BearerAsked, RemovesEach, RemovalTaken, RemovalAsked, ServingTakes, ServingFaulted, ServingReads}
 use Rattle.gtp_machine.specs.Packet.{made_session, made_bearer, session_made, SessionAsked, DeletionAsked, FitsBearer, DescribesBearer, CanOpen, opened_dedicated, OpensBearer, BearerAnswered, RemovalAnswered, PacketTakes, PacketFaulted, PacketReads}
-use Rattle.gtp_machine.specs.Once.{Done, Steps}
 use Rattle.gtp_machine.specs.Sound.{At, IsInState, IsBearerOf, IsSound, IsWhole, IsWellFormed, AreWellFormed, StaysSound, ReachedIsSound}
 use Rattle.gtp_machine.proofs.Basics.FiniteMaps.{get-insert_same}
 use Rattle.gtp_machine.proofs.Sound.Parts.{one_value, waiting_active, at_here}
@@ -160,7 +160,7 @@ module _ (old : Node) where
   user_taken Serving sound source (End_marker t) e (inr (at, inl f)) = by_row Serving e _ f.1 sound
   user_taken Serving sound source (End_marker t) e (inr (at, inr (active, gives))) = by_row Serving e _ gives (ends_bearer Serving sound t at.bearer at.stands active)
   user_taken role sound source (Error_indication t address) e (inl f) = by_row role e _ f.1 sound
-  user_taken role sound source (Error_indication t address) e (inr (named, gives)) = by_row role e _ gives (broken_sound role sound t (λ s. default_among t s (entries old.bearers)))
+  user_taken role sound source (Error_indication t address) e (inr (named, gives)) = by_row role e _ gives (broken_sound role sound t (λ s. default_among t s old.bearers))
   user_taken role sound source (User_echo_request n) e r = by_row role e _ r sound
   user_taken role sound source (User_echo_response n) e r = by_row role e _ r sound
   user_taken role sound source (Supported_extensions n) e r = by_row role e _ r sound

@@ -223,7 +223,7 @@ control Reads request old reads = tries _ _ _ (gives _) (λ peer none.
     reads (λ e r. none e (inr (new, r))))
 
 -- something is left, in order
-some_left : (request : Arrival) (held : List Held) → IsNotEmpty (λ left. AreLeft request held left)
+pub some_left : (request : Arrival) (held : List Held) → IsNotEmpty (λ left. AreLeft request held left)
 some_left request [] none = none [] refl
 some_left request (h ∷ held) none = some_left request held (λ rest left.
     let other : h.request ≡ request → ⊥ = λ same. none rest (inl (same, left)) in

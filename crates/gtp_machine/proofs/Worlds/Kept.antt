@@ -2,45 +2,48 @@
 use Rattle.std.proofs.Common.{◌≡◌, ◌⊎◌, inl, inr, ⊎_elim, ℕ, List, [], ◌∷◌, ◌++◌, Some, refl, sym, ◌∙◌, ap, subst, arith}
 use Rattle.gtp_values.specs.FiniteMap.{Each, Among}
 use Rattle.gtp_machine.specs.Message.{Message, CreateBearerRequest, CreateBearerResponse, Create_bearer_request, Create_bearer_response, Packet_data, first_given, first_returned}
-use Rattle.gtp_machine.specs.Node.{Role, Serving, Packet, Session, Arrival}
+use Rattle.gtp_machine.specs.Node.{Role, Serving, Packet, Session, Arrival, Node}
 use Rattle.gtp_machine.specs.Input.{Entry, Effect, messages}
 use Rattle.gtp_machine.specs.Choice.{counter_of}
 use Rattle.gtp_machine.specs.Answer.{IsNew}
-use Rattle.gtp_machine.specs.World.{other, Side, Sent, HasSent, signed, stepped, restarted}
+use Rattle.gtp_machine.specs.World.{other, Side, By, HasBy, Sent, HasSent, signed, stepped, restarted}
 use Rattle.gtp_machine.specs.Laws.{AtMostOnce}
-use Rattle.gtp_machine.proofs.Basics.FiniteMaps.{Among-left, Among-right, Among-cases}
-use Rattle.gtp_machine.proofs.Origins.Drawing.{Drawing, Draws, IsEarlier, Extends, Extends-signed, sent_cases, sent_by_other, starts_apart}
+use Rattle.gtp_machine.proofs.Basics.FiniteMaps.{Among-left, Among-right}
+use Rattle.gtp_machine.proofs.Origins.Drawing.{Drawing, Draws, IsEarlier, Extends, Extends-signed, by_before, by_now, by_cases, by_other, starts_apart}
 use Rattle.gtp_machine.proofs.Origins.Entries.{Once, AnsweredOnce, same_bearer_request, IsFor, IsFor-later}
 use Rattle.gtp_machine.proofs.Changes.Steps.{IsAnsweredNow, MakesFor, Logs}
 
--- a packet that was handed in
-pub record IsHanded (handed : List Entry) (target : ℕ) (payload : List ℕ) : Type 0 where
+-- a packet that was handed in at this gateway
+pub record IsHanded (handed : List (By Entry)) (role : Role) (target : ℕ) (payload : List ℕ) : Type 0 where
   pub entry : Entry
-  pub among : Among entry handed
+  pub among : HasBy handed role entry
   pub names : entry.target ≡ target
   pub carries : entry.payload ≡ payload
 
--- each packet that was sent was handed in, for a bearer that names its target
-pub record Packets (history : List Sent) (role : Role) (handed : List Entry) : Type 0 where
-  pub sent : (target : ℕ) (payload : List ℕ) → HasSent history role (Packet_data target payload) → IsHanded handed target payload
-  pub each : (e : Entry) → Among e handed → IsFor history (other role) e
+-- each packet that the gateway sent was handed in there, for a bearer that names its target
+pub record Packets (history : List Sent) (handed : List (By Entry)) (role : Role) : Type 0 where
+  pub sent : (target : ℕ) (payload : List ℕ) → HasSent history role (Packet_data target payload) → IsHanded handed role target payload
+  pub each : (e : Entry) → HasBy handed role e → IsFor history (other role) e
 
-pub Packets-step : (history : List Sent) (role : Role) (side : Side) (taken : Arrival → Message → Type 0) (e : Effect) → Packets history role side.handed → Logs history role taken side.node e → Packets (history ++ signed role (messages e.out.sent)) role (e.out.handed ++ side.handed)
-Packets-step history role side taken e p logs = record {
-  sent = λ t payload has. elim (sent_cases history role role (messages e.out.sent) (Packet_data t payload) has) [
+handed_before : (handed : List (By Entry)) (role by : Role) (now : List Entry) (target : ℕ) (payload : List ℕ) → IsHanded handed role target payload → IsHanded (handed ++ signed by now) role target payload
+handed_before handed role by now target payload h = record { entry = h.entry; among = by_before handed role by now h.entry h.among; names = h.names; carries = h.carries }
+
+pub Packets-step : (history : List Sent) (handed : List (By Entry)) (role : Role) (node : Node) (taken : Arrival → Message → Type 0) (e : Effect) → Packets history handed role → Logs history role taken node e → Packets (history ++ signed role (messages e.out.sent)) (handed ++ signed role e.out.handed) role
+Packets-step history handed role node taken e p logs = record {
+  sent = λ t payload has. elim (by_cases history role role (messages e.out.sent) (Packet_data t payload) has) [
     | inl was ↦ old t payload was
-    | inr now ↦ ⊎_elim (λ was. old t payload was) (λ is. record { entry = is.entry; among = Among-left is.entry e.out.handed side.handed is.handed; names = is.names; carries = is.carries }) (logs.packets t payload now.1)
+    | inr now ↦ ⊎_elim (λ was. old t payload was) (λ is. record { entry = is.entry; among = by_now handed role e.out.handed is.entry is.handed; names = is.names; carries = is.carries }) (logs.packets t payload now.1)
   ];
-  each = λ n among. IsFor-later history (history ++ signed role (messages e.out.sent)) (Extends-signed history role (messages e.out.sent)) (other role) n (⊎_elim (λ now. logs.handed n now) (λ was. p.each n was) (Among-cases n e.out.handed side.handed among));
+  each = λ n among. IsFor-later history (history ++ signed role (messages e.out.sent)) (Extends-signed history role (messages e.out.sent)) (other role) n (⊎_elim (λ was. p.each n was) (λ now. logs.handed n now.1) (by_cases handed role role e.out.handed n among));
 }
   where
-    old : (t : ℕ) (payload : List ℕ) → HasSent history role (Packet_data t payload) → IsHanded (e.out.handed ++ side.handed) t payload
-    old t payload was = let h = p.sent t payload was in record { entry = h.entry; among = Among-right h.entry e.out.handed side.handed h.among; names = h.names; carries = h.carries }
+    old : (t : ℕ) (payload : List ℕ) → HasSent history role (Packet_data t payload) → IsHanded (handed ++ signed role e.out.handed) role t payload
+    old t payload was = handed_before handed role role e.out.handed t payload (p.sent t payload was)
 
-pub Packets-elsewhere : (history : List Sent) (role : Role) (handed : List Entry) (sent : List Message) → Packets history role handed → Packets (history ++ signed (other role) sent) role handed
-Packets-elsewhere history role handed sent p = record {
-  sent = λ t payload has. p.sent t payload (sent_by_other history role sent (Packet_data t payload) has);
-  each = λ e among. IsFor-later history (history ++ signed (other role) sent) (Extends-signed history (other role) sent) (other role) e (p.each e among);
+pub Packets-elsewhere : (history : List Sent) (handed : List (By Entry)) (role : Role) (sent : List Message) (now : List Entry) → Packets history handed role → Packets (history ++ signed (other role) sent) (handed ++ signed (other role) now) role
+Packets-elsewhere history handed role sent now p = record {
+  sent = λ t payload has. handed_before handed role (other role) now t payload (p.sent t payload (by_other history role sent (Packet_data t payload) has));
+  each = λ e among. IsFor-later history (history ++ signed (other role) sent) (Extends-signed history (other role) sent) (other role) e (p.each e (by_other handed role now e among));
 }
 
 -- a response that gives a bearer is held, or was given up, or its request is of an earlier start; `key` says how a request comes
@@ -57,7 +60,7 @@ remembered_later : (before after : List Sent) → Extends before after → (key 
 remembered_later before after extends key side x r = record { request = r.request; sent = extends.keeps Packet (Create_bearer_request r.request) r.sent; echoed = r.echoed; where_now = r.where_now }
 
 pub Remembers-elsewhere : (history : List Sent) (key : Message → Arrival) (side : Side) (sent : List Message) → Remembers history key side → Remembers (history ++ signed Packet sent) key side
-Remembers-elsewhere history key side sent r x t has gives = remembered_later history (history ++ signed Packet sent) (Extends-signed history Packet sent) key side x (r x t (sent_by_other history Serving sent (Create_bearer_response x) has) gives)
+Remembers-elsewhere history key side sent r x t has gives = remembered_later history (history ++ signed Packet sent) (Extends-signed history Packet sent) key side x (r x t (by_other history Serving sent (Create_bearer_response x) has) gives)
 
 pub Remembers-restart : (history : List Sent) (key : Message → Arrival) (side : Side) → Drawing side Serving history → Remembers history key side → Remembers history key (restarted side)
 Remembers-restart history key side drawing r x t has gives =
@@ -76,14 +79,14 @@ module _ (history : List Sent) (key : Message → Arrival) (side : Side) (taken 
   answered_counter x is = drawing.present is.request.header (drawn is.request.header is.session is.stands)
 
   pub Remembers-step : Remembers (history ++ signed Serving (messages e.out.sent)) key (stepped side e)
-  Remembers-step x t has gives = remembered_later history (history ++ signed Serving (messages e.out.sent)) (Extends-signed history Serving (messages e.out.sent)) key (stepped side e) x (elim (sent_cases history Serving Serving (messages e.out.sent) (Create_bearer_response x) has) [
+  Remembers-step x t has gives = remembered_later history (history ++ signed Serving (messages e.out.sent)) (Extends-signed history Serving (messages e.out.sent)) key (stepped side e) x (elim (by_cases history Serving Serving (messages e.out.sent) (Create_bearer_response x) has) [
     | inl was ↦ old was
     | inr now ↦ ⊎_elim old fresh (logs.answers x t now.1 gives)
   ])
     where
-      still : (q : CreateBearerRequest) → Among (record { request = key (Create_bearer_request q); answer = Create_bearer_response x }) side.node.held ⊎ Among (key (Create_bearer_request q)) side.forgotten → Among (record { request = key (Create_bearer_request q); answer = Create_bearer_response x }) e.node.held ⊎ Among (key (Create_bearer_request q)) (e.out.forgot ++ side.forgotten)
-      still q (inl held) = ⊎_elim (λ stays. inl stays) (λ gone. inr (Among-left (key (Create_bearer_request q)) e.out.forgot side.forgotten gone)) (logs.held_stays (record { request = key (Create_bearer_request q); answer = Create_bearer_response x }) held)
-      still q (inr gone) = inr (Among-right (key (Create_bearer_request q)) e.out.forgot side.forgotten gone)
+      still : (q : CreateBearerRequest) → Among (record { request = key (Create_bearer_request q); answer = Create_bearer_response x }) side.node.held ⊎ Among (key (Create_bearer_request q)) side.forgotten → Among (record { request = key (Create_bearer_request q); answer = Create_bearer_response x }) e.node.held ⊎ Among (key (Create_bearer_request q)) (side.forgotten ++ e.out.forgot)
+      still q (inl held) = ⊎_elim (λ stays. inl stays) (λ gone. inr (Among-right (key (Create_bearer_request q)) side.forgotten e.out.forgot gone)) (logs.held_stays (record { request = key (Create_bearer_request q); answer = Create_bearer_response x }) held)
+      still q (inr gone) = inr (Among-left (key (Create_bearer_request q)) side.forgotten e.out.forgot gone)
 
       old : HasSent history Serving (Create_bearer_response x) → IsRemembered history key (stepped side e) x
       old was = let i = remembers x t was gives in record {
@@ -121,7 +124,7 @@ module _ (history : List Sent) (key : Message → Arrival) (side : Side) (taken 
         teids s t h = cc
 
     cases : (x : CreateBearerResponse) (t : ℕ) → first_given x.contexts ≡ Some t → HasSent (history ++ signed Serving (messages e.out.sent)) Serving (Create_bearer_response x) → HasSent history Serving (Create_bearer_response x) ⊎ (Among (Create_bearer_response x) (messages e.out.sent) × IsAnsweredNow history side.node e.node taken x)
-    cases x t gives has = elim (sent_cases history Serving Serving (messages e.out.sent) (Create_bearer_response x) has) [
+    cases x t gives has = elim (by_cases history Serving Serving (messages e.out.sent) (Create_bearer_response x) has) [
       | inl was ↦ inl was
       | inr now ↦ ⊎_elim (λ was. inl was) (λ is. inr (now.1, is)) (logs.answers x t now.1 gives)
     ]
@@ -141,9 +144,9 @@ pub record Making (side : Side) : Type 0 where
   pub once : (a : Arrival) → (Among a side.came_late → ⊥) → AtMostOnce a side.made
 
 module _ (history : List Sent) (role : Role) (side : Side) (taken : Arrival → Message → Type 0) (e : Effect) (m : Making side) (logs : Logs history role taken side.node e) (is_new : (a : Arrival) (n : Message) → taken a n → IsNew side.node a) (marked : (a : Arrival) (n : Message) → taken a n → Among a side.forgotten → Among a side.came_late) where
-  still : (a : Arrival) → ((answer : Message) × Among (record { request = a; answer = answer }) side.node.held) ⊎ Among a side.forgotten → ((answer : Message) × Among (record { request = a; answer = answer }) e.node.held) ⊎ Among a (e.out.forgot ++ side.forgotten)
-  still a (inl held) = ⊎_elim (λ stays. inl (held.0, stays)) (λ gone. inr (Among-left a e.out.forgot side.forgotten gone)) (logs.held_stays (record { request = a; answer = held.0 }) held.1)
-  still a (inr gone) = inr (Among-right a e.out.forgot side.forgotten gone)
+  still : (a : Arrival) → ((answer : Message) × Among (record { request = a; answer = answer }) side.node.held) ⊎ Among a side.forgotten → ((answer : Message) × Among (record { request = a; answer = answer }) e.node.held) ⊎ Among a (side.forgotten ++ e.out.forgot)
+  still a (inl held) = ⊎_elim (λ stays. inl (held.0, stays)) (λ gone. inr (Among-right a side.forgotten e.out.forgot gone)) (logs.held_stays (record { request = a; answer = held.0 }) held.1)
+  still a (inr gone) = inr (Among-left a side.forgotten e.out.forgot gone)
 
   -- a context that is made now was not made before, unless its request comes late
   first_made : (a : Arrival) (n : Message) → taken a n → (Among a side.came_late → ⊥) → Among a side.made → ⊥
@@ -170,7 +173,7 @@ module _ (history : List Sent) (role : Role) (side : Side) (taken : Arrival → 
         once = λ a on_time. subst (λ (l : List Arrival). AtMostOnce a (l ++ side.made)) (sym x.is) (λ same before. first_made x.arrival x.message x.came (λ late. on_time (subst (λ k. Among k side.came_late) same late)) (subst (λ k. Among k side.made) (sym same) before), m.once a on_time);
       }
         where
-          kept : (a : Arrival) → Among a (x.arrival ∷ side.made) → ((answer : Message) × Among (record { request = a; answer = answer }) e.node.held) ⊎ Among a (e.out.forgot ++ side.forgotten)
+          kept : (a : Arrival) → Among a (x.arrival ∷ side.made) → ((answer : Message) × Among (record { request = a; answer = answer }) e.node.held) ⊎ Among a (side.forgotten ++ e.out.forgot)
           kept a (inl same) = inl (x.answer, subst (λ k. Among (record { request = k; answer = x.answer }) e.node.held) (sym same) x.held)
           kept a (inr before) = still a (m.kept a before)
 

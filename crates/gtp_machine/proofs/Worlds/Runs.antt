@@ -1,15 +1,17 @@
 -- What holds of the world at each moment of a run.
 use Rattle.std.proofs.Common.{◌≡◌, inl, inr, ⊎_elim, ℕ, zero, suc, ◌<◌, ◌≤◌, ◌+◌, List, [], ◌∷◌, ◌++◌, Some, None, refl, sym, ◌∙◌, ap, subst, arith, slice_get}
 use Rattle.gtp_values.specs.FiniteMap.{Among}
+use Rattle.gtp_machine.specs.Step.{Step, Done}
 use Rattle.gtp_machine.specs.Config.{Addresses, Config}
 use Rattle.gtp_machine.specs.Message.{Message, Create_bearer_response, Plane, Control, User, plane_of}
 use Rattle.gtp_machine.specs.Node.{Role, Serving, Packet, Arrival, Node, fresh_node}
 use Rattle.gtp_machine.specs.Input.{Move, Input, Commanded, Control_came, Moves_on, Control_message, Entry, Out, Effect, messages}
 use Rattle.gtp_machine.specs.Answer.{IsNew}
-use Rattle.gtp_machine.specs.World.{World, other, Side, Sent, HasSent, signed, side_of, with_side, stepped, moved, Note, noted, Moves, Ticks, Event, Does, Tick, Deliver, Cut, Restart, Happens, Delivers, arrival, late_once, delivered_on, cut_on, IsLateOn, restarted, Run, begun, start, Step}
+use Rattle.gtp_machine.specs.World.{with_steps, steps_of, logged, World, other, Side, By, HasBy, Sent, HasSent, signed, side_of, with_side, stepped, moved, Note, noted, Moves, Event, Does, Tick, Deliver, Cut, Restart, Happens, Delivers, arrival, late_once, delivered_on, cut_on, IsLateOn, restarted, Run, begun, start}
+use Rattle.gtp_machine.specs.Tick.{TickStep, ticked}
 use Rattle.gtp_machine.specs.Laws.{EachOwed, EachNamesBack}
-use Rattle.gtp_machine.proofs.Basics.FiniteMaps.{Each-empty, found-empty, Among-cases, Among-right}
-use Rattle.gtp_machine.proofs.Origins.Drawing.{Drawing, Drawing-step, Drawing-elsewhere, Drawing-restart, Drawing-marked, Extends-signed, sent_by_other, unowned}
+use Rattle.gtp_machine.proofs.Basics.FiniteMaps.{Each-empty, found-empty}
+use Rattle.gtp_machine.proofs.Origins.Drawing.{Drawing, Drawing-step, Drawing-elsewhere, Drawing-restart, Drawing-marked, Extends-signed, by_before, by_cases, by_other, unowned}
 use Rattle.gtp_machine.proofs.Origins.Entries.{Once, AnsweredOnce, same_entry}
 use Rattle.gtp_machine.proofs.Changes.Steps.{Logs}
 use Rattle.gtp_machine.proofs.Changes.After.{Knows, Knows-later, After, Contexts}
@@ -17,6 +19,7 @@ use Rattle.gtp_machine.proofs.Rows.Common.{SameIs}
 use Rattle.gtp_machine.proofs.Origins.Naming.{step_told, back_of, Names-step}
 use Rattle.gtp_machine.proofs.Rows.Stepping.{Carried, Taken, step_after}
 use Rattle.gtp_machine.proofs.Worlds.Hearing.{Hearing, Hearing-step, Hearing-peer, same_counter}
+use Rattle.gtp_machine.proofs.Worlds.Ticking.{move_quiet, moved_nothing, moved_twice}
 use Rattle.gtp_machine.proofs.Worlds.Kept.{Packets, Packets-step, Packets-elsewhere, Remembers, Remembers-step, Remembers-elsewhere, Remembers-restart, AnsweredOnce-step, Making, Making-step, Making-fresh, Making-late}
 use Rattle.gtp_machine.proofs.Basics.Options.{none_some}
 use Rattle.std.specs.FinMap.{empty}
@@ -26,16 +29,16 @@ pub record SideInvariant (history : List Sent) (role : Role) (side peer : Side) 
   pub draws : Drawing side role history
   pub knows : Knows role history side.node
   pub hearing : Hearing peer side.node.known side.seen
-  pub packets : Packets history role side.handed
   pub making : Making side
 
 -- what holds of the world at each moment; `own` is the packet gateway's addresses
-pub record Invariant (spelled : Message → List ℕ) (own : Addresses) (w : World) : Type 0 where
+pub record Invariant (own : Addresses) (w : World) : Type 0 where
   pub serving : SideInvariant w.history Serving w.serving w.packet
   pub packet : SideInvariant w.history Packet w.packet w.serving
   pub own_is : w.packet.node.config.own ≡ own
-  pub remembers : Remembers w.history (arrival spelled own) w.serving
+  pub remembers : Remembers w.history (arrival own) w.serving
   pub once : w.late ≡ 0 → AnsweredOnce w.history
+  pub packets : (role : Role) → Packets w.history w.handed role
   pub owed : EachOwed w
   pub named : EachNamesBack w.history
 
@@ -45,7 +48,6 @@ side_step history role side peer taken e inv there after is_new marked = record 
   draws = Drawing-step side role history inv.draws e after.draws;
   knows = after.knows;
   hearing = Hearing-step peer there.few side.node.known e.out.heard e.node.known side.seen inv.hearing after.known (λ c h. let told = after.told c h in there.told told.message c told.sent told.tells);
-  packets = Packets-step history role side taken e inv.packets after.logs;
   making = Making-step history role side taken e inv.making after.logs is_new marked;
 }
 
@@ -55,36 +57,48 @@ side_elsewhere history role side peer peer_after sent first more inv = record {
   draws = Drawing-elsewhere side role history inv.draws sent;
   knows = Knows-later role history (history ++ signed (other role) sent) (Extends-signed history (other role) sent) side.node inv.knows;
   hearing = Hearing-peer peer peer_after first more side.node.known side.seen inv.hearing;
-  packets = Packets-elsewhere history role side.handed sent inv.packets;
   making = inv.making;
 }
 
+-- what each gateway sent was handed in, also after a step of one of them
+packets_step : (history : List Sent) (handed : List (By Entry)) (by : Role) (node : Node) (taken : Arrival → Message → Type 0) (e : Effect) → ((role : Role) → Packets history handed role) → Logs history by taken node e → (role : Role) → Packets (history ++ signed by (messages e.out.sent)) (handed ++ signed by e.out.handed) role
+packets_step history handed Serving node taken e each logs Serving = Packets-step history handed Serving node taken e (each Serving) logs
+packets_step history handed Serving node taken e each logs Packet = Packets-elsewhere history handed Packet (messages e.out.sent) e.out.handed (each Packet)
+packets_step history handed Packet node taken e each logs Serving = Packets-elsewhere history handed Serving (messages e.out.sent) e.out.handed (each Serving)
+packets_step history handed Packet node taken e each logs Packet = Packets-step history handed Packet node taken e (each Packet) logs
+
 -- a packet that is accepted was handed in
-owed_now : (history : List Sent) (role : Role) (taken : Arrival → Message → Type 0) (old : Node) (e : Effect) (handed : List Entry) → Once history Serving → Once history Packet → AnsweredOnce history → Logs history role taken old e → Packets history (other role) handed → (n : Entry) → Among n e.out.accepted → Among n handed
+owed_now : (history : List Sent) (role : Role) (taken : Arrival → Message → Type 0) (old : Node) (e : Effect) (handed : List (By Entry)) → Once history Serving → Once history Packet → AnsweredOnce history → Logs history role taken old e → Packets history handed (other role) → (n : Entry) → Among n e.out.accepted → HasBy handed (other role) n
 owed_now history Serving taken old e handed so po once logs packets n among =
     let a = logs.accepted n among in
     let h = packets.sent n.target n.payload a.0 in
-    subst (λ x. Among x handed) (same_entry history so po once Serving h.entry n h.names h.carries (packets.each h.entry h.among) a.1) h.among
+    subst (λ x. HasBy handed Packet x) (same_entry history so po once Serving h.entry n h.names h.carries (packets.each h.entry h.among) a.1) h.among
 owed_now history Packet taken old e handed so po once logs packets n among =
     let a = logs.accepted n among in
     let h = packets.sent n.target n.payload a.0 in
-    subst (λ x. Among x handed) (same_entry history so po once Packet h.entry n h.names h.carries (packets.each h.entry h.among) a.1) h.among
+    subst (λ x. HasBy handed Serving x) (same_entry history so po once Packet h.entry n h.names h.carries (packets.each h.entry h.among) a.1) h.among
+
+owed_step : (history : List Sent) (handed accepted : List (By Entry)) (by : Role) (taken : Arrival → Message → Type 0) (old : Node) (e : Effect) → Once history Serving → Once history Packet → AnsweredOnce history → Logs history by taken old e → ((role : Role) → Packets history handed role) → ((role : Role) (n : Entry) → HasBy accepted role n → HasBy handed (other role) n) → (role : Role) (n : Entry) → HasBy (accepted ++ signed by e.out.accepted) role n → HasBy (handed ++ signed by e.out.handed) (other role) n
+owed_step history handed accepted by taken old e so po once logs packets owed role n among = by_before handed (other role) by e.out.handed n (elim (by_cases accepted role by e.out.accepted n among) [
+  | inl was ↦ owed role n was
+  | inr now ↦ subst (λ r. HasBy handed (other r) n) (sym now.0) (owed_now history by taken old e handed so po once logs (packets (other by)) n now.1)
+])
 
 -- counters of one age are one counter
 same_is : (history : List Sent) (role : Role) (side peer : Side) → SideInvariant history role side peer → Drawing peer (other role) history → (m : Message) → HasSent history (other role) m → SameIs side.node m
 same_is history role side peer inv there m came k c tells known age_is = same_counter peer there.few side.seen k c (inv.hearing.latest k known) (there.told m c came tells) age_is
 
-module _ (spelled : Message → List ℕ) (own : Addresses) where
+module _ (own : Addresses) where
   -- what comes late is marked so
   abbrev pub IsMarked : Side → Input → Type 0
   IsMarked side input = (a : Arrival) (m : Message) → input ≡ Control_came a (Control_message m) → Among a side.forgotten → Among a side.came_late
 
   -- a request comes as the packet gateway sends it, and where nothing is late its answer was not given up
   pub record Comes (w : World) (input : Input) : Type 0 where
-    pub keyed : (a : Arrival) (m : Message) → input ≡ Control_came a (Control_message m) → a ≡ arrival spelled own m
+    pub keyed : (a : Arrival) (m : Message) → input ≡ Control_came a (Control_message m) → a ≡ arrival own m
     pub on_time : (a : Arrival) (m : Message) → input ≡ Control_came a (Control_message m) → w.late ≡ 0 → Among a w.serving.forgotten → ⊥
 
-  serving_moves : (w : World) → Invariant spelled own w → (input : Input) (e : Effect) → Carried Serving w.history w.serving.node input → Comes w input → IsMarked w.serving input → Step Serving w.serving.node input e → Invariant spelled own (moved w Serving e)
+  serving_moves : (w : World) → Invariant own w → (input : Input) (e : Effect) → Carried Serving w.history w.serving.node input → Comes w input → IsMarked w.serving input → Step Serving w.serving.node input e → Invariant own (moved w Serving e)
   serving_moves w inv input e carried comes marked step =
       let so = inv.serving.draws.once in
       let po = inv.packet.draws.once in
@@ -94,20 +108,14 @@ module _ (spelled : Message → List ℕ) (own : Addresses) where
         serving = side_step w.history Serving w.serving w.packet taken e inv.serving inv.packet.draws after (λ a m t. t.1) (λ a m t. marked a m t.0);
         packet = side_elsewhere w.history Packet w.packet w.serving (stepped w.serving e) (messages e.out.sent) refl (omega arith) inv.packet;
         own_is = inv.own_is;
-        remembers = Remembers-step w.history (arrival spelled own) w.serving taken e inv.serving.draws inv.serving.knows.drawn after.draws inv.remembers after.logs (λ a m t. comes.keyed a m t.0);
-        once = λ z. AnsweredOnce-step w.history (arrival spelled own) w.serving taken e inv.serving.draws inv.serving.knows.drawn after.draws inv.remembers after.logs (λ a m t. comes.keyed a m t.0) po (λ a m t. t.1) (λ a m t. comes.on_time a m t.0 z) (inv.once z);
-        owed = λ z. owed so po after z;
+        remembers = Remembers-step w.history (arrival own) w.serving taken e inv.serving.draws inv.serving.knows.drawn after.draws inv.remembers after.logs (λ a m t. comes.keyed a m t.0);
+        once = λ z. AnsweredOnce-step w.history (arrival own) w.serving taken e inv.serving.draws inv.serving.knows.drawn after.draws inv.remembers after.logs (λ a m t. comes.keyed a m t.0) po (λ a m t. t.1) (λ a m t. comes.on_time a m t.0 z) (inv.once z);
+        packets = packets_step w.history w.handed Serving w.serving.node taken e inv.packets after.logs;
+        owed = λ z. owed_step w.history w.handed w.accepted Serving taken w.serving.node e so po (inv.once z) after.logs inv.packets (inv.owed z);
         named = Names-step w.history Serving e inv.named (step_told w.history inv.named Serving w.serving.node (back_of w.history Serving w.serving.node inv.serving.knows) input e carried step);
       }
-    where
-      owed : Once w.history Serving → Once w.history Packet → After Serving w.history (Taken w.serving.node input) w.serving.node e → w.late ≡ 0 → (role : Role) (n : Entry) → Among n (side_of (moved w Serving e) role).accepted → Among n (side_of (moved w Serving e) (other role)).handed
-      owed so po after z Serving n among = elim (Among-cases n e.out.accepted w.serving.accepted among) [
-        | inl now ↦ owed_now w.history Serving (Taken w.serving.node input) w.serving.node e w.packet.handed so po (inv.once z) after.logs inv.packet.packets n now
-        | inr was ↦ inv.owed z Serving n was
-      ]
-      owed so po after z Packet n among = Among-right n e.out.handed w.serving.handed (inv.owed z Packet n among)
 
-  packet_moves : (w : World) → Invariant spelled own w → (input : Input) (e : Effect) → Carried Packet w.history w.packet.node input → IsMarked w.packet input → Step Packet w.packet.node input e → Invariant spelled own (moved w Packet e)
+  packet_moves : (w : World) → Invariant own w → (input : Input) (e : Effect) → Carried Packet w.history w.packet.node input → IsMarked w.packet input → Step Packet w.packet.node input e → Invariant own (moved w Packet e)
   packet_moves w inv input e carried marked step =
       let so = inv.serving.draws.once in
       let po = inv.packet.draws.once in
@@ -117,27 +125,22 @@ module _ (spelled : Message → List ℕ) (own : Addresses) where
         serving = side_elsewhere w.history Serving w.serving w.packet (stepped w.packet e) (messages e.out.sent) refl (omega arith) inv.serving;
         packet = side_step w.history Packet w.packet w.serving taken e inv.packet inv.serving.draws after (λ a m t. t.1) (λ a m t. marked a m t.0);
         own_is = ap (λ (c : Config). c.own) after.draws.config ∙ inv.own_is;
-        remembers = Remembers-elsewhere w.history (arrival spelled own) w.serving (messages e.out.sent) inv.remembers;
-        once = λ z x y s t x_has y_has. inv.once z x y s t (sent_by_other w.history Serving (messages e.out.sent) (Create_bearer_response x) x_has) (sent_by_other w.history Serving (messages e.out.sent) (Create_bearer_response y) y_has);
-        owed = λ z. owed so po after z;
+        remembers = Remembers-elsewhere w.history (arrival own) w.serving (messages e.out.sent) inv.remembers;
+        once = λ z x y s t x_has y_has. inv.once z x y s t (by_other w.history Serving (messages e.out.sent) (Create_bearer_response x) x_has) (by_other w.history Serving (messages e.out.sent) (Create_bearer_response y) y_has);
+        packets = packets_step w.history w.handed Packet w.packet.node taken e inv.packets after.logs;
+        owed = λ z. owed_step w.history w.handed w.accepted Packet taken w.packet.node e so po (inv.once z) after.logs inv.packets (inv.owed z);
         named = Names-step w.history Packet e inv.named (step_told w.history inv.named Packet w.packet.node (back_of w.history Packet w.packet.node inv.packet.knows) input e carried step);
       }
-    where
-      owed : Once w.history Serving → Once w.history Packet → After Packet w.history (Taken w.packet.node input) w.packet.node e → w.late ≡ 0 → (role : Role) (n : Entry) → Among n (side_of (moved w Packet e) role).accepted → Among n (side_of (moved w Packet e) (other role)).handed
-      owed so po after z Serving n among = Among-right n e.out.handed w.packet.handed (inv.owed z Serving n among)
-      owed so po after z Packet n among = elim (Among-cases n e.out.accepted w.packet.accepted among) [
-        | inl now ↦ owed_now w.history Packet (Taken w.packet.node input) w.packet.node e w.serving.handed so po (inv.once z) after.logs inv.serving.packets n now
-        | inr was ↦ inv.owed z Packet n was
-      ]
 
   -- one more late delivery leaves the rest as it is
-  late_keeps : (w : World) → Invariant spelled own w → (role : Role) (a : Arrival) → Invariant spelled own (late_once w role a)
+  late_keeps : (w : World) → Invariant own w → (role : Role) (a : Arrival) → Invariant own (late_once w role a)
   late_keeps w inv Serving a = record {
-    serving = record { draws = marked_draws; knows = inv.serving.knows; hearing = inv.serving.hearing; packets = inv.serving.packets; making = Making-late w.serving a inv.serving.making };
-    packet = record { draws = inv.packet.draws; knows = inv.packet.knows; hearing = Hearing-peer w.serving (record w.serving { came_late = a ∷ w.serving.came_late }) refl (omega arith) w.packet.node.known w.packet.seen inv.packet.hearing; packets = inv.packet.packets; making = inv.packet.making };
+    serving = record { draws = marked_draws; knows = inv.serving.knows; hearing = inv.serving.hearing; making = Making-late w.serving a inv.serving.making };
+    packet = record { draws = inv.packet.draws; knows = inv.packet.knows; hearing = Hearing-peer w.serving (record w.serving { came_late = a ∷ w.serving.came_late }) refl (omega arith) w.packet.node.known w.packet.seen inv.packet.hearing; making = inv.packet.making };
     own_is = inv.own_is;
     remembers = λ x t has gives. let i = inv.remembers x t has gives in record { request = i.request; sent = i.sent; echoed = i.echoed; where_now = ⊎_elim (λ here. inl here) (λ earlier. inr (record { start = earlier.start; before = earlier.before; is = earlier.is })) i.where_now };
     once = λ z. absurd (more w.late z);
+    packets = inv.packets;
     owed = λ z. absurd (more w.late z);
     named = inv.named;
   }
@@ -148,11 +151,12 @@ module _ (spelled : Message → List ℕ) (own : Addresses) where
       marked_draws : Drawing (record w.serving { came_late = a ∷ w.serving.came_late }) Serving w.history
       marked_draws = Drawing-marked w.serving Serving w.history inv.serving.draws a
   late_keeps w inv Packet a = record {
-    serving = record { draws = inv.serving.draws; knows = inv.serving.knows; hearing = Hearing-peer w.packet (record w.packet { came_late = a ∷ w.packet.came_late }) refl (omega arith) w.serving.node.known w.serving.seen inv.serving.hearing; packets = inv.serving.packets; making = inv.serving.making };
-    packet = record { draws = Drawing-marked w.packet Packet w.history inv.packet.draws a; knows = inv.packet.knows; hearing = inv.packet.hearing; packets = inv.packet.packets; making = Making-late w.packet a inv.packet.making };
+    serving = record { draws = inv.serving.draws; knows = inv.serving.knows; hearing = Hearing-peer w.packet (record w.packet { came_late = a ∷ w.packet.came_late }) refl (omega arith) w.serving.node.known w.serving.seen inv.serving.hearing; making = inv.serving.making };
+    packet = record { draws = Drawing-marked w.packet Packet w.history inv.packet.draws a; knows = inv.packet.knows; hearing = inv.packet.hearing; making = Making-late w.packet a inv.packet.making };
     own_is = inv.own_is;
     remembers = inv.remembers;
     once = λ z. absurd (more w.late z);
+    packets = inv.packets;
     owed = λ z. absurd (more w.late z);
     named = inv.named;
   }
@@ -161,35 +165,45 @@ module _ (spelled : Message → List ℕ) (own : Addresses) where
       more n e = omega arith
 
   -- a note changes nothing of this
-  noted_keeps : (w : World) (note : Note) → Invariant spelled own w → Invariant spelled own (noted w note)
-  noted_keeps w note inv = record { serving = inv.serving; packet = inv.packet; own_is = inv.own_is; remembers = inv.remembers; once = inv.once; owed = owed; named = inv.named }
-    where
-      owed : EachOwed (noted w note)
-      owed z Serving n among = inv.owed z Serving n among
-      owed z Packet n among = inv.owed z Packet n among
+  noted_keeps : (w : World) (note : Note) → Invariant own w → Invariant own (noted w note)
+  noted_keeps w note inv = record { serving = inv.serving; packet = inv.packet; own_is = inv.own_is; remembers = inv.remembers; once = inv.once; packets = inv.packets; owed = inv.owed; named = inv.named }
+
+  -- nor do the steps that are kept
+  steps_keep : (w : World) (role : Role) (steps : List Done) → Invariant own w → Invariant own (with_steps w role steps)
+  steps_keep w Serving steps inv = record { serving = inv.serving; packet = inv.packet; own_is = inv.own_is; remembers = inv.remembers; once = inv.once; packets = inv.packets; owed = inv.owed; named = inv.named }
+  steps_keep w Packet steps inv = record { serving = inv.serving; packet = inv.packet; own_is = inv.own_is; remembers = inv.remembers; once = inv.once; packets = inv.packets; owed = inv.owed; named = inv.named }
+
+  noted_logged : (w : World) (note : Note) (role : Role) (steps : List Done) → Invariant own w → Invariant own (logged (noted w note) role steps)
+  noted_logged w note role steps inv = steps_keep (noted w note) role (steps_of (noted w note) role ++ steps) (noted_keeps w note inv)
 
   -- an input that brings no message
-  abbrev IsQuiet : Input → Type 0
+  abbrev pub IsQuiet : Input → Type 0
   IsQuiet (Control_came a (Control_message m)) = ⊥
   IsQuiet _ = Unit {0}
 
   quiet_comes : (w : World) (input : Input) → IsQuiet input → Comes w input
   quiet_comes w input quiet = record { keyed = λ a m is. absurd (subst IsQuiet is quiet); on_time = λ a m is. absurd (subst IsQuiet is quiet) }
 
-  quiet_marked : (side : Side) (input : Input) → IsQuiet input → IsMarked side input
+  pub quiet_marked : (side : Side) (input : Input) → IsQuiet input → IsMarked side input
   quiet_marked side input quiet a m is = absurd (subst IsQuiet is quiet)
 
   -- a step on what brings no message
-  steps_quietly : (w : World) → Invariant spelled own w → (role : Role) (input : Input) (e : Effect) → IsQuiet input → Carried role w.history (side_of w role).node input → Step role (side_of w role).node input e → Invariant spelled own (moved w role e)
+  steps_quietly : (w : World) → Invariant own w → (role : Role) (input : Input) (e : Effect) → IsQuiet input → Carried role w.history (side_of w role).node input → Step role (side_of w role).node input e → Invariant own (moved w role e)
   steps_quietly w inv Serving input e quiet carried step = serving_moves w inv input e carried (quiet_comes w input quiet) (quiet_marked w.serving input quiet) step
   steps_quietly w inv Packet input e quiet carried step = packet_moves w inv input e carried (quiet_marked w.packet input quiet) step
 
-  moves_quietly : (w : World) → Invariant spelled own w → (role : Role) (input : Input) → IsQuiet input → Carried role w.history (side_of w role).node input → (new : World) → Moves w role input new → Invariant spelled own new
-  moves_quietly w inv role input quiet carried new m = subst (λ k. Invariant spelled own k) (sym m.becomes) (noted_keeps (moved w role m.effect) _ (steps_quietly w inv role input m.effect quiet carried m.step))
+  moves_quietly : (w : World) → Invariant own w → (role : Role) (input : Input) → IsQuiet input → Carried role w.history (side_of w role).node input → (new : World) → Moves w role input new → Invariant own new
+  moves_quietly w inv role input quiet carried new m = subst (λ k. Invariant own k) (sym m.becomes) (noted_logged (moved w role m.effect) _ role _ (steps_quietly w inv role input m.effect quiet carried m.step))
 
-  ticks : (w : World) → Invariant spelled own w → (role : Role) (moves : List Move) (out : Out) (new : World) → Ticks w role moves out new → Invariant spelled own new
-  ticks w inv role [] out new r = subst (λ k. Invariant spelled own k) (sym r.1) inv
-  ticks w inv role (move ∷ moves) out new (e, rest, step, others, is) = ticks (moved w role e) (steps_quietly w inv role (Moves_on move) e tt tt step) role moves rest new others
+  -- a tick, move by move
+  ticks : (w : World) → Invariant own w → (role : Role) (moves : List Move) (out : Out) (after : Node) → TickStep (side_of w role).node moves out after → Invariant own (moved w role (ticked out after))
+  ticks w inv role [] out after r = subst (λ k. Invariant own k) (sym (moved_nothing w role out after r.0 r.1)) inv
+  ticks w inv Serving (move ∷ moves) out after (e, rest, step, others, is) =
+      subst (λ k. Invariant own k) (moved_twice w Serving e rest after (move_quiet w.serving.node move e step) ∙ ap (λ o. moved w Serving (ticked o after)) (sym is))
+      (ticks (moved w Serving e) (steps_quietly w inv Serving (Moves_on move) e tt tt step) Serving moves rest after others)
+  ticks w inv Packet (move ∷ moves) out after (e, rest, step, others, is) =
+      subst (λ k. Invariant own k) (moved_twice w Packet e rest after (move_quiet w.packet.node move e step) ∙ ap (λ o. moved w Packet (ticked o after)) (sym is))
+      (ticks (moved w Packet e) (steps_quietly w inv Packet (Moves_on move) e tt tt step) Packet moves rest after others)
 
   -- what stands at a place of the history was sent
   found_sent : (history : List Sent) (which : ℕ) (sent : Sent) → slice_get history which ≡ Some sent → Among sent history
@@ -198,76 +212,76 @@ module _ (spelled : Message → List ℕ) (own : Addresses) where
   found_sent (x ∷ history) (suc which) sent e = inr (found_sent history which sent e)
 
   -- what comes to the serving gateway, by its plane
-  serving_carried : (w : World) → Invariant spelled own w → (p : Plane) (m : Message) → HasSent w.history Packet m → Carried Serving w.history w.serving.node (delivered_on p spelled w.packet.node.config.own m)
+  serving_carried : (w : World) → Invariant own w → (p : Plane) (m : Message) → HasSent w.history Packet m → Carried Serving w.history w.serving.node (delivered_on p w.packet.node.config.own m)
   serving_carried w inv Control m came = (came, same_is w.history Serving w.serving w.packet inv.serving inv.packet.draws m came)
   serving_carried w inv User m came = came
 
-  packet_carried : (w : World) → Invariant spelled own w → (p : Plane) (m : Message) → HasSent w.history Serving m → Carried Packet w.history w.packet.node (delivered_on p spelled w.serving.node.config.own m)
+  packet_carried : (w : World) → Invariant own w → (p : Plane) (m : Message) → HasSent w.history Serving m → Carried Packet w.history w.packet.node (delivered_on p w.serving.node.config.own m)
   packet_carried w inv Control m came = (came, same_is w.history Packet w.packet w.serving inv.packet inv.serving.draws m came)
   packet_carried w inv User m came = came
 
   -- a datagram that comes is the one that was sent
-  came_so : (from : Addresses) (m : Message) (a : Arrival) (n : Message) → Control_came (arrival spelled from m) (Control_message m) ≡ Control_came a (Control_message n) → a ≡ arrival spelled from m
+  came_so : (from : Addresses) (m : Message) (a : Arrival) (n : Message) → Control_came (arrival from m) (Control_message m) ≡ Control_came a (Control_message n) → a ≡ arrival from m
   came_so from m a n is = cc
 
-  keyed_so : (from : Addresses) (m : Message) → from ≡ own → (a : Arrival) (n : Message) → Control_came (arrival spelled from m) (Control_message m) ≡ Control_came a (Control_message n) → a ≡ arrival spelled own n
+  keyed_so : (from : Addresses) (m : Message) → from ≡ own → (a : Arrival) (n : Message) → Control_came (arrival from m) (Control_message m) ≡ Control_came a (Control_message n) → a ≡ arrival own n
   keyed_so from m from_is a n is =
       let same : m ≡ n = cc is in
-      came_so from m a n is ∙ ap (λ k. arrival spelled k m) from_is ∙ ap (λ k. arrival spelled own k) same
+      came_so from m a n is ∙ ap (λ k. arrival k m) from_is ∙ ap (λ k. arrival own k) same
 
   -- on time: its answer was not given up
-  timely : (w : World) → Invariant spelled own w → (p : Plane) (m : Message) → (IsLateOn p spelled w.packet.node.config.own w.serving m → ⊥) → Comes w (delivered_on p spelled w.packet.node.config.own m)
+  timely : (w : World) → Invariant own w → (p : Plane) (m : Message) → (IsLateOn p w.packet.node.config.own w.serving m → ⊥) → Comes w (delivered_on p w.packet.node.config.own m)
   timely w inv Control m on_time = record {
     keyed = keyed_so w.packet.node.config.own m inv.own_is;
     on_time = λ a n is z gone. on_time (subst (λ k. Among k w.serving.forgotten) (came_so w.packet.node.config.own m a n is) gone);
   }
   timely w inv User m on_time = quiet_comes w _ tt
 
-  timely_marked : (side : Side) (from : Addresses) (p : Plane) (m : Message) → (IsLateOn p spelled from side m → ⊥) → IsMarked side (delivered_on p spelled from m)
+  pub timely_marked : (side : Side) (from : Addresses) (p : Plane) (m : Message) → (IsLateOn p from side m → ⊥) → IsMarked side (delivered_on p from m)
   timely_marked side from Control m on_time a n is gone = absurd (on_time (subst (λ k. Among k side.forgotten) (came_so from m a n is) gone))
   timely_marked side from User m on_time a n is gone = absurd (subst IsQuiet is tt)
 
   -- late: it is counted and marked
-  lately : (w : World) → Invariant spelled own w → (m : Message) → Comes (late_once w Serving (arrival spelled w.packet.node.config.own m)) (Control_came (arrival spelled w.packet.node.config.own m) (Control_message m))
+  lately : (w : World) → Invariant own w → (m : Message) → Comes (late_once w Serving (arrival w.packet.node.config.own m)) (Control_came (arrival w.packet.node.config.own m) (Control_message m))
   lately w inv m = record { keyed = keyed_so w.packet.node.config.own m inv.own_is; on_time = λ a n is z. absurd (more w.late z) }
     where
       more : (n : ℕ) → 1 + n ≡ 0 → ⊥
       more n e = omega arith
 
-  lately_marked : (side : Side) (from : Addresses) (m : Message) → IsMarked (record side { came_late = arrival spelled from m ∷ side.came_late }) (Control_came (arrival spelled from m) (Control_message m))
+  pub lately_marked : (side : Side) (from : Addresses) (m : Message) → IsMarked (record side { came_late = arrival from m ∷ side.came_late }) (Control_came (arrival from m) (Control_message m))
   lately_marked side from m a n is gone = inl (came_so from m a n is)
 
-  moved_new : (w : World) (role : Role) (e : Effect) (note : Note) (new : World) → new ≡ noted (moved w role e) note → Invariant spelled own (moved w role e) → Invariant spelled own new
-  moved_new w role e note new is inv = subst (λ k. Invariant spelled own k) (sym is) (noted_keeps (moved w role e) note inv)
+  moved_new : (w : World) (role : Role) (e : Effect) (note : Note) (steps : List Done) (new : World) → new ≡ logged (noted (moved w role e) note) role steps → Invariant own (moved w role e) → Invariant own new
+  moved_new w role e note steps new is inv = subst (λ k. Invariant own k) (sym is) (noted_logged (moved w role e) note role steps inv)
 
-  late_to_serving : (w : World) → Invariant spelled own w → (p : Plane) (m : Message) → HasSent w.history Packet m → IsLateOn p spelled w.packet.node.config.own w.serving m → (new : World) → Moves (late_once w Serving (arrival spelled w.packet.node.config.own m)) Serving (delivered_on p spelled w.packet.node.config.own m) new → Invariant spelled own new
+  late_to_serving : (w : World) → Invariant own w → (p : Plane) (m : Message) → HasSent w.history Packet m → IsLateOn p w.packet.node.config.own w.serving m → (new : World) → Moves (late_once w Serving (arrival w.packet.node.config.own m)) Serving (delivered_on p w.packet.node.config.own m) new → Invariant own new
   late_to_serving w inv Control m came late new d =
-      let w1 = late_once w Serving (arrival spelled w.packet.node.config.own m) in
-      let inv1 = late_keeps w inv Serving (arrival spelled w.packet.node.config.own m) in
-      moved_new w1 Serving d.effect _ new d.becomes (serving_moves w1 inv1 _ d.effect (serving_carried w1 inv1 Control m came) (lately w inv m) (lately_marked w.serving w.packet.node.config.own m) d.step)
+      let w1 = late_once w Serving (arrival w.packet.node.config.own m) in
+      let inv1 = late_keeps w inv Serving (arrival w.packet.node.config.own m) in
+      moved_new w1 Serving d.effect _ _ new d.becomes (serving_moves w1 inv1 _ d.effect (serving_carried w1 inv1 Control m came) (lately w inv m) (lately_marked w.serving w.packet.node.config.own m) d.step)
   late_to_serving w inv User m came late new d = absurd late
 
-  late_to_packet : (w : World) → Invariant spelled own w → (p : Plane) (m : Message) → HasSent w.history Serving m → IsLateOn p spelled w.serving.node.config.own w.packet m → (new : World) → Moves (late_once w Packet (arrival spelled w.serving.node.config.own m)) Packet (delivered_on p spelled w.serving.node.config.own m) new → Invariant spelled own new
+  late_to_packet : (w : World) → Invariant own w → (p : Plane) (m : Message) → HasSent w.history Serving m → IsLateOn p w.serving.node.config.own w.packet m → (new : World) → Moves (late_once w Packet (arrival w.serving.node.config.own m)) Packet (delivered_on p w.serving.node.config.own m) new → Invariant own new
   late_to_packet w inv Control m came late new d =
-      let w1 = late_once w Packet (arrival spelled w.serving.node.config.own m) in
-      let inv1 = late_keeps w inv Packet (arrival spelled w.serving.node.config.own m) in
-      moved_new w1 Packet d.effect _ new d.becomes (packet_moves w1 inv1 _ d.effect (packet_carried w1 inv1 Control m came) (lately_marked w.packet w.serving.node.config.own m) d.step)
+      let w1 = late_once w Packet (arrival w.serving.node.config.own m) in
+      let inv1 = late_keeps w inv Packet (arrival w.serving.node.config.own m) in
+      moved_new w1 Packet d.effect _ _ new d.becomes (packet_moves w1 inv1 _ d.effect (packet_carried w1 inv1 Control m came) (lately_marked w.packet w.serving.node.config.own m) d.step)
   late_to_packet w inv User m came late new d = absurd late
 
   -- a datagram that its sender sent comes to the other gateway
-  delivers : (w : World) → Invariant spelled own w → (sender : Role) (m : Message) → HasSent w.history sender m → (new : World) → Delivers spelled w sender m new → Invariant spelled own new
-  delivers w inv Packet m came new (inl d) = moved_new w Serving d.1.effect _ new d.1.becomes (serving_moves w inv _ d.1.effect (serving_carried w inv (plane_of m) m came) (timely w inv (plane_of m) m d.0) (timely_marked w.serving w.packet.node.config.own (plane_of m) m d.0) d.1.step)
+  delivers : (w : World) → Invariant own w → (sender : Role) (m : Message) → HasSent w.history sender m → (new : World) → Delivers w sender m new → Invariant own new
+  delivers w inv Packet m came new (inl d) = moved_new w Serving d.1.effect _ _ new d.1.becomes (serving_moves w inv _ d.1.effect (serving_carried w inv (plane_of m) m came) (timely w inv (plane_of m) m d.0) (timely_marked w.serving w.packet.node.config.own (plane_of m) m d.0) d.1.step)
   delivers w inv Packet m came new (inr d) = late_to_serving w inv (plane_of m) m came d.0 new d.1
-  delivers w inv Serving m came new (inl d) = moved_new w Packet d.1.effect _ new d.1.becomes (packet_moves w inv _ d.1.effect (packet_carried w inv (plane_of m) m came) (timely_marked w.packet w.serving.node.config.own (plane_of m) m d.0) d.1.step)
+  delivers w inv Serving m came new (inl d) = moved_new w Packet d.1.effect _ _ new d.1.becomes (packet_moves w inv _ d.1.effect (packet_carried w inv (plane_of m) m came) (timely_marked w.packet w.serving.node.config.own (plane_of m) m d.0) d.1.step)
   delivers w inv Serving m came new (inr d) = late_to_packet w inv (plane_of m) m came d.0 new d.1
 
-  cut_quiet : (p : Plane) (from : Addresses) (m : Message) (count fault : ℕ) → IsQuiet (cut_on p spelled from m count fault)
-  cut_quiet Control from m count fault = tt
-  cut_quiet User from m count fault = tt
+  pub cut_quiet : (p : Plane) (from : Addresses) (m : Message) (count : ℕ) → IsQuiet (cut_on p from m count)
+  cut_quiet Control from m count = tt
+  cut_quiet User from m count = tt
 
-  cut_carried : (role : Role) (p : Plane) (from : Addresses) (m : Message) (count fault : ℕ) (history : List Sent) (node : Node) → Carried role history node (cut_on p spelled from m count fault)
-  cut_carried role Control from m count fault history node = tt
-  cut_carried role User from m count fault history node = tt
+  cut_carried : (role : Role) (p : Plane) (from : Addresses) (m : Message) (count : ℕ) (history : List Sent) (node : Node) → Carried role history node (cut_on p from m count)
+  cut_carried role Control from m count history node = tt
+  cut_carried role User from m count history node = tt
 
 fresh_contexts : (history : List Sent) (role : Role) → Contexts role history empty empty
 fresh_contexts history Serving = record { sessions_asked = Each-empty _; bearers_asked = Each-empty _ }
@@ -293,12 +307,11 @@ side_restart history role side peer room inv = record {
   draws = Drawing-restart side role history inv.draws room;
   knows = fresh_knows history role _ _;
   hearing = nothing_heard peer;
-  packets = inv.packets;
   making = Making-fresh side;
 }
 
 peer_restart : (history : List Sent) (role : Role) (side peer : Side) → SideInvariant history role side peer → SideInvariant history role side (restarted peer)
-peer_restart history role side peer inv = record { draws = inv.draws; knows = inv.knows; hearing = Hearing-peer peer (restarted peer) refl (omega arith) side.node.known side.seen inv.hearing; packets = inv.packets; making = inv.making }
+peer_restart history role side peer inv = record { draws = inv.draws; knows = inv.knows; hearing = Hearing-peer peer (restarted peer) refl (omega arith) side.node.known side.seen inv.hearing; making = inv.making }
 
 begins_side : (config : Config) (first : ℕ) (role : Role) (peer : Side) → SideInvariant [] role (begun config first) peer
 begins_side config first role peer = record {
@@ -314,77 +327,67 @@ begins_side config first role peer = record {
   };
   knows = fresh_knows [] role _ _;
   hearing = nothing_heard peer;
-  packets = record { sent = λ t p none. absurd none; each = λ e none. absurd none };
   making = record { kept = λ a none. absurd none; once = λ a on_time. tt };
 }
 
-module _ (spelled : Message → List ℕ) (own : Addresses) where
-  restarts : (w : World) → Invariant spelled own w → (role : Role) → (side_of w role).restarts < 127 → Invariant spelled own (with_side w role (restarted (side_of w role)))
+module _ (own : Addresses) where
+  restarts : (w : World) → Invariant own w → (role : Role) → (side_of w role).restarts < 127 → Invariant own (with_side w role (restarted (side_of w role)))
   restarts w inv Serving room = record {
     serving = side_restart w.history Serving w.serving w.packet room inv.serving;
     packet = peer_restart w.history Packet w.packet w.serving inv.packet;
     own_is = inv.own_is;
-    remembers = Remembers-restart w.history (arrival spelled own) w.serving inv.serving.draws inv.remembers;
+    remembers = Remembers-restart w.history (arrival own) w.serving inv.serving.draws inv.remembers;
     once = inv.once;
-    owed = owed;
+    packets = inv.packets;
+    owed = inv.owed;
     named = inv.named;
   }
-    where
-      owed : EachOwed (with_side w Serving (restarted w.serving))
-      owed z Serving e among = inv.owed z Serving e among
-      owed z Packet e among = inv.owed z Packet e among
   restarts w inv Packet room = record {
     serving = peer_restart w.history Serving w.serving w.packet inv.serving;
     packet = side_restart w.history Packet w.packet w.serving room inv.packet;
     own_is = inv.own_is;
     remembers = inv.remembers;
     once = inv.once;
-    owed = owed;
+    packets = inv.packets;
+    owed = inv.owed;
     named = inv.named;
   }
-    where
-      owed : EachOwed (with_side w Packet (restarted w.packet))
-      owed z Serving e among = inv.owed z Serving e among
-      owed z Packet e among = inv.owed z Packet e among
 
-  noted_new : (w : World) (note : Note) (new : World) → Invariant spelled own w → new ≡ noted w note → Invariant spelled own new
-  noted_new w note new inv is = subst (λ k. Invariant spelled own k) (sym is) (noted_keeps spelled own w note inv)
+  noted_new : (w : World) (note : Note) (new : World) → Invariant own w → new ≡ noted w note → Invariant own new
+  noted_new w note new inv is = subst (λ k. Invariant own k) (sym is) (noted_keeps own w note inv)
 
-  happens : (w : World) → Invariant spelled own w → (event : Event) (new : World) → Happens spelled w event new → Invariant spelled own new
-  happens w inv (Does role command) new m = moves_quietly spelled own w inv role (Commanded command) tt tt new m
-  happens w inv (Tick role) new t = noted_new t.after _ new (ticks spelled own w inv role t.moves t.out t.after t.ticks) t.becomes
+  happens : (w : World) → Invariant own w → (event : Event) (new : World) → Happens w event new → Invariant own new
+  happens w inv (Does role command) new m = moves_quietly own w inv role (Commanded command) tt tt new m
+  happens w inv (Tick role) new t = subst (λ k. Invariant own k) (sym t.becomes) (noted_logged own (moved w role (ticked t.out t.after)) _ role _ (ticks own w inv role t.moves t.out t.after t.tick))
   happens w inv (Deliver number) new (inl none) = noted_new w _ new inv none.1
-  happens w inv (Deliver number) new (inr (found, d)) = delivers spelled own w inv found.sent.sender found.sent.message (found_sent spelled own w.history number found.sent found.is) new d
+  happens w inv (Deliver number) new (inr (found, d)) = delivers own w inv found.sent.role found.sent.what (found_sent own w.history number found.sent found.is) new d
   happens w inv (Cut number count) new (inl none) = noted_new w _ new inv none.1
   happens w inv (Cut number count) new (inr (found, inl long)) = noted_new w _ new inv long.1
-  happens w inv (Cut number count) new (inr (found, inr (short, c))) = moves_quietly spelled own w inv (other found.sent.sender) _ (cut_quiet spelled own (plane_of found.sent.message) _ found.sent.message count c.fault) (cut_carried spelled own (other found.sent.sender) (plane_of found.sent.message) _ found.sent.message count c.fault w.history (side_of w (other found.sent.sender)).node) new c.moves
+  happens w inv (Cut number count) new (inr (found, inr (short, c))) = moves_quietly own w inv (other found.sent.role) _ (cut_quiet own (plane_of found.sent.what) _ found.sent.what count) (cut_carried own (other found.sent.role) (plane_of found.sent.what) _ found.sent.what count w.history (side_of w (other found.sent.role)).node) new c
   happens w inv (Restart role) new (inl used) = noted_new w _ new inv used.1
-  happens w inv (Restart role) new (inr (few, is)) = noted_new (with_side w role (restarted (side_of w role))) _ new (restarts w inv role few) is
+  happens w inv (Restart role) new (inr (few, is)) = subst (λ k. Invariant own k) (sym is) (steps_keep own (noted (with_side w role (restarted (side_of w role))) _) role [] (noted_keeps own (with_side w role (restarted (side_of w role))) _ (restarts w inv role few)))
 
-  run : (w : World) → Invariant spelled own w → (events : List Event) (new : World) → Run spelled w events new → Invariant spelled own new
-  run w inv [] new is = subst (λ k. Invariant spelled own k) (sym is) inv
+  run : (w : World) → Invariant own w → (events : List Event) (new : World) → Run w events new → Invariant own new
+  run w inv [] new is = subst (λ k. Invariant own k) (sym is) inv
   run w inv (event ∷ events) new r = run r.0 (happens w inv event r.0 r.1) events new r.2
 
-begins : (spelled : Message → List ℕ) (serving packet : Config) (serving_counter packet_counter : ℕ) → Invariant spelled packet.own (start serving packet serving_counter packet_counter)
-begins spelled serving packet serving_counter packet_counter = record {
+begins : (serving packet : Config) (serving_counter packet_counter : ℕ) → Invariant packet.own (start serving packet serving_counter packet_counter)
+begins serving packet serving_counter packet_counter = record {
   serving = begins_side serving serving_counter Serving (begun packet packet_counter);
   packet = begins_side packet packet_counter Packet (begun serving serving_counter);
   own_is = refl;
   remembers = λ x t none. absurd none;
   once = λ z x y s t none. absurd none;
-  owed = owed;
+  packets = λ role. record { sent = λ t p none. absurd none; each = λ e none. absurd none };
+  owed = λ z role e none. absurd none;
   named = λ role m none. absurd none;
 }
-  where
-    owed : EachOwed (start serving packet serving_counter packet_counter)
-    owed z Serving e none = absurd none
-    owed z Packet e none = absurd none
 
 -- the invariant holds at the end of each run
-pub always : (spelled : Message → List ℕ) (serving packet : Config) (serving_counter packet_counter : ℕ) (events : List Event) (w : World) → Run spelled (start serving packet serving_counter packet_counter) events w → Invariant spelled packet.own w
-always spelled serving packet serving_counter packet_counter events w r = run spelled packet.own (start serving packet serving_counter packet_counter) (begins spelled serving packet serving_counter packet_counter) events w r
+pub always : (serving packet : Config) (serving_counter packet_counter : ℕ) (events : List Event) (w : World) → Run (start serving packet serving_counter packet_counter) events w → Invariant packet.own w
+always serving packet serving_counter packet_counter events w r = run packet.own (start serving packet serving_counter packet_counter) (begins serving packet serving_counter packet_counter) events w r
 
 -- A run goes on by one event.
-pub Run-push : (spelled : Message → List ℕ) (old : World) (events : List Event) (mid : World) (event : Event) (new : World) → Run spelled old events mid → Happens spelled mid event new → Run spelled old (events ++ event ∷ []) new
-Run-push spelled old [] mid event new is h = (new, subst (λ w. Happens spelled w event new) is h, refl)
-Run-push spelled old (e ∷ events) mid event new r h = (r.0, r.1, Run-push spelled r.0 events mid event new r.2 h)
+pub Run-push : (old : World) (events : List Event) (mid : World) (event : Event) (new : World) → Run old events mid → Happens mid event new → Run old (events ++ event ∷ []) new
+Run-push old [] mid event new is h = (new, subst (λ w. Happens w event new) is h, refl)
+Run-push old (e ∷ events) mid event new r h = (r.0, r.1, Run-push r.0 events mid event new r.2 h)

@@ -1,13 +1,13 @@
 -- The laws that hold at the end of each run.
-use Rattle.std.proofs.Common.{◌≡◌, ◌≢◌, inl, inr, ⊎_elim, ℕ, ◌≤◌, List, Option, Some, None, sym, ◌∙◌, ap, arith}
+use Rattle.std.proofs.Common.{◌≡◌, ◌≢◌, ⊎_elim, ℕ, ◌≤◌, List, Option, Some, None, sym, ◌∙◌, ap, arith}
 use Rattle.std.specs.FinMap.{get}
 use Rattle.gtp_machine.specs.Element.{Subscriber, ipv4_of, teid_in}
-use Rattle.gtp_machine.specs.Message.{CreateSessionRequest, CreateSessionResponse, CreateBearerResponse, Message, Create_session_request, Create_session_response, Create_bearer_request, Create_bearer_response, Owns, recovery_of, subscriber_of, first_identity}
+use Rattle.gtp_machine.specs.Message.{Control, User, CreateSessionRequest, CreateSessionResponse, CreateBearerResponse, Message, Create_session_request, Create_session_response, Create_bearer_request, Create_bearer_response, Owns, recovery_of, subscriber_of, first_identity}
 use Rattle.gtp_machine.specs.Node.{Role, Serving, Packet, Pending, Active, Session, Bearer}
 use Rattle.gtp_machine.specs.Config.{Addresses}
 use Rattle.gtp_machine.specs.Choice.{counter_of}
 use Rattle.gtp_machine.specs.World.{World, Side, Sent, HasSent, side_of}
-use Rattle.gtp_machine.specs.Laws.{Always, Agree, SessionsAgree, MutualBearers, AgreeBearers, BearersAgree, IsOver, NoneOver, EachOwed, OneMessage, GoesBack, EachGoesBack, NamesGoBack, ResponsesGoBack, IsOfStart, NoneAhead, IsLatestHeard, KnownIsLatest, BearersOnce, EachOpened, EachClosesWhole, MadeOnce}
+use Rattle.gtp_machine.specs.Laws.{Always, Agree, SessionsAgree, MutualBearers, AgreeBearers, BearersAgree, IsOver, NoneOver, EachOwed, OneMessage, OwnsOn, PlanesApart, GoesBack, EachGoesBack, NamesGoBack, ResponsesGoBack, IsOfStart, NoneAhead, IsLatestHeard, KnownIsLatest, BearersOnce, EachOpened, EachClosesWhole, MadeOnce}
 use Rattle.gtp_machine.proofs.Origins.Drawing.{Drawing}
 use Rattle.gtp_machine.proofs.Origins.Contexts.{IsAskedWith, IsGranted, IsMadeWith, IsWanted}
 use Rattle.gtp_machine.proofs.Origins.Entries.{Once, same_request, same_user_request, same_answer, same_user_answer, same_bearer_answer, answer_not_request}
@@ -15,7 +15,7 @@ use Rattle.gtp_machine.proofs.Worlds.Hearing.{Hearing, none_later}
 use Rattle.gtp_machine.proofs.Worlds.Runs.{SideInvariant, Invariant, always}
 use Rattle.gtp_machine.proofs.Basics.Options.{some_same}
 
-module _ (spelled : Message → List ℕ) (own : Addresses) (w : World) (inv : Invariant spelled own w) where
+module _ (own : Addresses) (w : World) (inv : Invariant own w) where
   so : Once w.history Serving
   so = inv.serving.draws.once
 
@@ -85,29 +85,29 @@ module _ (spelled : Message → List ℕ) (own : Addresses) (w : World) (inv : I
         at.origin
 
   -- the TEIDs of a session go back to messages
-  session_goes_back : (role : Role) (t : ℕ) (s : Session) → get (side_of w role).node.sessions t ≡ Some s → GoesBack w.history role t s.remote
+  session_goes_back : (role : Role) (t : ℕ) (s : Session) → get (side_of w role).node.sessions t ≡ Some s → GoesBack Control w.history role t s.remote
   session_goes_back Serving t s stands =
       let asked = inv.serving.knows.contexts.sessions_asked t s stands in
       record {
-        here = record { message = Create_session_request asked.request; sent = asked.sent; owns = inl (sym asked.control) };
-        there = λ r e. let opened = asked.opened r e in record { message = Create_session_response opened.answer; sent = opened.sent; owns = inl (sym opened.remote ∙ e) };
+        here = record { message = Create_session_request asked.request; sent = asked.sent; owns = sym asked.control };
+        there = λ r e. let opened = asked.opened r e in record { message = Create_session_response opened.answer; sent = opened.sent; owns = sym opened.remote ∙ e };
       }
   session_goes_back Packet t s stands =
       let made = inv.packet.knows.contexts.sessions_made t s stands in
       record {
-        here = record { message = Create_session_response made.answer; sent = made.answered; owns = inl made.control };
-        there = λ r e. record { message = Create_session_request made.request; sent = made.asked; owns = inl (one s.remote r made.request.control.teid e made.remote) };
+        here = record { message = Create_session_response made.answer; sent = made.answered; owns = made.control };
+        there = λ r e. record { message = Create_session_request made.request; sent = made.asked; owns = one s.remote r made.request.control.teid e made.remote };
       }
     where
       one : (o : Option ℕ) (s t : ℕ) → o ≡ Some s → o ≡ Some t → s ≡ t
       one o s t x y = cc
 
-  bearer_goes_back : (role : Role) (t : ℕ) (b : Bearer) → get (side_of w role).node.bearers t ≡ Some b → GoesBack w.history role t b.remote
+  bearer_goes_back : (role : Role) (t : ℕ) (b : Bearer) → get (side_of w role).node.bearers t ≡ Some b → GoesBack User w.history role t b.remote
   bearer_goes_back Serving t b stands =
       ⊎_elim
       (λ o. record {
-        here = record { message = Create_session_request o.request; sent = o.sent; owns = inr (sym o.user) };
-        there = λ r e. let opened = o.opened r e in record { message = Create_session_response opened.answer; sent = opened.sent; owns = inr (sym opened.user ∙ e) };
+        here = record { message = Create_session_request o.request; sent = o.sent; owns = sym o.user };
+        there = λ r e. let opened = o.opened r e in record { message = Create_session_response opened.answer; sent = opened.sent; owns = sym opened.user ∙ e };
       })
       (λ g. record {
         here = record { message = Create_bearer_response g.answer; sent = g.answered; owns = g.user };
@@ -120,8 +120,8 @@ module _ (spelled : Message → List ℕ) (own : Addresses) (w : World) (inv : I
   bearer_goes_back Packet t b stands =
       ⊎_elim
       (λ o. record {
-        here = record { message = Create_session_response o.answer; sent = o.answered; owns = inr o.user };
-        there = λ r e. record { message = Create_session_request o.request; sent = o.asked; owns = inr (one b.remote r o.request.context.user.teid e o.remote) };
+        here = record { message = Create_session_response o.answer; sent = o.answered; owns = o.user };
+        there = λ r e. record { message = Create_session_request o.request; sent = o.asked; owns = one b.remote r o.request.context.user.teid e o.remote };
       })
       (λ p. record {
         here = record { message = Create_bearer_request p.request; sent = p.asked; owns = sym p.user };
@@ -152,41 +152,51 @@ latest_heard peer known seen few h = record {
 }
 
 pub always_sessions : Always SessionsAgree
-always_sessions spelled serving packet sc pc events w r = sessions_agree spelled packet.own w (always spelled serving packet sc pc events w r)
+always_sessions serving packet sc pc events w r = sessions_agree packet.own w (always serving packet sc pc events w r)
 
 pub always_bearers : Always BearersAgree
-always_bearers spelled serving packet sc pc events w r c d b e m = bearers_agree spelled packet.own w (always spelled serving packet sc pc events w r) c d b e m
+always_bearers serving packet sc pc events w r c d b e m = bearers_agree packet.own w (always serving packet sc pc events w r) c d b e m
 
 pub always_none_over : Always NoneOver
-always_none_over spelled serving packet sc pc events w r Serving t s = let inv = always spelled serving packet sc pc events w r in none_over w.history Serving w.serving w.packet inv.serving inv.packet.draws.few t s
-always_none_over spelled serving packet sc pc events w r Packet t s = let inv = always spelled serving packet sc pc events w r in none_over w.history Packet w.packet w.serving inv.packet inv.serving.draws.few t s
+always_none_over serving packet sc pc events w r Serving t s = let inv = always serving packet sc pc events w r in none_over w.history Serving w.serving w.packet inv.serving inv.packet.draws.few t s
+always_none_over serving packet sc pc events w r Packet t s = let inv = always serving packet sc pc events w r in none_over w.history Packet w.packet w.serving inv.packet inv.serving.draws.few t s
 
 pub always_owed : Always EachOwed
-always_owed spelled serving packet sc pc events w r = (always spelled serving packet sc pc events w r).owed
+always_owed serving packet sc pc events w r = (always serving packet sc pc events w r).owed
 
 pub always_one_message : Always OneMessage
-always_one_message spelled serving packet sc pc events w r Serving = (always spelled serving packet sc pc events w r).serving.draws.once
-always_one_message spelled serving packet sc pc events w r Packet = (always spelled serving packet sc pc events w r).packet.draws.once
+always_one_message serving packet sc pc events w r Serving = (always serving packet sc pc events w r).serving.draws.once
+always_one_message serving packet sc pc events w r Packet = (always serving packet sc pc events w r).packet.draws.once
 
 pub always_names_back : Always NamesGoBack
-always_names_back spelled serving packet sc pc events w r = (always spelled serving packet sc pc events w r).named
+always_names_back serving packet sc pc events w r = (always serving packet sc pc events w r).named
+
+-- what a gateway draws for the control plane it does not draw for the user plane
+planes_apart : (side : Side) (role : Role) (history : List Sent) → Drawing side role history → (m : Message) (t : ℕ) → HasSent history role m → OwnsOn Control m t → OwnsOn User m t → ⊥
+planes_apart side role history drawing (Create_session_request q) t has control user = drawing.proper (Create_session_request q) has (sym control ∙ user)
+planes_apart side role history drawing (Create_session_response a) t has control user = (drawing.proper (Create_session_response a) has).apart t control user
+planes_apart side role history drawing _ t has control user = control
+
+pub always_planes_apart : Always PlanesApart
+always_planes_apart serving packet sc pc events w r Serving = planes_apart w.serving Serving w.history (always serving packet sc pc events w r).serving.draws
+always_planes_apart serving packet sc pc events w r Packet = planes_apart w.packet Packet w.history (always serving packet sc pc events w r).packet.draws
 
 pub always_goes_back : Always EachGoesBack
-always_goes_back spelled serving packet sc pc events w r = let inv = always spelled serving packet sc pc events w r in record { sessions = session_goes_back spelled packet.own w inv; bearers = bearer_goes_back spelled packet.own w inv }
+always_goes_back serving packet sc pc events w r = let inv = always serving packet sc pc events w r in record { sessions = session_goes_back packet.own w inv; bearers = bearer_goes_back packet.own w inv }
 
 pub always_responses : Always ResponsesGoBack
-always_responses spelled serving packet sc pc events w r =
-    let inv = always spelled serving packet sc pc events w r in
+always_responses serving packet sc pc events w r =
+    let inv = always serving packet sc pc events w r in
     record {
       sessions = λ a has. (inv.packet.draws.proper (Create_session_response a) has).answers;
       bearers = λ x has. (inv.serving.draws.proper (Create_bearer_response x) has).answers;
     }
 
 pub always_none_ahead : Always NoneAhead
-always_none_ahead spelled serving packet sc pc events w r = record { told = told; drawn = drawn }
+always_none_ahead serving packet sc pc events w r = record { told = told; drawn = drawn }
   where
-    inv : Invariant spelled packet.own w
-    inv = always spelled serving packet sc pc events w r
+    inv : Invariant packet.own w
+    inv = always serving packet sc pc events w r
 
     told : (role : Role) (m : Message) (c : ℕ) → HasSent w.history role m → recovery_of m ≡ Some c → IsOfStart (side_of w role) c
     told Serving m c = inv.serving.draws.told m c
@@ -197,17 +207,17 @@ always_none_ahead spelled serving packet sc pc events w r = record { told = told
     drawn Packet = drawn_of_start w.packet Packet w.history inv.packet.draws
 
 pub always_known : Always KnownIsLatest
-always_known spelled serving packet sc pc events w r Serving = let inv = always spelled serving packet sc pc events w r in latest_heard w.packet w.serving.node.known w.serving.seen inv.packet.draws.few inv.serving.hearing
-always_known spelled serving packet sc pc events w r Packet = let inv = always spelled serving packet sc pc events w r in latest_heard w.serving w.packet.node.known w.packet.seen inv.serving.draws.few inv.packet.hearing
+always_known serving packet sc pc events w r Serving = let inv = always serving packet sc pc events w r in latest_heard w.packet w.serving.node.known w.serving.seen inv.packet.draws.few inv.serving.hearing
+always_known serving packet sc pc events w r Packet = let inv = always serving packet sc pc events w r in latest_heard w.serving w.packet.node.known w.packet.seen inv.serving.draws.few inv.packet.hearing
 
 pub always_once : Always BearersOnce
-always_once spelled serving packet sc pc events w r = (always spelled serving packet sc pc events w r).once
+always_once serving packet sc pc events w r = (always serving packet sc pc events w r).once
 
 pub always_opened : Always EachOpened
-always_opened spelled serving packet sc pc events w r = record { named = named; blank = blank; bearers = bearers }
+always_opened serving packet sc pc events w r = record { named = named; blank = blank; bearers = bearers }
   where
-    inv : Invariant spelled packet.own w
-    inv = always spelled serving packet sc pc events w r
+    inv : Invariant packet.own w
+    inv = always serving packet sc pc events w r
 
     named : (role : Role) (t : ℕ) (s : Session) → get (side_of w role).node.sessions t ≡ Some s → s.state ≢ Pending → (remote : ℕ) × (s.remote ≡ Some remote)
     named Serving t s stands = (inv.serving.knows.standing t s stands).named
@@ -222,9 +232,9 @@ always_opened spelled serving packet sc pc events w r = record { named = named; 
     bearers Packet = inv.packet.knows.ready
 
 pub always_closes_whole : Always EachClosesWhole
-always_closes_whole spelled serving packet sc pc events w r Serving = (always spelled serving packet sc pc events w r).serving.knows.closed
-always_closes_whole spelled serving packet sc pc events w r Packet = (always spelled serving packet sc pc events w r).packet.knows.closed
+always_closes_whole serving packet sc pc events w r Serving = (always serving packet sc pc events w r).serving.knows.closed
+always_closes_whole serving packet sc pc events w r Packet = (always serving packet sc pc events w r).packet.knows.closed
 
 pub always_made_once : Always MadeOnce
-always_made_once spelled serving packet sc pc events w r Serving = (always spelled serving packet sc pc events w r).serving.making.once
-always_made_once spelled serving packet sc pc events w r Packet = (always spelled serving packet sc pc events w r).packet.making.once
+always_made_once serving packet sc pc events w r Serving = (always serving packet sc pc events w r).serving.making.once
+always_made_once serving packet sc pc events w r Packet = (always serving packet sc pc events w r).packet.making.once

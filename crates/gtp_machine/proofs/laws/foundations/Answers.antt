@@ -1,9 +1,12 @@
 -- Each law is proved of all runs in `Safety`.
-use Rattle.gtp_machine.proofs.Worlds.Safety.{always_one_message, always_goes_back, always_names_back, always_responses, always_none_ahead, always_known, always_opened, always_closes_whole, always_made_once, always_once}
+use Rattle.gtp_machine.proofs.Worlds.Safety.{always_one_message, always_planes_apart, always_goes_back, always_names_back, always_responses, always_none_ahead, always_known, always_opened, always_closes_whole, always_made_once, always_once}
 use Rattle.gtp_machine.proofs.laws.foundations.Goals as goal
 
 pub returns-clause-one_message : goal.returns-clause-one_message
 returns-clause-one_message c = always_one_message
+
+pub returns-clause-planes_apart : goal.returns-clause-planes_apart
+returns-clause-planes_apart c = always_planes_apart
 
 pub returns-clause-goes_back : goal.returns-clause-goes_back
 returns-clause-goes_back c = always_goes_back

@@ -1,13 +1,39 @@
--- The laws are proved in `ReadOnce` and `Readings`.
-use Rattle.gtp_machine.proofs.Octets.ReadOnce as once
+-- The laws are proved in the files of `Octets`.
+use Rattle.gtp_machine.proofs.Octets.ByName as named
+use Rattle.gtp_machine.proofs.Octets.ByGrammar as grammar
 use Rattle.gtp_machine.proofs.Octets.Readings as law
+use Rattle.gtp_machine.proofs.Octets.Spelled.{spelled_reads, spelled_apart}
 use Rattle.gtp_machine.proofs.laws.readings.Goals as goal
 
-pub returns-clause-control : goal.returns-clause-control
-returns-clause-control c = once.control_reads_once
+pub returns-clause-grammar : goal.returns-clause-grammar
+returns-clause-grammar c = grammar.control_by_grammar
 
-pub returns-clause-user : goal.returns-clause-user
-returns-clause-user c = once.user_reads_once
+pub returns-clause-user_grammar : goal.returns-clause-user_grammar
+returns-clause-user_grammar c = grammar.user_by_grammar
+
+pub returns-clause-named : goal.returns-clause-named
+returns-clause-named c = named.control_by_name
+
+pub returns-clause-user_named : goal.returns-clause-user_named
+returns-clause-user_named c = named.user_by_name
+
+pub returns-clause-decoded : goal.returns-clause-decoded
+returns-clause-decoded c = grammar.decoded_reads
+
+pub returns-clause-user_decoded : goal.returns-clause-user_decoded
+returns-clause-user_decoded c = grammar.user_decoded_reads
+
+pub returns-clause-cuts : goal.returns-clause-cuts
+returns-clause-cuts c = grammar.cuts_read
+
+pub returns-clause-user_cuts : goal.returns-clause-user_cuts
+returns-clause-user_cuts c = grammar.user_cuts_read
+
+pub returns-clause-spelled : goal.returns-clause-spelled
+returns-clause-spelled c = spelled_reads
+
+pub returns-clause-apart : goal.returns-clause-apart
+returns-clause-apart c = spelled_apart
 
 pub returns-clause-subscriber : goal.returns-clause-subscriber
 returns-clause-subscriber c = law.keeps_subscriber

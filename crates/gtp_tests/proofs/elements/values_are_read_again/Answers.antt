@@ -1,5 +1,4 @@
-use Rattle.std.proofs.Common.{ℕ, Bool, true, false, List, [], ◌∷◌, Option, Some, refl, sym, subst}
-use Rattle.gtp_values.specs.declared.cause.Offending.{Offending}
+use Rattle.std.proofs.Common.{ℕ, true, false, [], ◌∷◌, Some, refl, sym, subst}
 use Rattle.gtp_values.specs.declared.cause.Cause.{Cause}
 use Rattle.gtp_ie.specs.Free.{SaysTheSame}
 use Rattle.gtp_ie.specs.Value.{OfEbi, OfCause, encoding_of}

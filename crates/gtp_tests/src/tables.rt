@@ -1,10 +1,13 @@
-//! Contexts of a gateway that has started for the seventh time, counted by hand.
+//! Sessions and bearers of a gateway that has started for the seventh time, counted by hand.
 
 mod alike;
 mod lists;
 mod many;
 
-use super::*;
+use gtp_tables::{
+    Age, Apn, Bearer, Bearers, Counter, Draws, Ebi, Imsi, Kind, Memory, Peer, Pool, Session,
+    Sessions, State, Subscriber, Table, TablesFault, Teid, ValueFault, View, end_opened,
+};
 use std::process::Abort;
 use std::test::Fail;
 

@@ -1,11 +1,13 @@
-//! Ticks, numbers and limits, counted by hand.
+//! Ticks, numbers and limits of reliable delivery, counted by hand.
 
 ghost use Rattle.std.specs.Prelude.{◌≡◌, ◌==◌, filter, not};
 ghost use Rattle.gtp_reliable.specs.Pending.{AreLimits};
 
-use super::*;
-use crate::listed::{Draws, ListedAnswers, ListedRequests};
+mod listed;
+
+use gtp_reliable::{Endpoint, Held, Pending, ReliableFault, Request, Resend, Seq};
 use gtp_values::Ip;
+use listed::{Draws, ListedAnswers, ListedRequests};
 use std::alloc::Global;
 use std::process::Abort;
 use std::test::Fail;

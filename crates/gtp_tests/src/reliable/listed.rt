@@ -2,7 +2,7 @@
 
 ghost use Rattle.std.specs.Prelude.{◌≤◌, ◌<◌};
 
-use super::{Endpoint, Request, Resend, Seq};
+use gtp_reliable::{Endpoint, Request, Resend, Seq};
 use std::alloc::{AllocError, Global};
 
 /// Numbers that look drawn by lot, the same in each run.

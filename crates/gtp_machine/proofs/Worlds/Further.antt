@@ -1,0 +1,384 @@
+-- The same run goes on: a request comes again, a datagram is lost, packets come in the other order, a bearer is deleted, and a restart is heard.
+use Rattle.std.proofs.Common.{◌≡◌, ◌≢◌, ◌<◌, ◌⊎◌, inl, inr, ℕ, List, [], ◌∷◌, Some, None, false, refl, sym, ◌∙◌, ap, arith, ⊎_elim, Bool, true, not, rules}
+use Rattle.std.specs.FinMap.{get, insert, remove, empty, get-empty, len, len-empty, get-remove}
+use Rattle.std.specs.Ordering.{nat_cmp}
+use Rattle.std.proofs.lemmas.Cmp.{nat_cmp_total}
+use Rattle.gtp_machine.specs.Config.{user_end, control_end}
+use Rattle.gtp_machine.specs.Element.{cause_of}
+use Rattle.gtp_machine.specs.Message.{Create_session_request, Create_session_response, Create_bearer_request, Packet_data, subscriber_of, DeleteBearerRequest, DeleteBearerResponse, Delete_bearer_request, Delete_bearer_response, Echo, Echo_request}
+use Rattle.gtp_machine.specs.Node.{Serving, Packet, Session, Bearer, PendingRequest, Arrival, Held, Closing}
+use Rattle.gtp_machine.specs.Input.{Create_session, Create_bearer, Send_user, Commanded, Accepted, GoneOut, Entry, Effect, entry_for, nothing, says, Repeated, Closed, Delete_bearer, Send_echo, User_message}
+use Rattle.gtp_machine.specs.Command.{asks, CommandStep}
+use Rattle.gtp_machine.specs.Answer.{IsNew, answered, echoed}
+use Rattle.gtp_machine.specs.Serving.{granted_bearer}
+use Rattle.gtp_machine.specs.World.{with_steps, World, Does, Deliver, Moves, Delivers, noted, arrival, Restart, Restarted, with_side, restarted, quiet_note}
+use Rattle.gtp_machine.proofs.Basics.FiniteMaps.{get-insert_same, get-kept, found-kept}
+use Rattle.gtp_machine.specs.Laws.{GetsThrough, GoesOn, ARunIsPossible}
+use Rattle.gtp_machine.proofs.Basics.Counting.{len-insert_most, len-remove_most}
+use Rattle.gtp_machine.proofs.Worlds.Possible.{from_serving, from_packet, serving_ip, packet_ip, serving_config, packet_config, spec, plain_qos, control, dedicated, none_pending, after, heard, q, asked, a, at_serving, at_packet, r, at_packet_bearer, entry, w1, w2, w3, w4, w5, w6, w7, w8, second, serving_stands, step1, step2, step3, step4, step5, step6, step7, step8}
+use Rattle.gtp_values.specs.FiniteMap.{Among}
+use Rattle.gtp_machine.specs.User.{UserStep}
+use Rattle.gtp_machine.specs.Removal.{without_bearer, is_opened}
+use Rattle.gtp_machine.specs.Recovery.{peer_restarted}
+use Rattle.gtp_machine.specs.Response.{finishing}
+
+-- the Create Session Request comes again, and its answer goes again, and is lost
+abbrev e9 : Effect
+e9 = record { out = says asked.source (Create_session_response a); outcome = Repeated; node = w8.packet.node }
+
+abbrev w9 : World
+w9 = after w8 Packet (from_serving (Create_session_request q)) e9
+
+step9 : Delivers w8 Serving (Create_session_request q) w9
+step9 = inl (
+  λ none. none,
+  record {
+    effect = e9;
+    step = inr (refl, inl (record { held = record { request = asked; answer = Create_session_response a }; stands = inl refl; same = refl; gives = refl }));
+    becomes = refl;
+  },
+)
+
+-- two packets are sent
+abbrev entry_with : ℕ → Entry
+entry_with octet = entry_for dedicated (octet ∷ []) (subscriber_of q) (Some 6)
+
+abbrev sent_with : ℕ → Effect
+sent_with octet = record { out = record (says (user_end packet_ip) (Packet_data dedicated (octet ∷ []))) { handed = entry_with octet ∷ [] }; outcome = GoneOut; node = w6.serving.node }
+
+sends_with : (octet : ℕ) → CommandStep Serving (Send_user dedicated (octet ∷ [])) w6.serving.node (sent_with octet)
+sends_with octet = inr (
+  record { bearer = granted_bearer r 6; stands = get-insert_same w4.serving.node.bearers dedicated (granted_bearer r 6) },
+  inr (refl, inr (tt, inr (omega arith, record { of = record { session = at_serving; stands = serving_stands }; gives = refl }))),
+)
+
+abbrev w10 : World
+w10 = after w9 Serving (Commanded (Send_user dedicated (121 ∷ []))) (sent_with 121)
+
+abbrev w11 : World
+w11 = after w10 Serving (Commanded (Send_user dedicated (122 ∷ []))) (sent_with 122)
+
+-- they come, the second first
+abbrev taken_with : ℕ → Effect
+taken_with octet = record { out = record nothing { accepted = entry_with octet ∷ [] }; outcome = Accepted; node = w7.packet.node }
+
+takes_with : (octet : ℕ) → UserStep Packet (user_end serving_ip) (User_message (Packet_data dedicated (octet ∷ []))) w7.packet.node (taken_with octet)
+takes_with octet = inr (
+  refl,
+  inr (
+    record { bearer = at_packet_bearer; stands = get-insert_same w5.packet.node.bearers dedicated at_packet_bearer },
+    inr (refl, inr (tt, record { of = record { session = at_packet; stands = get-insert_same empty control at_packet }; gives = refl })),
+  ),
+)
+
+abbrev w12 : World
+w12 = after w11 Packet (from_serving (Packet_data dedicated (122 ∷ []))) (taken_with 122)
+
+abbrev w13 : World
+w13 = after w12 Packet (from_serving (Packet_data dedicated (121 ∷ []))) (taken_with 121)
+
+step12 : Delivers w11 Serving (Packet_data dedicated (122 ∷ [])) w12
+step12 = inl (λ none. none, record { effect = taken_with 122; step = takes_with 122; becomes = refl })
+
+step13 : Delivers w12 Serving (Packet_data dedicated (121 ∷ [])) w13
+step13 = inl (λ none. none, record { effect = taken_with 121; step = takes_with 121; becomes = refl })
+
+-- delete_bearer
+abbrev d : DeleteBearerRequest
+d = record { header = control; number = 0; linked = None; identities = 6 ∷ [] }
+
+abbrev closing : Bearer
+closing = record at_packet_bearer { state = Closing }
+
+abbrev deleting : PendingRequest
+deleting = record { session = Some control; bearer = Some dedicated; request = Delete_bearer_request d }
+
+abbrev e14 : Effect
+e14 = asks w13.packet.node 0 deleting (Some dedicated) (record w13.packet.node { bearers = insert w13.packet.node.bearers dedicated closing })
+
+abbrev w14 : World
+w14 = after w13 Packet (Commanded (Delete_bearer control 6)) e14
+
+few_left : (p : PendingRequest) → len (remove (insert (empty {X = PendingRequest} {R = nat_cmp}) 0 p) 0) < 256
+few_left p = omega (arith, len-remove_most (insert (empty {X = PendingRequest} {R = nat_cmp}) 0 p) 0, len-insert_most (empty {X = PendingRequest} {R = nat_cmp}) 0 p, len-empty nat_cmp PendingRequest)
+
+few_pending : len w13.packet.node.pending < 256
+few_pending = few_left _
+
+unused_number : get w13.packet.node.pending 0 ≡ None
+unused_number = get-remove nat_cmp_total (insert empty 0 (record { session = Some control; bearer = Some dedicated; request = Create_bearer_request r })) 0 0
+
+step14 : Moves w13 Packet (Commanded (Delete_bearer control 6)) w14
+step14 = record {
+  effect = e14;
+  step = inr (
+    record { session = at_packet; stands = get-insert_same empty control at_packet },
+    inr (
+      record { key = dedicated; at = record { bearer = at_packet_bearer; stands = get-insert_same w5.packet.node.bearers dedicated at_packet_bearer }; of = refl; dedicated = refl; has = refl },
+      inr (
+        (refl, refl),
+        inr (
+          record { few = few_pending },
+          record { number = 0; number_free = record { unused = unused_number; small = omega arith }; gives = refl },
+        ),
+      ),
+    ),
+  );
+  becomes = refl;
+}
+
+-- the Delete Bearer Request comes
+abbrev answer : DeleteBearerResponse
+answer = record { header = control; number = 0; cause = cause_of 16; linked = None; contexts = record { identity = 6; cause = cause_of 16 } ∷ []; recovery = Some 1 }
+
+abbrev to_delete : Arrival
+to_delete = arrival packet_config.own (Delete_bearer_request d)
+
+abbrev e15 : Effect
+e15 = answered to_delete (Delete_bearer_response answer) 16 (without_bearer w14.serving.node dedicated)
+
+abbrev w15 : World
+w15 = after w14 Serving (from_packet (Delete_bearer_request d)) e15
+
+-- its answer to the Create Bearer Request is held for that alone
+new_to_serving : IsNew w14.serving.node to_delete
+new_to_serving held (inl is) same = apart (ap second (ap (λ (k : Held). k.request.octets) (sym is) ∙ ap (λ (k : Arrival). k.octets) same))
+  where
+    apart : ◌≡◌ {A = ℕ} 95 99 → ⊥
+    apart e = omega arith
+new_to_serving held (inr none) same = none
+
+step15 : Delivers w14 Packet (Delete_bearer_request d) w15
+step15 = inl (
+  λ none. none,
+  record {
+    effect = e15;
+    step = inr (
+      refl,
+      inr (
+        new_to_serving,
+        inr (
+          refl,
+          inr (
+            record { few = omega arith },
+            inr (
+              record { session = at_serving; stands = serving_stands },
+              inr (
+                (λ e. cc e),
+                inr (
+                  omega arith,
+                  record {
+                    contexts = record { identity = 6; cause = cause_of 16 } ∷ [];
+                    left = without_bearer w14.serving.node dedicated;
+                    removes = (
+                      [],
+                      inr (
+                        record { key = dedicated; at = record { bearer = granted_bearer r 6; stands = get-insert_same w4.serving.node.bearers dedicated (granted_bearer r 6) }; of = refl; dedicated = refl; has = refl },
+                        (refl, (refl, refl)),
+                      ),
+                    );
+                    gives = refl;
+                  },
+                ),
+              ),
+            ),
+          ),
+        ),
+      ),
+    );
+    becomes = refl;
+  },
+)
+
+-- the Delete Bearer Response comes
+abbrev closed : Effect
+closed = finishing w15.packet.node 0 deleting Closed
+
+abbrev w16 : World
+w16 = after w15 Packet (from_serving (Delete_bearer_response answer)) (heard closed)
+
+-- an answer to the Create Session Request is held, and no other
+new_type : (kind : ℕ) (octets : List ℕ) → second octets ≡ kind → 32 < kind ⊎ kind < 32 → IsNew w15.packet.node (record { source = control_end serving_ip; octets = octets })
+new_type kind octets is other held (inl at) same = ⊎_elim (λ more. omega (arith, more, is_32)) (λ less. omega (arith, less, is_32)) other
+  where
+    is_32 : 32 ≡ kind
+    is_32 = ap second (ap (λ (k : Held). k.request.octets) (sym at) ∙ ap (λ (k : Arrival). k.octets) same) ∙ is
+new_type kind octets is other held (inr none) same = none
+
+step16 : Delivers w15 Serving (Delete_bearer_response answer) w16
+step16 = inl (
+  λ none. none,
+  record {
+    effect = heard closed;
+    step = inr (
+      refl,
+      inr (
+        new_type 100 _ refl (inl (omega arith)),
+        inr (
+          refl,
+          (
+            closed,
+            inr (
+              record { pending = deleting; waits = get-insert_same w13.packet.node.pending 0 deleting },
+              inr (
+                record { request = d; asked = refl; named = inl refl },
+                refl,
+              ),
+            ),
+            refl,
+          ),
+        ),
+      ),
+    );
+    becomes = refl;
+  },
+)
+
+-- the serving gateway restarts, and its Echo Request tells so
+abbrev w17 : World
+w17 = with_steps (noted (with_side w16 Serving (restarted w16.serving)) (quiet_note (Restarted 2))) Serving []
+
+abbrev echo : Echo
+echo = record { number = 0; recovery = 2 }
+
+abbrev e18 : Effect
+e18 = asks w17.serving.node 0 (record { session = None; bearer = None; request = Echo_request echo }) None w17.serving.node
+
+abbrev w18 : World
+w18 = after w17 Serving (Commanded Send_echo) e18
+
+step18 : Moves w17 Serving (Commanded Send_echo) w18
+step18 = record {
+  effect = e18;
+  step = inr (record { few = none_pending }, record { number = 0; number_free = record { unused = get-empty nat_cmp 0; small = omega arith }; gives = refl });
+  becomes = refl;
+}
+
+abbrev told : Arrival
+told = arrival serving_config.own (Echo_request echo)
+
+abbrev e19 : Effect
+e19 = let taken = echoed told echo (peer_restarted w18.packet.node 2) in record taken { out = record taken.out { heard = Some 2; learned = Some 2 } }
+
+abbrev w19 : World
+w19 = after w18 Packet (from_serving (Echo_request echo)) e19
+
+step19 : Delivers w18 Serving (Echo_request echo) w19
+step19 = inl (
+  λ none. none,
+  record {
+    effect = e19;
+    step = inr (refl, inr (new_type 1 _ refl (inr (omega arith)), inr (refl, (echoed told echo (peer_restarted w18.packet.node 2), refl, refl))));
+    becomes = refl;
+  },
+)
+
+stands_before : get w18.packet.node.sessions control ≡ Some at_packet
+stands_before = get-kept (λ t (s : Session). true) (insert empty control at_packet) control at_packet (get-insert_same empty control at_packet) refl
+
+gone : (s : Session) → get w19.packet.node.sessions control ≡ Some s → ⊥
+gone s e = not_so (is_opened (get w18.packet.node.sessions control)) (ap is_opened stands_before) (found-kept (λ t (k : Session). not (is_opened (get w18.packet.node.sessions t))) w18.packet.node.sessions control s e).0
+  where
+    not_so : (b : Bool) → b ≡ true → not b ≡ true → ⊥
+    not_so true is other = absurd (cc other)
+    not_so false is other = absurd (cc is)
+
+goes_on : GoesOn w8 control
+goes_on = record {
+  events = Deliver 0 ∷ Does Serving (Send_user dedicated (121 ∷ [])) ∷ Does Serving (Send_user dedicated (122 ∷ [])) ∷ Deliver 7 ∷ Deliver 6 ∷ Does Packet (Delete_bearer control 6) ∷ Deliver 8 ∷ Deliver 9 ∷ Restart Serving ∷ Does Serving Send_echo ∷ Deliver 10 ∷ [];
+  world = w19;
+  run = (
+    w9,
+    inr (record { sent = _; is = refl }, step9),
+    (
+      w10,
+      record { effect = sent_with 121; step = sends_with 121; becomes = refl },
+      (
+        w11,
+        record { effect = sent_with 122; step = sends_with 122; becomes = refl },
+        (
+          w12,
+          inr (record { sent = _; is = refl }, step12),
+          (
+            w13,
+            inr (record { sent = _; is = refl }, step13),
+            (
+              w14,
+              step14,
+              (
+                w15,
+                inr (record { sent = _; is = refl }, step15),
+                (
+                  w16,
+                  inr (record { sent = _; is = refl }, step16),
+                  (
+                    w17,
+                    inr (omega arith, refl),
+                    (
+                      w18,
+                      step18,
+                      (w19, inr (record { sent = _; is = refl }, step19), refl),
+                    ),
+                  ),
+                ),
+              ),
+            ),
+          ),
+        ),
+      ),
+    ),
+  );
+  repeated = (_, inr (inr (inr (inr (inr (inr (inr (inr (inr (inr (inl refl)))))))))), refl);
+  lost = record { sent = _; is = refl };
+  never_comes = never;
+  first = entry_with 121;
+  second = entry_with 122;
+  apart = apart;
+  handed = refl;
+  accepted = refl;
+  closed = (_, inr (inr (inr (inl refl))), refl);
+  restarts = refl;
+  heard = inl refl;
+  gone = gone;
+}
+  where
+    octet_of : List ℕ → ℕ
+    octet_of [] = 0
+    octet_of (octet ∷ octets) = octet
+
+    apart : entry_with 121 ≢ entry_with 122
+    apart e = let same : ◌≡◌ {A = ℕ} 121 122 = ap (λ (k : Entry). octet_of k.payload) e in omega arith
+
+    never : Among (Deliver 5) (Deliver 0 ∷ Does Serving (Send_user dedicated (121 ∷ [])) ∷ Does Serving (Send_user dedicated (122 ∷ [])) ∷ Deliver 7 ∷ Deliver 6 ∷ Does Packet (Delete_bearer control 6) ∷ Deliver 8 ∷ Deliver 9 ∷ Restart Serving ∷ Does Serving Send_echo ∷ Deliver 10 ∷ []) → ⊥
+    never = search rules
+
+gets_through : GetsThrough
+gets_through = record {
+  serving = serving_config;
+  packet = packet_config;
+  events = Does Serving (Create_session spec) ∷ Deliver 0 ∷ Deliver 1 ∷ Does Packet (Create_bearer control (33 ∷ []) plain_qos) ∷ Deliver 2 ∷ Deliver 3 ∷ Does Serving (Send_user dedicated (120 ∷ [])) ∷ Deliver 4 ∷ [];
+  world = w8;
+  run = (w1, step1, (w2, inr (record { sent = _; is = refl }, step2), (w3, inr (record { sent = _; is = refl }, step3), (w4, step4, (w5, inr (record { sent = _; is = refl }, step5), (w6, inr (record { sent = _; is = refl }, step6), (w7, step7, (w8, inr (record { sent = _; is = refl }, step8), refl))))))));
+  session = control;
+  session_there = control;
+  at_serving = at_serving;
+  at_packet = at_packet;
+  sessions = record { serving = serving_stands; packet = get-insert_same empty control at_packet; serving_active = refl; packet_active = refl; there = refl; back = refl };
+  bearer = dedicated;
+  bearer_there = dedicated;
+  bearer_at_serving = granted_bearer r 6;
+  bearer_at_packet = at_packet_bearer;
+  bearers = record { serving = get-insert_same w4.serving.node.bearers dedicated (granted_bearer r 6); packet = get-insert_same w5.packet.node.bearers dedicated at_packet_bearer; serving_active = refl; packet_active = refl; there = refl; back = refl };
+  dedicated = refl;
+  of_session = refl;
+  of_session_there = refl;
+  taken = entry;
+  handed = inl refl;
+  accepted = inl refl;
+  on_bearer = refl;
+  on_time = refl;
+  goes_on = goes_on;
+}
+
+pub a_run_is_possible : ARunIsPossible
+a_run_is_possible = gets_through

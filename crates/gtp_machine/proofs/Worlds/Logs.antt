@@ -1,0 +1,175 @@
+-- The steps that the world keeps of each gateway, and that each create request acts once in them.
+use Rattle.std.proofs.Common.{◌≡◌, ◌⊎◌, inl, inr, ⊎_elim, ℕ, ◌+◌, ◌%◌, List, [], ◌∷◌, ◌++◌, refl, sym, ◌∙◌, ap, subst, append_assoc, append-nil, arith}
+use Rattle.gtp_values.specs.FiniteMap.{Among}
+use Rattle.gtp_machine.specs.Config.{Addresses, Config}
+use Rattle.gtp_machine.specs.Message.{Message, Plane, Control, User, plane_of}
+use Rattle.gtp_machine.specs.Node.{Role, Serving, Packet, Arrival, Node, fresh_node}
+use Rattle.gtp_machine.specs.Input.{Move, Input, Commanded, Control_came, Moves_on, Control_message, Out, Effect}
+use Rattle.gtp_machine.specs.Move.{MoveStep}
+use Rattle.gtp_machine.specs.Tick.{TickStep, ticked}
+use Rattle.gtp_machine.specs.Step.{Step, Done, Steps, tick_steps}
+use Rattle.gtp_machine.specs.Once.{Takes}
+use Rattle.gtp_machine.specs.World.{World, Side, Note, Event, Does, Tick, Deliver, Cut, Restart, Happens, Delivers, Moves, Run, other, side_of, with_side, steps_of, with_steps, logged, stepped, moved, noted, late_once, arrival, delivered_on, IsLateOn, restarted, begun, start, quiet_note, No_such_datagram, Cut_too_long, Restarts_used}
+use Rattle.gtp_machine.specs.Laws.{Always, StepsAreKept, EachActsOnce}
+use Rattle.gtp_machine.proofs.Basics.FiniteMaps.{Among-left, Among-right, Among-one_more}
+use Rattle.gtp_machine.proofs.Requests.ActsOnce.{acts_once_from, acts_once_in_time}
+use Rattle.gtp_machine.proofs.Worlds.Ticking.{side_twice, side_nothing, move_quiet}
+use Rattle.gtp_machine.proofs.Worlds.Runs.{IsMarked, quiet_marked, timely_marked, lately_marked, cut_quiet}
+
+-- a list that ends with x has y at a place: the last one, or one before it
+not_empty : {X : Type 0} (front back : List X) (y : X) → [] ≡ front ++ (y ∷ back) → ⊥
+not_empty [] back y e = absurd (cc e)
+not_empty (z ∷ front) back y e = absurd (cc e)
+
+last_split : {X : Type 0} (xs front back : List X) (x y : X) → xs ++ (x ∷ []) ≡ front ++ (y ∷ back) → ((xs ≡ front) × (x ≡ y)) ⊎ ((rest : List X) × (xs ≡ front ++ (y ∷ rest)))
+last_split [] [] back x y e = inl (refl, cc e)
+last_split [] (z ∷ front) back x y e = absurd (not_empty front back y (cc e))
+last_split (z ∷ xs) [] back x y e = let same : z ≡ y = cc e in inr (xs, ap (λ k. k ∷ xs) same)
+last_split (z ∷ xs) (v ∷ front) back x y e =
+    let same : z ≡ v = cc e in
+    let rest : xs ++ (x ∷ []) ≡ front ++ (y ∷ back) = cc e in
+    ⊎_elim (λ is. inl ((λ i. same i ∷ is.0 i), is.1)) (λ was. inr (was.0, (λ i. same i ∷ was.1 i))) (last_split xs front back x y rest)
+
+steps_push : (role : Role) (old : Node) (steps : List Done) (mid : Node) (done : Done) → Steps role old steps mid → done.before ≡ mid → Step role mid done.input done.effect → Steps role old (steps ++ (done ∷ [])) done.effect.node
+steps_push role old [] mid done is before step = (before ∙ is, subst (λ node. Step role node done.input done.effect) is step, refl)
+steps_push role old (first ∷ steps) mid done s before step = (s.0, s.1, steps_push role first.effect.node steps mid done s.2 before step)
+
+-- what holds of the steps that are kept of a gateway: they lead from its start to it, what they gave up is known to the world, and what came late is marked
+pub record AreStepsOf (role : Role) (side : Side) (steps : List Done) : Type 0 where
+  pub config : Config
+  pub reach : Steps role (fresh_node config ((side.first + side.restarts) % 256)) steps side.node
+  pub forgets : (done : Done) (a : Arrival) → Among done steps → Among a done.effect.out.forgot → Among a side.forgotten
+  pub late : (front back : List Done) (done earlier : Done) (request : Arrival) (message : Message) → steps ≡ front ++ (done ∷ back) → Takes done request message → Among earlier front → Among request earlier.effect.out.forgot → Among request side.came_late
+
+pushed : (role : Role) (side : Side) (steps : List Done) → AreStepsOf role side steps → (done : Done) → done.before ≡ side.node → Step role side.node done.input done.effect → ((a : Arrival) (m : Message) → done.input ≡ Control_came a (Control_message m) → Among a side.forgotten → Among a side.came_late) → AreStepsOf role (stepped side done.effect) (steps ++ (done ∷ []))
+pushed role side steps are done before step marked = record {
+  config = are.config;
+  reach = steps_push role _ steps side.node done are.reach before step;
+  forgets = λ d a among gone. ⊎_elim (λ was. Among-left a side.forgotten done.effect.out.forgot (are.forgets d a was gone)) (λ is. Among-right a side.forgotten done.effect.out.forgot (subst (λ (k : Done). Among a k.effect.out.forgot) is gone)) (Among-one_more d done steps among);
+  late = λ front back d earlier request message split takes among gone. ⊎_elim
+      (λ is. marked request message (subst (λ (k : Done). Takes k request message) (sym is.1) takes) (are.forgets earlier request (subst (λ k. Among earlier k) (sym is.0) among) gone))
+      (λ was. are.late front was.0 d earlier request message was.1 takes among gone)
+      (last_split steps front back done d split);
+}
+
+-- one more late delivery
+with_late : (role : Role) (side : Side) (steps : List Done) (a : Arrival) → AreStepsOf role side steps → AreStepsOf role (record side { came_late = a ∷ side.came_late }) steps
+with_late role side steps a are = record { config = are.config; reach = are.reach; forgets = are.forgets; late = λ front back d earlier request message split takes among gone. inr (are.late front back d earlier request message split takes among gone) }
+
+fresh_steps : (role : Role) (side : Side) → AreStepsOf role (restarted side) []
+fresh_steps role side = record { config = side.node.config; reach = refl; forgets = λ d a none. absurd none; late = λ front back d earlier request message split. absurd (not_empty front back d split) }
+
+begun_steps : (role : Role) (config : Config) (first : ℕ) → AreStepsOf role (begun config first) []
+begun_steps role config first = record { config = config; reach = ap (λ n. fresh_node config (n % 256)) from; forgets = λ d a none. absurd none; late = λ front back d earlier request message split. absurd (not_empty front back d split) }
+  where
+    from : first ≡ first + 0
+    from = omega arith
+
+move_is : (role : Role) (old : Node) (move : Move) (e : Effect) → MoveStep old move e → Step role old (Moves_on move) e
+move_is Serving old move e step = step
+move_is Packet old move e step = step
+
+-- a tick, move by move
+ticked_steps : (role : Role) (side : Side) (steps : List Done) → AreStepsOf role side steps → (moves : List Move) (out : Out) (after : Node) (tick : TickStep side.node moves out after) → AreStepsOf role (stepped side (ticked out after)) (steps ++ tick_steps side.node moves out after tick)
+ticked_steps role side steps are [] out after tick =
+    subst (λ k. AreStepsOf role k (steps ++ [])) (sym ((λ i. stepped side (ticked (tick.0 i) (tick.1 i))) ∙ side_nothing side)) (subst (λ k. AreStepsOf role side k) (sym (append-nil steps)) are)
+ticked_steps role side steps are (move ∷ moves) out after (e, rest, step, others, is) =
+    let done : Done = record { before = side.node; input = Moves_on move; effect = e } in
+    let first = pushed role side steps are done refl (move_is role side.node move e step) (λ a m came. absurd (not_message move a m came)) in
+    let both = ticked_steps role (stepped side e) (steps ++ (done ∷ [])) first moves rest after others in
+    subst (λ k. AreStepsOf role k (steps ++ (done ∷ tick_steps e.node moves rest after others))) (side_twice side e rest after (move_quiet side.node move e step) ∙ ap (λ o. stepped side (ticked o after)) (sym is))
+    (subst (λ k. AreStepsOf role (stepped (stepped side e) (ticked rest after)) k) (append_assoc steps (done ∷ []) (tick_steps e.node moves rest after others)) both)
+  where
+    not_message : (move : Move) (a : Arrival) (m : Message) → Moves_on move ≡ Control_came a (Control_message m) → ⊥
+    not_message move a m e = cc
+
+-- what holds of both gateways
+abbrev EachSteps : World → Type 0
+EachSteps w = (role : Role) → AreStepsOf role (side_of w role) (steps_of w role)
+
+noted_steps : (w : World) (note : Note) → EachSteps w → EachSteps (noted w note)
+noted_steps w note each Serving = each Serving
+noted_steps w note each Packet = each Packet
+
+late_steps : (w : World) (role : Role) (a : Arrival) → EachSteps w → EachSteps (late_once w role a)
+late_steps w Serving a each Serving = with_late Serving w.serving w.serving_steps a (each Serving)
+late_steps w Serving a each Packet = each Packet
+late_steps w Packet a each Serving = each Serving
+late_steps w Packet a each Packet = with_late Packet w.packet w.packet_steps a (each Packet)
+
+restarted_steps : (w : World) (role : Role) (note : Note) → EachSteps w → EachSteps (with_steps (noted (with_side w role (restarted (side_of w role))) note) role [])
+restarted_steps w Serving note each Serving = fresh_steps Serving w.serving
+restarted_steps w Serving note each Packet = each Packet
+restarted_steps w Packet note each Serving = each Serving
+restarted_steps w Packet note each Packet = fresh_steps Packet w.packet
+
+tick_moves : (w : World) (role : Role) (moves : List Move) (out : Out) (after : Node) (tick : TickStep (side_of w role).node moves out after) (note : Note) → EachSteps w → EachSteps (logged (noted (moved w role (ticked out after)) note) role (tick_steps (side_of w role).node moves out after tick))
+tick_moves w Serving moves out after tick note each Serving = ticked_steps Serving w.serving w.serving_steps (each Serving) moves out after tick
+tick_moves w Serving moves out after tick note each Packet = each Packet
+tick_moves w Packet moves out after tick note each Serving = each Serving
+tick_moves w Packet moves out after tick note each Packet = ticked_steps Packet w.packet w.packet_steps (each Packet) moves out after tick
+
+module _ (own : Addresses) where
+  one_step : (w : World) (role : Role) (input : Input) (e : Effect) (note : Note) → EachSteps w → IsMarked own (side_of w role) input → Step role (side_of w role).node input e → EachSteps (logged (noted (moved w role e) note) role (record { before = (side_of w role).node; input = input; effect = e } ∷ []))
+  one_step w Serving input e note each marked step Serving = pushed Serving w.serving w.serving_steps (each Serving) (record { before = w.serving.node; input = input; effect = e }) refl step marked
+  one_step w Serving input e note each marked step Packet = each Packet
+  one_step w Packet input e note each marked step Serving = each Serving
+  one_step w Packet input e note each marked step Packet = pushed Packet w.packet w.packet_steps (each Packet) (record { before = w.packet.node; input = input; effect = e }) refl step marked
+
+  moves_steps : (w : World) (role : Role) (input : Input) (new : World) → EachSteps w → IsMarked own (side_of w role) input → Moves w role input new → EachSteps new
+  moves_steps w role input new each marked m = subst EachSteps (sym m.becomes) (one_step w role input m.effect _ each marked m.step)
+
+  late_comes : (w : World) (role : Role) (from : Addresses) (p : Plane) (m : Message) (new : World) → EachSteps w → IsLateOn p from (side_of w role) m → Moves (late_once w role (arrival from m)) role (delivered_on p from m) new → EachSteps new
+  late_comes w Serving from Control m new each late d = moves_steps (late_once w Serving (arrival from m)) Serving _ new (late_steps w Serving (arrival from m) each) (lately_marked own w.serving from m) d
+  late_comes w Packet from Control m new each late d = moves_steps (late_once w Packet (arrival from m)) Packet _ new (late_steps w Packet (arrival from m) each) (lately_marked own w.packet from m) d
+  late_comes w role from User m new each late d = absurd late
+
+  delivers : (w : World) → EachSteps w → (sender : Role) (m : Message) (new : World) → Delivers w sender m new → EachSteps new
+  delivers w each sender m new (inl d) = moves_steps w (other sender) _ new each (timely_marked own (side_of w (other sender)) _ (plane_of m) m d.0) d.1
+  delivers w each sender m new (inr d) = late_comes w (other sender) _ (plane_of m) m new each d.0 d.1
+
+  happens : (w : World) → EachSteps w → (event : Event) (new : World) → Happens w event new → EachSteps new
+  happens w each (Does role command) new m = moves_steps w role (Commanded command) new each (quiet_marked own (side_of w role) (Commanded command) tt) m
+  happens w each (Tick role) new t = subst EachSteps (sym t.becomes) (tick_moves w role t.moves t.out t.after t.tick _ each)
+  happens w each (Deliver number) new (inl none) = subst EachSteps (sym none.1) (noted_steps w (quiet_note No_such_datagram) each)
+  happens w each (Deliver number) new (inr (found, d)) = delivers w each found.sent.role found.sent.what new d
+  happens w each (Cut number count) new (inl none) = subst EachSteps (sym none.1) (noted_steps w (quiet_note No_such_datagram) each)
+  happens w each (Cut number count) new (inr (found, inl long)) = subst EachSteps (sym long.1) (noted_steps w (quiet_note Cut_too_long) each)
+  happens w each (Cut number count) new (inr (found, inr (short, c))) = moves_steps w (other found.sent.role) _ new each (quiet_marked own (side_of w (other found.sent.role)) _ (cut_quiet own (plane_of found.sent.what) _ found.sent.what count)) c
+  happens w each (Restart role) new (inl used) = subst EachSteps (sym used.1) (noted_steps w (quiet_note Restarts_used) each)
+  happens w each (Restart role) new (inr (few, is)) = subst EachSteps (sym is) (restarted_steps w role _ each)
+
+  run : (w : World) → EachSteps w → (events : List Event) (new : World) → Run w events new → EachSteps new
+  run w each [] new is = subst EachSteps (sym is) each
+  run w each (event ∷ events) new r = run r.0 (happens w each event r.0 r.1) events new r.2
+
+start_steps : (serving packet : Config) (serving_counter packet_counter : ℕ) → EachSteps (start serving packet serving_counter packet_counter)
+start_steps serving packet serving_counter packet_counter Serving = begun_steps Serving serving serving_counter
+start_steps serving packet serving_counter packet_counter Packet = begun_steps Packet packet packet_counter
+
+kept_in : (serving packet : Config) (serving_counter packet_counter : ℕ) (events : List Event) (w : World) → Run (start serving packet serving_counter packet_counter) events w → EachSteps w
+kept_in serving packet serving_counter packet_counter events w r = run packet.own (start serving packet serving_counter packet_counter) (start_steps serving packet serving_counter packet_counter) events w r
+
+pub always_kept : Always StepsAreKept
+always_kept serving packet sc pc events w r role = let are = kept_in serving packet sc pc events w r role in (are.config, are.reach)
+
+pub always_acts_once : Always EachActsOnce
+always_acts_once serving packet sc pc events w r role request message first second two makes first_takes second_takes cond =
+    let are = kept_in serving packet sc pc events w r role in
+    let steps = subst (λ k. Steps role (fresh_node are.config (((side_of w role).first + (side_of w role).restarts) % 256)) k (side_of w role).node) two.are are.reach in
+    ⊎_elim
+    (λ in_time. acts_once_in_time role request message first second (record {
+      makes = makes;
+      config = are.config;
+      counter = ((side_of w role).first + (side_of w role).restarts) % 256;
+      before = two.before;
+      between = two.between;
+      after = two.after;
+      finish = (side_of w role).node;
+      steps = steps;
+      first_takes = first_takes;
+      second_takes = second_takes;
+      in_time = λ front back done m split takes earlier among gone. in_time (are.late front back done earlier request m (two.are ∙ split) takes among gone);
+    }))
+    (λ kept. acts_once_from role request message first second are.config (((side_of w role).first + (side_of w role).restarts) % 256) two.before two.between two.after (side_of w role).node makes steps first_takes second_takes kept)
+    cond

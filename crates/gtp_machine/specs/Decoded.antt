@@ -1,0 +1,207 @@
+-- What a control message reads as, by its type (TS 29.274, 6.1) and the fields of its table, in the table's order. What octets spell has a value in each
+-- row that its table needs; in lists that no octets spell, a number that is not there is 0, and so on.
+use Rattle.std.specs.Prelude.{ℕ, zero, suc, ◌+◌, ◌*◌, ◌==◌, List, [], ◌∷◌, map, Option, Some, None, false, unwrap_or, if◌then◌else◌}
+use Rattle.gtp_values.specs.Plmn.{Network}
+use Rattle.gtp_values.specs.TunnelEnd.{TunnelEnd}
+use Rattle.gtp_values.specs.declared.cause.Cause.{Cause}
+use Rattle.gtp_values.specs.declared.qos.Ambr.{Ambr}
+use Rattle.gtp_values.specs.declared.qos.Qos.{Qos}
+use Rattle.gtp_values.specs.declared.qos.Rates.{Rates}
+use Rattle.gtp_values.specs.declared.paa.Paa.{Paa}
+use Rattle.gtp_values.specs.declared.paa.Paa.TheVariants as paas
+use Rattle.gtp_ie.specs.Value.{Value, OfImsi, OfCause, OfRecovery, OfApn, OfAmbr, OfEbi, OfPaa, OfQos, OfRat, OfPlmn, OfTft, OfFTeid, OfChargingId, OfPdnType, OfPti, OfSelection}
+use Rattle.gtp_v2.specs.Table.{Field, Plain, Groups}
+use Rattle.gtp_v2.specs.Message.{Content, Fields, Raw, MessageValue}
+use Rattle.gtp_machine.specs.Element.{PdnAddress, Ipv4, Other_address, cause_of}
+use Rattle.gtp_machine.specs.Message.{RequestedBearer, CreatedBearer, WantedBearer, GivenBearer, RemovedBearer, Message, Echo_request, Echo_response, Create_session_request, Create_session_response, Delete_session_request, Delete_session_response, Create_bearer_request, Create_bearer_response, Delete_bearer_request, Delete_bearer_response, Other_control}
+use Rattle.gtp_machine.specs.Node.{written}
+
+-- the number that octets stand for, the highest first, after what stands before them
+abbrev pub number_from : ℕ → List ℕ → ℕ
+number_from before [] = before
+number_from before (octet ∷ octets) = number_from (256 * before + octet) octets
+
+-- a PDN Address Allocation (8.14): an IPv4 address as a number, another one as it is
+abbrev pub address_of : Paa → PdnAddress
+address_of (paas.V4 octets) = Ipv4 (number_from 0 octets)
+address_of (paas.V6 prefix octets) = Other_address (paas.V6 prefix octets)
+address_of (paas.V4V6 prefix v6 v4) = Other_address (paas.V4V6 prefix v6 v4)
+address_of (paas.Other number) = Other_address (paas.Other number)
+
+-- the number that a value is
+abbrev pub number_of : Value → Option ℕ
+number_of (OfRecovery n) = Some n
+number_of (OfEbi n) = Some n
+number_of (OfRat n) = Some n
+number_of (OfChargingId n) = Some n
+number_of (OfPdnType n) = Some n
+number_of (OfPti n) = Some n
+number_of (OfSelection n) = Some n
+number_of _ = None
+
+-- the digits of an IMSI, the octets of an access point name or of a TFT
+abbrev pub octets_of : Value → Option (List ℕ)
+octets_of (OfImsi digits) = Some digits
+octets_of (OfApn octets) = Some octets
+octets_of (OfTft octets) = Some octets
+octets_of _ = None
+
+-- the Cause (8.4) that a value is
+abbrev pub cause_in : Value → Option Cause
+cause_in (OfCause cause) = Some cause
+cause_in _ = None
+
+-- the F-TEID (8.22) that a value is
+abbrev pub end_in : Value → Option TunnelEnd
+end_in (OfFTeid end) = Some end
+end_in _ = None
+
+-- the Bearer QoS (8.15) that a value is
+abbrev pub qos_in : Value → Option Qos
+qos_in (OfQos qos) = Some qos
+qos_in _ = None
+
+-- the AMBR (8.7) that a value is
+abbrev pub ambr_in : Value → Option Ambr
+ambr_in (OfAmbr ambr) = Some ambr
+ambr_in _ = None
+
+-- the Serving Network (8.18) that a value is
+abbrev pub network_in : Value → Option Network
+network_in (OfPlmn network) = Some network
+network_in _ = None
+
+-- the PDN Address Allocation that a value is
+abbrev pub paa_in : Value → Option PdnAddress
+paa_in (OfPaa paa) = Some (address_of paa)
+paa_in _ = None
+
+-- what a row has, where it has a value
+abbrev pub first_in : {X : Type 0} → (Value → Option X) → List Value → Option X
+first_in is [] = None
+first_in is (value ∷ values) = is value
+
+-- the number of a row that is needed
+abbrev pub number_at : List Value → ℕ
+number_at values = unwrap_or (first_in number_of values) 0
+
+-- the octets of a row that is needed
+abbrev pub octets_at : List Value → List ℕ
+octets_at values = unwrap_or (first_in octets_of values) []
+
+-- the Cause of a row that is needed
+abbrev pub cause_at : List Value → Cause
+cause_at values = unwrap_or (first_in cause_in values) (cause_of 0)
+
+-- the F-TEID of a row that is needed
+abbrev pub end_at : List Value → TunnelEnd
+end_at values = unwrap_or (first_in end_in values) (record { interface = 0; teid = 0; v4 = None; v6 = None })
+
+-- no rates
+abbrev pub no_rates : Rates
+no_rates = record { up = 0; down = 0 }
+
+-- the Bearer QoS of a row that is needed
+abbrev pub qos_at : List Value → Qos
+qos_at values = unwrap_or (first_in qos_in values) (record { pci = false; pl = 0; pvi = false; qci = 0; mbr = no_rates; gbr = no_rates })
+
+-- the row of a bearer context with this place, the first being 0
+abbrev pub row : ℕ → List (List Value) → List Value
+row n [] = []
+row zero (values ∷ rows) = values
+row (suc n) (values ∷ rows) = row n rows
+
+-- the values of a field
+abbrev pub values_in : Field → List Value
+values_in (Plain values) = values
+values_in (Groups groups) = []
+
+-- the bearer contexts of a field
+abbrev pub groups_in : Field → List (List (List Value))
+groups_in (Plain values) = []
+groups_in (Groups groups) = groups
+
+-- the field with this place, the first being 0
+abbrev pub field : ℕ → List Field → Field
+field n [] = Plain []
+field zero (f ∷ fields) = f
+field (suc n) (f ∷ fields) = field n fields
+
+-- the values of the field with this place
+abbrev pub values_at : ℕ → List Field → List Value
+values_at n fields = values_in (field n fields)
+
+-- the bearer contexts of the field with this place
+abbrev pub groups_at : ℕ → List Field → List (List (List Value))
+groups_at n fields = groups_in (field n fields)
+
+-- a bearer context of a Create Session Request (table 7.2.1-2)
+abbrev pub requested : List (List Value) → RequestedBearer
+requested rows = record { identity = number_at (row 0 rows); qos = qos_at (row 1 rows); user = end_at (row 2 rows) }
+
+-- a bearer context of a Create Session Response (table 7.2.2-2)
+abbrev pub created : List (List Value) → CreatedBearer
+created rows = record { identity = number_at (row 0 rows); cause = cause_at (row 1 rows); user = first_in end_in (row 2 rows); qos = first_in qos_in (row 3 rows); charging = first_in number_of (row 4 rows) }
+
+-- a bearer context of a Create Bearer Request (table 7.2.3-2)
+abbrev pub wanted : List (List Value) → WantedBearer
+wanted rows = record { identity = number_at (row 0 rows); tft = octets_at (row 1 rows); user = end_at (row 2 rows); qos = qos_at (row 3 rows); charging = first_in number_of (row 4 rows) }
+
+-- a bearer context of a Create Bearer Response (table 7.2.4-2)
+abbrev pub given : List (List Value) → GivenBearer
+given rows = record { identity = number_at (row 0 rows); cause = cause_at (row 1 rows); serving_user = first_in end_in (row 2 rows); packet_user = first_in end_in (row 3 rows) }
+
+-- a bearer context of a Delete Bearer Response (table 7.2.10.2-2)
+abbrev pub removed : List (List Value) → RemovedBearer
+removed rows = record { identity = number_at (row 0 rows); cause = cause_at (row 1 rows) }
+
+-- a Create Session Request (7.2.1) with these bearer contexts; each that octets spell has one
+abbrev pub session_request_in : ℕ → ℕ → List Field → List (List (List Value)) → Message
+session_request_in header number f [] = Other_control 32
+session_request_in header number f (first ∷ further) =
+    Create_session_request (record {
+      header = header;
+      number = number;
+      imsi = octets_at (values_at 0 f);
+      rat = number_at (values_at 1 f);
+      network = first_in network_in (values_at 2 f);
+      control = end_at (values_at 3 f);
+      access_point = octets_at (values_at 4 f);
+      selection = first_in number_of (values_at 5 f);
+      pdn = number_at (values_at 6 f);
+      address = first_in paa_in (values_at 7 f);
+      ambr = first_in ambr_in (values_at 8 f);
+      context = requested first;
+      further = map requested further;
+      recovery = first_in number_of (values_at 10 f);
+    })
+
+-- a Create Bearer Request (7.2.3) with these bearer contexts; each that octets spell has one
+abbrev pub bearer_request_in : ℕ → ℕ → List Field → List (List (List Value)) → Message
+bearer_request_in header number f [] = Other_control 95
+bearer_request_in header number f (first ∷ further) =
+    Create_bearer_request (record { header = header; number = number; transaction = first_in number_of (values_at 0 f); linked = number_at (values_at 1 f); context = wanted first; further = map wanted further })
+
+-- the message of a type with these fields, under the TEID and the sequence number of its header; a type that no gateway knows says no more
+abbrev pub message_in : ℕ → ℕ → ℕ → List Field → Message
+message_in kind header number f =
+    if kind == 1 then Echo_request (record { number = number; recovery = number_at (values_at 0 f) })
+    else (if kind == 2 then Echo_response (record { number = number; recovery = number_at (values_at 0 f) })
+    else (if kind == 32 then session_request_in header number f (groups_at 9 f)
+    else (if kind == 33 then Create_session_response (record { header = header; number = number; cause = cause_at (values_at 0 f); control = first_in end_in (values_at 1 f); address = first_in paa_in (values_at 2 f); ambr = first_in ambr_in (values_at 3 f); contexts = map created (groups_at 4 f); recovery = first_in number_of (values_at 5 f) })
+    else (if kind == 36 then Delete_session_request (record { header = header; number = number; linked = first_in number_of (values_at 0 f) })
+    else (if kind == 37 then Delete_session_response (record { header = header; number = number; cause = cause_at (values_at 0 f); recovery = first_in number_of (values_at 1 f) })
+    else (if kind == 95 then bearer_request_in header number f (groups_at 2 f)
+    else (if kind == 96 then Create_bearer_response (record { header = header; number = number; cause = cause_at (values_at 0 f); contexts = map given (groups_at 1 f); recovery = first_in number_of (values_at 2 f) })
+    else (if kind == 99 then Delete_bearer_request (record { header = header; number = number; linked = first_in number_of (values_at 0 f); identities = map (λ v. unwrap_or (number_of v) 0) (values_at 1 f) })
+    else (if kind == 100 then Delete_bearer_response (record { header = header; number = number; cause = cause_at (values_at 0 f); linked = first_in number_of (values_at 1 f); contexts = map removed (groups_at 2 f); recovery = first_in number_of (values_at 3 f) })
+    else Other_control kind)))))))))
+
+-- the message of a type that carries this; the octets of another type are not looked at
+abbrev pub content_message : ℕ → ℕ → ℕ → Content → Message
+content_message kind header number (Fields fields) = message_in kind header number fields
+content_message kind header number (Raw octets) = Other_control kind
+
+-- what a message of the control plane says (5.1), as a message of the machine; its priority is not looked at
+abbrev pub message_of : MessageValue → Message
+message_of m = content_message m.kind (written m.teid) m.seq m.content

@@ -1,0 +1,162 @@
+-- The octets that a gateway sends for a message: the canonical encoding of what it says, field by field (TS 29.274, 5 to 8; TS 29.281, 5, 7 and 8).
+use Rattle.std.specs.Prelude.{◌≡◌, ℕ, ◌<◌, ◌^◌, List, [], ◌∷◌, map, Option, Some, None, option_map, option_to_list}
+use Rattle.gtp_values.specs.Numbers.{four}
+use Rattle.gtp_values.specs.declared.address.Endpoint.{Endpoint}
+use Rattle.gtp_values.specs.declared.paa.Paa.{Paa}
+use Rattle.gtp_values.specs.declared.paa.Paa.TheVariants as paas
+use Rattle.gtp_ie.specs.Value.{Value, OfImsi, OfCause, OfRecovery, OfApn, OfAmbr, OfEbi, OfPaa, OfQos, OfRat, OfPlmn, OfTft, OfFTeid, OfChargingId, OfPdnType, OfPti, OfSelection}
+use Rattle.gtp_v2.specs.Table.{Field, Plain, Groups}
+use Rattle.gtp_v2.specs.Message.{Fields, Raw, MessageValue}
+use Rattle.gtp_v2.specs.Encoding.{canonical_encoding, Meets}
+use Rattle.gtp_user.specs.Message as user_messages
+use Rattle.gtp_user.specs.Encoding as user_encodings
+use Rattle.gtp_machine.specs.Element.{PdnAddress, Ipv4, Other_address}
+use Rattle.gtp_machine.specs.Message.{RequestedBearer, CreatedBearer, WantedBearer, GivenBearer, RemovedBearer, Message, Echo_request, Echo_response, Create_session_request, Create_session_response, Delete_session_request, Delete_session_response, Create_bearer_request, Create_bearer_response, Delete_bearer_request, Delete_bearer_response, Other_control, Packet_data, End_marker, Error_indication, User_echo_request, User_echo_response, Supported_extensions, Other_user, Plane, Control, User, plane_of}
+use Rattle.gtp_machine.specs.Config.{Config, own_end}
+use Rattle.gtp_machine.specs.Input.{Control_message, User_message, Sending}
+use Rattle.gtp_machine.specs.Reading.{ControlReads, UserReads}
+
+-- the value of a row that may be absent
+abbrev pub where_there : {X : Type 0} → (X → Value) → Option X → List Value
+where_there is value = option_to_list (option_map is value)
+
+-- an address as a PDN Address Allocation (8.14)
+abbrev pub paa_of : PdnAddress → Paa
+paa_of (Ipv4 address) = paas.V4 (four address [])
+paa_of (Other_address paa) = paa
+
+-- the rows of a bearer context of a Create Session Request (table 7.2.1-2)
+abbrev pub requested_rows : RequestedBearer → List (List Value)
+requested_rows c = (OfEbi c.identity ∷ []) ∷ (OfQos c.qos ∷ []) ∷ (OfFTeid c.user ∷ []) ∷ []
+
+-- the rows of a bearer context of a Create Session Response (table 7.2.2-2)
+abbrev pub created_rows : CreatedBearer → List (List Value)
+created_rows c = (OfEbi c.identity ∷ []) ∷ (OfCause c.cause ∷ []) ∷ where_there OfFTeid c.user ∷ where_there OfQos c.qos ∷ where_there OfChargingId c.charging ∷ []
+
+-- the rows of a bearer context of a Create Bearer Request (table 7.2.3-2)
+abbrev pub wanted_rows : WantedBearer → List (List Value)
+wanted_rows c = (OfEbi c.identity ∷ []) ∷ (OfTft c.tft ∷ []) ∷ (OfFTeid c.user ∷ []) ∷ (OfQos c.qos ∷ []) ∷ where_there OfChargingId c.charging ∷ []
+
+-- the rows of a bearer context of a Create Bearer Response (table 7.2.4-2)
+abbrev pub given_rows : GivenBearer → List (List Value)
+given_rows c = (OfEbi c.identity ∷ []) ∷ (OfCause c.cause ∷ []) ∷ where_there OfFTeid c.serving_user ∷ where_there OfFTeid c.packet_user ∷ []
+
+-- the rows of a bearer context of a Delete Bearer Response (table 7.2.10.2-2)
+abbrev pub removed_rows : RemovedBearer → List (List Value)
+removed_rows c = (OfEbi c.identity ∷ []) ∷ (OfCause c.cause ∷ []) ∷ []
+
+-- a message of this type, with this TEID and sequence number in its header, no priority, and these fields
+abbrev pub typed : ℕ → Option ℕ → ℕ → List Field → MessageValue
+typed kind teid number fields = record { kind = kind; teid = teid; seq = number; priority = None; content = Fields fields }
+
+-- What a message of the control plane says, by the fields of its table (7.1, 7.2). Of a message of another type nothing is known but its type.
+abbrev pub control_value : Message → MessageValue
+control_value (Echo_request e) = typed 1 None e.number (Plain (OfRecovery e.recovery ∷ []) ∷ [])
+control_value (Echo_response e) = typed 2 None e.number (Plain (OfRecovery e.recovery ∷ []) ∷ [])
+control_value (Create_session_request q) =
+    typed 32 (Some q.header) q.number (
+    Plain (OfImsi q.imsi ∷ [])
+    ∷ Plain (OfRat q.rat ∷ [])
+    ∷ Plain (where_there OfPlmn q.network)
+    ∷ Plain (OfFTeid q.control ∷ [])
+    ∷ Plain (OfApn q.access_point ∷ [])
+    ∷ Plain (where_there OfSelection q.selection)
+    ∷ Plain (OfPdnType q.pdn ∷ [])
+    ∷ Plain (where_there (λ a. OfPaa (paa_of a)) q.address)
+    ∷ Plain (where_there OfAmbr q.ambr)
+    ∷ Groups (map requested_rows (q.context ∷ q.further))
+    ∷ Plain (where_there OfRecovery q.recovery)
+    ∷ []
+    )
+control_value (Create_session_response a) =
+    typed 33 (Some a.header) a.number (
+    Plain (OfCause a.cause ∷ [])
+    ∷ Plain (where_there OfFTeid a.control)
+    ∷ Plain (where_there (λ p. OfPaa (paa_of p)) a.address)
+    ∷ Plain (where_there OfAmbr a.ambr)
+    ∷ Groups (map created_rows a.contexts)
+    ∷ Plain (where_there OfRecovery a.recovery)
+    ∷ []
+    )
+control_value (Delete_session_request d) = typed 36 (Some d.header) d.number (Plain (where_there OfEbi d.linked) ∷ [])
+control_value (Delete_session_response d) = typed 37 (Some d.header) d.number (Plain (OfCause d.cause ∷ []) ∷ Plain (where_there OfRecovery d.recovery) ∷ [])
+control_value (Create_bearer_request r) = typed 95 (Some r.header) r.number (Plain (where_there OfPti r.transaction) ∷ Plain (OfEbi r.linked ∷ []) ∷ Groups (map wanted_rows (r.context ∷ r.further)) ∷ [])
+control_value (Create_bearer_response x) = typed 96 (Some x.header) x.number (Plain (OfCause x.cause ∷ []) ∷ Groups (map given_rows x.contexts) ∷ Plain (where_there OfRecovery x.recovery) ∷ [])
+control_value (Delete_bearer_request d) = typed 99 (Some d.header) d.number (Plain (where_there OfEbi d.linked) ∷ Plain (map OfEbi d.identities) ∷ [])
+control_value (Delete_bearer_response d) =
+    typed 100 (Some d.header) d.number (Plain (OfCause d.cause ∷ []) ∷ Plain (where_there OfEbi d.linked) ∷ Groups (map removed_rows d.contexts) ∷ Plain (where_there OfRecovery d.recovery) ∷ [])
+control_value (Other_control kind) = record { kind = kind; teid = None; seq = 0; priority = None; content = Raw [] }
+control_value _ = record { kind = 0; teid = None; seq = 0; priority = None; content = Raw [] }
+
+-- a message of the user plane with this sequence number, no N-PDU number and no extension headers
+abbrev pub plain_user : Option ℕ → user_messages.Content → user_messages.MessageValue
+plain_user number content = record { seq = number; npdu = None; ext = []; content = content }
+
+-- What a message of the user plane says (TS 29.281, 7.2 and 7.3). Where the standard wants a sequence number that means nothing it is 0. Of a message of another
+-- type nothing is known but its type.
+abbrev pub user_value : Message → user_messages.MessageValue
+user_value (Packet_data target payload) = plain_user None (user_messages.Packet target payload)
+user_value (End_marker target) = plain_user None (user_messages.EndMarker target)
+user_value (Error_indication target address) = plain_user (Some 0) (user_messages.ErrorIndication target address)
+user_value (User_echo_request number) = plain_user (Some number) user_messages.EchoRequest
+user_value (User_echo_response number) = plain_user (Some number) user_messages.EchoResponse
+user_value (Supported_extensions types) = plain_user (Some 0) (user_messages.Notification types)
+user_value (Other_user kind) = plain_user None (user_messages.Other kind 0 [])
+user_value _ = plain_user None (user_messages.Other 0 0 [])
+
+-- the octets of a message of this plane
+abbrev pub spelled_on : Plane → Message → List ℕ
+spelled_on Control m = canonical_encoding (control_value m)
+spelled_on User m = user_encodings.encoding (user_value m)
+
+-- The octets that a gateway sends for a message.
+abbrev pub spelled : Message → List ℕ
+spelled m = spelled_on (plane_of m) m
+
+-- a datagram as it is sent: of which plane, from where and to where, and its octets
+pub record Datagram : Type 0 where
+  pub plane : Plane
+  pub from : Endpoint
+  pub to : Endpoint
+  pub octets : List ℕ
+
+-- the datagram that a gateway with this configuration sends for a message
+abbrev pub datagram_of : Config → Sending → Datagram
+datagram_of config s = record { plane = plane_of s.message; from = own_end config (plane_of s.message); to = s.destination; octets = spelled s.message }
+
+-- an IPv4 address is below 2^32, and stands as one
+abbrev pub IsAddress : Option PdnAddress → Type 0
+IsAddress (Some (Ipv4 address)) = address < 2 ^ 32
+IsAddress (Some (Other_address (paas.V4 octets))) = ⊥
+IsAddress address = Unit {0}
+
+-- a kind that a gateway sends, with an address that reads again
+abbrev pub IsOfOwnKind : Message → Type 0
+IsOfOwnKind (Create_session_request q) = IsAddress q.address
+IsOfOwnKind (Create_session_response a) = IsAddress a.address
+IsOfOwnKind (Other_control kind) = ⊥
+IsOfOwnKind (Other_user kind) = ⊥
+IsOfOwnKind m = Unit {0}
+
+-- what it says has an encoding that reads again: ranges, the marks of its table, and its length
+abbrev pub MeetsOn : Plane → Message → Type 0
+MeetsOn Control m = Meets (control_value m)
+MeetsOn User m = user_encodings.Meets (user_value m)
+
+-- a message that a gateway can send
+pub record IsSendable (m : Message) : Type 0 where
+  pub own : IsOfOwnKind m
+  pub meets : MeetsOn (plane_of m) m
+
+-- the octets read as the message, on this plane
+abbrev pub ReadsAs : Plane → List ℕ → Message → Type 0
+ReadsAs Control octets m = ControlReads octets (Control_message m)
+ReadsAs User octets m = UserReads octets (User_message m)
+
+-- What a gateway sends for a message reads as that message.
+abbrev pub SpelledReads : Type 0
+SpelledReads = (m : Message) → IsSendable m → ReadsAs (plane_of m) (spelled m) m
+
+-- Messages that a gateway can send, with one text, are one.
+abbrev pub SpelledApart : Type 0
+SpelledApart = (m n : Message) → IsSendable m → IsSendable n → spelled m ≡ spelled n → m ≡ n

@@ -1,0 +1,35 @@
+-- The steps of one gateway.
+use Rattle.std.specs.Prelude.{◌≡◌, List, [], ◌∷◌}
+use Rattle.gtp_machine.specs.Node.{Role, Serving, Packet, Node}
+use Rattle.gtp_machine.specs.Input.{Move, Input, Commanded, Control_came, User_came, Moves_on, Out, Effect}
+use Rattle.gtp_machine.specs.Move.{MoveStep}
+use Rattle.gtp_machine.specs.Tick.{TickStep}
+use Rattle.gtp_machine.specs.User.{UserStep}
+use Rattle.gtp_machine.specs.Command.{CommandStep}
+use Rattle.gtp_machine.specs.Answer.{ControlStep}
+use Rattle.gtp_machine.specs.Serving.{ServingReads}
+use Rattle.gtp_machine.specs.Packet.{PacketReads}
+
+-- A step of a gateway: what it may give for an input.
+abbrev pub Step : Role → Node → Input → Effect → Type 0
+Step role old (Commanded command) e = CommandStep role command old e
+Step Serving old (Control_came request reading) e = ControlStep (ServingReads reading) request old e
+Step Packet old (Control_came request reading) e = ControlStep (PacketReads reading) request old e
+Step role old (User_came source reading) e = UserStep role source reading old e
+Step role old (Moves_on move) e = MoveStep old move e
+
+-- a step: the gateway before it, what it took, and what that gave
+pub record Done : Type 0 where
+  pub before : Node
+  pub input : Input
+  pub effect : Effect
+
+-- the gateway goes from one node to the other by these steps
+abbrev pub Steps : Role → Node → List Done → Node → Type 0
+Steps role old [] new = new ≡ old
+Steps role old (done ∷ log) new = (done.before ≡ old) × Step role old done.input done.effect × Steps role done.effect.node log new
+
+-- the steps of a tick, one a move
+abbrev pub tick_steps : (old : Node) (moves : List Move) (out : Out) (new : Node) → TickStep old moves out new → List Done
+tick_steps old [] out new tick = []
+tick_steps old (move ∷ moves) out new (effect, rest, step, others, is) = record { before = old; input = Moves_on move; effect = effect } ∷ tick_steps effect.node moves rest new others
