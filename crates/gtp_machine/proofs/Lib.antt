@@ -3,6 +3,7 @@ pub mod Origins
 pub mod Changes
 pub mod Rows
 pub mod Worlds
+pub mod Exchange
 pub mod Requests
 pub mod Octets
 pub mod Sound

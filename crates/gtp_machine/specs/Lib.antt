@@ -23,3 +23,4 @@ pub mod World
 pub mod Once
 pub mod Laws
 pub mod Sound
+pub mod Exchange

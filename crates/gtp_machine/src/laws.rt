@@ -35,6 +35,7 @@ ghost use Rattle.gtp_machine.specs.Reading.{
 };
 ghost use Rattle.gtp_machine.specs.Spelling.{SpelledApart, SpelledReads};
 ghost use Rattle.gtp_machine.specs.Once.{ActsOnce, ActsOnceInTime, HeldUntilForgotten};
+ghost use Rattle.gtp_machine.specs.Exchange.{FairExchange};
 ghost use Rattle.gtp_machine.specs.Sound.{
   AlwaysSteps,
   AlwaysTicks,
@@ -201,4 +202,12 @@ pub fn readings()
     // A Create Bearer Request reads as one, for the session that its header names and with its
     // linked identity.
     ensures session { KeepsSession }
+{}
+
+/// An exchange on a path that brings each datagram at once.
+pub fn fair_exchange()
+    // Where nothing stands in the way, the command for a session, the delivery of its request and
+    // the delivery of its answer make it at both gateways, as it was asked for, and its default
+    // bearer carries packets in both directions.
+    ensures { FairExchange }
 {}

@@ -132,8 +132,13 @@ module _ (own : Addresses) where
         named = Names-step w.history Packet e inv.named (step_told w.history inv.named Packet w.packet.node (back_of w.history Packet w.packet.node inv.packet.knows) input e carried step);
       }
 
+  -- no step changes how a gateway is set up
+  pub config_stays : (w : World) → Invariant own w → (role : Role) (input : Input) (e : Effect) → Carried role w.history (side_of w role).node input → Step role (side_of w role).node input e → e.node.config ≡ (side_of w role).node.config
+  config_stays w inv Serving input e carried step = (step_after w.history inv.serving.draws.once inv.packet.draws.once w.serving.node Serving (unowned w.serving Serving w.history inv.serving.draws) inv.packet.draws.dated inv.packet.draws.proper inv.serving.knows input e carried step).draws.config
+  config_stays w inv Packet input e carried step = (step_after w.history inv.serving.draws.once inv.packet.draws.once w.packet.node Packet (unowned w.packet Packet w.history inv.packet.draws) inv.serving.draws.dated inv.serving.draws.proper inv.packet.knows input e carried step).draws.config
+
   -- one more late delivery leaves the rest as it is
-  late_keeps : (w : World) → Invariant own w → (role : Role) (a : Arrival) → Invariant own (late_once w role a)
+  pub late_keeps : (w : World) → Invariant own w → (role : Role) (a : Arrival) → Invariant own (late_once w role a)
   late_keeps w inv Serving a = record {
     serving = record { draws = marked_draws; knows = inv.serving.knows; hearing = inv.serving.hearing; making = Making-late w.serving a inv.serving.making };
     packet = record { draws = inv.packet.draws; knows = inv.packet.knows; hearing = Hearing-peer w.serving (record w.serving { came_late = a ∷ w.serving.came_late }) refl (omega arith) w.packet.node.known w.packet.seen inv.packet.hearing; making = inv.packet.making };
@@ -206,17 +211,17 @@ module _ (own : Addresses) where
       (ticks (moved w Packet e) (steps_quietly w inv Packet (Moves_on move) e tt tt step) Packet moves rest after others)
 
   -- what stands at a place of the history was sent
-  found_sent : (history : List Sent) (which : ℕ) (sent : Sent) → slice_get history which ≡ Some sent → Among sent history
+  pub found_sent : (history : List Sent) (which : ℕ) (sent : Sent) → slice_get history which ≡ Some sent → Among sent history
   found_sent [] which sent e = absurd (cc e)
   found_sent (x ∷ history) zero sent e = inl (cc)
   found_sent (x ∷ history) (suc which) sent e = inr (found_sent history which sent e)
 
   -- what comes to the serving gateway, by its plane
-  serving_carried : (w : World) → Invariant own w → (p : Plane) (m : Message) → HasSent w.history Packet m → Carried Serving w.history w.serving.node (delivered_on p w.packet.node.config.own m)
+  pub serving_carried : (w : World) → Invariant own w → (p : Plane) (m : Message) → HasSent w.history Packet m → Carried Serving w.history w.serving.node (delivered_on p w.packet.node.config.own m)
   serving_carried w inv Control m came = (came, same_is w.history Serving w.serving w.packet inv.serving inv.packet.draws m came)
   serving_carried w inv User m came = came
 
-  packet_carried : (w : World) → Invariant own w → (p : Plane) (m : Message) → HasSent w.history Serving m → Carried Packet w.history w.packet.node (delivered_on p w.serving.node.config.own m)
+  pub packet_carried : (w : World) → Invariant own w → (p : Plane) (m : Message) → HasSent w.history Serving m → Carried Packet w.history w.packet.node (delivered_on p w.serving.node.config.own m)
   packet_carried w inv Control m came = (came, same_is w.history Packet w.packet w.serving inv.packet inv.serving.draws m came)
   packet_carried w inv User m came = came
 
@@ -279,7 +284,7 @@ module _ (own : Addresses) where
   cut_quiet Control from m count = tt
   cut_quiet User from m count = tt
 
-  cut_carried : (role : Role) (p : Plane) (from : Addresses) (m : Message) (count : ℕ) (history : List Sent) (node : Node) → Carried role history node (cut_on p from m count)
+  pub cut_carried : (role : Role) (p : Plane) (from : Addresses) (m : Message) (count : ℕ) (history : List Sent) (node : Node) → Carried role history node (cut_on p from m count)
   cut_carried role Control from m count history node = tt
   cut_carried role User from m count history node = tt
 
@@ -356,7 +361,7 @@ module _ (own : Addresses) where
   noted_new : (w : World) (note : Note) (new : World) → Invariant own w → new ≡ noted w note → Invariant own new
   noted_new w note new inv is = subst (λ k. Invariant own k) (sym is) (noted_keeps own w note inv)
 
-  happens : (w : World) → Invariant own w → (event : Event) (new : World) → Happens w event new → Invariant own new
+  pub happens : (w : World) → Invariant own w → (event : Event) (new : World) → Happens w event new → Invariant own new
   happens w inv (Does role command) new m = moves_quietly own w inv role (Commanded command) tt tt new m
   happens w inv (Tick role) new t = subst (λ k. Invariant own k) (sym t.becomes) (noted_logged own (moved w role (ticked t.out t.after)) _ role _ (ticks own w inv role t.moves t.out t.after t.tick))
   happens w inv (Deliver number) new (inl none) = noted_new w _ new inv none.1
@@ -371,7 +376,7 @@ module _ (own : Addresses) where
   run w inv [] new is = subst (λ k. Invariant own k) (sym is) inv
   run w inv (event ∷ events) new r = run r.0 (happens w inv event r.0 r.1) events new r.2
 
-begins : (serving packet : Config) (serving_counter packet_counter : ℕ) → Invariant packet.own (start serving packet serving_counter packet_counter)
+pub begins : (serving packet : Config) (serving_counter packet_counter : ℕ) → Invariant packet.own (start serving packet serving_counter packet_counter)
 begins serving packet serving_counter packet_counter = record {
   serving = begins_side serving serving_counter Serving (begun packet packet_counter);
   packet = begins_side packet packet_counter Packet (begun serving serving_counter);

@@ -1,0 +1,4 @@
+-- The exchange that makes a session.
+pub mod Held
+pub mod Nodes
+pub mod Made

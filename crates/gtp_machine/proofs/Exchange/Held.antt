@@ -1,0 +1,171 @@
+-- Each answer that is held is held for a datagram that the other gateway sent.
+use Rattle.std.proofs.Common.{◌≡◌, ◌⊎◌, inl, inr, ⊎_elim, ℕ, List, [], ◌∷◌, ◌++◌, refl, sym, ◌∙◌, ap, subst}
+use Rattle.gtp_values.specs.FiniteMap.{Among}
+use Rattle.gtp_values.specs.declared.address.Endpoint.{Endpoint}
+use Rattle.gtp_machine.specs.Reading.{cut_fault, user_cut_fault}
+use Rattle.gtp_machine.specs.Config.{Addresses, Config, user_end}
+use Rattle.gtp_machine.specs.Message.{Message, Plane, Control, User, plane_of}
+use Rattle.gtp_machine.specs.Node.{Role, Serving, Packet, Arrival, Held, Node}
+use Rattle.gtp_machine.specs.Input.{Move, Resend, Give_up, Forget, Input, Command, Commanded, Control_came, User_came, ControlReading, Control_message, Control_fault, UserReading, User_message, User_fault, Out, Effect, messages}
+use Rattle.gtp_machine.specs.Move.{MoveStep, AreLeft}
+use Rattle.gtp_machine.specs.Tick.{TickStep, ticked}
+use Rattle.gtp_machine.specs.Step.{Step}
+use Rattle.gtp_machine.specs.World.{World, Sent, HasSent, Note, Event, Does, Tick, Deliver, Cut, Restart, Happens, Delivers, Moves, Run, other, side_of, with_side, with_steps, signed, moved, noted, late_once, arrival, delivered_on, cut_on, restarted, start, quiet_note, No_such_datagram, Cut_too_long, Restarts_used}
+use Rattle.gtp_machine.proofs.Basics.FiniteMaps.{Among-cases}
+use Rattle.gtp_machine.proofs.Origins.Drawing.{by_before}
+use Rattle.gtp_machine.proofs.Changes.Shrinking.{Shrunk-finished}
+use Rattle.gtp_machine.proofs.Requests.Holding.{Holds, command_held, user_held, serving_reads_holds, packet_reads_holds}
+use Rattle.gtp_machine.proofs.Rows.Stepping.{Carried}
+use Rattle.gtp_machine.proofs.Worlds.Runs as run
+
+-- what a step holds it held before, or it is for the datagram that came
+abbrev HeldBy : Arrival → Node → Effect → Type 0
+HeldBy request old e = (h : Held) → Among h e.node.held → Among h old.held ⊎ (h.request ≡ request)
+
+held_by : (request : Arrival) (old : Node) (e : Effect) → Holds request old e → HeldBy request old e
+held_by request old e (inl kept) h among = inl (subst (λ l. Among h l) kept among)
+held_by request old e (inr adds) h among = ⊎_elim (λ was. inl was) (λ now. ⊎_elim (λ is. inr (ap (λ (k : Held). k.request) is)) (λ none. absurd none) now) (Among-cases h old.held _ (subst (λ l. Among h l) adds.held among))
+
+control_held : (role : Role) (request : Arrival) (reading : ControlReading) (old : Node) (e : Effect) → Step role old (Control_came request reading) e → HeldBy request old e
+control_held Serving request reading old e (inl f) = held_by request old e (inl (ap (λ (k : Effect). k.node.held) f.1))
+control_held Serving request reading old e (inr (peer, inl again)) = held_by request old e (inl (ap (λ (k : Effect). k.node.held) again.gives))
+control_held Serving request reading old e (inr (peer, inr (new, reads))) = held_by request old e (serving_reads_holds reading request old e reads)
+control_held Packet request reading old e (inl f) = held_by request old e (inl (ap (λ (k : Effect). k.node.held) f.1))
+control_held Packet request reading old e (inr (peer, inl again)) = held_by request old e (inl (ap (λ (k : Effect). k.node.held) again.gives))
+control_held Packet request reading old e (inr (peer, inr (new, reads))) = held_by request old e (packet_reads_holds reading request old e reads)
+
+-- what is left was held
+was_held : (request : Arrival) (held left : List Held) → AreLeft request held left → (h : Held) → Among h left → Among h held
+was_held request [] left is h among = subst (λ l. Among h l) is among
+was_held request (x ∷ held) left (inl gone) h among = inr (was_held request held left gone.1 h among)
+was_held request (x ∷ held) left (inr stays) h among = ⊎_elim (λ here. inl here) (λ there. inr (was_held request held stays.1.0 stays.1.1 h there)) (subst (λ l. Among h l) stays.1.2 among)
+
+-- nothing else than a datagram of the control plane makes a gateway hold an answer
+abbrev KeepsHeld : Node → Effect → Type 0
+KeepsHeld old e = (h : Held) → Among h e.node.held → Among h old.held
+
+move_held : (old : Node) (move : Move) (e : Effect) → MoveStep old move e → KeepsHeld old e
+move_held old (Resend number) e r h among = subst (λ l. Among h l) (ap (λ (k : Effect). k.node.held) r.gives) among
+move_held old (Give_up number) e r h among = subst (λ l. Among h l) (ap (λ (k : Effect). k.node.held) r.gives ∙ (Shrunk-finished old number r.at.pending.session r.at.pending.bearer).held) among
+move_held old (Forget request) e r h among = was_held request old.held r.rest r.left h (subst (λ l. Among h l) (ap (λ (k : Effect). k.node.held) r.gives) among)
+
+tick_held : (old : Node) (moves : List Move) (out : Out) (new : Node) → TickStep old moves out new → (h : Held) → Among h new.held → Among h old.held
+tick_held old [] out new t h among = subst (λ (n : Node). Among h n.held) t.1 among
+tick_held old (move ∷ moves) out new (e, rest, step, others, is) h among = move_held old move e step h (tick_held e.node moves rest new others h among)
+
+-- the datagram for which an answer is held
+pub record IsOfSent (history : List Sent) (sender : Role) (from : Addresses) (h : Held) : Type 0 where
+  pub message : Message
+  pub sent : HasSent history sender message
+  pub is : h.request ≡ arrival from message
+
+-- each held answer is for a datagram that the other gateway sent
+abbrev pub HeldOfSent : World → Type 0
+HeldOfSent w = (role : Role) (h : Held) → Among h (side_of w role).node.held → IsOfSent w.history (other role) (side_of w (other role)).node.config.own h
+
+later : (history : List Sent) (by : Role) (sent : List Message) (sender : Role) (from now : Addresses) (h : Held) → now ≡ from → IsOfSent history sender from h → IsOfSent (history ++ signed by sent) sender now h
+later history by sent sender from now h same is = record { message = is.message; sent = by_before history sender by sent is.message is.sent; is = is.is ∙ ap (λ k. arrival k is.message) (sym same) }
+
+-- a step of a gateway
+stepped_held : (w : World) (role : Role) (e : Effect) (note : Note) (steps : _) → HeldOfSent w → e.node.config ≡ (side_of w role).node.config → ((h : Held) → Among h e.node.held → Among h (side_of w role).node.held ⊎ IsOfSent w.history (other role) (side_of w (other role)).node.config.own h) → HeldOfSent (with_steps (noted (moved w role e) note) role steps)
+stepped_held w Serving e note steps held config now Serving h among = later w.history Serving (messages e.out.sent) Packet w.packet.node.config.own w.packet.node.config.own h refl (⊎_elim (λ was. held Serving h was) (λ is. is) (now h among))
+stepped_held w Serving e note steps held config now Packet h among = later w.history Serving (messages e.out.sent) Serving w.serving.node.config.own e.node.config.own h (ap (λ (c : Config). c.own) config) (held Packet h among)
+stepped_held w Packet e note steps held config now Packet h among = later w.history Packet (messages e.out.sent) Serving w.serving.node.config.own w.serving.node.config.own h refl (⊎_elim (λ was. held Packet h was) (λ is. is) (now h among))
+stepped_held w Packet e note steps held config now Serving h among = later w.history Packet (messages e.out.sent) Packet w.packet.node.config.own e.node.config.own h (ap (λ (c : Config). c.own) config) (held Serving h among)
+
+move_config : (old : Node) (move : Move) (e : Effect) → MoveStep old move e → e.node.config ≡ old.config
+move_config old (Resend number) e r = ap (λ (k : Effect). k.node.config) r.gives
+move_config old (Give_up number) e r = ap (λ (k : Effect). k.node.config) r.gives ∙ (Shrunk-finished old number r.at.pending.session r.at.pending.bearer).config
+move_config old (Forget request) e r = ap (λ (k : Effect). k.node.config) r.gives
+
+tick_config : (old : Node) (moves : List Move) (out : Out) (new : Node) → TickStep old moves out new → new.config ≡ old.config
+tick_config old [] out new t = ap (λ (k : Node). k.config) t.1
+tick_config old (move ∷ moves) out new (e, rest, step, others, is) = tick_config e.node moves rest new others ∙ move_config old move e step
+
+fault_held : (role : Role) (request : Arrival) (fault : ℕ) (old : Node) (e : Effect) → Step role old (Control_came request (Control_fault fault)) e → KeepsHeld old e
+fault_held Serving request fault old e (inl f) h among = subst (λ l. Among h l) (ap (λ (k : Effect). k.node.held) f.1) among
+fault_held Serving request fault old e (inr (peer, inl again)) h among = subst (λ l. Among h l) (ap (λ (k : Effect). k.node.held) again.gives) among
+fault_held Serving request fault old e (inr (peer, inr (new, is))) h among = subst (λ l. Among h l) (ap (λ (k : Effect). k.node.held) is) among
+fault_held Packet request fault old e (inl f) h among = subst (λ l. Among h l) (ap (λ (k : Effect). k.node.held) f.1) among
+fault_held Packet request fault old e (inr (peer, inl again)) h among = subst (λ l. Among h l) (ap (λ (k : Effect). k.node.held) again.gives) among
+fault_held Packet request fault old e (inr (peer, inr (new, is))) h among = subst (λ l. Among h l) (ap (λ (k : Effect). k.node.held) is) among
+
+commanded_held : (role : Role) (command : Command) (old : Node) (e : Effect) → Step role old (Commanded command) e → KeepsHeld old e
+commanded_held Serving command old e r h among = subst (λ l. Among h l) (command_held Serving command old e r) among
+commanded_held Packet command old e r h among = subst (λ l. Among h l) (command_held Packet command old e r) among
+
+user_came_held : (role : Role) (source : Endpoint) (reading : UserReading) (old : Node) (e : Effect) → Step role old (User_came source reading) e → KeepsHeld old e
+user_came_held Serving source reading old e r h among = subst (λ l. Among h l) (user_held Serving source reading old e r) among
+user_came_held Packet source reading old e r h among = subst (λ l. Among h l) (user_held Packet source reading old e r) among
+
+noted_held : (w : World) (note : Note) → HeldOfSent w → HeldOfSent (noted w note)
+noted_held w note held Serving = held Serving
+noted_held w note held Packet = held Packet
+
+late_held : (w : World) (role : Role) (a : Arrival) → HeldOfSent w → HeldOfSent (late_once w role a)
+late_held w Serving a held Serving = held Serving
+late_held w Serving a held Packet = held Packet
+late_held w Packet a held Serving = held Serving
+late_held w Packet a held Packet = held Packet
+
+restarted_held : (w : World) (role : Role) (note : Note) → HeldOfSent w → HeldOfSent (with_steps (noted (with_side w role (restarted (side_of w role))) note) role [])
+restarted_held w Serving note held Serving h none = absurd none
+restarted_held w Serving note held Packet h among = held Packet h among
+restarted_held w Packet note held Serving h among = held Serving h among
+restarted_held w Packet note held Packet h none = absurd none
+
+module _ (own : Addresses) where
+  -- a step in which nothing, or what came, is held
+  moves_held : (w : World) → run.Invariant own w → HeldOfSent w → (role : Role) (input : Input) (new : World) (m : Moves w role input new) → Carried role w.history (side_of w role).node input → ((h : Held) → Among h m.effect.node.held → Among h (side_of w role).node.held ⊎ IsOfSent w.history (other role) (side_of w (other role)).node.config.own h) → HeldOfSent new
+  moves_held w inv held role input new m carried now = subst HeldOfSent (sym m.becomes) (stepped_held w role m.effect _ _ held (run.config_stays own w inv role input m.effect carried m.step) now)
+
+  -- a datagram comes
+  brought : (w : World) → run.Invariant own w → HeldOfSent w → (role : Role) (p : Plane) (m : Message) → HasSent w.history (other role) m → (new : World) → Carried role w.history (side_of w role).node (delivered_on p (side_of w (other role)).node.config.own m) → Moves w role (delivered_on p (side_of w (other role)).node.config.own m) new → HeldOfSent new
+  brought w inv held role Control m sent new carried d = moves_held w inv held role _ new d carried (λ h among. ⊎_elim (λ was. inl was) (λ is. inr (record { message = m; sent = sent; is = is })) (control_held role _ (Control_message m) (side_of w role).node d.effect d.step h among))
+  brought w inv held role User m sent new carried d = moves_held w inv held role _ new d carried (λ h among. inl (user_came_held role _ (User_message m) (side_of w role).node d.effect d.step h among))
+
+  cut_held : (w : World) → run.Invariant own w → HeldOfSent w → (role : Role) (p : Plane) (from : Addresses) (m : Message) (count : ℕ) (new : World) → Moves w role (cut_on p from m count) new → HeldOfSent new
+  cut_held w inv held role Control from m count new d = moves_held w inv held role _ new d tt (λ h among. inl (fault_held role _ (cut_fault count) (side_of w role).node d.effect d.step h among))
+  cut_held w inv held role User from m count new d = moves_held w inv held role _ new d tt (λ h among. inl (user_came_held role (user_end from.user) (User_fault (user_cut_fault count)) (side_of w role).node d.effect d.step h among))
+
+  -- a datagram that its sender sent comes, on time or late
+  to_serving : (w : World) → run.Invariant own w → HeldOfSent w → (m : Message) → HasSent w.history Packet m → (new : World) → Delivers w Packet m new → HeldOfSent new
+  to_serving w inv held m sent new (inl d) = brought w inv held Serving (plane_of m) m sent new (run.serving_carried own w inv (plane_of m) m sent) d.1
+  to_serving w inv held m sent new (inr d) =
+      let a = arrival w.packet.node.config.own m in
+      let late = run.late_keeps own w inv Serving a in
+      brought (late_once w Serving a) late (late_held w Serving a held) Serving (plane_of m) m sent new (run.serving_carried own (late_once w Serving a) late (plane_of m) m sent) d.1
+
+  to_packet : (w : World) → run.Invariant own w → HeldOfSent w → (m : Message) → HasSent w.history Serving m → (new : World) → Delivers w Serving m new → HeldOfSent new
+  to_packet w inv held m sent new (inl d) = brought w inv held Packet (plane_of m) m sent new (run.packet_carried own w inv (plane_of m) m sent) d.1
+  to_packet w inv held m sent new (inr d) =
+      let a = arrival w.serving.node.config.own m in
+      let late = run.late_keeps own w inv Packet a in
+      brought (late_once w Packet a) late (late_held w Packet a held) Packet (plane_of m) m sent new (run.packet_carried own (late_once w Packet a) late (plane_of m) m sent) d.1
+
+  delivers : (w : World) → run.Invariant own w → HeldOfSent w → (sender : Role) (m : Message) → HasSent w.history sender m → (new : World) → Delivers w sender m new → HeldOfSent new
+  delivers w inv held Packet m sent new d = to_serving w inv held m sent new d
+  delivers w inv held Serving m sent new d = to_packet w inv held m sent new d
+
+  happens : (w : World) → run.Invariant own w → HeldOfSent w → (event : Event) (new : World) → Happens w event new → HeldOfSent new
+  happens w inv held (Does role command) new m = moves_held w inv held role (Commanded command) new m tt (λ h among. inl (commanded_held role command (side_of w role).node m.effect m.step h among))
+  happens w inv held (Tick role) new t = subst HeldOfSent (sym t.becomes) (stepped_held w role (ticked t.out t.after) _ _ held (tick_config (side_of w role).node t.moves t.out t.after t.tick) (λ h among. inl (tick_held (side_of w role).node t.moves t.out t.after t.tick h among)))
+  happens w inv held (Deliver number) new (inl none) = subst HeldOfSent (sym none.1) (noted_held w (quiet_note No_such_datagram) held)
+  happens w inv held (Deliver number) new (inr (found, d)) = delivers w inv held found.sent.role found.sent.what (run.found_sent own w.history number found.sent found.is) new d
+  happens w inv held (Cut number count) new (inl none) = subst HeldOfSent (sym none.1) (noted_held w (quiet_note No_such_datagram) held)
+  happens w inv held (Cut number count) new (inr (found, inl long)) = subst HeldOfSent (sym long.1) (noted_held w (quiet_note Cut_too_long) held)
+  happens w inv held (Cut number count) new (inr (found, inr (short, c))) = cut_held w inv held (other found.sent.role) (plane_of found.sent.what) _ found.sent.what count new c
+  happens w inv held (Restart role) new (inl used) = subst HeldOfSent (sym used.1) (noted_held w (quiet_note Restarts_used) held)
+  happens w inv held (Restart role) new (inr (few, is)) = subst HeldOfSent (sym is) (restarted_held w role _ held)
+
+  goes_on : (w : World) → run.Invariant own w → HeldOfSent w → (events : List Event) (new : World) → Run w events new → HeldOfSent new
+  goes_on w inv held [] new is = subst HeldOfSent (sym is) held
+  goes_on w inv held (event ∷ events) new r = goes_on r.0 (run.happens own w inv event r.0 r.1) (happens w inv held event r.0 r.1) events new r.2
+
+-- in each run
+pub always_held : (serving packet : Config) (serving_counter packet_counter : ℕ) (events : List Event) (w : World) → Run (start serving packet serving_counter packet_counter) events w → HeldOfSent w
+always_held serving packet serving_counter packet_counter events w r = goes_on packet.own (start serving packet serving_counter packet_counter) (run.begins serving packet serving_counter packet_counter) none events w r
+  where
+    none : HeldOfSent (start serving packet serving_counter packet_counter)
+    none Serving h among = absurd among
+    none Packet h among = absurd among

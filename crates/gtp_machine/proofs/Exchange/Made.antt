@@ -1,0 +1,355 @@
+-- The command, the delivery of its request and the delivery of its answer make the session.
+use Rattle.std.proofs.Common.{◌≡◌, ◌≢◌, inl, inr, ℕ, ◌+◌, ◌<◌, ◌≤◌, ◌==◌, length, List, [], ◌∷◌, ◌++◌, Option, Some, Bool, true, false, if◌then◌else◌, slice_get, refl, sym, ◌∙◌, ap, subst, arith}
+use Rattle.std.specs.FinMap.{get}
+use Rattle.gtp_values.specs.Counter.{age_of}
+use Rattle.gtp_values.specs.FiniteMap.{Among}
+use Rattle.gtp_values.specs.declared.address.Endpoint.{Endpoint}
+use Rattle.gtp_values.specs.declared.counter.Age.TheVariants.{Earlier}
+use Rattle.gtp_machine.specs.Config.{Addresses, Config, user_end}
+use Rattle.gtp_machine.specs.Element.{IsAccepting, cause_of, tunnel_end}
+use Rattle.gtp_machine.specs.Message.{CreateSessionRequest, CreateSessionResponse, Message, Create_session_request, Create_session_response, Packet_data, plane_of}
+use Rattle.gtp_machine.specs.Node.{Role, Serving, Packet, Active, Session, Bearer, Arrival, Node, holding, written}
+use Rattle.gtp_machine.specs.Input.{Specification, Create_session, Send_user, Input, Commanded, Control_came, User_came, Control_message, User_message, Accepted, Effect, messages}
+use Rattle.gtp_machine.specs.Choice.{IsFree}
+use Rattle.gtp_machine.specs.Command.{BeginsSession, MayGo, PacketSent, asks, session_request, session_begun, pending_session, pending_bearer}
+use Rattle.gtp_machine.specs.User.{MayCome, UserStep}
+use Rattle.gtp_machine.specs.Answer.{IsNew}
+use Rattle.gtp_machine.specs.Serving.{opened_session, opened_bearer}
+use Rattle.gtp_machine.specs.Packet.{session_cause, session_response, session_made, made_session, made_bearer}
+use Rattle.gtp_machine.specs.Spelling.{IsSendable}
+use Rattle.gtp_machine.specs.Step.{Step}
+use Rattle.gtp_machine.specs.World.{World, Sent, HasSent, Side, Event, Does, Deliver, Happens, Delivers, Moves, Run, Came_to, other, side_of, signed, late_once, arrival, delivered_on, start}
+use Rattle.gtp_machine.specs.Exchange.{CanExchange, CameTo, Carries, IsMade, Exchanged, FairExchange}
+use Rattle.gtp_machine.proofs.Basics.Ages.{earlier_start}
+use Rattle.gtp_machine.proofs.Basics.FiniteMaps.{get-insert_same}
+use Rattle.gtp_machine.proofs.Origins.Drawing.{Drawing, unowned}
+use Rattle.gtp_machine.proofs.Octets.Spelled.{spelled_apart}
+use Rattle.gtp_machine.proofs.Worlds.Hearing.{Hearing}
+use Rattle.gtp_machine.proofs.Worlds.Runs.{Invariant, always}
+use Rattle.gtp_machine.proofs.Exchange.Held.{HeldOfSent, always_held}
+use Rattle.gtp_machine.proofs.Exchange.Nodes.{pass, begins, CanMake, IsAnswered, answers, opening, waiting_for, Waits, OpensBy, IsOpened, is_opened_by, same_in}
+
+-- the last of a list
+at_end : {X : Type 0} (xs : List X) (x : X) → slice_get (xs ++ (x ∷ [])) (length xs) ≡ Some x
+at_end [] x = refl
+at_end (y ∷ xs) x = at_end xs x
+
+one_longer : {X : Type 0} (xs : List X) (x : X) → 1 + length xs ≡ length (xs ++ (x ∷ []))
+one_longer [] x = refl
+one_longer (y ∷ xs) x = omega (arith, one_longer xs x)
+
+-- what an event of one gateway does with the world
+record IsMoved (old : World) (role : Role) (e : Effect) (new : World) : Type 0 where
+  pub node : (side_of new role).node ≡ e.node
+  pub elsewhere : (side_of new (other role)).node ≡ (side_of old (other role)).node
+  pub history : new.history ≡ old.history ++ signed role (messages e.out.sent)
+  pub note : CameTo new (Came_to e.outcome)
+
+moved_is : (old : World) (role : Role) (input : Input) (new : World) (m : Moves old role input new) → IsMoved old role m.effect new
+moved_is old Serving input new m = record { node = ap (λ (w : World). w.serving.node) m.becomes; elsewhere = ap (λ (w : World). w.packet.node) m.becomes; history = ap (λ (w : World). w.history) m.becomes; note = record { note = _; before = _; notes = ap (λ (w : World). w.notes) m.becomes; is = refl } }
+moved_is old Packet input new m = record { node = ap (λ (w : World). w.packet.node) m.becomes; elsewhere = ap (λ (w : World). w.serving.node) m.becomes; history = ap (λ (w : World). w.history) m.becomes; note = record { note = _; before = _; notes = ap (λ (w : World). w.notes) m.becomes; is = refl } }
+
+-- a delivery, on time or late
+record IsBrought (old : World) (sender : Role) (m : Message) (new : World) : Type 0 where
+  pub before : World
+  pub serving : before.serving.node ≡ old.serving.node
+  pub packet : before.packet.node ≡ old.packet.node
+  pub history : before.history ≡ old.history
+  pub moves : Moves before (other sender) (delivered_on (plane_of m) (side_of old sender).node.config.own m) new
+
+delivered_is : (old : World) (sender : Role) (m : Message) (new : World) → Delivers old sender m new → IsBrought old sender m new
+delivered_is old sender m new (inl d) = record { before = old; serving = refl; packet = refl; history = refl; moves = d.1 }
+delivered_is old Serving m new (inr d) = record { before = late_once old Packet (arrival old.serving.node.config.own m); serving = refl; packet = refl; history = refl; moves = d.1 }
+delivered_is old Packet m new (inr d) = record { before = late_once old Serving (arrival old.packet.node.config.own m); serving = refl; packet = refl; history = refl; moves = d.1 }
+
+brought : (old : World) (sender : Role) (m : Message) (number : ℕ) (new : World) → slice_get old.history number ≡ Some (record { role = sender; what = m }) → Happens old (Deliver number) new → IsBrought old sender m new
+brought old sender m number new stands h =
+    let found = pass (record { sent = record { role = sender; what = m }; is = stands }) h in
+    delivered_is old sender m new (subst (λ (s : Sent). Delivers old s.role s.what new) (same_in found.0.sent (record { role = sender; what = m }) (sym found.0.is ∙ stands)) found.1)
+
+-- the counter that a gateway tells is not earlier than one that was heard of it
+not_earlier : (peer : Side) (role : Role) (history : List Sent) (known : Option ℕ) (seen : List ℕ) (counter : ℕ) → Drawing peer role history → Hearing peer known seen → counter ≡ peer.node.counter → (k : ℕ) → known ≡ Some k → age_of k counter ≢ Earlier
+not_earlier peer role history known seen counter draws hearing same k is early =
+    let l = hearing.latest k is in
+    let before = earlier_start peer.first l.start peer.restarts k counter (omega (arith, l.by_now, draws.few)) draws.few l.is (same ∙ draws.counter) early in
+    omega (arith, before, l.by_now)
+
+accepts_cause : (pdn : ℕ) → IsAccepting (cause_of (session_cause pdn))
+accepts_cause pdn = by (pdn == 3)
+  where
+    by : (b : Bool) → IsAccepting (cause_of (if b then 18 else 16))
+    by true = record { low = omega arith; high = omega arith }
+    by false = record { low = omega arith; high = omega arith }
+
+sent_so : (role : Role) (bearer : ℕ) (payload : List ℕ) (node : Node) (e : Effect) (b : Bearer) (there : ℕ) → get node.bearers bearer ≡ Some b → b.state ≡ Active → b.ended ≡ false → b.remote ≡ Some there → length payload ≤ 65000 → Step role node (Commanded (Send_user bearer payload)) e → messages e.out.sent ≡ Packet_data there payload ∷ []
+sent_so role bearer payload node e b there stands active unended remote short step = by (as_command role step)
+  where
+    as_command : (role : Role) → Step role node (Commanded (Send_user bearer payload)) e → PacketSent role bearer payload node e
+    as_command Serving step = step
+    as_command Packet step = step
+
+    may_go : (role : Role) → MayGo role b
+    may_go Serving = tt
+    may_go Packet = unended
+
+    by : PacketSent role bearer payload node e → messages e.out.sent ≡ Packet_data there payload ∷ []
+    by r =
+        let at = pass (record { bearer = b; stands = stands }) r in
+        let same : b ≡ at.0.bearer = same_in b at.0.bearer (sym stands ∙ at.0.stands) in
+        let sends = (pass short (pass (subst (λ k. MayGo role k) same (may_go role)) (pass (ap (λ (k : Bearer). k.state) (sym same) ∙ active) at.1).1).1).1 in
+        ap (λ (f : Effect). messages f.out.sent) sends.gives ∙ ap (λ (k : Bearer). Packet_data (written k.remote) payload ∷ []) (sym same) ∙ ap (λ r. Packet_data (written r) payload ∷ []) remote
+
+taken_so : (role : Role) (source : Endpoint) (bearer : ℕ) (payload : List ℕ) (node : Node) (e : Effect) (b : Bearer) → source.ip ≡ node.config.peer.user → get node.bearers bearer ≡ Some b → b.state ≡ Active → b.ended ≡ false → Step role node (User_came source (User_message (Packet_data bearer payload))) e → e.outcome ≡ Accepted
+taken_so role source bearer payload node e b peer stands active unended step = by (as_user role step)
+  where
+    as_user : (role : Role) → Step role node (User_came source (User_message (Packet_data bearer payload))) e → UserStep role source (User_message (Packet_data bearer payload)) node e
+    as_user Serving step = step
+    as_user Packet step = step
+
+    may_come : (role : Role) → MayCome role b
+    may_come Serving = unended
+    may_come Packet = tt
+
+    by : UserStep role source (User_message (Packet_data bearer payload)) node e → e.outcome ≡ Accepted
+    by r =
+        let at = pass (record { bearer = b; stands = stands }) (pass peer r).1 in
+        let same : b ≡ at.0.bearer = same_in b at.0.bearer (sym stands ∙ at.0.stands) in
+        let takes = (pass (subst (λ k. MayCome role k) same (may_come role)) (pass (ap (λ (k : Bearer). k.state) (sym same) ∙ active) at.1).1).1 in
+        ap (λ (f : Effect). f.outcome) takes.gives
+
+-- a bearer that is ends at both ends carries packets
+record IsOpenBearer (w : World) (role : Role) (bearer there : ℕ) : Type 0 where
+  pub here : Bearer
+  pub stands : get (side_of w role).node.bearers bearer ≡ Some here
+  pub active : here.state ≡ Active
+  pub unended : here.ended ≡ false
+  pub remote : here.remote ≡ Some there
+  pub at : Bearer
+  pub stands_there : get (side_of w (other role)).node.bearers there ≡ Some at
+  pub active_there : at.state ≡ Active
+  pub unended_there : at.ended ≡ false
+  pub path : (side_of w (other role)).node.config.peer ≡ (side_of w role).node.config.own
+
+carries : (w : World) (role : Role) (bearer there : ℕ) → IsOpenBearer w role bearer there → Carries w role bearer
+carries w Serving bearer there ends payload sent came short h1 h2 =
+    let m1 : Moves w Serving (Commanded (Send_user bearer payload)) sent = h1 in
+    let f1 = moved_is w Serving _ sent m1 in
+    let says = sent_so Serving bearer payload w.serving.node m1.effect ends.here there ends.stands ends.active ends.unended ends.remote short m1.step in
+    let kept : sent.serving.node.config ≡ w.serving.node.config = kept_config bearer payload w.serving.node m1.effect ends.here ends.stands ends.active short m1.step f1.node in
+    let d = brought sent Serving (Packet_data there payload) (length w.history) came (ap (λ hs. slice_get hs (length w.history)) (f1.history ∙ ap (λ ms. w.history ++ signed Serving ms) says) ∙ at_end w.history _) h2 in
+    let same : d.before.packet.node ≡ w.packet.node = d.packet ∙ f1.elsewhere in
+    let f2 = moved_is d.before Packet _ came d.moves in
+    let takes = taken_so Packet (user_end sent.serving.node.config.own.user) there payload w.packet.node d.moves.effect ends.at (ap (λ (c : Config). c.own.user) kept ∙ ap (λ (a : Addresses). a.user) (sym ends.path)) ends.stands_there ends.active_there ends.unended_there (subst (λ n. Step Packet n (User_came (user_end sent.serving.node.config.own.user) (User_message (Packet_data there payload))) d.moves.effect) same d.moves.step) in
+    record { note = f2.note.note; before = f2.note.before; notes = f2.note.notes; is = f2.note.is ∙ ap (λ o. Came_to o) takes }
+  where
+    kept_config : (bearer : ℕ) (payload : List ℕ) (node : Node) (e : Effect) (b : Bearer) → get node.bearers bearer ≡ Some b → b.state ≡ Active → length payload ≤ 65000 → PacketSent Serving bearer payload node e → sent.serving.node ≡ e.node → sent.serving.node.config ≡ node.config
+    kept_config bearer payload node e b stands active short r is =
+        let at = pass (record { bearer = b; stands = stands }) r in
+        let same : b ≡ at.0.bearer = same_in b at.0.bearer (sym stands ∙ at.0.stands) in
+        let sends = (pass short (pass tt (pass (ap (λ (k : Bearer). k.state) (sym same) ∙ active) at.1).1).1).1 in
+        ap (λ (n : Node). n.config) (is ∙ ap (λ (f : Effect). f.node) sends.gives)
+carries w Packet bearer there ends payload sent came short h1 h2 =
+    let m1 : Moves w Packet (Commanded (Send_user bearer payload)) sent = h1 in
+    let f1 = moved_is w Packet _ sent m1 in
+    let says = sent_so Packet bearer payload w.packet.node m1.effect ends.here there ends.stands ends.active ends.unended ends.remote short m1.step in
+    let kept : sent.packet.node.config ≡ w.packet.node.config = kept_config bearer payload w.packet.node m1.effect ends.here ends.stands ends.active ends.unended short m1.step f1.node in
+    let d = brought sent Packet (Packet_data there payload) (length w.history) came (ap (λ hs. slice_get hs (length w.history)) (f1.history ∙ ap (λ ms. w.history ++ signed Packet ms) says) ∙ at_end w.history _) h2 in
+    let same : d.before.serving.node ≡ w.serving.node = d.serving ∙ f1.elsewhere in
+    let f2 = moved_is d.before Serving _ came d.moves in
+    let takes = taken_so Serving (user_end sent.packet.node.config.own.user) there payload w.serving.node d.moves.effect ends.at (ap (λ (c : Config). c.own.user) kept ∙ ap (λ (a : Addresses). a.user) (sym ends.path)) ends.stands_there ends.active_there ends.unended_there (subst (λ n. Step Serving n (User_came (user_end sent.packet.node.config.own.user) (User_message (Packet_data there payload))) d.moves.effect) same d.moves.step) in
+    record { note = f2.note.note; before = f2.note.before; notes = f2.note.notes; is = f2.note.is ∙ ap (λ o. Came_to o) takes }
+  where
+    kept_config : (bearer : ℕ) (payload : List ℕ) (node : Node) (e : Effect) (b : Bearer) → get node.bearers bearer ≡ Some b → b.state ≡ Active → b.ended ≡ false → length payload ≤ 65000 → PacketSent Packet bearer payload node e → sent.packet.node ≡ e.node → sent.packet.node.config ≡ node.config
+    kept_config bearer payload node e b stands active unended short r is =
+        let at = pass (record { bearer = b; stands = stands }) r in
+        let same : b ≡ at.0.bearer = same_in b at.0.bearer (sym stands ∙ at.0.stands) in
+        let sends = (pass short (pass (ap (λ (k : Bearer). k.ended) (sym same) ∙ unended) (pass (ap (λ (k : Bearer). k.state) (sym same) ∙ active) at.1).1).1).1 in
+        ap (λ (n : Node). n.config) (is ∙ ap (λ (f : Effect). f.node) sends.gives)
+
+module _ (serving packet : Config) (serving_counter packet_counter : ℕ) (events : List Event) (w begun answered opened : World) (spec : Specification) (r : Run (start serving packet serving_counter packet_counter) events w) (can : CanExchange w spec)
+    (h1 : Happens w (Does Serving (Create_session spec)) begun) (h2 : Happens begun (Deliver (length w.history)) answered) (h3 : Happens answered (Deliver (1 + length w.history)) opened) where
+  inv : Invariant packet.own w
+  inv = always serving packet serving_counter packet_counter events w r
+
+  held : HeldOfSent w
+  held = always_held serving packet serving_counter packet_counter events w r
+
+  -- the command
+  m1 : Moves w Serving (Commanded (Create_session spec)) begun
+  m1 = h1
+
+  abbrev r1 : BeginsSession w.serving.node spec m1.effect
+  r1 = begins w.serving.node spec m1.effect can.serving_room can.serving_draws can.pending_room m1.step
+
+  abbrev q : CreateSessionRequest
+  q = session_request w.serving.node spec r1.control r1.user r1.number
+
+  abbrev e1 : Effect
+  e1 = asks w.serving.node r1.number (waiting_for q) (Some r1.control) (session_begun w.serving.node r1.control r1.user q)
+
+  f1 : IsMoved w Serving m1.effect begun
+  f1 = moved_is w Serving _ begun m1
+
+  begun_node : begun.serving.node ≡ e1.node
+  begun_node = f1.node ∙ ap (λ (f : Effect). f.node) r1.gives
+
+  begun_history : begun.history ≡ w.history ++ signed Serving (Create_session_request q ∷ [])
+  begun_history = f1.history ∙ ap (λ (f : Effect). w.history ++ signed Serving (messages f.out.sent)) r1.gives
+
+  request_sendable : IsSendable (Create_session_request q)
+  request_sendable = can.sendable.request r1.control r1.user r1.number r1.control_free r1.user_free r1.number_free
+
+  -- the request comes
+  d2 : IsBrought begun Serving (Create_session_request q) answered
+  d2 = brought begun Serving (Create_session_request q) (length w.history) answered (ap (λ hs. slice_get hs (length w.history)) begun_history ∙ at_end w.history _) h2
+
+  abbrev asked : Arrival
+  asked = arrival begun.serving.node.config.own (Create_session_request q)
+
+  same2 : d2.before.packet.node ≡ w.packet.node
+  same2 = d2.packet ∙ f1.elsewhere
+
+  serving_own : begun.serving.node.config.own ≡ w.serving.node.config.own
+  serving_own = ap (λ (n : Node). n.config.own) begun_node
+
+  new2 : IsNew w.packet.node asked
+  new2 h among same =
+      let s = held Packet h among in
+      let octets : arrival w.serving.node.config.own s.message ≡ asked = sym s.is ∙ same in
+      let message = spelled_apart s.message (Create_session_request q) (can.sendable.each Serving s.message s.sent) request_sendable (ap (λ (a : Arrival). a.octets) octets) in
+      unowned w.serving Serving w.history inv.serving.draws (Create_session_request q) r1.control (subst (λ m. HasSent w.history Serving m) message s.sent) (inl refl) r1.control_free
+
+  can_make : CanMake w.packet.node q
+  can_make = record { room = can.held_room; one = refl; identity = can.identity; configured = can.configured; pdn = can.pdn; few = can.packet_room; draws = can.packet_draws; address = can.address }
+
+  a2 : IsAnswered asked q w.packet.node d2.moves.effect
+  a2 = answers asked q w.serving.node.counter w.packet.node d2.moves.effect (ap (λ (k : Addresses). k.control) (serving_own ∙ sym can.path.back)) new2 refl (not_earlier w.serving Serving w.history w.packet.node.known w.packet.seen w.serving.node.counter inv.serving.draws inv.packet.hearing refl) can_make (subst (λ n. Step Packet n (Control_came asked (Control_message (Create_session_request q))) d2.moves.effect) same2 d2.moves.step)
+
+  abbrev a : CreateSessionResponse
+  a = session_response a2.mid q a2.made.control a2.made.user a2.made.address
+
+  abbrev made_node : Node
+  made_node = holding asked (Create_session_response a) (session_made a2.mid q a2.made.control a2.made.user a2.made.address)
+
+  f2 : IsMoved d2.before Packet d2.moves.effect answered
+  f2 = moved_is d2.before Packet _ answered d2.moves
+
+  answered_node : answered.packet.node ≡ made_node
+  answered_node = f2.node ∙ a2.node ∙ ap (λ (f : Effect). f.node) a2.made.gives
+
+  answered_history : answered.history ≡ (w.history ++ signed Serving (Create_session_request q ∷ [])) ++ signed Packet (Create_session_response a ∷ [])
+  answered_history = f2.history ∙ (λ i. (d2.history ∙ begun_history) i ++ signed Packet ((a2.sent ∙ ap (λ (f : Effect). messages f.out.sent) a2.made.gives) i))
+
+  -- the answer comes
+  d3 : IsBrought answered Packet (Create_session_response a) opened
+  d3 = brought answered Packet (Create_session_response a) (1 + length w.history) opened
+      (ap (λ n. slice_get answered.history n) (one_longer w.history _) ∙ ap (λ hs. slice_get hs (length (w.history ++ signed Serving (Create_session_request q ∷ [])))) answered_history ∙ at_end (w.history ++ signed Serving (Create_session_request q ∷ [])) _)
+      h3
+
+  abbrev told : Arrival
+  told = arrival answered.packet.node.config.own (Create_session_response a)
+
+  same3 : d3.before.serving.node ≡ e1.node
+  same3 = d3.serving ∙ f2.elsewhere ∙ d2.serving ∙ begun_node
+
+  packet_own : answered.packet.node.config.own ≡ w.packet.node.config.own
+  packet_own = ap (λ (n : Node). n.config.own) answered_node ∙ ap (λ (c : Config). c.own) a2.ready.config
+
+  free_before : (t : ℕ) → IsFree a2.mid t → IsFree w.packet.node t
+  free_before t free = record { counted = free.counted ∙ a2.ready.counter; numbered = free.numbered; undrawn = subst (λ l. Among t l → ⊥) a2.ready.drawn free.undrawn }
+
+  answer_is : session_response w.packet.node q a2.made.control a2.made.user (w.packet.node.config.pool_start + a2.made.address_free.place) ≡ a
+  answer_is = (λ i. session_response (record w.packet.node { config = sym a2.ready.config i; counter = sym a2.ready.counter i }) q a2.made.control a2.made.user ((ap (λ (c : Config). c.pool_start + a2.made.address_free.place) (sym a2.ready.config) ∙ sym a2.made.address_free.is) i))
+
+  answer_sendable : IsSendable (Create_session_response a)
+  answer_sendable = subst (λ x. IsSendable (Create_session_response x)) answer_is (can.sendable.answer q a2.made.control a2.made.user a2.made.address_free.place (free_before a2.made.control a2.made.control_free) (free_before a2.made.user a2.made.user_free) (subst (λ (c : Config). a2.made.address_free.place < c.pool_count) a2.ready.config a2.made.address_free.in_pool) request_sendable)
+
+  new3 : IsNew e1.node told
+  new3 h among same =
+      let s = held Serving h among in
+      let octets : arrival w.packet.node.config.own s.message ≡ told = sym s.is ∙ same in
+      let message = spelled_apart s.message (Create_session_response a) (can.sendable.each Packet s.message s.sent) answer_sendable (ap (λ (k : Arrival). k.octets) octets) in
+      unowned w.packet Packet w.history inv.packet.draws (Create_session_response a) a2.made.control (subst (λ m. HasSent w.history Packet m) message s.sent) (inl refl) (free_before a2.made.control a2.made.control_free)
+
+  waits : Waits e1.node q
+  waits = record { request = get-insert_same w.serving.node.pending r1.number (waiting_for q); session = get-insert_same w.serving.node.sessions r1.control (pending_session q); bearer = get-insert_same w.serving.node.bearers r1.user (pending_bearer r1.control q) }
+
+  opens_by : OpensBy a q a2.made.address
+  opens_by = record { number = refl; header = refl; accepts = accepts_cause spec.pdn; context = record { identity = q.context.identity; cause = cause_of 16; user = Some (tunnel_end 5 a2.made.user a2.mid.config.own.user); qos = Some q.context.qos; charging = Some a2.made.user }; alone = refl; default = refl; both = record { low = omega arith; high = omega arith }; given = refl }
+
+  o3 : IsOpened a q a2.made.address e1.node d3.moves.effect
+  o3 = is_opened_by told a q a2.made.address a2.mid.counter e1.node d3.moves.effect (ap (λ (k : Addresses). k.control) (packet_own ∙ sym can.path.there)) new3 refl (not_earlier w.packet Packet w.history w.serving.node.known w.serving.seen a2.mid.counter inv.packet.draws inv.serving.hearing a2.ready.counter) waits opens_by (subst (λ n. Step Serving n (Control_came told (Control_message (Create_session_response a))) d3.moves.effect) same3 d3.moves.step)
+
+  f3 : IsMoved d3.before Serving d3.moves.effect opened
+  f3 = moved_is d3.before Serving _ opened d3.moves
+
+  opened_node : opened.serving.node ≡ (opening a q o3.mid a2.made.address).node
+  opened_node = f3.node ∙ o3.node
+
+  packet_node : opened.packet.node ≡ made_node
+  packet_node = f3.elsewhere ∙ d3.packet ∙ answered_node
+
+  abbrev at_serving : Session
+  at_serving = opened_session (pending_session q) a a2.made.address
+
+  abbrev at_packet : Session
+  at_packet = made_session q a2.made.address
+
+  abbrev bearer_at_serving : Bearer
+  bearer_at_serving = opened_bearer (pending_bearer r1.control q) a
+
+  abbrev bearer_at_packet : Bearer
+  bearer_at_packet = made_bearer q a2.made.control
+
+  session_stands : get opened.serving.node.sessions r1.control ≡ Some at_serving
+  session_stands = ap (λ (n : Node). get n.sessions r1.control) opened_node ∙ get-insert_same o3.mid.sessions r1.control at_serving
+
+  bearer_stands : get opened.serving.node.bearers r1.user ≡ Some bearer_at_serving
+  bearer_stands = ap (λ (n : Node). get n.bearers r1.user) opened_node ∙ get-insert_same o3.mid.bearers r1.user bearer_at_serving
+
+  session_stands_there : get opened.packet.node.sessions a2.made.control ≡ Some at_packet
+  session_stands_there = ap (λ (n : Node). get n.sessions a2.made.control) packet_node ∙ get-insert_same a2.mid.sessions a2.made.control at_packet
+
+  bearer_stands_there : get opened.packet.node.bearers a2.made.user ≡ Some bearer_at_packet
+  bearer_stands_there = ap (λ (n : Node). get n.bearers a2.made.user) packet_node ∙ get-insert_same a2.mid.bearers a2.made.user bearer_at_packet
+
+  serving_config : opened.serving.node.config ≡ w.serving.node.config
+  serving_config = ap (λ (n : Node). n.config) opened_node ∙ o3.ready.config
+
+  packet_config : opened.packet.node.config ≡ w.packet.node.config
+  packet_config = ap (λ (n : Node). n.config) packet_node ∙ a2.ready.config
+
+  made : IsMade opened spec
+  made = record {
+    session = r1.control;
+    session_there = a2.made.control;
+    at_serving = at_serving;
+    at_packet = at_packet;
+    sessions = record { serving = session_stands; packet = session_stands_there; serving_active = refl; packet_active = refl; there = refl; back = refl };
+    subscriber = refl;
+    subscriber_there = refl;
+    bearer = r1.user;
+    bearer_there = a2.made.user;
+    bearer_at_serving = bearer_at_serving;
+    bearer_at_packet = bearer_at_packet;
+    bearers = record { serving = bearer_stands; packet = bearer_stands_there; serving_active = refl; packet_active = refl; there = refl; back = refl };
+    default = refl;
+    default_there = refl;
+    of = refl;
+    of_there = refl;
+    identity = refl;
+    up = carries opened Serving r1.user a2.made.user (record { here = bearer_at_serving; stands = bearer_stands; active = refl; unended = refl; remote = refl; at = bearer_at_packet; stands_there = bearer_stands_there; active_there = refl; unended_there = refl; path = ap (λ (c : Config). c.peer) packet_config ∙ can.path.back ∙ ap (λ (c : Config). c.own) (sym serving_config) });
+    down = carries opened Packet a2.made.user r1.user (record { here = bearer_at_packet; stands = bearer_stands_there; active = refl; unended = refl; remote = refl; at = bearer_at_serving; stands_there = bearer_stands; active_there = refl; unended_there = refl; path = ap (λ (c : Config). c.peer) serving_config ∙ can.path.there ∙ ap (λ (c : Config). c.own) (sym packet_config) });
+  }
+
+  exchanged : Exchanged spec begun answered opened
+  exchanged = record {
+    own = r1.control;
+    first = record { note = f1.note.note; before = f1.note.before; notes = f1.note.notes; is = f1.note.is ∙ ap (λ (f : Effect). Came_to f.outcome) r1.gives };
+    second = record { note = f2.note.note; before = f2.note.before; notes = f2.note.notes; is = f2.note.is ∙ ap (λ o. Came_to o) (a2.outcome ∙ ap (λ (f : Effect). f.outcome) a2.made.gives) };
+    third = record { note = f3.note.note; before = f3.note.before; notes = f3.note.notes; is = f3.note.is ∙ ap (λ o. Came_to o) o3.outcome };
+    made = made;
+  }
+
+pub fair_exchange : FairExchange
+fair_exchange serving packet sc pc events w begun answered opened spec r can h1 h2 h3 = exchanged serving packet sc pc events w begun answered opened spec r can h1 h2 h3

@@ -1,0 +1,226 @@
+-- What the rows of each gateway give where nothing stands in the way.
+use Rattle.std.proofs.Common.{◌≡◌, ◌≢◌, ◌⊎◌, inl, inr, ℕ, ◌+◌, ◌<◌, ◌≤◌, length, List, [], ◌∷◌, Option, Some, None, false, not, ◌||◌, refl, sym, ◌∙◌, ap, subst, arith}
+use Rattle.std.specs.FinMap.{get, insert, remove, len}
+use Rattle.gtp_values.specs.Counter.{age_of}
+use Rattle.gtp_values.specs.FiniteMap.{Among}
+use Rattle.gtp_values.specs.declared.counter.Age.{Age}
+use Rattle.gtp_values.specs.declared.counter.Age.TheVariants.{Same, Later, Earlier}
+use Rattle.gtp_machine.specs.Ordered.{Unless}
+use Rattle.gtp_machine.specs.Config.{Config}
+use Rattle.gtp_machine.specs.Element.{IsAccepting, Ipv4}
+use Rattle.gtp_machine.specs.Message.{CreateSessionRequest, CreatedBearer, CreateSessionResponse, Create_session_request, Create_session_response}
+use Rattle.gtp_machine.specs.Node.{Serving, Packet, State, Pending, Session, Bearer, PendingRequest, Arrival, Held, Node}
+use Rattle.gtp_machine.specs.Input.{Specification, Control_came, Control_message, Opened, Effect, nothing, messages}
+use Rattle.gtp_machine.specs.Choice.{HasDraws, IsFreeAddress, HasFreeAddress, IsIdentity, HasSessionRoom, HasPendingRoom, HasHeldRoom}
+use Rattle.gtp_machine.specs.Removal.{on, is_pending, is_opened}
+use Rattle.gtp_machine.specs.Recovery.{peer_restarted, Judges, Weighs, learned_by, Hears}
+use Rattle.gtp_machine.specs.Command.{BeginsSession, SessionBegun, pending_session, pending_bearer}
+use Rattle.gtp_machine.specs.Answer.{IsNew}
+use Rattle.gtp_machine.specs.Serving.{opened_session, opened_bearer, SessionAnswered, ServingTakes}
+use Rattle.gtp_machine.specs.Packet.{MakesSession, SessionAsked, PacketTakes}
+use Rattle.gtp_machine.specs.Step.{Step}
+use Rattle.gtp_machine.proofs.Basics.Counting.{len-kept_most}
+use Rattle.gtp_machine.proofs.Basics.FiniteMaps.{found-kept, get-kept}
+
+pub same_in : {X : Type 0} (x y : X) → Some x ≡ Some y → x ≡ y
+same_in x y e = cc e
+
+-- a rule whose condition holds
+pub pass : {P X : Type 0} {Y : P → Type 0} → P → Unless P X Y → (p : P) × Y p
+pass p (inl f) = absurd (f.0 p)
+pass p (inr r) = r
+
+pub begins : (old : Node) (spec : Specification) (e : Effect) → HasSessionRoom old → HasDraws old 2 → HasPendingRoom old → SessionBegun Serving spec old e → BeginsSession old spec e
+begins old spec e room draws few r = (pass few (pass draws (pass room r).1).1).1
+
+-- a gateway once a counter was heard: what is pending is there
+pub record IsReady (old mid : Node) : Type 0 where
+  pub config : mid.config ≡ old.config
+  pub counter : mid.counter ≡ old.counter
+  pub drawn : mid.drawn ≡ old.drawn
+  pub held : mid.held ≡ old.held
+  pub few : len mid.sessions ≤ len old.sessions
+  pub sessions : (t : ℕ) (s : Session) → get mid.sessions t ≡ Some s → get old.sessions t ≡ Some s
+  pub waiting : (t : ℕ) (s : Session) → get old.sessions t ≡ Some s → s.state ≡ Pending → get mid.sessions t ≡ Some s
+  pub bearers : (t : ℕ) (b : Bearer) (s : Session) → get old.bearers t ≡ Some b → get old.sessions b.session ≡ Some s → s.state ≡ Pending → get mid.bearers t ≡ Some b
+  pub pending : (number : ℕ) (p : PendingRequest) (t : ℕ) (s : Session) → get old.pending number ≡ Some p → p.session ≡ Some t → p.bearer ≡ None → get old.sessions t ≡ Some s → s.state ≡ Pending → get mid.pending number ≡ Some p
+
+ready_known : (old : Node) (known : Option ℕ) → IsReady old (record old { known = known })
+ready_known old known = record { config = refl; counter = refl; drawn = refl; held = refl; few = omega arith; sessions = λ t s e. e; waiting = λ t s e w. e; bearers = λ t b s e at w. e; pending = λ n p t s e about none at w. e }
+
+ready_itself : (old : Node) → IsReady old old
+ready_itself old = record { config = refl; counter = refl; drawn = refl; held = refl; few = omega arith; sessions = λ t s e. e; waiting = λ t s e w. e; bearers = λ t b s e at w. e; pending = λ n p t s e about none at w. e }
+
+-- a session that stands there and is pending was not opened
+unopened : (there : Option Session) (s : Session) → there ≡ Some s → s.state ≡ Pending → is_opened there ≡ false
+unopened there s is waits = ap is_opened is ∙ ap (λ (state : State). not (is_pending state)) waits
+
+ready_restarted : (old : Node) (counter : ℕ) → IsReady old (peer_restarted old counter)
+ready_restarted old counter = record {
+  config = refl;
+  counter = refl;
+  drawn = refl;
+  held = refl;
+  few = len-kept_most (λ t (s : Session). not (is_opened (get old.sessions t))) old.sessions;
+  sessions = λ t s e. (found-kept (λ k (x : Session). not (is_opened (get old.sessions k))) old.sessions t s e).1;
+  waiting = λ t s e w. get-kept (λ k (x : Session). not (is_opened (get old.sessions k))) old.sessions t s e (ap not (unopened (get old.sessions t) s e w));
+  bearers = λ t b s e at w. get-kept (λ k (x : Bearer). not (false || is_opened (get old.sessions x.session))) old.bearers t b e (ap not (unopened (get old.sessions b.session) s at w));
+  pending = λ n p t s e about none at w. get-kept (λ k (x : PendingRequest). not (on (λ m. is_opened (get old.sessions m)) x.session || on (λ m. false) x.bearer)) old.pending n p e
+      ((λ i. not (on (λ m. is_opened (get old.sessions m)) (about i) || on (λ m. false) (none i))) ∙ ap (λ b. not (b || false)) (unopened (get old.sessions t) s at w));
+}
+
+-- what a message gives once its counter was heard, which is not an earlier one
+pub record IsHeard (Takes : Node → Effect → Type 0) (old : Node) (counter : ℕ) (e : Effect) : Type 0 where
+  pub mid : Node
+  pub ready : IsReady old mid
+  pub taken : Effect
+  pub takes : Takes mid taken
+  pub is : e ≡ record taken { out = record taken.out { heard = Some counter; learned = learned_by old.known counter } }
+
+pub heard_so : (Takes : Node → Effect → Type 0) (old : Node) (counter : ℕ) (e : Effect) → ((k : ℕ) → old.known ≡ Some k → age_of k counter ≢ Earlier) → Hears Takes old (Some counter) e → IsHeard Takes old counter e
+heard_so Takes old counter e not_earlier (taken, weighs, is) = by_known old.known refl weighs
+  where
+    by_age : (k : ℕ) → old.known ≡ Some k → (age : Age) → age_of k counter ≡ age → Judges Takes old counter age taken → IsHeard Takes old counter e
+    by_age k known Same age takes = record { mid = old; ready = ready_itself old; taken = taken; takes = takes; is = is }
+    by_age k known Later age takes = record { mid = peer_restarted old counter; ready = ready_restarted old counter; taken = taken; takes = takes; is = is }
+    by_age k known Earlier age takes = absurd (not_earlier k known age)
+
+    by_known : (known : Option ℕ) → old.known ≡ known → Weighs Takes old counter known taken → IsHeard Takes old counter e
+    by_known None none takes = record { mid = record old { known = Some counter }; ready = ready_known old (Some counter); taken = taken; takes = takes; is = is }
+    by_known (Some k) some takes = by_age k some (age_of k counter) refl takes
+
+-- a Create Session Request that can be taken
+pub record CanMake (old : Node) (q : CreateSessionRequest) : Type 0 where
+  pub room : HasHeldRoom old
+  pub one : q.further ≡ []
+  pub identity : IsIdentity q.context.identity
+  pub configured : Among q.access_point old.config.access_points
+  pub pdn : (q.pdn ≡ 1) ⊎ (q.pdn ≡ 3)
+  pub few : HasSessionRoom old
+  pub draws : HasDraws old 2
+  pub address : HasFreeAddress old
+
+still_free : (old mid : Node) → IsReady old mid → (address : ℕ) → IsFreeAddress old address → IsFreeAddress mid address
+still_free old mid ready address free = record {
+  place = free.place;
+  in_pool = subst (λ n. free.place < n) (ap (λ (c : Config). c.pool_count) (sym ready.config)) free.in_pool;
+  is = free.is ∙ ap (λ (c : Config). c.pool_start + free.place) (sym ready.config);
+  unused = λ t s e. free.unused t s (ready.sessions t s e);
+}
+
+can_still : (old mid : Node) → IsReady old mid → (q : CreateSessionRequest) → CanMake old q → CanMake mid q
+can_still old mid ready q can = record {
+  room = record { few = subst (λ (l : List Held). length l < 4096) (sym ready.held) can.room.few };
+  one = can.one;
+  identity = can.identity;
+  configured = subst (λ (c : Config). Among q.access_point c.access_points) (sym ready.config) can.configured;
+  pdn = can.pdn;
+  few = record { few = omega (arith, ready.few, can.few.few) };
+  draws = record { left = subst (λ (l : List ℕ). length l + 2 ≤ 16777215) (sym ready.drawn) can.draws.left };
+  address = record { address = can.address.address; free = still_free old mid ready can.address.address can.address.free };
+}
+
+makes : (request : Arrival) (q : CreateSessionRequest) (old : Node) (e : Effect) → CanMake old q → SessionAsked request q old e → MakesSession request old q e
+makes request q old e can r = (pass can.address (pass (can.few, can.draws) (pass can.pdn (pass can.configured (pass can.identity (pass can.one (pass can.room r).1).1).1).1).1).1).1
+
+-- what the packet gateway makes of the request
+pub record IsAnswered (request : Arrival) (q : CreateSessionRequest) (old : Node) (e : Effect) : Type 0 where
+  pub mid : Node
+  pub ready : IsReady old mid
+  pub taken : Effect
+  pub made : MakesSession request mid q taken
+  pub node : e.node ≡ taken.node
+  pub sent : messages e.out.sent ≡ messages taken.out.sent
+  pub outcome : e.outcome ≡ taken.outcome
+
+pub answers : (request : Arrival) (q : CreateSessionRequest) (counter : ℕ) (old : Node) (e : Effect) → request.source.ip ≡ old.config.peer.control → IsNew old request → q.recovery ≡ Some counter → ((k : ℕ) → old.known ≡ Some k → age_of k counter ≢ Earlier) → CanMake old q → Step Packet old (Control_came request (Control_message (Create_session_request q))) e → IsAnswered request q old e
+answers request q counter old e peer new tells not_earlier can (inl f) = absurd (f.0 peer)
+answers request q counter old e peer new tells not_earlier can (inr (from, inl again)) = absurd (new again.held again.stands again.same)
+answers request q counter old e peer new tells not_earlier can (inr (from, inr (is_new, inl f))) = absurd (f.0 refl)
+answers request q counter old e peer new tells not_earlier can (inr (from, inr (is_new, inr (kind, hears)))) =
+    let h = heard_so (PacketTakes request (Create_session_request q)) old counter e not_earlier (subst (λ o. Hears (PacketTakes request (Create_session_request q)) old o e) tells hears) in
+    record { mid = h.mid; ready = h.ready; taken = h.taken; made = makes request q h.mid h.taken (can_still old h.mid h.ready q can) h.takes; node = ap (λ (f : Effect). f.node) h.is; sent = ap (λ (f : Effect). messages f.out.sent) h.is; outcome = ap (λ (f : Effect). f.outcome) h.is }
+
+-- the session and its default bearer, opened
+abbrev pub opening : CreateSessionResponse → CreateSessionRequest → Node → ℕ → Effect
+opening a q mid address =
+    record {
+      out = nothing;
+      outcome = Opened;
+      node = record mid {
+        sessions = insert mid.sessions q.control.teid (opened_session (pending_session q) a address);
+        bearers = insert mid.bearers q.context.user.teid (opened_bearer (pending_bearer q.control.teid q) a);
+        pending = remove mid.pending a.number;
+      };
+    }
+
+abbrev pub waiting_for : CreateSessionRequest → PendingRequest
+waiting_for q = record { session = Some q.control.teid; bearer = None; request = Create_session_request q }
+
+-- a pending session, its default bearer and its request stand
+pub record Waits (node : Node) (q : CreateSessionRequest) : Type 0 where
+  pub request : get node.pending q.number ≡ Some (waiting_for q)
+  pub session : get node.sessions q.control.teid ≡ Some (pending_session q)
+  pub bearer : get node.bearers q.context.user.teid ≡ Some (pending_bearer q.control.teid q)
+
+-- an answer that opens it
+pub record OpensBy (a : CreateSessionResponse) (q : CreateSessionRequest) (address : ℕ) : Type 0 where
+  pub number : a.number ≡ q.number
+  pub header : a.header ≡ q.control.teid
+  pub accepts : IsAccepting a.cause
+  pub context : CreatedBearer
+  pub alone : a.contexts ≡ context ∷ []
+  pub default : context.identity ≡ q.context.identity
+  pub both : IsAccepting context.cause
+  pub given : a.address ≡ Some (Ipv4 address)
+
+opens : (a : CreateSessionResponse) (q : CreateSessionRequest) (mid : Node) (e : Effect) (address : ℕ) → Waits mid q → OpensBy a q address → SessionAnswered a mid e → e ≡ opening a q mid address
+opens a q mid e address waits by r =
+    let at = pass (record { pending = waiting_for q; waits = ap (λ n. get mid.pending n) by.number ∙ waits.request }) r in
+    let same_p : waiting_for q ≡ at.0.pending = same_in _ _ (sym (ap (λ n. get mid.pending n) by.number ∙ waits.request) ∙ at.0.waits) in
+    let fits = pass (record { request = q; asked = ap (λ (p : PendingRequest). p.request) (sym same_p); session = q.control.teid; about = ap (λ (p : PendingRequest). p.session) (sym same_p); named = inl (ap (λ (p : PendingRequest). p.session) (sym same_p) ∙ ap (λ t. Some t) (sym by.header)) }) at.1 in
+    let same_q : q ≡ fits.0.request = request_same q fits.0.request (ap (λ (p : PendingRequest). p.request) same_p ∙ fits.0.asked) in
+    let same_s : q.control.teid ≡ fits.0.session = same_in _ _ (ap (λ (p : PendingRequest). p.session) same_p ∙ fits.0.about) in
+    let accepts = pass by.accepts fits.1 in
+    let new = pass (record { at = record { session = pending_session q; stands = ap (λ t. get mid.sessions t) (sym same_s) ∙ waits.session }; context = by.context; alone = by.alone; default = by.default; address = address; given = by.given }) accepts.1 in
+    let same_c : by.context ≡ new.0.context = context_same by.context new.0.context (sym by.alone ∙ new.0.alone) in
+    let same_at : pending_session q ≡ new.0.at.session = same_in _ _ (sym waits.session ∙ ap (λ t. get mid.sessions t) same_s ∙ new.0.at.stands) in
+    let same_a : address ≡ new.0.address = address_same address new.0.address (sym by.given ∙ new.0.given) in
+    let both = pass (subst (λ (c : CreatedBearer). IsAccepting c.cause) same_c by.both) new.1 in
+    let same_b : pending_bearer q.control.teid q ≡ both.1.default.bearer = same_in _ _ (sym waits.bearer ∙ ap (λ (k : CreateSessionRequest). get mid.bearers k.context.user.teid) same_q ∙ both.1.default.stands) in
+    both.1.gives
+    ∙ sym (λ i. record {
+      out = nothing;
+      outcome = Opened;
+      node = record mid {
+        sessions = insert mid.sessions (same_s i) (opened_session (same_at i) a (same_a i));
+        bearers = insert mid.bearers (same_q i).context.user.teid (opened_bearer (same_b i) a);
+        pending = remove mid.pending a.number;
+      };
+    })
+  where
+    request_same : (x y : CreateSessionRequest) → Create_session_request x ≡ Create_session_request y → x ≡ y
+    request_same x y e = cc e
+
+    context_same : (x y : CreatedBearer) → ◌≡◌ {A = List CreatedBearer} (x ∷ []) (y ∷ []) → x ≡ y
+    context_same x y e = cc e
+
+    address_same : (x y : ℕ) → Some (Ipv4 x) ≡ Some (Ipv4 y) → x ≡ y
+    address_same x y e = cc e
+
+-- what the serving gateway makes of the answer
+pub record IsOpened (a : CreateSessionResponse) (q : CreateSessionRequest) (address : ℕ) (old : Node) (e : Effect) : Type 0 where
+  pub mid : Node
+  pub ready : IsReady old mid
+  pub node : e.node ≡ (opening a q mid address).node
+  pub sent : messages e.out.sent ≡ []
+  pub outcome : e.outcome ≡ Opened
+
+pub is_opened_by : (request : Arrival) (a : CreateSessionResponse) (q : CreateSessionRequest) (address counter : ℕ) (old : Node) (e : Effect) → request.source.ip ≡ old.config.peer.control → IsNew old request → a.recovery ≡ Some counter → ((k : ℕ) → old.known ≡ Some k → age_of k counter ≢ Earlier) → Waits old q → OpensBy a q address → Step Serving old (Control_came request (Control_message (Create_session_response a))) e → IsOpened a q address old e
+is_opened_by request a q address counter old e peer new tells not_earlier waits by (inl f) = absurd (f.0 peer)
+is_opened_by request a q address counter old e peer new tells not_earlier waits by (inr (from, inl again)) = absurd (new again.held again.stands again.same)
+is_opened_by request a q address counter old e peer new tells not_earlier waits by (inr (from, inr (is_new, inl f))) = absurd (f.0 refl)
+is_opened_by request a q address counter old e peer new tells not_earlier waits by (inr (from, inr (is_new, inr (kind, hears)))) =
+    let h = heard_so (ServingTakes request (Create_session_response a)) old counter e not_earlier (subst (λ o. Hears (ServingTakes request (Create_session_response a)) old o e) tells hears) in
+    let is = opens a q h.mid h.taken address (record { request = h.ready.pending q.number (waiting_for q) q.control.teid (pending_session q) waits.request refl refl waits.session refl; session = h.ready.waiting q.control.teid (pending_session q) waits.session refl; bearer = h.ready.bearers q.context.user.teid (pending_bearer q.control.teid q) (pending_session q) waits.bearer waits.session refl }) by h.takes in
+    record { mid = h.mid; ready = h.ready; node = ap (λ (f : Effect). f.node) h.is ∙ ap (λ (f : Effect). f.node) is; sent = ap (λ (f : Effect). messages f.out.sent) h.is ∙ ap (λ (f : Effect). messages f.out.sent) is; outcome = ap (λ (f : Effect). f.outcome) h.is ∙ ap (λ (f : Effect). f.outcome) is }

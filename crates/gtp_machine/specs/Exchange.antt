@@ -1,0 +1,86 @@
+-- The exchange that makes a session (TS 29.274, 7.2.1 and 7.2.2), on a path that brings each datagram at once.
+use Rattle.std.specs.Prelude.{◌≡◌, ◌⊎◌, ℕ, ◌+◌, ◌<◌, ◌≤◌, List, ◌∷◌, Some, length}
+use Rattle.gtp_values.specs.FiniteMap.{Among}
+use Rattle.gtp_machine.specs.Config.{Config}
+use Rattle.gtp_machine.specs.Message.{CreateSessionRequest, Message, Create_session_request, Create_session_response}
+use Rattle.gtp_machine.specs.Node.{Role, Serving, Packet, Session, Bearer, Default}
+use Rattle.gtp_machine.specs.Input.{Specification, Create_session, Send_user, Begun, Answered, Opened, Accepted}
+use Rattle.gtp_machine.specs.Choice.{IsFree, IsFreeNumber, HasDraws, HasFreeAddress, IsIdentity, HasSessionRoom, HasPendingRoom, HasHeldRoom}
+use Rattle.gtp_machine.specs.Command.{session_request}
+use Rattle.gtp_machine.specs.Packet.{session_cause, session_response}
+use Rattle.gtp_machine.specs.Spelling.{IsSendable}
+use Rattle.gtp_machine.specs.World.{World, Event, Does, Deliver, Happens, Run, EventOutcome, Came_to, Note, HasSent, start}
+use Rattle.gtp_machine.specs.Laws.{MutualSessions, MutualBearers}
+
+-- each gateway has the other's addresses for its peer's
+pub record IsOnePath (serving packet : Config) : Type 0 where
+  pub there : serving.peer ≡ packet.own
+  pub back : packet.peer ≡ serving.own
+
+-- what was sent up to now can be sent, and so can the request for the specification and its answer, whichever free TEIDs and number and whichever address of the pool they have
+pub record AllSendable (w : World) (spec : Specification) : Type 0 where
+  pub each : (role : Role) (m : Message) → HasSent w.history role m → IsSendable m
+  pub request : (control user number : ℕ) → IsFree w.serving.node control → IsFree w.serving.node user → IsFreeNumber w.serving.node number → IsSendable (Create_session_request (session_request w.serving.node spec control user number))
+  pub answer : (q : CreateSessionRequest) (control user place : ℕ) → IsFree w.packet.node control → IsFree w.packet.node user → place < w.packet.node.config.pool_count → IsSendable (Create_session_request q) → IsSendable (Create_session_response (session_response w.packet.node q control user (w.packet.node.config.pool_start + place)))
+
+-- nothing stands in the way of a session for this specification
+pub record CanExchange (w : World) (spec : Specification) : Type 0 where
+  pub path : IsOnePath w.serving.node.config w.packet.node.config
+  pub identity : IsIdentity spec.subscriber.identity
+  pub configured : Among spec.subscriber.access_point w.packet.node.config.access_points
+  pub pdn : (spec.pdn ≡ 1) ⊎ (spec.pdn ≡ 3)
+  pub serving_room : HasSessionRoom w.serving.node
+  pub packet_room : HasSessionRoom w.packet.node
+  pub serving_draws : HasDraws w.serving.node 2
+  pub packet_draws : HasDraws w.packet.node 2
+  pub pending_room : HasPendingRoom w.serving.node
+  pub held_room : HasHeldRoom w.packet.node
+  pub address : HasFreeAddress w.packet.node
+  pub sendable : AllSendable w spec
+
+-- the latest event came to this
+pub record CameTo (w : World) (outcome : EventOutcome) : Type 0 where
+  pub note : Note
+  pub before : List Note
+  pub notes : w.notes ≡ note ∷ before
+  pub is : note.outcome ≡ outcome
+
+-- a packet of at most 65,000 octets that is sent on the bearer, and comes next, is accepted
+abbrev pub Carries : World → Role → ℕ → Type 0
+Carries w role bearer = (payload : List ℕ) (sent came : World) → length payload ≤ 65000 → Happens w (Does role (Send_user bearer payload)) sent → Happens sent (Deliver (length w.history)) came → CameTo came (Came_to Accepted)
+
+-- There is a session for the specification at both gateways, and its default bearer carries packets in both directions.
+pub record IsMade (w : World) (spec : Specification) : Type 0 where
+  pub session : ℕ
+  pub session_there : ℕ
+  pub at_serving : Session
+  pub at_packet : Session
+  pub sessions : MutualSessions w session session_there at_serving at_packet
+  pub subscriber : at_serving.subscriber ≡ spec.subscriber
+  pub subscriber_there : at_packet.subscriber ≡ spec.subscriber
+  pub bearer : ℕ
+  pub bearer_there : ℕ
+  pub bearer_at_serving : Bearer
+  pub bearer_at_packet : Bearer
+  pub bearers : MutualBearers w bearer bearer_there bearer_at_serving bearer_at_packet
+  pub default : bearer_at_serving.kind ≡ Default
+  pub default_there : bearer_at_packet.kind ≡ Default
+  pub of : bearer_at_serving.session ≡ session
+  pub of_there : bearer_at_packet.session ≡ session_there
+  pub identity : bearer_at_serving.identity ≡ Some spec.subscriber.identity
+  pub up : Carries w Serving bearer
+  pub down : Carries w Packet bearer_there
+
+-- the three events come to these outcomes, and the session is made
+pub record Exchanged (spec : Specification) (begun answered opened : World) : Type 0 where
+  pub own : ℕ
+  pub first : CameTo begun (Came_to (Begun (Some own)))
+  pub second : CameTo answered (Came_to (Answered (session_cause spec.pdn)))
+  pub third : CameTo opened (Came_to Opened)
+  pub made : IsMade opened spec
+
+-- In each run, where nothing stands in the way: the command, the delivery of its request and the delivery of its answer make the session.
+abbrev pub FairExchange : Type 0
+FairExchange =
+    (serving packet : Config) (serving_counter packet_counter : ℕ) (events : List Event) (w begun answered opened : World) (spec : Specification) → Run (start serving packet serving_counter packet_counter) events w → CanExchange w spec →
+    Happens w (Does Serving (Create_session spec)) begun → Happens begun (Deliver (length w.history)) answered → Happens answered (Deliver (1 + length w.history)) opened → Exchanged spec begun answered opened
