@@ -7,10 +7,11 @@ use Rattle.gtp_machine.specs.Node.{Role, Serving, Packet, Session, Bearer, Defau
 use Rattle.gtp_machine.specs.Input.{Specification, Create_session, Send_user, Begun, Answered, Opened, Accepted}
 use Rattle.gtp_machine.specs.Choice.{IsFree, IsFreeNumber, HasDraws, HasFreeAddress, IsIdentity, HasSessionRoom, HasPendingRoom, HasHeldRoom}
 use Rattle.gtp_machine.specs.Command.{session_request}
-use Rattle.gtp_machine.specs.Packet.{session_cause, session_response}
+use Rattle.gtp_machine.specs.Packet.{session_response}
 use Rattle.gtp_machine.specs.Spelling.{IsSendable}
 use Rattle.gtp_machine.specs.World.{World, Event, Does, Deliver, Happens, Run, EventOutcome, Came_to, Note, HasSent, start}
 use Rattle.gtp_machine.specs.Laws.{MutualSessions, MutualBearers}
+use Rattle.std.specs.FinMap.{get}
 
 -- each gateway has the other's addresses for its peer's
 pub record IsOnePath (serving packet : Config) : Type 0 where
@@ -71,16 +72,26 @@ pub record IsMade (w : World) (spec : Specification) : Type 0 where
   pub up : Carries w Serving bearer
   pub down : Carries w Packet bearer_there
 
--- the three events come to these outcomes, and the session is made
-pub record Exchanged (spec : Specification) (begun answered opened : World) : Type 0 where
-  pub own : ℕ
-  pub first : CameTo begun (Came_to (Begun (Some own)))
-  pub second : CameTo answered (Came_to (Answered (session_cause spec.pdn)))
-  pub third : CameTo opened (Came_to Opened)
+-- the session was at neither gateway before
+pub record IsNewIn (w opened : World) (spec : Specification) (made : IsMade opened spec) : Type 0 where
+  pub session : (s : Session) → get w.serving.node.sessions made.session ≡ Some s → ⊥
+  pub session_there : (s : Session) → get w.packet.node.sessions made.session_there ≡ Some s → ⊥
+  pub bearer : (b : Bearer) → get w.serving.node.bearers made.bearer ≡ Some b → ⊥
+  pub bearer_there : (b : Bearer) → get w.packet.node.bearers made.bearer_there ≡ Some b → ⊥
+
+-- the three events come to these outcomes, and a new session is made: the one that was begun; the answer has cause 16, or 18 for type 3 (8.4)
+pub record Exchanged (spec : Specification) (w begun answered opened : World) : Type 0 where
   pub made : IsMade opened spec
+  pub new : IsNewIn w opened spec made
+  pub first : CameTo begun (Came_to (Begun (Some made.session)))
+  pub cause : ℕ
+  pub second : CameTo answered (Came_to (Answered cause))
+  pub one_version : spec.pdn ≡ 1 → cause ≡ 16
+  pub both_versions : spec.pdn ≡ 3 → cause ≡ 18
+  pub third : CameTo opened (Came_to Opened)
 
 -- In each run, where nothing stands in the way: the command, the delivery of its request and the delivery of its answer make the session.
 abbrev pub FairExchange : Type 0
 FairExchange =
     (serving packet : Config) (serving_counter packet_counter : ℕ) (events : List Event) (w begun answered opened : World) (spec : Specification) → Run (start serving packet serving_counter packet_counter) events w → CanExchange w spec →
-    Happens w (Does Serving (Create_session spec)) begun → Happens begun (Deliver (length w.history)) answered → Happens answered (Deliver (1 + length w.history)) opened → Exchanged spec begun answered opened
+    Happens w (Does Serving (Create_session spec)) begun → Happens begun (Deliver (length w.history)) answered → Happens answered (Deliver (1 + length w.history)) opened → Exchanged spec w begun answered opened

@@ -8,7 +8,7 @@ use Rattle.gtp_machine.specs.Config.{Config}
 use Rattle.gtp_machine.specs.Message.{Plane, Control, User, first_created, CreateSessionRequest, CreateSessionResponse, CreateBearerRequest, CreateBearerResponse, Message, Create_session_request, Create_session_response, Create_bearer_request, Create_bearer_response, Packet_data, End_marker, Error_indication, Owns, header_of, recovery_of, first_given, first_returned}
 use Rattle.gtp_machine.specs.Element.{teid_in}
 use Rattle.gtp_machine.specs.Node.{Node, fresh_node, Arrival, Role, Serving, Packet, Pending, Active, Closing, Session, Bearer, Dedicated}
-use Rattle.gtp_machine.specs.Input.{Entry, Effect, Outcome, Repeated, Closed, messages}
+use Rattle.gtp_machine.specs.Input.{Entry, Effect, Repeated, messages}
 use Rattle.gtp_machine.specs.Choice.{counter_of}
 use Rattle.gtp_machine.specs.Serving.{BearerAsked}
 use Rattle.gtp_machine.specs.Packet.{SessionAsked}
@@ -101,12 +101,6 @@ OwnsOn User m t = ⊥
 abbrev pub PlanesApart : World → Type 0
 PlanesApart w = (role : Role) (m : Message) (t : ℕ) → HasSent w.history role m → OwnsOn Control m t → OwnsOn User m t → ⊥
 
--- the role has sent a message in which t stands as its own
-pub record IsFrom (history : List Sent) (role : Role) (t : ℕ) : Type 0 where
-  pub message : Message
-  pub sent : HasSent history role message
-  pub owns : Owns message t
-
 -- the role has sent a message with an F-TEID of this plane in which t stands as its own
 pub record IsFromOn (plane : Plane) (history : List Sent) (role : Role) (t : ℕ) : Type 0 where
   pub message : Message
@@ -123,13 +117,13 @@ pub record EachGoesBack (w : World) : Type 0 where
   pub sessions : (role : Role) (t : ℕ) (s : Session) → get (side_of w role).node.sessions t ≡ Some s → GoesBack Control w.history role t s.remote
   pub bearers : (role : Role) (t : ℕ) (b : Bearer) → get (side_of w role).node.bearers t ≡ Some b → GoesBack User w.history role t b.remote
 
--- the TEID that a message of this gateway names, but 0, goes back to a draw: that of its header, of a packet or of an End Marker to one by the other
--- gateway; that of an Error Indication, which comes back from a packet, to one of its own
+-- the TEID that a message of this gateway names, but 0, goes back to a draw: that of its header to one by the other gateway for the control plane; that of a
+-- packet or of an End Marker to one by the other gateway for the user plane; that of an Error Indication, which comes back from a packet, to one of its own
 abbrev pub NamesBack : List Sent → Role → Message → Type 0
-NamesBack history role (Packet_data target payload) = target ≢ 0 → IsFrom history (other role) target
-NamesBack history role (End_marker target) = target ≢ 0 → IsFrom history (other role) target
-NamesBack history role (Error_indication target address) = target ≢ 0 → IsFrom history role target
-NamesBack history role m = header_of m ≢ 0 → IsFrom history (other role) (header_of m)
+NamesBack history role (Packet_data target payload) = target ≢ 0 → IsFromOn User history (other role) target
+NamesBack history role (End_marker target) = target ≢ 0 → IsFromOn User history (other role) target
+NamesBack history role (Error_indication target address) = target ≢ 0 → IsFromOn User history role target
+NamesBack history role m = header_of m ≢ 0 → IsFromOn Control history (other role) (header_of m)
 
 -- the TEIDs that messages name go back to draws
 abbrev pub EachNamesBack : List Sent → Type 0
@@ -138,7 +132,7 @@ EachNamesBack history = (role : Role) (m : Message) → HasSent history role m �
 abbrev pub NamesGoBack : World → Type 0
 NamesGoBack w = EachNamesBack w.history
 
--- The message was sent in a step that took a request by these rules: it is what they made of the request, or their refusal of it.
+-- The message is what these rules give for a request at some gateway: what they make of it, or their refusal.
 pub record IsAnswerBy (Asked : Arrival → Node → Effect → Type 0) (answer : Message) : Type 0 where
   pub request : Arrival
   pub old : Node
@@ -162,7 +156,7 @@ pub record AnswersBearer (history : List Sent) (x : CreateBearerResponse) : Type
   pub returned : (t : ℕ) → first_returned x.contexts ≡ Some t → t ≡ request.context.user.teid
   pub given : IsAnswerBy (λ at. BearerAsked at request) (Create_bearer_response x)
 
--- each response goes back to a request of the other gateway, which was answered with it
+-- each response goes back to a request of the other gateway, to which the rules may give it as the answer
 pub record ResponsesGoBack (w : World) : Type 0 where
   pub sessions : (a : CreateSessionResponse) → HasSent w.history Packet (Create_session_response a) → AnswersSession w.history a
   pub bearers : (x : CreateBearerResponse) → HasSent w.history Serving (Create_bearer_response x) → AnswersBearer w.history x
@@ -233,17 +227,30 @@ ClosesWhole sessions bearers = (t : ℕ) (b : Bearer) (s : Session) → get bear
 abbrev pub EachClosesWhole : World → Type 0
 EachClosesWhole w = (role : Role) → ClosesWhole (side_of w role).node.sessions (side_of w role).node.bearers
 
--- an event came to this
-abbrev pub HasOutcome : World → Outcome → Type 0
-HasOutcome w outcome = (note : Note) × Among note w.notes × (note.outcome ≡ Came_to outcome)
+-- no bearer has this TEID
+abbrev pub HasNoBearer : World → Role → ℕ → Type 0
+HasNoBearer w role t = (b : Bearer) → get (side_of w role).node.bearers t ≡ Some b → ⊥
 
--- A run goes on from there: a request comes again, a datagram is lost, two packets come in the other order, a dedicated bearer is deleted, and a restart is
--- heard, with which the packet gateway's session goes.
-pub record GoesOn (before : World) (session_there : ℕ) : Type 0 where
+-- A run goes on from there: the serving gateway restarts, and that is heard: the packet gateway's session goes.
+pub record HearsRestart (before : World) (session_there : ℕ) : Type 0 where
   pub events : List Event
   pub world : World
   pub run : Run before events world
-  pub repeated : HasOutcome world Repeated
+  pub restarts : world.serving.restarts ≡ 1 + before.serving.restarts
+  pub heard : Among world.serving.node.counter world.packet.seen
+  pub gone : (s : Session) → get world.packet.node.sessions session_there ≡ Some s → ⊥
+
+-- A run goes on from there: a request comes again and gets the answer that is held, that datagram is lost, two packets come in the other order, and a dedicated
+-- bearer is deleted at both gateways, where its session stays.
+pub record GoesOn (before : World) (session session_there bearer bearer_there : ℕ) : Type 0 where
+  pub events : List Event
+  pub world : World
+  pub run : Run before events world
+  pub later : List Note
+  pub notes : world.notes ≡ later ++ before.notes
+  pub note : Note
+  pub among : Among note later
+  pub repeated : note.outcome ≡ Came_to Repeated
   pub lost : Stands world.history (length before.history)
   pub never_comes : Among (Deliver (length before.history)) events → ⊥
   pub first : Entry
@@ -251,10 +258,11 @@ pub record GoesOn (before : World) (session_there : ℕ) : Type 0 where
   pub apart : first ≢ second
   pub handed : world.handed ≡ before.handed ++ signed Serving (first ∷ second ∷ [])
   pub accepted : world.accepted ≡ before.accepted ++ signed Packet (second ∷ first ∷ [])
-  pub closed : HasOutcome world Closed
-  pub restarts : world.serving.restarts ≡ 1 + before.serving.restarts
-  pub heard : Among world.serving.node.counter world.packet.seen
-  pub gone : (s : Session) → get world.packet.node.sessions session_there ≡ Some s → ⊥
+  pub deleted : HasNoBearer world Serving bearer
+  pub deleted_there : HasNoBearer world Packet bearer_there
+  pub stays : (s : Session) × (get world.serving.node.sessions session ≡ Some s)
+  pub stays_there : (s : Session) × (get world.packet.node.sessions session_there ≡ Some s)
+  pub restart : HearsRestart world session_there
 
 -- a run to sessions and dedicated bearers that name each other and to a packet that was accepted on them, with no late delivery
 pub record GetsThrough : Type 0 where
@@ -281,7 +289,7 @@ pub record GetsThrough : Type 0 where
   pub accepted : HasBy world.accepted Packet taken
   pub on_bearer : taken.target ≡ bearer_there
   pub on_time : world.late ≡ 0
-  pub goes_on : GoesOn world session_there
+  pub goes_on : GoesOn world session session_there bearer bearer_there
 
 -- there is such a run
 abbrev pub ARunIsPossible : Type 0

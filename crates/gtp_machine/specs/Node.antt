@@ -35,7 +35,7 @@ pub record Held : Type 0 where
 -- a gateway: what it keeps
 pub record Node : Type 0 where
   pub config : Config
-  pub counter : ℕ  -- how often it has started, modulo 256
+  pub counter : ℕ  -- its restart counter, one more with each start, modulo 256
   pub drawn : List ℕ  -- the TEIDs drawn since it started
   pub known : Option ℕ  -- the latest restart counter heard from the peer
   pub sessions : FiniteMap Session  -- by own TEID

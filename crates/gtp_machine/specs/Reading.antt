@@ -92,18 +92,22 @@ abbrev pub session_request_of : ℕ → ℕ → session_requests.CreateSessionRe
 session_request_of header number q [] = Other_control 32
 session_request_of header number q (first ∷ further) = Create_session_request (session_requested header number q first further)
 
--- a Create Bearer Request (7.2.3) with these bearer contexts; each that is decoded has one
-abbrev pub bearer_request_of : ℕ → ℕ → bearer_requests.CreateBearerRequest → List BearerRequestContext → Message
-bearer_request_of header number r [] = Other_control 95
-bearer_request_of header number r (first ∷ further) =
-    Create_bearer_request (record {
+-- what a Create Bearer Request (7.2.3) with these bearer contexts reads as
+abbrev pub bearer_requested : ℕ → ℕ → bearer_requests.CreateBearerRequest → BearerRequestContext → List BearerRequestContext → CreateBearerRequest
+bearer_requested header number r first further =
+    record {
       header = header;
       number = number;
       transaction = option_map (λ t. t.0) r.pti;
       linked = r.linked_ebi.0;
       context = wanted_bearer first;
       further = map wanted_bearer further;
-    })
+    }
+
+-- a Create Bearer Request by its bearer contexts; each that is decoded has one
+abbrev pub bearer_request_of : ℕ → ℕ → bearer_requests.CreateBearerRequest → List BearerRequestContext → Message
+bearer_request_of header number r [] = Other_control 95
+bearer_request_of header number r (first ∷ further) = Create_bearer_request (bearer_requested header number r first further)
 
 -- what a control message says, by its type (6.1), under the TEID and the sequence number of its header; a type that no gateway knows says no more
 abbrev pub body_message : ℕ → ℕ → Body → Message
@@ -240,13 +244,13 @@ UserReads octets reading = reading ≡ user_reading octets
 abbrev pub user_cut_fault : ℕ → ℕ
 user_cut_fault count = if nat_lt count 8 then 1 else 4
 
--- Each Create Session Request that is decoded reads as one, for the subscriber and the access point that it names.
-abbrev pub KeepsSubscriber : Type 0
-KeepsSubscriber = (octets : List ℕ) (m : decoded.Message) (q : session_requests.CreateSessionRequest) → IsMessage octets (message_value m) → m.body ≡ bodies.CreateSessionRequest q → (r : CreateSessionRequest) × (control_message m ≡ Create_session_request r) × (r.imsi ≡ q.imsi) × (r.access_point ≡ q.apn)
+-- Each Create Session Request that is decoded has a bearer context, and reads as one, with what its fields say.
+abbrev pub SessionRequestReads : Type 0
+SessionRequestReads = (octets : List ℕ) (m : decoded.Message) (q : session_requests.CreateSessionRequest) → IsMessage octets (message_value m) → m.body ≡ bodies.CreateSessionRequest q → (first : SessionRequestContext) × (further : List SessionRequestContext) × (q.contexts ≡ first ∷ further) × (control_message m ≡ Create_session_request (session_requested (header_in m.teid) m.seq q first further))
 
--- Each Create Bearer Request that is decoded reads as one, for the session that its header names and with its linked identity.
-abbrev pub KeepsSession : Type 0
-KeepsSession = (octets : List ℕ) (m : decoded.Message) (q : bearer_requests.CreateBearerRequest) → IsMessage octets (message_value m) → m.body ≡ bodies.CreateBearerRequest q → (r : CreateBearerRequest) × (control_message m ≡ Create_bearer_request r) × (r.header ≡ header_in m.teid) × (r.linked ≡ q.linked_ebi.0)
+-- Each Create Bearer Request that is decoded has a bearer context, and reads as one, with what its fields say.
+abbrev pub BearerRequestReads : Type 0
+BearerRequestReads = (octets : List ℕ) (m : decoded.Message) (q : bearer_requests.CreateBearerRequest) → IsMessage octets (message_value m) → m.body ≡ bodies.CreateBearerRequest q → (first : BearerRequestContext) × (further : List BearerRequestContext) × (q.contexts ≡ first ∷ further) × (control_message m ≡ Create_bearer_request (bearer_requested (header_in m.teid) m.seq q first further))
 
 -- What a decoded message of the control plane reads as is what its fields say, each by its name.
 abbrev pub ControlByName : Type 0

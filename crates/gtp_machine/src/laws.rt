@@ -22,12 +22,12 @@ ghost use Rattle.gtp_machine.specs.Laws.{
   StepsAreKept,
 };
 ghost use Rattle.gtp_machine.specs.Reading.{
+  BearerRequestReads,
   ControlByGrammar,
   ControlByName,
   CutsRead,
   DecodedReads,
-  KeepsSession,
-  KeepsSubscriber,
+  SessionRequestReads,
   UserByGrammar,
   UserByName,
   UserCutsRead,
@@ -71,7 +71,7 @@ pub fn foundations()
     // Each TEID stands as its sender's own in one message and its repeats.
     ensures one_message { Always OneMessage }
 
-    // No TEID stands for both planes.
+    // No TEID stands in a message for both planes.
     ensures planes_apart { Always PlanesApart }
 
     // The TEIDs of each session go back to F-TEIDs of the control plane in such messages, and those
@@ -126,7 +126,7 @@ pub fn acts_once()
     ensures runs { Always EachActsOnce }
 {}
 
-/// No law is empty: there is a run to sessions and dedicated bearers that name each other, and to
+/// No law of safety is empty: there is a run to sessions and dedicated bearers that name each other, and to
 /// an accepted packet.
 pub fn a_run_is_possible()
     ensures { ARunIsPossible }
@@ -196,12 +196,11 @@ pub fn readings()
     // Messages that a gateway can send, with one text, are one.
     ensures apart { SpelledApart }
 
-    // A Create Session Request reads as one, for the subscriber and the access point that it names.
-    ensures subscriber { KeepsSubscriber }
+    // A Create Session Request that is decoded has a bearer context, and reads as one.
+    ensures session_request { SessionRequestReads }
 
-    // A Create Bearer Request reads as one, for the session that its header names and with its
-    // linked identity.
-    ensures session { KeepsSession }
+    // A Create Bearer Request that is decoded has a bearer context, and reads as one.
+    ensures bearer_request { BearerRequestReads }
 {}
 
 /// An exchange on a path that brings each datagram at once.

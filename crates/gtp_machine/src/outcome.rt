@@ -2,7 +2,7 @@
 
 use gtp_values::Plane;
 
-/// Why a command is refused. The code after each is the one that is printed.
+/// Why a command is refused. The code before each is the one that is printed.
 #[derive(Clone, Copy, Debug, PartialEq, Eq)]
 pub enum Refusal {
     /// G1: no session or bearer has this TEID, or no dedicated bearer of the session this identity.
@@ -31,7 +31,7 @@ pub struct FaultName {
     pub number: u8,
 }
 
-/// Why a datagram is dropped. The code after each is the one that is printed.
+/// Why a datagram is dropped. The code before each is the one that is printed.
 #[derive(Clone, Copy, Debug, PartialEq, Eq)]
 pub enum DropReason {
     /// X1: its octets are no message, and nothing is answered.
@@ -78,7 +78,8 @@ pub enum Outcome {
     Opened,
     /// An answer removed the context that it was about.
     Closed,
-    /// The peer gave an identity that can't be taken: the bearer is removed.
+    /// The peer gave an identity that can't be taken, or the session is closing: the bearer is
+    /// removed.
     Clash,
     /// The peer refused, with this cause value.
     Rejected(u8),

@@ -7,7 +7,7 @@ use Rattle.gtp_values.specs.declared.address.Endpoint.{Endpoint}
 use Rattle.gtp_values.specs.declared.counter.Age.TheVariants.{Earlier}
 use Rattle.gtp_machine.specs.Config.{Addresses, Config, user_end}
 use Rattle.gtp_machine.specs.Element.{IsAccepting, cause_of, tunnel_end}
-use Rattle.gtp_machine.specs.Message.{CreateSessionRequest, CreateSessionResponse, Message, Create_session_request, Create_session_response, Packet_data, plane_of}
+use Rattle.gtp_machine.specs.Message.{CreateSessionRequest, CreateSessionResponse, Message, Create_session_request, Create_session_response, Packet_data, plane_of, User, Create_bearer_request, Create_bearer_response, Owns}
 use Rattle.gtp_machine.specs.Node.{Role, Serving, Packet, Active, Session, Bearer, Arrival, Node, holding, written}
 use Rattle.gtp_machine.specs.Input.{Specification, Create_session, Send_user, Input, Commanded, Control_came, User_came, Control_message, User_message, Accepted, Effect, messages}
 use Rattle.gtp_machine.specs.Choice.{IsFree}
@@ -28,6 +28,9 @@ use Rattle.gtp_machine.proofs.Worlds.Hearing.{Hearing}
 use Rattle.gtp_machine.proofs.Worlds.Runs.{Invariant, always}
 use Rattle.gtp_machine.proofs.Exchange.Held.{HeldOfSent, always_held}
 use Rattle.gtp_machine.proofs.Exchange.Nodes.{pass, begins, CanMake, IsAnswered, answers, opening, waiting_for, Waits, OpensBy, IsOpened, is_opened_by, same_in}
+use Rattle.gtp_machine.specs.Laws.{OwnsOn, IsFromOn}
+use Rattle.gtp_machine.proofs.Changes.After.{Knows}
+use Rattle.gtp_machine.proofs.Worlds.Safety.{bearer_goes_back}
 
 -- the last of a list
 at_end : {X : Type 0} (xs : List X) (x : X) → slice_get (xs ++ (x ∷ [])) (length xs) ≡ Some x
@@ -165,6 +168,14 @@ carries w Packet bearer there ends payload sent came short h1 h2 =
         let same : b ≡ at.0.bearer = same_in b at.0.bearer (sym stands ∙ at.0.stands) in
         let sends = (pass short (pass (ap (λ (k : Bearer). k.ended) (sym same) ∙ unended) (pass (ap (λ (k : Bearer). k.state) (sym same) ∙ active) at.1).1).1).1 in
         ap (λ (n : Node). n.config) (is ∙ ap (λ (f : Effect). f.node) sends.gives)
+
+-- an F-TEID of the user plane stands as its sender's own
+owns_user : (m : Message) (t : ℕ) → OwnsOn User m t → Owns m t
+owns_user (Create_session_request q) t owns = inr owns
+owns_user (Create_session_response a) t owns = inr owns
+owns_user (Create_bearer_request r) t owns = owns
+owns_user (Create_bearer_response x) t owns = owns
+owns_user _ t none = absurd none
 
 module _ (serving packet : Config) (serving_counter packet_counter : ℕ) (events : List Event) (w begun answered opened : World) (spec : Specification) (r : Run (start serving packet serving_counter packet_counter) events w) (can : CanExchange w spec)
     (h1 : Happens w (Does Serving (Create_session spec)) begun) (h2 : Happens begun (Deliver (length w.history)) answered) (h3 : Happens answered (Deliver (1 + length w.history)) opened) where
@@ -342,9 +353,28 @@ module _ (serving packet : Config) (serving_counter packet_counter : ℕ) (event
     down = carries opened Packet a2.made.user r1.user (record { here = bearer_at_packet; stands = bearer_stands_there; active = refl; unended = refl; remote = refl; at = bearer_at_serving; stands_there = bearer_stands; active_there = refl; unended_there = refl; path = ap (λ (c : Config). c.peer) serving_config ∙ can.path.there ∙ ap (λ (c : Config). c.own) (sym packet_config) });
   }
 
-  exchanged : Exchanged spec begun answered opened
+  no_bearer : (role : Role) (t : ℕ) → IsFree (side_of w role).node t → (b : Bearer) → get (side_of w role).node.bearers t ≡ Some b → ⊥
+  no_bearer role t free b stands = own_on role t free (bearer_goes_back packet.own w inv role t b stands).here
+    where
+      own_on : (role : Role) (t : ℕ) → IsFree (side_of w role).node t → IsFromOn User w.history role t → ⊥
+      own_on Serving t free from = unowned w.serving Serving w.history inv.serving.draws from.message t from.sent (owns_user from.message t from.owns) free
+      own_on Packet t free from = unowned w.packet Packet w.history inv.packet.draws from.message t from.sent (owns_user from.message t from.owns) free
+
+  free_no_session : (role : Role) (node : Node) → Knows role w.history node → (t : ℕ) → IsFree node t → (s : Session) → get node.sessions t ≡ Some s → ⊥
+  free_no_session role node knows t free s stands = free.undrawn (knows.drawn t s stands)
+
+  exchanged : Exchanged spec w begun answered opened
+  unfolding made
   exchanged = record {
-    own = r1.control;
+    new = record {
+      session = free_no_session Serving w.serving.node inv.serving.knows r1.control r1.control_free;
+      session_there = free_no_session Packet w.packet.node inv.packet.knows a2.made.control (free_before a2.made.control a2.made.control_free);
+      bearer = no_bearer Serving r1.user r1.user_free;
+      bearer_there = no_bearer Packet a2.made.user (free_before a2.made.user a2.made.user_free);
+    };
+    cause = session_cause spec.pdn;
+    one_version = λ one. ap session_cause one;
+    both_versions = λ both. ap session_cause both;
     first = record { note = f1.note.note; before = f1.note.before; notes = f1.note.notes; is = f1.note.is ∙ ap (λ (f : Effect). Came_to f.outcome) r1.gives };
     second = record { note = f2.note.note; before = f2.note.before; notes = f2.note.notes; is = f2.note.is ∙ ap (λ o. Came_to o) (a2.outcome ∙ ap (λ (f : Effect). f.outcome) a2.made.gives) };
     third = record { note = f3.note.note; before = f3.note.before; notes = f3.note.notes; is = f3.note.is ∙ ap (λ o. Came_to o) o3.outcome };

@@ -7,7 +7,7 @@ use Rattle.gtp_values.specs.declared.counter.Age.TheVariants.{Same, Later, Earli
 use Rattle.gtp_values.specs.declared.qos.Qos.{Qos}
 use Rattle.gtp_values.specs.FiniteMap.{Each, Among}
 use Rattle.gtp_machine.specs.Step.{Step}
-use Rattle.gtp_machine.specs.Message.{Message, CreateSessionRequest, CreateBearerRequest, DeleteBearerRequest, DeleteSessionRequest, Echo_request, Echo_response, Create_session_request, Create_session_response, Delete_session_request, Delete_session_response, Create_bearer_request, Create_bearer_response, Delete_bearer_request, Delete_bearer_response, Other_control, Packet_data, End_marker, Error_indication, User_echo_request, User_echo_response, Supported_extensions, Other_user, recovery_of}
+use Rattle.gtp_machine.specs.Message.{Message, CreateSessionRequest, CreateBearerRequest, DeleteBearerRequest, DeleteSessionRequest, Echo_request, Echo_response, Create_session_request, Create_session_response, Delete_session_request, Delete_session_response, Create_bearer_request, Create_bearer_response, Delete_bearer_request, Delete_bearer_response, Other_control, Packet_data, End_marker, Error_indication, User_echo_request, User_echo_response, Supported_extensions, Other_user, recovery_of, Plane, Control, User}
 use Rattle.gtp_machine.specs.Node.{Role, Serving, Packet, Session, Bearer, PendingRequest, Arrival, Held, Node, written}
 use Rattle.gtp_machine.specs.Input.{Specification, Command, Create_session, Delete_session, Create_bearer, Delete_bearer, Release_session, Mark_end, Send_echo, Send_user, ControlReading, Control_message, Faulty, Control_fault, UserReading, User_message, Extension_needed, User_fault, Move, Resend, Give_up, Forget, Input, Commanded, Control_came, User_came, Moves_on, Effect, messages}
 use Rattle.gtp_machine.specs.Recovery.{Judges, Weighs, Hears, peer_restarted}
@@ -19,7 +19,7 @@ use Rattle.gtp_machine.specs.Move.{MoveStep}
 use Rattle.gtp_machine.specs.Serving.{SessionAnswered, DeletionAnswered, BearerAsked, RemovalTaken, RemovalAsked, ServingTakes, ServingReads}
 use Rattle.gtp_machine.specs.Packet.{SessionAsked, DeletionAsked, BearerAnswered, RemovalAnswered, PacketTakes, PacketReads}
 use Rattle.gtp_machine.specs.World.{other, Sent, HasSent, signed}
-use Rattle.gtp_machine.specs.Laws.{IsFrom, NamesBack, EachNamesBack}
+use Rattle.gtp_machine.specs.Laws.{IsFromOn, NamesBack, EachNamesBack}
 use Rattle.gtp_machine.proofs.Basics.FiniteMaps.{Among-cases}
 use Rattle.gtp_machine.proofs.Origins.Drawing.{Extends, Extends-signed, signed_among}
 use Rattle.gtp_machine.proofs.Changes.After.{Knows}
@@ -28,13 +28,13 @@ use Rattle.gtp_machine.proofs.Rows.Stepping.{Carried}
 use Rattle.gtp_machine.proofs.Basics.Kinds.{by_serving, by_packet}
 
 -- a remote TEID goes back to a draw by the other gateway
-abbrev pub IsThere : List Sent → Role → Option ℕ → Type 0
-IsThere history role remote = (r : ℕ) → remote ≡ Some r → IsFrom history (other role) r
+abbrev pub IsThere : Plane → List Sent → Role → Option ℕ → Type 0
+IsThere plane history role remote = (r : ℕ) → remote ≡ Some r → IsFromOn plane history (other role) r
 
 -- what a gateway sends goes by what it has
 pub record Back (history : List Sent) (role : Role) (node : Node) : Type 0 where
-  pub sessions : Each (λ t (s : Session). IsThere history role s.remote) node.sessions
-  pub bearers : Each (λ t (b : Bearer). IsThere history role b.remote) node.bearers
+  pub sessions : Each (λ t (s : Session). IsThere Control history role s.remote) node.sessions
+  pub bearers : Each (λ t (b : Bearer). IsThere User history role b.remote) node.bearers
   pub pending : Each (λ number (p : PendingRequest). HasSent history role p.request) node.pending
   pub held : (h : Held) → Among h node.held → HasSent history role h.answer
 
@@ -42,7 +42,7 @@ pub record Back (history : List Sent) (role : Role) (node : Node) : Type 0 where
 abbrev pub Told : List Sent → Role → Effect → Type 0
 Told history role e = (m : Message) → Among m (messages e.out.sent) → HasSent history role m ⊎ NamesBack history role m
 
-twice : (history : List Sent) (role : Role) (t : ℕ) → IsFrom history (other (other role)) t → IsFrom history role t
+twice : (history : List Sent) (role : Role) (t : ℕ) → IsFromOn User history (other (other role)) t → IsFromOn User history role t
 twice history Serving t from = from
 twice history Packet t from = from
 
@@ -61,10 +61,10 @@ module _ (history : List Sent) (role : Role) where
   again m was k (inl same) = inl (subst (λ x. HasSent history role x) (sym same) was)
   again m was k (inr none) = absurd none
 
-  none_named : ◌≢◌ {A = ℕ} 0 0 → IsFrom history (other role) 0
+  none_named : ◌≢◌ {A = ℕ} 0 0 → IsFromOn Control history (other role) 0
   none_named not = absurd (not refl)
 
-  there : (remote : Option ℕ) → IsThere history role remote → written remote ≢ 0 → IsFrom history (other role) (written remote)
+  there : {plane : Plane} (remote : Option ℕ) → IsThere plane history role remote → written remote ≢ 0 → IsFromOn plane history (other role) (written remote)
   there None is not = absurd (not refl)
   there (Some r) is not = is r refl
 
@@ -243,7 +243,7 @@ module _ (history : List Sent) where
     bearer_asked request q e (inr (a, inr (b, inr (c, inr (d, inr (g, inl f)))))) = at history Serving e _ f.1 (one history Serving _ (there history Serving b.session.remote (back.sessions q.header b.session b.stands)))
     bearer_asked request q e (inr (a, inr (b, inr (c, inr (d, inr (g, inr (h, r))))))) = at history Serving e _ r.gives (one history Serving _ (there history Serving b.session.remote (back.sessions q.header b.session b.stands)))
 
-    removal_taken : (request : Arrival) (d : DeleteBearerRequest) (linked : Option ℕ) (s : Session) → IsThere history Serving s.remote → (e : Effect) → RemovalTaken request d linked old s e → Told history Serving e
+    removal_taken : (request : Arrival) (d : DeleteBearerRequest) (linked : Option ℕ) (s : Session) → IsThere Control history Serving s.remote → (e : Effect) → RemovalTaken request d linked old s e → Told history Serving e
     removal_taken request d (Some identity) s is e (inl f) = at history Serving e _ f.1 (one history Serving _ (there history Serving s.remote is))
     removal_taken request d (Some identity) s is e (inr (a, r)) = at history Serving e _ r (one history Serving _ (there history Serving s.remote is))
     removal_taken request d None s is e (inl f) = at history Serving e _ f.1 (one history Serving _ (there history Serving s.remote is))
@@ -269,13 +269,13 @@ module _ (history : List Sent) where
   module _ (old : Node) (back : Back history Packet old) where
     session_asked : (request : Arrival) (q : CreateSessionRequest) → HasSent history Serving (Create_session_request q) → (e : Effect) → SessionAsked request q old e → Told history Packet e
     session_asked request q came e (inl f) = at history Packet e _ f.1 (silent history Packet)
-    session_asked request q came e (inr (a, inl f)) = at history Packet e _ f.1 (one history Packet _ (λ not. record { message = Create_session_request q; sent = came; owns = inl refl }))
-    session_asked request q came e (inr (a, inr (b, inl f))) = at history Packet e _ f.1 (one history Packet _ (λ not. record { message = Create_session_request q; sent = came; owns = inl refl }))
-    session_asked request q came e (inr (a, inr (b, inr (c, inl f)))) = at history Packet e _ f.1 (one history Packet _ (λ not. record { message = Create_session_request q; sent = came; owns = inl refl }))
-    session_asked request q came e (inr (a, inr (b, inr (c, inr (d, inl f))))) = at history Packet e _ f.1 (one history Packet _ (λ not. record { message = Create_session_request q; sent = came; owns = inl refl }))
-    session_asked request q came e (inr (a, inr (b, inr (c, inr (d, inr (g, inl f)))))) = at history Packet e _ f.1 (one history Packet _ (λ not. record { message = Create_session_request q; sent = came; owns = inl refl }))
-    session_asked request q came e (inr (a, inr (b, inr (c, inr (d, inr (g, inr (h, inl f))))))) = at history Packet e _ f.1 (one history Packet _ (λ not. record { message = Create_session_request q; sent = came; owns = inl refl }))
-    session_asked request q came e (inr (a, inr (b, inr (c, inr (d, inr (g, inr (h, inr (k, r)))))))) = at history Packet e _ r.gives (one history Packet _ (λ not. record { message = Create_session_request q; sent = came; owns = inl refl }))
+    session_asked request q came e (inr (a, inl f)) = at history Packet e _ f.1 (one history Packet _ (λ not. record { message = Create_session_request q; sent = came; owns = refl }))
+    session_asked request q came e (inr (a, inr (b, inl f))) = at history Packet e _ f.1 (one history Packet _ (λ not. record { message = Create_session_request q; sent = came; owns = refl }))
+    session_asked request q came e (inr (a, inr (b, inr (c, inl f)))) = at history Packet e _ f.1 (one history Packet _ (λ not. record { message = Create_session_request q; sent = came; owns = refl }))
+    session_asked request q came e (inr (a, inr (b, inr (c, inr (d, inl f))))) = at history Packet e _ f.1 (one history Packet _ (λ not. record { message = Create_session_request q; sent = came; owns = refl }))
+    session_asked request q came e (inr (a, inr (b, inr (c, inr (d, inr (g, inl f)))))) = at history Packet e _ f.1 (one history Packet _ (λ not. record { message = Create_session_request q; sent = came; owns = refl }))
+    session_asked request q came e (inr (a, inr (b, inr (c, inr (d, inr (g, inr (h, inl f))))))) = at history Packet e _ f.1 (one history Packet _ (λ not. record { message = Create_session_request q; sent = came; owns = refl }))
+    session_asked request q came e (inr (a, inr (b, inr (c, inr (d, inr (g, inr (h, inr (k, r)))))))) = at history Packet e _ r.gives (one history Packet _ (λ not. record { message = Create_session_request q; sent = came; owns = refl }))
 
     deletion_asked : (request : Arrival) (d : DeleteSessionRequest) (e : Effect) → DeletionAsked request d old e → Told history Packet e
     deletion_asked request d e (inl f) = at history Packet e _ f.1 (silent history Packet)
@@ -346,20 +346,20 @@ one_remote o s t x y = cc
 -- what a gateway has goes back to messages
 pub back_of : (history : List Sent) (role : Role) (node : Node) → Knows role history node → Back history role node
 back_of history Serving node knows = record {
-  sessions = λ t s stands r e. let opened = (knows.contexts.sessions_asked t s stands).opened r e in record { message = Create_session_response opened.answer; sent = opened.sent; owns = inl (sym opened.remote ∙ e) };
+  sessions = λ t s stands r e. let opened = (knows.contexts.sessions_asked t s stands).opened r e in record { message = Create_session_response opened.answer; sent = opened.sent; owns = sym opened.remote ∙ e };
   bearers = λ t b stands r e.
       ⊎_elim
-      (λ o. let opened = o.opened r e in record { message = Create_session_response opened.answer; sent = opened.sent; owns = inr (sym opened.user ∙ e) })
+      (λ o. let opened = o.opened r e in record { message = Create_session_response opened.answer; sent = opened.sent; owns = sym opened.user ∙ e })
       (λ g. record { message = Create_bearer_request g.request; sent = g.asked; owns = one_remote b.remote r g.request.context.user.teid e g.remote })
       (knows.contexts.bearers_asked t b stands).origin;
   pending = λ number p e. (knows.pending number p e).sent;
   held = knows.held;
 }
 back_of history Packet node knows = record {
-  sessions = λ t s stands r e. let made = knows.contexts.sessions_made t s stands in record { message = Create_session_request made.request; sent = made.asked; owns = inl (one_remote s.remote r made.request.control.teid e made.remote) };
+  sessions = λ t s stands r e. let made = knows.contexts.sessions_made t s stands in record { message = Create_session_request made.request; sent = made.asked; owns = one_remote s.remote r made.request.control.teid e made.remote };
   bearers = λ t b stands r e.
       ⊎_elim
-      (λ o. record { message = Create_session_request o.request; sent = o.asked; owns = inr (one_remote b.remote r o.request.context.user.teid e o.remote) })
+      (λ o. record { message = Create_session_request o.request; sent = o.asked; owns = one_remote b.remote r o.request.context.user.teid e o.remote })
       (λ p. let given = p.opened r e in record { message = Create_bearer_response given.answer; sent = given.sent; owns = sym given.remote ∙ e })
       (knows.contexts.bearers_made t b stands).origin;
   pending = λ number p e. (knows.pending number p e).sent;
@@ -367,7 +367,7 @@ back_of history Packet node knows = record {
 }
 
 module _ (before after : List Sent) (extends : Extends before after) where
-  from_later : (role : Role) (t : ℕ) → IsFrom before role t → IsFrom after role t
+  from_later : {plane : Plane} (role : Role) (t : ℕ) → IsFromOn plane before role t → IsFromOn plane after role t
   from_later role t from = record { message = from.message; sent = extends.keeps role from.message from.sent; owns = from.owns }
 
   names_later : (role : Role) (m : Message) → NamesBack before role m → NamesBack after role m

@@ -1,5 +1,5 @@
 -- The same run goes on: a request comes again, a datagram is lost, packets come in the other order, a bearer is deleted, and a restart is heard.
-use Rattle.std.proofs.Common.{◌≡◌, ◌≢◌, ◌<◌, ◌⊎◌, inl, inr, ℕ, List, [], ◌∷◌, Some, None, false, refl, sym, ◌∙◌, ap, arith, ⊎_elim, Bool, true, not, rules}
+use Rattle.std.proofs.Common.{◌≡◌, ◌≢◌, ◌<◌, ◌⊎◌, inl, inr, ℕ, List, [], ◌∷◌, Some, None, false, refl, sym, ◌∙◌, ap, arith, ⊎_elim, Bool, true, not, rules, ◌==◌, ◌||◌}
 use Rattle.std.specs.FinMap.{get, insert, remove, empty, get-empty, len, len-empty, get-remove}
 use Rattle.std.specs.Ordering.{nat_cmp}
 use Rattle.std.proofs.lemmas.Cmp.{nat_cmp_total}
@@ -11,12 +11,12 @@ use Rattle.gtp_machine.specs.Input.{Create_session, Create_bearer, Send_user, Co
 use Rattle.gtp_machine.specs.Command.{asks, CommandStep}
 use Rattle.gtp_machine.specs.Answer.{IsNew, answered, echoed}
 use Rattle.gtp_machine.specs.Serving.{granted_bearer}
-use Rattle.gtp_machine.specs.World.{with_steps, World, Does, Deliver, Moves, Delivers, noted, arrival, Restart, Restarted, with_side, restarted, quiet_note}
+use Rattle.gtp_machine.specs.World.{with_steps, World, Does, Deliver, Moves, Delivers, noted, arrival, Restart, Restarted, with_side, restarted, quiet_note, note_of, Came_to}
 use Rattle.gtp_machine.proofs.Basics.FiniteMaps.{get-insert_same, get-kept, found-kept}
-use Rattle.gtp_machine.specs.Laws.{GetsThrough, GoesOn, ARunIsPossible}
+use Rattle.gtp_machine.specs.Laws.{GetsThrough, GoesOn, ARunIsPossible, HearsRestart}
 use Rattle.gtp_machine.proofs.Basics.Counting.{len-insert_most, len-remove_most}
 use Rattle.gtp_machine.proofs.Worlds.Possible.{from_serving, from_packet, serving_ip, packet_ip, serving_config, packet_config, spec, plain_qos, control, dedicated, none_pending, after, heard, q, asked, a, at_serving, at_packet, r, at_packet_bearer, entry, w1, w2, w3, w4, w5, w6, w7, w8, second, serving_stands, step1, step2, step3, step4, step5, step6, step7, step8}
-use Rattle.gtp_values.specs.FiniteMap.{Among}
+use Rattle.gtp_values.specs.FiniteMap.{Among, FiniteMap, kept}
 use Rattle.gtp_machine.specs.User.{UserStep}
 use Rattle.gtp_machine.specs.Removal.{without_bearer, is_opened}
 use Rattle.gtp_machine.specs.Recovery.{peer_restarted}
@@ -283,10 +283,20 @@ gone s e = not_so (is_opened (get w18.packet.node.sessions control)) (ap is_open
     not_so true is other = absurd (cc other)
     not_so false is other = absurd (cc is)
 
-goes_on : GoesOn w8 control
-goes_on = record {
-  events = Deliver 0 ∷ Does Serving (Send_user dedicated (121 ∷ [])) ∷ Does Serving (Send_user dedicated (122 ∷ [])) ∷ Deliver 7 ∷ Deliver 6 ∷ Does Packet (Delete_bearer control 6) ∷ Deliver 8 ∷ Deliver 9 ∷ Restart Serving ∷ Does Serving Send_echo ∷ Deliver 10 ∷ [];
+hears_restart : HearsRestart w16 control
+hears_restart = record {
+  events = Restart Serving ∷ Does Serving Send_echo ∷ Deliver 10 ∷ [];
   world = w19;
+  run = (w17, inr (omega arith, refl), (w18, step18, (w19, inr (record { sent = _; is = refl }, step19), refl)));
+  restarts = refl;
+  heard = inl refl;
+  gone = gone;
+}
+
+goes_on : GoesOn w8 control control dedicated dedicated
+goes_on = record {
+  events = Deliver 0 ∷ Does Serving (Send_user dedicated (121 ∷ [])) ∷ Does Serving (Send_user dedicated (122 ∷ [])) ∷ Deliver 7 ∷ Deliver 6 ∷ Does Packet (Delete_bearer control 6) ∷ Deliver 8 ∷ Deliver 9 ∷ [];
+  world = w16;
   run = (
     w9,
     inr (record { sent = _; is = refl }, step9),
@@ -308,19 +318,7 @@ goes_on = record {
               (
                 w15,
                 inr (record { sent = _; is = refl }, step15),
-                (
-                  w16,
-                  inr (record { sent = _; is = refl }, step16),
-                  (
-                    w17,
-                    inr (omega arith, refl),
-                    (
-                      w18,
-                      step18,
-                      (w19, inr (record { sent = _; is = refl }, step19), refl),
-                    ),
-                  ),
-                ),
+                (w16, inr (record { sent = _; is = refl }, step16), refl),
               ),
             ),
           ),
@@ -328,7 +326,11 @@ goes_on = record {
       ),
     ),
   );
-  repeated = (_, inr (inr (inr (inr (inr (inr (inr (inr (inr (inr (inl refl)))))))))), refl);
+  later = _ ∷ _ ∷ _ ∷ _ ∷ _ ∷ _ ∷ _ ∷ note_of (Came_to Repeated) e9.out ∷ [];
+  notes = refl;
+  note = note_of (Came_to Repeated) e9.out;
+  among = inr (inr (inr (inr (inr (inr (inr (inl refl)))))));
+  repeated = refl;
   lost = record { sent = _; is = refl };
   never_comes = never;
   first = entry_with 121;
@@ -336,10 +338,11 @@ goes_on = record {
   apart = apart;
   handed = refl;
   accepted = refl;
-  closed = (_, inr (inr (inr (inl refl))), refl);
-  restarts = refl;
-  heard = inl refl;
-  gone = gone;
+  deleted = λ b e. not_kept w14.serving.node.bearers b e;
+  deleted_there = λ b e. not_kept w15.packet.node.bearers b e;
+  stays = (at_serving, get-kept (λ t (s : Session). true) w14.serving.node.sessions control at_serving serving_stands refl);
+  stays_there = (at_packet, stands_before);
+  restart = hears_restart;
 }
   where
     octet_of : List ℕ → ℕ
@@ -349,7 +352,13 @@ goes_on = record {
     apart : entry_with 121 ≢ entry_with 122
     apart e = let same : ◌≡◌ {A = ℕ} 121 122 = ap (λ (k : Entry). octet_of k.payload) e in omega arith
 
-    never : Among (Deliver 5) (Deliver 0 ∷ Does Serving (Send_user dedicated (121 ∷ [])) ∷ Does Serving (Send_user dedicated (122 ∷ [])) ∷ Deliver 7 ∷ Deliver 6 ∷ Does Packet (Delete_bearer control 6) ∷ Deliver 8 ∷ Deliver 9 ∷ Restart Serving ∷ Does Serving Send_echo ∷ Deliver 10 ∷ []) → ⊥
+    not_so : false ≡ true → ⊥
+    not_so e = cc
+
+    not_kept : (bearers : FiniteMap Bearer) (b : Bearer) → get (kept (λ t (k : Bearer). not ((t == dedicated) || false)) bearers) dedicated ≡ Some b → ⊥
+    not_kept bearers b e = not_so (found-kept (λ t (k : Bearer). not ((t == dedicated) || false)) bearers dedicated b e).0
+
+    never : Among (Deliver 5) (Deliver 0 ∷ Does Serving (Send_user dedicated (121 ∷ [])) ∷ Does Serving (Send_user dedicated (122 ∷ [])) ∷ Deliver 7 ∷ Deliver 6 ∷ Does Packet (Delete_bearer control 6) ∷ Deliver 8 ∷ Deliver 9 ∷ []) → ⊥
     never = search rules
 
 gets_through : GetsThrough

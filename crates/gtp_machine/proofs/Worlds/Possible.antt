@@ -29,7 +29,7 @@ abbrev pub serving_config : Config
 serving_config = record { own = record { control = serving_ip; user = serving_ip }; peer = record { control = packet_ip; user = packet_ip }; access_points = []; pool_start = 0; pool_count = 0 }
 
 abbrev pub packet_config : Config
-packet_config = record { own = record { control = packet_ip; user = packet_ip }; peer = record { control = serving_ip; user = serving_ip }; access_points = (97 ∷ []) ∷ []; pool_start = 7; pool_count = 1 }
+packet_config = record { own = record { control = packet_ip; user = packet_ip }; peer = record { control = serving_ip; user = serving_ip }; access_points = (1 ∷ 97 ∷ []) ∷ []; pool_start = 7; pool_count = 1 }
 
 abbrev pub no_rates : Rates
 no_rates = record { up = 0; down = 0 }
@@ -38,7 +38,7 @@ abbrev pub plain_qos : Qos
 plain_qos = record { pci = false; pl = 8; pvi = false; qci = 9; mbr = no_rates; gbr = no_rates }
 
 abbrev pub spec : Specification
-spec = record { subscriber = record { imsi = 1 ∷ []; access_point = 97 ∷ []; identity = 5 }; rat = 6; network = record { mcc = 0 ∷ 0 ∷ 1 ∷ []; mnc = 0 ∷ 1 ∷ [] }; selection = 0; pdn = 1; ambr = record { up = 1000; down = 1000 }; qos = plain_qos }
+spec = record { subscriber = record { imsi = 0 ∷ 0 ∷ 1 ∷ 0 ∷ 1 ∷ 1 ∷ []; access_point = 1 ∷ 97 ∷ []; identity = 5 }; rat = 6; network = record { mcc = 0 ∷ 0 ∷ 1 ∷ []; mnc = 0 ∷ 1 ∷ [] }; selection = 0; pdn = 1; ambr = record { up = 1000; down = 1000 }; qos = plain_qos }
 
 abbrev pub control : ℕ
 control = 16777217

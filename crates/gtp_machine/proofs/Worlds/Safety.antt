@@ -102,7 +102,7 @@ module _ (own : Addresses) (w : World) (inv : Invariant own w) where
       one : (o : Option ℕ) (s t : ℕ) → o ≡ Some s → o ≡ Some t → s ≡ t
       one o s t x y = cc
 
-  bearer_goes_back : (role : Role) (t : ℕ) (b : Bearer) → get (side_of w role).node.bearers t ≡ Some b → GoesBack User w.history role t b.remote
+  pub bearer_goes_back : (role : Role) (t : ℕ) (b : Bearer) → get (side_of w role).node.bearers t ≡ Some b → GoesBack User w.history role t b.remote
   bearer_goes_back Serving t b stands =
       ⊎_elim
       (λ o. record {

@@ -35,8 +35,8 @@ returns-clause-spelled c = spelled_reads
 pub returns-clause-apart : goal.returns-clause-apart
 returns-clause-apart c = spelled_apart
 
-pub returns-clause-subscriber : goal.returns-clause-subscriber
-returns-clause-subscriber c = law.keeps_subscriber
+pub returns-clause-session_request : goal.returns-clause-session_request
+returns-clause-session_request c = law.session_request_reads
 
-pub returns-clause-session : goal.returns-clause-session
-returns-clause-session c = law.keeps_session
+pub returns-clause-bearer_request : goal.returns-clause-bearer_request
+returns-clause-bearer_request c = law.bearer_request_reads
