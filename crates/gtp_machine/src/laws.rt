@@ -126,8 +126,8 @@ pub fn acts_once()
     ensures runs { Always EachActsOnce }
 {}
 
-/// No law of safety is empty: there is a run to sessions and dedicated bearers that name each other, and to
-/// an accepted packet.
+/// No law of safety is empty: there is a run to sessions and dedicated bearers that name each other,
+/// and to an accepted packet.
 pub fn a_run_is_possible()
     ensures { ARunIsPossible }
 {}
