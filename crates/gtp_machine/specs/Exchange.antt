@@ -1,5 +1,6 @@
 -- The exchange that makes a session (TS 29.274, 7.2.1 and 7.2.2), on a path that brings each datagram at once.
 use Rattle.std.specs.Prelude.{◌≡◌, ◌⊎◌, ℕ, ◌+◌, ◌<◌, ◌≤◌, List, ◌∷◌, Some, length}
+use Rattle.std.specs.FinMap.{get}
 use Rattle.gtp_values.specs.FiniteMap.{Among}
 use Rattle.gtp_machine.specs.Config.{Config}
 use Rattle.gtp_machine.specs.Message.{CreateSessionRequest, Message, Create_session_request, Create_session_response}
@@ -11,14 +12,14 @@ use Rattle.gtp_machine.specs.Packet.{session_response}
 use Rattle.gtp_machine.specs.Spelling.{IsSendable}
 use Rattle.gtp_machine.specs.World.{World, Event, Does, Deliver, Happens, Run, EventOutcome, Came_to, Note, HasSent, start}
 use Rattle.gtp_machine.specs.Laws.{MutualSessions, MutualBearers}
-use Rattle.std.specs.FinMap.{get}
 
 -- each gateway has the other's addresses for its peer's
 pub record IsOnePath (serving packet : Config) : Type 0 where
   pub there : serving.peer ≡ packet.own
   pub back : packet.peer ≡ serving.own
 
--- what was sent up to now can be sent, and so can the request for the specification and its answer, whichever free TEIDs and number and whichever address of the pool they have
+-- what was sent up to now can be sent, and so can the request for the specification and its answer, whichever free TEIDs and number and whichever address of
+-- the pool they have
 pub record AllSendable (w : World) (spec : Specification) : Type 0 where
   pub each : (role : Role) (m : Message) → HasSent w.history role m → IsSendable m
   pub request : (control user number : ℕ) → IsFree w.serving.node control → IsFree w.serving.node user → IsFreeNumber w.serving.node number → IsSendable (Create_session_request (session_request w.serving.node spec control user number))

@@ -97,7 +97,7 @@ OwnsOn User (Create_bearer_request r) t = t ≡ r.context.user.teid
 OwnsOn User (Create_bearer_response x) t = first_given x.contexts ≡ Some t
 OwnsOn User m t = ⊥
 
--- no TEID stands for both planes: each message that has one of each has two
+-- no TEID stands in a message for both planes: one that has an F-TEID of each has two
 abbrev pub PlanesApart : World → Type 0
 PlanesApart w = (role : Role) (m : Message) (t : ℕ) → HasSent w.history role m → OwnsOn Control m t → OwnsOn User m t → ⊥
 

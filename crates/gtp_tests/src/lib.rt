@@ -1,4 +1,5 @@
-//! Tests of values, of both codecs, of tables and of reliable delivery: vectors from outside, printed texts, and calls that allocate where there is
+//! Tests of values, of both codecs, of tables and of reliable delivery: vectors from outside, printed
+//! texts, plain lists beside indexes, and calls that allocate where there is
 //! memory. What their contracts say is not tested again.
 #![tactic(auto)]
 
