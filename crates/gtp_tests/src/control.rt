@@ -1,13 +1,11 @@
-ghost use Rattle.std.specs.Prelude.{◌<◌, ◌^◌};
-ghost use Rattle.gtp_v2.specs.Body.{OctetsOnlyWithoutTable};
-ghost use Rattle.gtp_v2.specs.Priority.{PriorityNeedsTeid};
+//! Datagrams of the control plane. Their octets are drawn by hand after the figures of TS 29.274 clauses 5, 7
+//! and 8; those of whole messages stand an element a line.
 
+use crate::values::is_told;
 use gtp_v2::*;
 use std::alloc::Global;
+use std::process::Abort;
 use std::test::Fail;
-
-// The octets of all tests are drawn by hand after the figures of TS 29.274 clauses 5, 7 and 8; those of
-// whole messages stand an element a line.
 
 /// Create Session Request, as a serving gateway sends it: examples/datagrams/control/create-session-request.
 const SESSION_REQUEST: &str = concat!(
@@ -84,9 +82,32 @@ fn octets_of(alloc: Global, digits: &str) -> Result<Vec<u8>, Fail> {
     Ok(hex::decode(alloc, digits)?)
 }
 
+/// The message that octets spell.
+fn read(alloc: Global, octets: &[u8]) -> Result<Message, Fail> {
+    Ok(decode(alloc, octets)?.message)
+}
+
+/// The octets of a message.
+fn written(alloc: Global, message: &Message) -> Result<Vec<u8>, Fail> {
+    if !message.is_encodable() {
+        return Err("not to be encoded".into());
+    }
+    Ok(encode(alloc, message)?)
+}
+
+/// The octets of the message that octets spell, where it meets the marks of its table.
+fn written_again(alloc: Global, octets: &[u8]) -> Result<Vec<u8>, Fail> {
+    let message = read(alloc, octets)?;
+    if message.meets_marks() {
+        written(alloc, &message)
+    } else {
+        Err("a mark is not met".into())
+    }
+}
+
 #[test]
 fn vectors_stand(rt: HostRuntime) -> Result<(), Fail> {
-    let vectors = [
+    for digits in [
         "40010009000001000300010007",
         "400200090000020003000100ff",
         "4003000400000100",
@@ -101,131 +122,174 @@ fn vectors_stand(rt: HostRuntime) -> Result<(), Fail> {
         REMOVAL_RESPONSE,
         "482200080100000100000700",
         "4022000b0000070061626364656667",
-    ];
-    for digits in vectors {
+    ] {
         let octets = octets_of(rt.alloc(), digits)?;
-        let datagram = decode(rt.alloc(), &octets)?;
-        assert!(rt; datagram.message.is_encodable() && datagram.message.meets_marks());
-        let again = encode(rt.alloc(), &datagram.message)?;
-        assert_eq!(rt; again.as_slice(), octets.as_slice(), "of {digits}");
+        assert!(rt;
+            written_again(rt.alloc(), &octets)? == octets,
+            "of {digits}"
+        );
     }
     Ok(())
 }
 
-/// Whether a message has these octets, and they are read as that message.
-fn is_text_of(alloc: Global, message: &Message, digits: &str) -> Result<bool, Fail>
-    requires header { PriorityNeedsTeid message.now.teid message.now.priority }
-    requires kind { OctetsOnlyWithoutTable message.now.body }
-{
-    let octets = encode(alloc, message)?;
-    let again = decode(alloc, &octets)?;
-    Ok(octets == octets_of(alloc, digits)? && again.message == *message)
+/// A message is written as these octets.
+fn is_written(rt: &impl Abort, alloc: Global, message: &Message, digits: &str) -> Result<(), Fail> {
+    let octets = octets_of(alloc, digits)?;
+    assert!(rt; written(alloc, message)? == octets, "octets of {digits}");
+    Ok(())
+}
+
+/// These octets are read as a message.
+fn is_read(rt: &impl Abort, alloc: Global, digits: &str, message: &Message) -> Result<(), Fail> {
+    let octets = octets_of(alloc, digits)?;
+    assert!(rt; read(alloc, &octets)? == *message, "message of {digits}");
+    Ok(())
+}
+
+/// A message that was made by hand is written as these octets, which are read as that message.
+fn is_spelled(rt: &impl Abort, alloc: Global, message: &Message, digits: &str) -> Result<(), Fail> {
+    is_written(rt, alloc, message, digits)?;
+    is_read(rt, alloc, digits, message)
 }
 
 /// The same of a body with a TEID of 7, a sequence number of 9 and a priority of 3.
-fn is_written(alloc: Global, body: Body, digits: &str) -> Result<bool, Fail>
-    requires { OctetsOnlyWithoutTable body }
-{
+fn is_spelled_with_priority(
+    rt: &impl Abort,
+    alloc: Global,
+    body: Body,
+    digits: &str,
+) -> Result<(), Fail> {
     let message = Message {
         teid: Some(Teid(7)),
         seq: Seq::new(9),
         priority: Some(Below::new(3)),
         body,
     };
-    is_text_of(alloc, &message, digits)
+    is_spelled(rt, alloc, &message, digits)
 }
 
-#[test]
-fn messages_made_by_hand(rt: HostRuntime) -> Result<(), Fail> {
-    let alloc = rt.alloc();
-    let cause = Cause {
-        value: 70,
-        pce: true,
+/// The same of a body with this TEID and sequence number.
+fn is_spelled_with(
+    rt: &impl Abort,
+    alloc: Global,
+    teid: Option<u32>,
+    seq: Seq,
+    body: Body,
+    digits: &str,
+) -> Result<(), Fail> {
+    let message = Message {
+        teid: teid.map(Teid),
+        seq,
+        priority: None,
+        body,
+    };
+    is_spelled(rt, alloc, &message, digits)
+}
+
+fn bearer(number: u8) -> Result<EbiValue, Fail> {
+    Ok(EbiValue(Below::try_new(number)?))
+}
+
+fn cause(value: u8) -> Cause {
+    Cause {
+        value,
+        pce: false,
         bce: false,
+        cs: false,
+        offending: None,
+    }
+}
+
+/// Cause 70 of the other end, of a bearer's identity that is missing (TS 29.274 8.4).
+fn cause_with_element() -> Cause {
+    Cause {
+        pce: true,
         cs: true,
         offending: Some(Offending {
             kind: 73,
             instance: Below::new(1),
         }),
-    };
-    let ebi = EbiValue(Below::new(6));
-    let contexts = Listed::of(vec![in alloc; RemovalResponseContext { ebi, cause }]?);
-    let ebis = Listed::of(vec![in alloc; ebi, ebi]?);
-    let refused = Cause {
-        value: 73,
-        pce: false,
-        bce: false,
-        cs: false,
-        offending: None,
-    };
-    let session_request = Body::DeleteSessionRequest(DeleteSessionRequest { linked_ebi: None });
-    assert!(rt; is_written(alloc, session_request, "4c2400080000000700000930")?);
-    let session_response = Body::DeleteSessionResponse(DeleteSessionResponse {
-        cause,
-        recovery: None,
-    });
-    let digits = "4c250012000000070000093002000600460549000001";
-    assert!(rt; is_written(alloc, session_response, digits)?);
-    let refusal = Body::CreateSessionResponse(CreateSessionResponse {
-        cause: refused,
-        control: None,
-        paa: None,
-        ambr: None,
-        contexts: Listed::of(Vec::new(alloc)),
-        recovery: Some(Recovery(Counter(1))),
-    });
-    let digits = "4c21001300000007000009300200020049000300010001";
-    assert!(rt; is_written(alloc, refusal, digits)?);
-    let bearer_request = Body::DeleteBearerRequest(DeleteBearerRequest {
+        ..cause(70)
+    }
+}
+
+fn recovery(counter: u8) -> Option<Recovery> {
+    Some(Recovery(Counter(counter)))
+}
+
+fn removal_request(alloc: Global) -> Result<Body, Fail> {
+    let ebi = bearer(6)?;
+    Ok(Body::DeleteBearerRequest(DeleteBearerRequest {
         linked_ebi: Some(ebi),
-        ebis,
-    });
+        ebis: Listed::of(vec![in alloc; ebi, ebi]?),
+    }))
+}
+
+fn removal_response(alloc: Global) -> Result<Body, Fail> {
+    let ebi = bearer(6)?;
+    let cause = cause_with_element();
+    Ok(Body::DeleteBearerResponse(DeleteBearerResponse {
+        cause,
+        linked_ebi: Some(ebi),
+        contexts: Listed::of(vec![in alloc; RemovalResponseContext { ebi, cause }]?),
+        recovery: recovery(200),
+    }))
+}
+
+#[test]
+fn removals_made_by_hand(rt: HostRuntime) -> Result<(), Fail> {
+    let alloc = rt.alloc();
+    let request = removal_request(alloc)?;
     let digits = "4c6300170000000700000930490001000649000101064900010106";
-    assert!(rt; is_written(alloc, bearer_request, digits)?);
-    let bearer_response = Body::DeleteBearerResponse(DeleteBearerResponse {
-        cause,
-        linked_ebi: Some(ebi),
-        contexts,
-        recovery: Some(Recovery(Counter(200))),
-    });
+    is_spelled_with_priority(&rt, alloc, request, digits)?;
+    let response = removal_response(alloc)?;
     let digits = concat!(
         "4c64002f000000070000093002000600460549000001",
         "4900010006",
         "5d000f00490001000602000600460549000001",
         "03000100c8"
     );
-    assert!(rt; is_written(alloc, bearer_response, digits)?);
-    Ok(())
+    is_spelled_with_priority(&rt, alloc, response, digits)
 }
 
-/// Whether a message without a priority has these octets, and they are read as that message.
-fn stands(
-    alloc: Global,
-    teid: Option<u32>,
-    seq: u32,
-    body: Body,
-    digits: &str,
-) -> Result<bool, Fail>
-    requires number { seq < 2 ^ 24 }
-    requires kind { OctetsOnlyWithoutTable body }
-{
-    let message = Message {
-        teid: teid.map(Teid),
-        seq: Seq::new(seq),
-        priority: None,
+#[test]
+fn ends_of_sessions_made_by_hand(rt: HostRuntime) -> Result<(), Fail> {
+    let alloc = rt.alloc();
+    let request = Body::DeleteSessionRequest(DeleteSessionRequest { linked_ebi: None });
+    is_spelled_with_priority(&rt, alloc, request, "4c2400080000000700000930")?;
+    let response = Body::DeleteSessionResponse(DeleteSessionResponse {
+        cause: cause_with_element(),
+        recovery: None,
+    });
+    let digits = "4c250012000000070000093002000600460549000001";
+    is_spelled_with_priority(&rt, alloc, response, digits)
+}
+
+#[test]
+fn echoes_made_by_hand(rt: HostRuntime) -> Result<(), Fail> {
+    let alloc = rt.alloc();
+    let recovery = Recovery(Counter(7));
+    let body = Body::EchoRequest(EchoRequest { recovery });
+    is_spelled_with(
+        &rt,
+        alloc,
+        None,
+        Seq::new(1),
         body,
-    };
-    is_text_of(alloc, &message, digits)
-}
-
-fn accepted() -> Cause {
-    Cause {
-        value: 16,
-        pce: false,
-        bce: false,
-        cs: false,
-        offending: None,
-    }
+        "40010009000001000300010007",
+    )?;
+    let recovery = Recovery(Counter(255));
+    let body = Body::EchoResponse(EchoResponse { recovery });
+    is_spelled_with(
+        &rt,
+        alloc,
+        None,
+        Seq::new(2),
+        body,
+        "400200090000020003000100ff",
+    )?;
+    let body = Body::VersionNotSupported(VersionNotSupported {});
+    is_spelled_with(&rt, alloc, None, Seq::new(1), body, "4003000400000100")
 }
 
 fn no_rates() -> Rates {
@@ -251,35 +315,20 @@ fn end(interface: u8, teid: u32, last: u8) -> Result<FTeid, Fail> {
     Ok(FTeid::try_new(interface, Teid(teid), Some([10, 0, 0, last]), None)?)
 }
 
-#[test]
-fn echoes_made_by_hand(rt: HostRuntime) -> Result<(), Fail> {
-    let alloc = rt.alloc();
-    let recovery = Recovery(Counter(7));
-    let body = Body::EchoRequest(EchoRequest { recovery });
-    assert!(rt; stands(alloc, None, 1, body, "40010009000001000300010007")?);
-    let recovery = Recovery(Counter(255));
-    let body = Body::EchoResponse(EchoResponse { recovery });
-    assert!(rt; stands(alloc, None, 2, body, "400200090000020003000100ff")?);
-    let body = Body::VersionNotSupported(VersionNotSupported {});
-    assert!(rt; stands(alloc, None, 1, body, "4003000400000100")?);
-    Ok(())
-}
-
-#[test]
-fn sessions_made_by_hand(rt: HostRuntime) -> Result<(), Fail> {
-    let alloc = rt.alloc();
-    let ebi = EbiValue(Below::new(5));
-    let ambr = Some(Ambr {
+fn thousand() -> Option<Ambr> {
+    Some(Ambr {
         up: 1000,
         down: 1000,
-    });
-    let recovery = Some(Recovery(Counter(1)));
+    })
+}
+
+fn session_request(alloc: Global) -> Result<Body, Fail> {
     let context = SessionRequestContext {
-        ebi,
+        ebi: bearer(5)?,
         qos: plain_qos(),
         user: end(4, 0x01000002, 1)?,
     };
-    let body = Body::CreateSessionRequest(CreateSessionRequest {
+    Ok(Body::CreateSessionRequest(CreateSessionRequest {
         imsi: Imsi::from_text("001010123456789")?,
         rat: Rat(6),
         serving_network: Some(Plmn::try_new(&[0, 0, 1], &[0, 1])?),
@@ -288,65 +337,131 @@ fn sessions_made_by_hand(rt: HostRuntime) -> Result<(), Fail> {
         selection: Some(Selection(Below::new(0))),
         pdn_type: PdnType(Below::new(1)),
         paa: Some(Paa::V4([0; 4])),
-        ambr,
+        ambr: thousand(),
         contexts: Listed::of(vec![in alloc; context]?),
-        recovery,
-    });
-    assert!(rt; stands(alloc, Some(0), 0, body, SESSION_REQUEST)?);
+        recovery: recovery(1),
+    }))
+}
+
+fn session_response(alloc: Global) -> Result<Body, Fail> {
     let context = SessionResponseContext {
-        ebi,
-        cause: accepted(),
+        ebi: bearer(5)?,
+        cause: cause(16),
         user: Some(end(5, 0x01000002, 2)?),
         qos: Some(plain_qos()),
         charging_id: Some(ChargingId(0x01000002)),
     };
-    let body = Body::CreateSessionResponse(CreateSessionResponse {
-        cause: accepted(),
+    Ok(Body::CreateSessionResponse(CreateSessionResponse {
+        cause: cause(16),
         control: Some(end(7, 0x01000001, 2)?),
         paa: Some(Paa::V4([10, 1, 0, 1])),
-        ambr,
+        ambr: thousand(),
         contexts: Listed::of(vec![in alloc; context]?),
-        recovery,
-    });
-    assert!(rt; stands(alloc, Some(0x01000001), 0, body, SESSION_RESPONSE)?);
-    Ok(())
+        recovery: recovery(1),
+    }))
+}
+
+/// Cause 73, with nothing but the counter.
+fn session_refusal(alloc: Global) -> Body {
+    Body::CreateSessionResponse(CreateSessionResponse {
+        cause: cause(73),
+        control: None,
+        paa: None,
+        ambr: None,
+        contexts: Listed::of(Vec::new(alloc)),
+        recovery: recovery(1),
+    })
 }
 
 #[test]
-fn bearers_made_by_hand(rt: HostRuntime) -> Result<(), Fail> {
+fn sessions_made_by_hand(rt: HostRuntime) -> Result<(), Fail> {
     let alloc = rt.alloc();
+    is_spelled_with(
+        &rt,
+        alloc,
+        Some(0),
+        Seq::new(0),
+        session_request(alloc)?,
+        SESSION_REQUEST,
+    )?;
+    let response = session_response(alloc)?;
+    is_spelled_with(
+        &rt,
+        alloc,
+        Some(0x01000001),
+        Seq::new(0),
+        response,
+        SESSION_RESPONSE,
+    )?;
+    let digits = "4c21001300000007000009300200020049000300010001";
+    is_spelled_with_priority(&rt, alloc, session_refusal(alloc), digits)
+}
+
+fn bearer_request(alloc: Global) -> Result<Body, Fail> {
     let context = BearerRequestContext {
-        ebi: EbiValue(Below::new(0)),
+        ebi: bearer(0)?,
         tft: Tft::try_new(&[0x21])?,
         user: end(5, 0x01000003, 2)?,
         qos: plain_qos(),
         charging_id: Some(ChargingId(0x01000003)),
     };
-    let body = Body::CreateBearerRequest(CreateBearerRequest {
+    Ok(Body::CreateBearerRequest(CreateBearerRequest {
         pti: None,
-        linked_ebi: EbiValue(Below::new(5)),
+        linked_ebi: bearer(5)?,
         contexts: Listed::of(vec![in alloc; context]?),
-    });
-    assert!(rt; stands(alloc, Some(0x01000001), 0, body, BEARER_REQUEST)?);
+    }))
+}
+
+fn bearer_response(alloc: Global) -> Result<Body, Fail> {
     let context = BearerResponseContext {
-        ebi: EbiValue(Below::new(6)),
-        cause: accepted(),
+        ebi: bearer(6)?,
+        cause: cause(16),
         serving_user: Some(end(4, 0x01000003, 1)?),
         packet_user: Some(end(5, 0x01000003, 2)?),
     };
-    let body = Body::CreateBearerResponse(CreateBearerResponse {
-        cause: accepted(),
+    Ok(Body::CreateBearerResponse(CreateBearerResponse {
+        cause: cause(16),
         contexts: Listed::of(vec![in alloc; context]?),
-        recovery: Some(Recovery(Counter(1))),
-    });
-    assert!(rt; stands(alloc, Some(0x01000001), 0, body, BEARER_RESPONSE)?);
-    Ok(())
+        recovery: recovery(1),
+    }))
+}
+
+#[test]
+fn bearers_made_by_hand(rt: HostRuntime) -> Result<(), Fail> {
+    let alloc = rt.alloc();
+    let request = bearer_request(alloc)?;
+    is_spelled_with(
+        &rt,
+        alloc,
+        Some(0x01000001),
+        Seq::new(0),
+        request,
+        BEARER_REQUEST,
+    )?;
+    let response = bearer_response(alloc)?;
+    is_spelled_with(
+        &rt,
+        alloc,
+        Some(0x01000001),
+        Seq::new(0),
+        response,
+        BEARER_RESPONSE,
+    )
+}
+
+/// The first fault of octets that spell no message.
+fn fault_of(alloc: Global, digits: &str) -> Result<V2Fault, Fail> {
+    let octets = octets_of(alloc, digits)?;
+    match decode(alloc, &octets) {
+        Ok(_) => Err("a message".into()),
+        Err(V2Fault::Memory) => Err(V2Fault::Memory.into()),
+        Err(fault) => Ok(fault),
+    }
 }
 
 /// What a fault tells of its message: the sender of a Create Session Request, and its header.
 #[test]
 fn heads_of_faults(rt: HostRuntime) -> Result<(), Fail> {
-    let alloc = rt.alloc();
     let empty_name = concat!(
         "4c20002a0000000700000930",
         "0100080000010121436587f9",
@@ -354,39 +469,38 @@ fn heads_of_faults(rt: HostRuntime) -> Result<(), Fail> {
         "5700090086010000010a000001",
         "47000000"
     );
-    let octets = octets_of(alloc, empty_name)?;
-    let Err(V2Fault::Element { fault, head }) = decode(alloc, &octets) else {
-        return Err("no fault of an element".into());
-    };
-    assert_eq!(rt;
-        fault,
-        IeFault::ShortValue {
+    let fault = V2Fault::Element {
+        fault: IeFault::ShortValue {
             kind: 71,
             instance: 0,
-            at: 42
-        }
-    );
-    assert!(rt; head.kind == 32 && head.teid == Some(Teid(7)));
-    assert!(rt; head.seq == Seq::new(9) && head.priority == Some(Below::new(3)));
-    assert!(rt; head.sender == Some(end(6, 0x01000001, 1)?));
-    let octets = octets_of(alloc, "482500080100000100000500")?;
-    let Err(
-        V2Fault::Missing {
-            kind: 2,
-            instance: 0,
-            conditional: false,
-            head,
+            at: 42,
         },
-    ) = decode(alloc, &octets)
-    else {
-        return Err("no fault of a missing cause".into());
+        head: Head {
+            kind: 32,
+            teid: Some(Teid(7)),
+            seq: Seq::new(9),
+            priority: Some(Below::new(3)),
+            sender: Some(end(6, 0x01000001, 1)?),
+        },
     };
-    assert!(rt; head.teid == Some(Teid(0x01000001)) && head.seq == Seq::new(5));
-    assert!(rt; head.priority.is_none() && head.sender.is_none());
+    assert!(rt; fault_of(rt.alloc(), empty_name)? == fault);
+    let fault = V2Fault::Missing {
+        kind: 2,
+        instance: 0,
+        conditional: false,
+        head: Head {
+            kind: 37,
+            teid: Some(Teid(0x01000001)),
+            seq: Seq::new(5),
+            priority: None,
+            sender: None,
+        },
+    };
+    assert!(rt; fault_of(rt.alloc(), "482500080100000100000500")? == fault);
     Ok(())
 }
 
-/// The sender that the fault of a datagram tells.
+/// The sender that the fault of a row tells.
 fn sender_told(alloc: Global, digits: &str) -> Result<Option<FTeid>, Fail> {
     let octets = octets_of(alloc, digits)?;
     match decode(alloc, &octets) {
@@ -400,230 +514,327 @@ fn sender_told(alloc: Global, digits: &str) -> Result<Option<FTeid>, Fail> {
 /// row is at fault, before the end or after it or in a context.
 #[test]
 fn senders_of_faults(rt: HostRuntime) -> Result<(), Fail> {
-    let alloc = rt.alloc();
     let sender = Some(end(6, 0x01000001, 1)?);
-    let session = "00000007000009000100080000010121436587f9";
-    let rat = "5200010006";
-    let control = "5700090086010000010a000001";
-    let context = "470004000361626363000100015d0005004900010005";
-    for (header, first, second, third, told) in [
-        ("48200021", control, "", "", sender),
-        ("48200026", rat, control, "", sender),
-        ("4820003c", rat, control, context, sender),
-        ("48200029", rat, control, "4700ff", None),
-        ("48200022", rat, "570005000601000001", "", None),
+    for (header, rows, told) in [
+        ("48200021", "5700090086010000010a000001", sender),
+        ("48200026", "52000100065700090086010000010a000001", sender),
+        (
+            "4820003c",
+            concat!(
+                "5200010006",
+                "5700090086010000010a000001",
+                "4700040003616263",
+                "6300010001",
+                "5d000500",
+                "4900010005"
+            ),
+            sender,
+        ),
+        (
+            "48200029",
+            "52000100065700090086010000010a0000014700ff",
+            None,
+        ),
+        ("48200022", "5200010006570005000601000001", None),
     ] {
-        let digits = format!(in alloc; "{header}{session}{first}{second}{third}")?;
-        assert!(rt; sender_told(alloc, &digits)? == told, "of {digits}");
+        let session = "00000007000009000100080000010121436587f9";
+        let digits = format!(in rt.alloc(); "{header}{session}{rows}")?;
+        assert!(rt; sender_told(rt.alloc(), &digits)? == told, "of {digits}");
     }
     Ok(())
 }
 
-/// The longest list that a header can state: its 65,535 octets are four of the header's own and 65,531 of
-/// elements.
+/// Appends octets so many times.
+fn append(alloc: Global, octets: &mut Vec<u8>, digits: &str, times: usize) -> Result<(), Fail> {
+    let piece = octets_of(alloc, digits)?;
+    for _ in 0..times {
+        octets.extend_from_slice(&piece)?;
+    }
+    Ok(())
+}
+
+/// An Echo Request with so many pieces before the element that counts.
+fn echo_request(alloc: Global, header: &str, digits: &str, times: usize) -> Result<Vec<u8>, Fail> {
+    let mut octets = octets_of(alloc, header)?;
+    append(alloc, &mut octets, digits, times)?;
+    append(alloc, &mut octets, "0300010007", 1)?;
+    Ok(octets)
+}
+
+/// The restart counter that an Echo Request tells.
+fn counter_of_echo(alloc: Global, octets: &[u8]) -> Result<u8, Fail> {
+    match read(alloc, octets)?.body {
+        Body::EchoRequest(request) => Ok(request.recovery.0.0),
+        _ => Err("of another kind".into()),
+    }
+}
+
+/// Echo Requests, the one with the longest list that a header can state, whose 65,535 octets are four of the
+/// header's own and 65,531 of elements; the other with as many elements as there can be, 16,381 empty ones
+/// before the one that counts.
 #[test]
 fn lists_of_any_length(rt: HostRuntime) -> Result<(), Fail> {
-    let alloc = rt.alloc();
-    let mut octets = octets_of(alloc, "4001ffff00000100c8fff200")?;
-    octets.resize(octets.len() + 0xfff2, 0)?;
-    octets.extend_from_slice(&[3, 0, 1, 0, 7])?;
-    assert_eq!(rt; octets.len(), 65_539);
-    let datagram = decode(alloc, &octets)?;
-    let Body::EchoRequest(request) = &datagram.message.body else {
-        return Err("of another kind".into());
-    };
-    assert!(rt; request.recovery == Recovery(Counter(7)));
+    for (header, digits, times, length) in [
+        ("4001ffff00000100c8fff200", "00", 0xfff2, 65_539),
+        ("4001fffd00000100", "c8000000", 16_381, 65_537),
+    ] {
+        let octets = echo_request(rt.alloc(), header, digits, times)?;
+        assert!(rt; octets.len() == length, "{times} times {digits}");
+        assert!(rt;
+            counter_of_echo(rt.alloc(), &octets)? == 7,
+            "{times} times {digits}"
+        );
+    }
     Ok(())
 }
 
-/// As many elements as there can be: 16,381 empty ones, and then the one that counts.
-#[test]
-fn lists_of_many_elements(rt: HostRuntime) -> Result<(), Fail> {
-    let alloc = rt.alloc();
-    let mut octets = octets_of(alloc, "4001fffd00000100")?;
-    for _ in 0..16_381 {
-        octets.extend_from_slice(&[200, 0, 0, 0])?;
+/// The length of a message that is written, or nothing where it is too long.
+fn length_of(alloc: Global, message: &Message) -> Result<Option<usize>, Fail> {
+    if !message.is_encodable() {
+        return Err("not to be encoded".into());
     }
-    octets.extend_from_slice(&[3, 0, 1, 0, 7])?;
-    let datagram = decode(alloc, &octets)?;
-    let Body::EchoRequest(request) = &datagram.message.body else {
-        return Err("of another kind".into());
+    match encode(alloc, message) {
+        Ok(octets) => Ok(Some(octets.len())),
+        Err(V2Fault::TooLong) => Ok(None),
+        Err(fault) => Err(fault.into()),
+    }
+}
+
+/// The same of a message of a type that has no table, with so many octets.
+fn length_of_octets(alloc: Global, count: usize) -> Result<Option<usize>, Fail> {
+    let octets = vec![in alloc; 0u8; count]?;
+    let message = Message {
+        teid: None,
+        seq: Seq::new(0),
+        priority: None,
+        body: Body::Other {
+            kind: 34,
+            octets: Listed::of(octets),
+        },
     };
-    assert!(rt; request.recovery == Recovery(Counter(7)));
-    Ok(())
+    length_of(alloc, &message)
 }
 
 #[test]
 fn encodings_of_any_length(rt: HostRuntime) -> Result<(), Fail> {
-    let alloc = rt.alloc();
-    for (count, fits) in [(65_531, true), (65_532, false)] {
-        let octets = vec![in alloc; 0u8; count]?;
-        let body = Body::Other {
-            kind: 34,
-            octets: Listed::of(octets),
-        };
-        let message = Message {
-            teid: None,
-            seq: Seq::new(0),
-            priority: None,
-            body,
-        };
-        match encode(alloc, &message) {
-            Ok(octets) => assert_eq!(rt; (octets.len(), fits), (count + 8, true)),
-            Err(V2Fault::Memory) => return Err("no memory".into()),
-            Err(fault) => assert!(rt; matches!(fault, V2Fault::TooLong) && !fits),
-        }
+    for (count, length) in [(65_531, Some(65_539)), (65_532, None)] {
+        assert!(rt;
+            length_of_octets(rt.alloc(), count)? == length,
+            "{count} octets"
+        );
     }
     Ok(())
 }
 
 /// A Delete Bearer Response that accepts (TS 29.274 table 7.2.10.2-1), with so many contexts whose cause has
 /// two octets, and so many whose cause names an element and has six.
-fn removals(alloc: Global, short: usize, long: usize) -> Result<Vec<u8>, Fail> {
-    let mut elements = octets_of(alloc, "020002001000")?;
-    for _ in 0..short {
-        elements.extend_from_slice(&octets_of(alloc, "5d000b004900010005020002001000")?)?;
-    }
-    for _ in 0..long {
-        elements.extend_from_slice(&octets_of(alloc, "5d000f00490001000602000600400049000001")?)?;
-    }
-    let size = u16::try_from(8 + elements.len())?;
-    let mut octets = Vec::new(alloc);
-    octets.extend_from_slice(&[0x48, 100])?;
-    octets.extend_from_slice(&size.to_be_bytes())?;
-    octets.extend_from_slice(&[1, 0, 0, 1, 0, 0, 7, 0])?;
-    octets.extend_from_slice(&elements)?;
+fn removals(alloc: Global, header: &str, short: usize, long: usize) -> Result<Vec<u8>, Fail> {
+    let mut octets = octets_of(alloc, header)?;
+    append(alloc, &mut octets, "0100000100000700020002001000", 1)?;
+    append(alloc, &mut octets, "5d000b004900010005020002001000", short)?;
+    append(
+        alloc,
+        &mut octets,
+        "5d000f00490001000602000600400049000001",
+        long,
+    )?;
     Ok(octets)
 }
 
-/// No memory runs out above some size: three hundred contexts, and three hundred identities.
+/// The contexts of a Delete Bearer Response.
+fn contexts_of(alloc: Global, octets: &[u8]) -> Result<Vec<RemovalResponseContext>, Fail> {
+    match read(alloc, octets)?.body {
+        Body::DeleteBearerResponse(response) => Ok(response.contexts.into_vec()),
+        _ => Err("of another kind".into()),
+    }
+}
+
+/// No memory runs out above some size: three hundred contexts.
 #[test]
-fn long_lists_are_decoded_and_encoded(rt: HostRuntime) -> Result<(), Fail> {
-    let alloc = rt.alloc();
-    let octets = removals(alloc, 300, 0)?;
-    let datagram = decode(alloc, &octets)?;
-    let Body::DeleteBearerResponse(response) = &datagram.message.body else {
-        return Err("of another kind".into());
-    };
-    assert_eq!(rt; response.contexts.len(), 300);
-    for context in response.contexts.iter() {
+fn many_contexts(rt: HostRuntime) -> Result<(), Fail> {
+    let octets = removals(rt.alloc(), "486411a2", 300, 0)?;
+    assert!(rt; written_again(rt.alloc(), &octets)? == octets);
+    let contexts = contexts_of(rt.alloc(), &octets)?;
+    assert!(rt; contexts.len() == 300);
+    for context in &contexts {
         assert!(rt; context.ebi == EbiValue(Below::new(5)) && context.cause.value == 16);
     }
-    assert!(rt; encode(alloc, &datagram.message)? == octets);
-    let mut octets = octets_of(alloc, "486305e40100000100000700")?;
-    for _ in 0..300 {
-        octets.extend_from_slice(&octets_of(alloc, "4900010109")?)?;
+    Ok(())
+}
+
+/// The bearers of a Delete Bearer Request, and the one that it is linked to.
+fn bearers_of(alloc: Global, octets: &[u8]) -> Result<(Vec<EbiValue>, Option<EbiValue>), Fail> {
+    match read(alloc, octets)?.body {
+        Body::DeleteBearerRequest(request) => Ok((request.ebis.into_vec(), request.linked_ebi)),
+        _ => Err("of another kind".into()),
     }
-    let datagram = decode(alloc, &octets)?;
-    let Body::DeleteBearerRequest(request) = &datagram.message.body else {
-        return Err("of another kind".into());
-    };
-    assert!(rt; request.linked_ebi.is_none() && !request.ebis.is_empty());
-    assert_eq!(rt; request.ebis.len(), 300);
-    for ebi in request.ebis.iter() {
+}
+
+/// Three hundred identities.
+#[test]
+fn many_bearers(rt: HostRuntime) -> Result<(), Fail> {
+    let mut octets = octets_of(rt.alloc(), "486305e40100000100000700")?;
+    append(rt.alloc(), &mut octets, "4900010109", 300)?;
+    assert!(rt; written_again(rt.alloc(), &octets)? == octets);
+    let (bearers, linked) = bearers_of(rt.alloc(), &octets)?;
+    assert!(rt; bearers.len() == 300 && linked.is_none());
+    for ebi in &bearers {
         assert!(rt; *ebi == EbiValue(Below::new(9)));
     }
-    assert!(rt; encode(alloc, &datagram.message)? == octets);
     Ok(())
+}
+
+/// The length of the Delete Bearer Response with these contexts and a counter, or nothing where it is too
+/// long.
+fn length_with_counter(
+    alloc: Global,
+    contexts: Vec<RemovalResponseContext>,
+) -> Result<Option<usize>, Fail> {
+    let message = Message {
+        teid: Some(Teid(0x01000001)),
+        seq: Seq::new(7),
+        priority: None,
+        body: Body::DeleteBearerResponse(DeleteBearerResponse {
+            cause: cause(16),
+            linked_ebi: None,
+            contexts: Listed::of(contexts),
+            recovery: recovery(7),
+        }),
+    };
+    length_of(alloc, &message)
 }
 
 /// The longest message with a table that a header can state: 6 octets of its cause, 4,363 contexts of 15
 /// and 4 of 19. With a counter of 5 it is too long.
 #[test]
 fn the_longest_message(rt: HostRuntime) -> Result<(), Fail> {
-    let alloc = rt.alloc();
-    let octets = removals(alloc, 4_363, 4)?;
-    assert_eq!(rt; octets.len(), 65_539);
-    let datagram = decode(alloc, &octets)?;
-    assert!(rt; encode(alloc, &datagram.message)? == octets);
-    let message = datagram.message;
-    let (teid, seq) = (message.teid, message.seq);
-    let Body::DeleteBearerResponse(response) = message.body else {
-        return Err("of another kind".into());
-    };
-    let DeleteBearerResponse {
-        cause,
-        linked_ebi,
-        contexts,
-        recovery: _,
-    } = response;
-    assert_eq!(rt; contexts.len(), 4_367);
-    let body = Body::DeleteBearerResponse(DeleteBearerResponse {
-        cause,
-        linked_ebi,
-        contexts,
-        recovery: Some(Recovery(Counter(7))),
-    });
-    let longer = Message {
-        teid,
-        seq,
-        priority: None,
-        body,
-    };
-    assert!(rt; matches!(encode(alloc, &longer), Err(V2Fault::TooLong)));
+    let octets = removals(rt.alloc(), "4864ffff", 4_363, 4)?;
+    assert!(rt; octets.len() == 65_539);
+    assert!(rt; written_again(rt.alloc(), &octets)? == octets);
+    let contexts = contexts_of(rt.alloc(), &octets)?;
+    assert!(rt; contexts.len() == 4_367);
+    assert!(rt; length_with_counter(rt.alloc(), contexts)?.is_none());
     Ok(())
-}
-
-/// Whether a fault is told in these words.
-fn is_told(alloc: Global, fault: &V2Fault, words: &str) -> Result<bool, Fail> {
-    Ok(fault.to_string(alloc)?.as_str() == words)
 }
 
 #[test]
 fn faults_in_words(rt: HostRuntime) -> Result<(), Fail> {
-    let alloc = rt.alloc();
-    assert!(rt; is_told(alloc, &V2Fault::Short { held: 3 }, "only 3 octets")?);
-    assert!(rt; is_told(alloc, &V2Fault::Version(1), "version 1")?);
-    assert!(rt; is_told(alloc, &V2Fault::Piggyback, "a second message is announced")?);
-    let fault = V2Fault::Length { stated: 9, held: 8 };
-    assert!(rt; is_told(alloc, &fault, "the length is stated as 9 and is 8")?);
-    let fault = V2Fault::FlagT { kind: 1 };
-    assert!(rt; is_told(alloc, &fault, "type 1 has the wrong form of header")?);
-    let head = Head {
+    for (fault, words) in [
+        (V2Fault::Short { held: 3 }, "only 3 octets"),
+        (V2Fault::Version(1), "version 1"),
+        (V2Fault::Piggyback, "a second message is announced"),
+        (
+            V2Fault::Length { stated: 9, held: 8 },
+            "the length is stated as 9 and is 8",
+        ),
+        (
+            V2Fault::FlagT { kind: 1 },
+            "type 1 has the wrong form of header",
+        ),
+        (V2Fault::Memory, "no memory"),
+        (V2Fault::TooLong, "the length is above 65535"),
+    ] {
+        is_told(&rt, rt.alloc(), &fault, words)?;
+    }
+    Ok(())
+}
+
+fn plain_head() -> Head {
+    Head {
         kind: 32,
         teid: None,
         seq: Seq::new(1),
         priority: None,
         sender: None,
-    };
-    let fault = V2Fault::Missing {
+    }
+}
+
+fn missing_name() -> V2Fault {
+    V2Fault::Missing {
         kind: 71,
         instance: 0,
         conditional: false,
-        head,
-    };
-    assert!(rt; is_told(alloc, &fault, "the element 71/0 is missing")?);
-    let fault = V2Fault::Element {
+        head: plain_head(),
+    }
+}
+
+fn element_that_is_cut() -> V2Fault {
+    V2Fault::Element {
         fault: IeFault::Truncated { at: 128 },
-        head,
-    };
-    assert!(rt; is_told(alloc, &fault, "the element at 128 is not whole")?);
-    assert!(rt; is_told(alloc, &V2Fault::Memory, "no memory")?);
-    assert!(rt; is_told(alloc, &V2Fault::TooLong, "the length is above 65535")?);
-    Ok(())
+        head: plain_head(),
+    }
+}
+
+#[test]
+fn faults_of_elements_in_words(rt: HostRuntime) -> Result<(), Fail> {
+    is_told(
+        &rt,
+        rt.alloc(),
+        &missing_name(),
+        "the element 71/0 is missing",
+    )?;
+    is_told(
+        &rt,
+        rt.alloc(),
+        &element_that_is_cut(),
+        "the element at 128 is not whole",
+    )
+}
+
+/// The message of a view of octets.
+fn viewed(alloc: Global, octets: &[u8]) -> Result<Message, Fail> {
+    Ok(view(octets)?.to_message(alloc)?)
 }
 
 /// What a view of a datagram gives is what decoding it gives, without memory.
 #[test]
 fn messages_in_place(rt: HostRuntime) -> Result<(), Fail> {
-    let alloc = rt.alloc();
-    let octets = octets_of(alloc, SESSION_REQUEST)?;
+    let octets = octets_of(rt.alloc(), SESSION_REQUEST)?;
+    let message = viewed(rt.alloc(), &octets)?;
+    is_read(&rt, rt.alloc(), SESSION_REQUEST, &message)
+}
+
+#[test]
+fn headers_in_place(rt: HostRuntime) -> Result<(), Fail> {
+    let octets = octets_of(rt.alloc(), SESSION_REQUEST)?;
     let seen = view(&octets)?;
     assert!(rt; seen.kind() == 32 && seen.teid() == Some(Teid(0)) && seen.seq() == Seq::new(0));
     assert!(rt; seen.priority().is_none() && seen.octets().is_none());
+    Ok(())
+}
+
+#[test]
+fn values_in_place(rt: HostRuntime) -> Result<(), Fail> {
+    let sender = end(6, 0x01000001, 1)?;
+    let octets = octets_of(rt.alloc(), SESSION_REQUEST)?;
+    let seen = view(&octets)?;
     assert!(rt; seen.value::<Recovery>(0) == Some(Recovery(Counter(1))));
-    assert!(rt; seen.value::<FTeid>(0) == Some(end(6, 0x01000001, 1)?));
+    assert!(rt; seen.value::<FTeid>(0) == Some(sender));
     assert!(rt; seen.value::<FTeid>(1).is_none());
-    let mut identities = Vec::new(alloc);
-    for context in seen.contexts() {
-        identities.push(context.value::<EbiValue>(0))?;
-    }
-    assert!(rt; identities.as_slice() == [Some(EbiValue(Below::new(5)))].as_slice());
-    assert!(rt; seen.to_message(alloc)? == decode(alloc, &octets)?.message);
-    let octets = octets_of(alloc, "482200080100000100000700")?;
+    Ok(())
+}
+
+#[test]
+fn contexts_in_place(rt: HostRuntime) -> Result<(), Fail> {
+    let octets = octets_of(rt.alloc(), SESSION_REQUEST)?;
+    let mut contexts = view(&octets)?.contexts();
+    let context = contexts.next().ok_or("a context")?;
+    assert!(rt; context.value::<EbiValue>(0) == Some(EbiValue(Below::new(5))));
+    assert!(rt; contexts.next().is_none());
+    Ok(())
+}
+
+#[test]
+fn octets_in_place(rt: HostRuntime) -> Result<(), Fail> {
+    let octets = octets_of(rt.alloc(), "482200080100000100000700")?;
     let seen = view(&octets)?;
     assert!(rt; seen.octets() == Some([].as_slice()) && seen.contexts().next().is_none());
-    let cut = octets_of(alloc, "482200080100000100")?;
+    Ok(())
+}
+
+#[test]
+fn views_of_cut_datagrams(rt: HostRuntime) -> Result<(), Fail> {
+    let cut = octets_of(rt.alloc(), "482200080100000100")?;
     assert!(rt; matches!(view(&cut), Err(V2Fault::Length { stated: 8, held: 5 })));
     Ok(())
 }

@@ -1,47 +1,55 @@
+//! Bodies and lists of elements, drawn by hand after the figures of TS 29.274 clause 8.
+
+use crate::values::is_told;
 use gtp_ie::*;
 use std::alloc::Global;
+use std::process::Abort;
 use std::test::Fail;
 
 fn octets_of(alloc: Global, digits: &str) -> Result<Vec<u8>, Fail> {
     Ok(hex::decode(alloc, digits)?)
 }
 
+/// A body is read as a value, which is written so.
+fn is_read<T: IeValue>(
+    rt: &impl Abort,
+    alloc: Global,
+    digits: &str,
+    again: &str,
+) -> Result<(), Fail> {
+    let value = T::read(&octets_of(alloc, digits)?)?;
+    let mut out = Vec::new(alloc);
+    value.write(&mut out)?;
+    assert!(rt; out == octets_of(alloc, again)?, "{digits} is {again}");
+    Ok(())
+}
+
 /// Bodies of one type: those that are read, with what is written again; those that are too short;
 /// those that are bad.
 fn bodies<T: IeValue>(
+    rt: &impl Abort,
     alloc: Global,
     read: &[(&str, &str)],
     short: &[&str],
     bad: &[&str],
-) -> Result<bool, Fail> {
+) -> Result<(), Fail> {
     for (digits, again) in read {
-        let body = octets_of(alloc, digits)?;
-        let Ok(value) = T::read(&body) else {
-            return Ok(false);
-        };
-        let mut out = Vec::new(alloc);
-        value.write(&mut out)?;
-        if out.as_slice() != octets_of(alloc, again)?.as_slice() {
-            return Ok(false);
-        }
+        is_read::<T>(rt, alloc, digits, again)?;
     }
     for digits in short {
-        if !matches!(T::read(&octets_of(alloc, digits)?), Err(ReadFault::Short)) {
-            return Ok(false);
-        }
+        let fault = T::read(&octets_of(alloc, digits)?).err();
+        assert!(rt; fault == Some(ReadFault::Short), "{digits} is short");
     }
     for digits in bad {
-        if !matches!(T::read(&octets_of(alloc, digits)?), Err(ReadFault::Bad)) {
-            return Ok(false);
-        }
+        let fault = T::read(&octets_of(alloc, digits)?).err();
+        assert!(rt; fault == Some(ReadFault::Bad), "{digits} is bad");
     }
-    Ok(true)
+    Ok(())
 }
 
 #[test]
-fn names(rt: HostRuntime) -> Result<(), Fail> {
-    let alloc = rt.alloc();
-    let imsi = [
+fn subscribers(rt: HostRuntime) -> Result<(), Fail> {
+    let read = [
         ("00010121436587f9", "00010121436587f9"),
         ("00010121436587", "00010121436587"),
         ("214365", "214365"),
@@ -54,31 +62,26 @@ fn names(rt: HostRuntime) -> Result<(), Fail> {
         "2a4365",
         "f14365",
     ];
-    assert!(rt; bodies::<Imsi>(alloc, &imsi, &["", "2143"], &bad)?);
+    bodies::<Imsi>(&rt, rt.alloc(), &read, &["", "2143"], &bad)
+}
+
+#[test]
+fn access_points(rt: HostRuntime) -> Result<(), Fail> {
     let long = concat!(
         "3f61616161616161616161616161616161616161616161616161616161616161",
         "6161616161616161616161616161616161616161616161616161616161616161"
     );
-    let apn = [
+    let read = [
         ("08696e7465726e6574", "08696e7465726e6574"),
         ("03696d73036f7267", "03696d73036f7267"),
         (long, long),
     ];
-    assert!(rt;
-        bodies::<Apn>(
-            alloc,
-            &apn,
-            &[""],
-            &["00", "03696d", "03696d7300", "03692e73", "03692073"]
-        )?
-    );
-    assert!(rt; bodies::<Tft>(alloc, &[("", ""), ("21", "21")], &[], &[])?);
-    assert!(rt; matches!(Tft::read(&[0; 256]), Err(ReadFault::Bad)));
-    Ok(())
+    let bad = ["00", "03696d", "03696d7300", "03692e73", "03692073"];
+    bodies::<Apn>(&rt, rt.alloc(), &read, &[""], &bad)
 }
 
 #[test]
-fn long_names(rt: HostRuntime) {
+fn long_access_points(rt: HostRuntime) {
     let mut body = [b'a'; 101];
     body[0] = 64;
     assert!(rt; matches!(Apn::read(&body[..65]), Err(ReadFault::Bad)));
@@ -91,43 +94,52 @@ fn long_names(rt: HostRuntime) {
 }
 
 #[test]
-fn numbers(rt: HostRuntime) -> Result<(), Fail> {
-    let alloc = rt.alloc();
-    assert!(rt; bodies::<Recovery>(alloc, &[("07", "07"), ("ff00", "ff")], &[""], &[])?);
-    assert!(rt; bodies::<EbiValue>(alloc, &[("05", "05"), ("f6aa", "06")], &[""], &[])?);
-    assert!(rt; bodies::<Rat>(alloc, &[("06", "06"), ("0600", "06")], &[""], &[])?);
-    assert!(rt;
-        bodies::<ChargingId>(
-            alloc,
-            &[("01000002", "01000002"), ("0100000200", "01000002")],
-            &["", "010000"],
-            &[]
-        )?
-    );
-    assert!(rt;
-        bodies::<PdnType>(
-            alloc,
-            &[("01", "01"), ("fb", "03"), ("01aa", "01")],
-            &[""],
-            &[]
-        )?
-    );
-    assert!(rt; bodies::<Pti>(alloc, &[("09", "09"), ("0907", "09")], &[""], &[])?);
-    assert!(rt;
-        bodies::<Selection>(
-            alloc,
-            &[("00", "00"), ("fe", "02"), ("01ff", "01")],
-            &[""],
-            &[]
-        )?
-    );
-    Ok(())
+fn templates(rt: HostRuntime) -> Result<(), Fail> {
+    assert!(rt; matches!(Tft::read(&[0; 256]), Err(ReadFault::Bad)));
+    bodies::<Tft>(&rt, rt.alloc(), &[("", ""), ("21", "21")], &[], &[])
 }
 
 #[test]
-fn causes_and_rates(rt: HostRuntime) -> Result<(), Fail> {
-    let alloc = rt.alloc();
-    let causes = [
+fn recoveries(rt: HostRuntime) -> Result<(), Fail> {
+    bodies::<Recovery>(&rt, rt.alloc(), &[("07", "07"), ("ff00", "ff")], &[""], &[])
+}
+
+#[test]
+fn bearer_identities(rt: HostRuntime) -> Result<(), Fail> {
+    bodies::<EbiValue>(&rt, rt.alloc(), &[("05", "05"), ("f6aa", "06")], &[""], &[])
+}
+
+#[test]
+fn radio_technologies(rt: HostRuntime) -> Result<(), Fail> {
+    bodies::<Rat>(&rt, rt.alloc(), &[("06", "06"), ("0600", "06")], &[""], &[])
+}
+
+#[test]
+fn charging_identifiers(rt: HostRuntime) -> Result<(), Fail> {
+    let read = [("01000002", "01000002"), ("0100000200", "01000002")];
+    bodies::<ChargingId>(&rt, rt.alloc(), &read, &["", "010000"], &[])
+}
+
+#[test]
+fn types_of_addresses(rt: HostRuntime) -> Result<(), Fail> {
+    let read = [("01", "01"), ("fb", "03"), ("01aa", "01")];
+    bodies::<PdnType>(&rt, rt.alloc(), &read, &[""], &[])
+}
+
+#[test]
+fn numbers_of_procedures(rt: HostRuntime) -> Result<(), Fail> {
+    bodies::<Pti>(&rt, rt.alloc(), &[("09", "09"), ("0907", "09")], &[""], &[])
+}
+
+#[test]
+fn selections(rt: HostRuntime) -> Result<(), Fail> {
+    let read = [("00", "00"), ("fe", "02"), ("01ff", "01")];
+    bodies::<Selection>(&rt, rt.alloc(), &read, &[""], &[])
+}
+
+#[test]
+fn causes(rt: HostRuntime) -> Result<(), Fail> {
+    let read = [
         ("1000", "1000"),
         ("10fd", "1005"),
         ("460047", "4600"),
@@ -137,19 +149,21 @@ fn causes_and_rates(rt: HostRuntime) -> Result<(), Fail> {
         ("4602490009f1", "460249000001"),
         ("46004700000000", "460047000000"),
     ];
-    assert!(rt; bodies::<Cause>(alloc, &causes, &["", "10"], &[])?);
-    assert!(rt;
-        bodies::<Ambr>(
-            alloc,
-            &[
-                ("000003e8000007d0", "000003e8000007d0"),
-                ("000003e8000007d0ff", "000003e8000007d0")
-            ],
-            &["", "000003e8000007"],
-            &[]
-        )?
-    );
-    let qos = [
+    bodies::<Cause>(&rt, rt.alloc(), &read, &["", "10"], &[])
+}
+
+#[test]
+fn aggregate_rates(rt: HostRuntime) -> Result<(), Fail> {
+    let read = [
+        ("000003e8000007d0", "000003e8000007d0"),
+        ("000003e8000007d0ff", "000003e8000007d0"),
+    ];
+    bodies::<Ambr>(&rt, rt.alloc(), &read, &["", "000003e8000007"], &[])
+}
+
+#[test]
+fn qualities_of_service(rt: HostRuntime) -> Result<(), Fail> {
+    let read = [
         (
             "20090000000001000000000200000000030000000004",
             "20090000000001000000000200000000030000000004",
@@ -159,21 +173,13 @@ fn causes_and_rates(rt: HostRuntime) -> Result<(), Fail> {
             "7d09ffffffffff000000000200000000030000000004",
         ),
     ];
-    assert!(rt;
-        bodies::<Qos>(
-            alloc,
-            &qos,
-            &["", "200900000000010000000002000000000300000000"],
-            &[]
-        )?
-    );
-    Ok(())
+    let short = ["", "200900000000010000000002000000000300000000"];
+    bodies::<Qos>(&rt, rt.alloc(), &read, &short, &[])
 }
 
 #[test]
-fn addresses(rt: HostRuntime) -> Result<(), Fail> {
-    let alloc = rt.alloc();
-    let fteid = [
+fn tunnel_ends(rt: HostRuntime) -> Result<(), Fail> {
+    let read = [
         ("86010000010a000001", "86010000010a000001"),
         ("86010000010a000001ffff", "86010000010a000001"),
         (
@@ -192,8 +198,18 @@ fn addresses(rt: HostRuntime) -> Result<(), Fail> {
         "470000000220010db80000000000000000000000",
         "c7000000020a00000220010db80000000000000000000000",
     ];
-    assert!(rt; bodies::<FTeid>(alloc, &fteid, &short, &["0601000001", "0601000001ff"])?);
-    let paa = [
+    bodies::<FTeid>(
+        &rt,
+        rt.alloc(),
+        &read,
+        &short,
+        &["0601000001", "0601000001ff"],
+    )
+}
+
+#[test]
+fn addresses(rt: HostRuntime) -> Result<(), Fail> {
+    let read = [
         ("010a010001", "010a010001"),
         ("f90a010001ff", "010a010001"),
         (
@@ -216,96 +232,122 @@ fn addresses(rt: HostRuntime) -> Result<(), Fail> {
         "024020010db80000000000000000000000",
         "034020010db80000000000000000000000010a0100",
     ];
-    assert!(rt; bodies::<Paa>(alloc, &paa, &short, &[])?);
-    let networks = [
+    bodies::<Paa>(&rt, rt.alloc(), &read, &short, &[])
+}
+
+#[test]
+fn networks(rt: HostRuntime) -> Result<(), Fail> {
+    let read = [
         ("00f110", "00f110"),
         ("214365", "214365"),
         ("00f110ff", "00f110"),
     ];
-    assert!(rt;
-        bodies::<Plmn>(
-            alloc,
-            &networks,
-            &["", "00f1"],
-            &["0af110", "00f1f0", "00fa10", "00a110"]
-        )?
-    );
-    Ok(())
+    let bad = ["0af110", "00f1f0", "00fa10", "00a110"];
+    bodies::<Plmn>(&rt, rt.alloc(), &read, &["", "00f1"], &bad)
+}
+
+/// Recovery of instance 1, an unknown element, and Recovery of instance 0 twice.
+const LIST: &str = "0300010107c80003f06162630300010008030001f009";
+
+/// The type, the spare bits and the instance of each element, and its place.
+fn heads_of(alloc: Global, octets: &[u8]) -> Result<Vec<(u8, u8, u8, usize)>, Fail> {
+    let mut heads = Vec::new(alloc);
+    for view in all_elements(octets)?.iter() {
+        heads.push((view.kind, view.spare, view.instance, view.at))?;
+    }
+    Ok(heads)
+}
+
+/// The places of the elements of a type and an instance.
+fn places_of(alloc: Global, octets: &[u8], kind: u8, instance: u8) -> Result<Vec<usize>, Fail> {
+    let mut places = Vec::new(alloc);
+    for view in all_elements(octets)?.all(kind, instance) {
+        places.push(view.at)?;
+    }
+    Ok(places)
 }
 
 #[test]
 fn lists_of_elements(rt: HostRuntime) -> Result<(), Fail> {
-    let alloc = rt.alloc();
-    let octets = octets_of(alloc, "0300010107c80003f06162630300010008030001f009")?;
+    let octets = octets_of(rt.alloc(), LIST)?;
+    let heads = heads_of(rt.alloc(), &octets)?;
+    let wanted = [(3, 0, 1, 0), (200, 15, 0, 5), (3, 0, 0, 12), (3, 15, 0, 17)];
+    assert!(rt; heads.as_slice() == wanted.as_slice());
+    let places = places_of(rt.alloc(), &octets, 3, 0)?;
+    assert!(rt; places.as_slice() == [12, 17].as_slice());
+    Ok(())
+}
+
+#[test]
+fn first_elements(rt: HostRuntime) -> Result<(), Fail> {
+    let octets = octets_of(rt.alloc(), LIST)?;
     let found = all_elements(&octets)?;
-    let mut places = Vec::new(alloc);
-    for view in found.iter() {
-        places.push((view.kind, view.spare, view.instance, view.at))?;
-    }
-    assert_eq!(rt;
-        places.as_slice(),
-        [(3, 0, 1, 0), (200, 15, 0, 5), (3, 0, 0, 12), (3, 15, 0, 17)].as_slice()
-    );
     let first = found.first(3, 0).ok_or("an element")?;
-    assert_eq!(rt; (first.at, first.body), (12, [8].as_slice()));
-    let mut places = Vec::new(alloc);
-    for view in found.all(3, 0) {
-        places.push(view.at)?;
-    }
-    assert_eq!(rt; places.as_slice(), [12, 17].as_slice());
+    assert!(rt; first.at == 12 && first.body == [8].as_slice());
     assert!(rt; found.first(3, 2).is_none());
+    Ok(())
+}
+
+/// Of a list that is cut, the place of the element that isn't whole.
+fn place_of_cut(alloc: Global, digits: &str) -> Result<usize, Fail> {
+    let octets = octets_of(alloc, digits)?;
+    match elements_at(&octets, 100) {
+        Err(IeFault::Truncated { at }) => Ok(at),
+        _ => Err("no cut".into()),
+    }
+}
+
+#[test]
+fn lists_that_are_cut(rt: HostRuntime) -> Result<(), Fail> {
     for (digits, place) in [
-        ("03", 0),
-        ("030001", 0),
-        ("03000200", 0),
-        ("030001000703", 5),
-        ("0300010007030002ff", 5),
+        ("03", 100),
+        ("030001", 100),
+        ("03000200", 100),
+        ("030001000703", 105),
+        ("0300010007030002ff", 105),
     ] {
-        let octets = octets_of(alloc, digits)?;
-        assert!(rt;
-            matches!(elements_at(&octets, 100), Err(IeFault::Truncated { at }) if at == 100 + place),
-            "of {digits}"
-        );
+        assert!(rt; place_of_cut(rt.alloc(), digits)? == place, "of {digits}");
     }
     Ok(())
 }
 
 #[test]
 fn groups(rt: HostRuntime) -> Result<(), Fail> {
-    let alloc = rt.alloc();
-    let whole = octets_of(alloc, "5d0009004900010005570009ff")?;
-    let found = all_elements(&whole)?;
-    let group = found.first(93, 0).ok_or("a group")?;
+    let whole = octets_of(rt.alloc(), "5d0009004900010005570009ff")?;
+    let group = all_elements(&whole)?.first(93, 0).ok_or("a group")?;
     assert!(rt; matches!(group.inner(), Err(IeFault::Truncated { at: 9 })));
     Ok(())
 }
 
-#[test]
-fn elements_are_put(rt: HostRuntime) -> Result<(), Fail> {
-    let alloc = rt.alloc();
+/// Two elements after an octet that stands there.
+fn two_elements(alloc: Global) -> Result<Vec<u8>, Fail> {
     let mut out = octets_of(alloc, "aa")?;
     put(&mut out, 200, 15, b"abc")?;
     put_value(&mut out, 1, &EbiValue(Below::new(6)))?;
-    assert_eq!(rt;
-        out.as_slice(),
-        octets_of(alloc, "aac800030f6162634900010106")?.as_slice()
-    );
-    let mut long = Vec::new(alloc);
-    long.resize(65_536, 0u8)?;
+    Ok(out)
+}
+
+#[test]
+fn elements_are_put(rt: HostRuntime) -> Result<(), Fail> {
+    let out = two_elements(rt.alloc())?;
+    assert!(rt; out == octets_of(rt.alloc(), "aac800030f6162634900010106")?);
+    Ok(())
+}
+
+#[test]
+fn the_longest_element(rt: HostRuntime) -> Result<(), Fail> {
+    let mut out = two_elements(rt.alloc())?;
+    let mut long = vec![in rt.alloc(); 0u8; 65_536]?;
     assert!(rt; matches!(put(&mut out, 1, 0, &long), Err(IeFault::TooLong)));
-    assert_eq!(rt;
-        out.as_slice(),
-        octets_of(alloc, "aac800030f6162634900010106")?.as_slice()
-    );
+    assert!(rt; out == two_elements(rt.alloc())?);
     long.truncate(65_535);
     put(&mut out, 1, 0, &long)?;
-    assert_eq!(rt; out.len(), 13 + 4 + 65_535);
+    assert!(rt; out.len() == 13 + 4 + 65_535);
     Ok(())
 }
 
 #[test]
 fn faults_in_words(rt: HostRuntime) -> Result<(), Fail> {
-    let alloc = rt.alloc();
     let (kind, instance, at) = (87, 1, 40);
     for (fault, words) in [
         (IeFault::Truncated { at }, "the element at 40 is not whole"),
@@ -320,16 +362,10 @@ fn faults_in_words(rt: HostRuntime) -> Result<(), Fail> {
         (IeFault::Memory, "no memory"),
         (IeFault::TooLong, "an element's body is above 65535 octets"),
     ] {
-        assert_eq!(rt; fault.to_string(alloc)?.as_str(), words);
+        is_told(&rt, rt.alloc(), &fault, words)?;
     }
-    let body = [
-        (ReadFault::Short, "the body is too short"),
-        (ReadFault::Bad, "the body has no value"),
-    ];
-    for (fault, words) in body {
-        assert_eq!(rt; fault.to_string(alloc)?.as_str(), words);
-    }
-    Ok(())
+    is_told(&rt, rt.alloc(), &ReadFault::Short, "the body is too short")?;
+    is_told(&rt, rt.alloc(), &ReadFault::Bad, "the body has no value")
 }
 
 #[test]

@@ -5,6 +5,7 @@ ghost use Rattle.gtp_reliable.specs.Pending.{AreLimits};
 
 mod listed;
 
+use crate::values::is_told;
 use gtp_reliable::{Endpoint, Held, Pending, ReliableFault, Request, Resend, Seq};
 use gtp_values::Ip;
 use listed::{Draws, ListedAnswers, ListedRequests};
@@ -27,90 +28,141 @@ fn begin(alloc: Global, pending: &mut Pending<u8>, purpose: u8) -> Result<Seq, F
     Ok(seq)
 }
 
-/// In which ticks, of twenty, a request is sent again, and in which it is given up.
-fn ticks(rt: &impl Abort, alloc: Global, t3: u32, n3: u32) -> Result<(Vec<u32>, Vec<u32>), Fail>
-    requires limits { AreLimits t3 n3 }
-{
-    let mut pending = Pending::new(alloc, t3, n3);
-    let seq = begin(alloc, &mut pending, 7)?;
-    let mut resent = Vec::new(alloc);
-    let mut given_up = Vec::new(alloc);
-    for tick in 0..20 {
-        let due = pending.due()?;
-        pending.tick();
-        for again in &due.resend {
-            assert!(rt; again.seq == seq && again.to == place(2123));
-            assert!(rt; again.octets.as_slice() == [7].as_slice());
-            resent.push(tick + 1)?;
-        }
-        for (number, purpose) in &due.gave_up {
-            assert!(rt; *number == seq && *purpose == 7);
-            given_up.push(tick + 1)?;
-        }
-        assert!(rt; pending.matched(seq).is_some() == given_up.is_empty());
+fn begin_all(alloc: Global, pending: &mut Pending<u8>, purposes: &[u8]) -> Result<(), Fail> {
+    for purpose in purposes {
+        begin(alloc, pending, *purpose)?;
     }
-    Ok((resent, given_up))
+    Ok(())
+}
+
+/// The next tick, where one request is pending: whether it is sent again, and whether it is given up.
+fn tick_of_one(rt: &impl Abort, pending: &mut Pending<u8>, seq: Seq) -> Result<(bool, bool), Fail> {
+    let due = pending.due()?;
+    pending.tick();
+    assert!(rt; due.resend.len() + due.gave_up.len() <= 1);
+    for again in &due.resend {
+        assert!(rt; again.seq == seq && again.to == place(2123));
+        assert!(rt; again.octets.as_slice() == [7].as_slice());
+    }
+    for (number, purpose) in &due.gave_up {
+        assert!(rt; *number == seq && *purpose == 7);
+    }
+    Ok((!due.resend.is_empty(), !due.gave_up.is_empty()))
+}
+
+/// In which ticks, of twenty, a request is sent again, and in which it is given up.
+fn is_resent_in(
+    rt: &impl Abort,
+    alloc: Global,
+    pending: &mut Pending<u8>,
+    ticks: &[u32],
+    last: u32,
+) -> Result<(), Fail> {
+    let seq = begin(alloc, pending, 7)?;
+    for tick in 1..=20u32 {
+        let (resent, gave_up) = tick_of_one(rt, pending, seq)?;
+        assert!(rt; resent == ticks.contains(&tick), "tick {tick}");
+        assert!(rt; gave_up == (tick == last), "tick {tick}");
+        assert!(rt;
+            pending.matched(seq).is_some() == (tick < last),
+            "tick {tick}"
+        );
+    }
+    Ok(())
 }
 
 #[test]
 fn resends(rt: HostRuntime) -> Result<(), Fail> {
-    let (resent, given_up) = ticks(&rt, rt.alloc(), 3, 3)?;
-    assert!(rt; resent.as_slice() == [3, 6, 9].as_slice());
-    assert!(rt; given_up.as_slice() == [12].as_slice());
-    let (resent, given_up) = ticks(&rt, rt.alloc(), 3, 0)?;
-    assert!(rt; resent.is_empty());
-    assert!(rt; given_up.as_slice() == [3].as_slice());
-    let (resent, given_up) = ticks(&rt, rt.alloc(), 1, 2)?;
-    assert!(rt; resent.as_slice() == [1, 2].as_slice());
-    assert!(rt; given_up.as_slice() == [3].as_slice());
+    let mut pending = Pending::new(rt.alloc(), 3, 3);
+    is_resent_in(&rt, rt.alloc(), &mut pending, &[3, 6, 9], 12)
+}
+
+#[test]
+fn no_resends(rt: HostRuntime) -> Result<(), Fail> {
+    let mut pending = Pending::new(rt.alloc(), 3, 0);
+    is_resent_in(&rt, rt.alloc(), &mut pending, &[], 3)
+}
+
+#[test]
+fn resends_in_each_tick(rt: HostRuntime) -> Result<(), Fail> {
+    let mut pending = Pending::new(rt.alloc(), 1, 2);
+    is_resent_in(&rt, rt.alloc(), &mut pending, &[1, 2], 3)
+}
+
+/// The numbers of the requests that the next tick sends again.
+fn resent(alloc: Global, pending: &Pending<u8>) -> Result<Vec<u32>, Fail> {
+    let due = pending.due()?;
+    let mut numbers = Vec::new(alloc);
+    for again in &due.resend {
+        numbers.push(again.seq.number())?;
+    }
+    Ok(numbers)
+}
+
+/// The numbers of the requests that the next tick gives up, with what they are for.
+fn given_up(alloc: Global, pending: &Pending<u8>) -> Result<Vec<(u32, u8)>, Fail> {
+    let due = pending.due()?;
+    let mut numbers = Vec::new(alloc);
+    for (seq, purpose) in &due.gave_up {
+        numbers.push((seq.number(), *purpose))?;
+    }
+    Ok(numbers)
+}
+
+/// Three requests, the second of which is finished, are sent again in order of beginning.
+fn three_in_order(rt: &impl Abort, alloc: Global, pending: &mut Pending<u8>) -> Result<(), Fail> {
+    let first = begin(alloc, pending, 1)?;
+    pending.tick();
+    let second = begin(alloc, pending, 2)?;
+    let third = begin(alloc, pending, 3)?;
+    assert!(rt; pending.matched(second) == Some(&2));
+    pending.finish(second);
+    assert!(rt; pending.matched(second).is_none());
+    assert!(rt; resent(alloc, pending)?.as_slice() == [first.number()].as_slice());
+    pending.tick();
+    assert!(rt; resent(alloc, pending)?.as_slice() == [third.number()].as_slice());
     Ok(())
 }
 
 #[test]
 fn order_of_beginning(rt: HostRuntime) -> Result<(), Fail> {
     let mut pending = Pending::new(rt.alloc(), 2, 1);
-    let first = begin(rt.alloc(), &mut pending, 1)?;
-    pending.tick();
-    let second = begin(rt.alloc(), &mut pending, 2)?;
-    let third = begin(rt.alloc(), &mut pending, 3)?;
-    assert!(rt; pending.matched(second) == Some(&2));
-    pending.finish(second);
-    assert!(rt; pending.matched(second).is_none());
+    three_in_order(&rt, rt.alloc(), &mut pending)
+}
+
+/// A request that is sent again is the same as its clone.
+#[test]
+fn clones_of_resends(rt: HostRuntime) -> Result<(), Fail> {
+    let mut pending = Pending::new(rt.alloc(), 1, 1);
+    begin(rt.alloc(), &mut pending, 1)?;
     let due = pending.due()?;
-    assert_eq!(rt; due.resend.len(), 1);
-    assert!(rt; due.resend[0].seq == first);
+    assert!(rt; due.resend.len() == 1);
     let again = due.resend[0].clone()?;
     assert!(rt; again == due.resend[0]);
+    Ok(())
+}
+
+/// Of requests with the numbers 8,388,606, 8,388,607, 0 and 1 the second is finished; the others are sent
+/// again in one tick and given up in the next.
+fn three_at_once(rt: &impl Abort, alloc: Global, pending: &mut Pending<u8>) -> Result<(), Fail> {
+    begin_all(alloc, pending, &[1, 2, 3, 4])?;
+    pending.finish(Seq::new(8_388_607));
+    assert!(rt; given_up(alloc, pending)?.is_empty());
+    assert!(rt; resent(alloc, pending)?.as_slice() == [8_388_606, 0, 1].as_slice());
     pending.tick();
-    let due = pending.due()?;
-    assert_eq!(rt; due.resend.len(), 1);
-    assert!(rt; due.resend[0].seq == third);
+    assert!(rt; resent(alloc, pending)?.is_empty());
+    let wanted = [(8_388_606, 1), (0, 3), (1, 4)];
+    assert!(rt; given_up(alloc, pending)?.as_slice() == wanted.as_slice());
+    pending.tick();
+    assert!(rt; pending.matched(Seq::new(8_388_606)).is_none());
+    assert!(rt; pending.matched(Seq::new(1)).is_none());
     Ok(())
 }
 
 #[test]
 fn several_in_one_tick(rt: HostRuntime) -> Result<(), Fail> {
     let mut pending = Pending::new_at(rt.alloc(), 1, 1, Seq::new(8_388_606));
-    for purpose in [1, 2, 3, 4] {
-        begin(rt.alloc(), &mut pending, purpose)?;
-    }
-    pending.finish(Seq::new(8_388_607));
-    let due = pending.due()?;
-    assert!(rt; due.gave_up.is_empty());
-    assert_eq!(rt; due.resend.len(), 3);
-    for (again, number) in due.resend.iter().zip([8_388_606, 0, 1]) {
-        assert_eq!(rt; again.seq.number(), number);
-    }
-    pending.tick();
-    let due = pending.due()?;
-    assert!(rt; due.resend.is_empty());
-    let numbers = [Seq::new(8_388_606), Seq::new(0), Seq::new(1)];
-    assert!(rt;
-        due.gave_up.as_slice() == [(numbers[0], 1), (numbers[1], 3), (numbers[2], 4)].as_slice()
-    );
-    pending.tick();
-    assert!(rt; pending.matched(numbers[0]).is_none() && pending.matched(numbers[2]).is_none());
-    Ok(())
+    three_at_once(&rt, rt.alloc(), &mut pending)
 }
 
 /// Finishes all requests for a purpose: what a caller of `finish_where` gets to know.
@@ -120,17 +172,30 @@ fn finish_all(pending: &mut Pending<u8>, purpose: u8)
     pending.finish_where(|p| *p == purpose);
 }
 
+/// Requests for the purposes 1, 2, 1 and 3, of which those for 1 are finished.
+fn two_of_four(rt: &impl Abort, alloc: Global, pending: &mut Pending<u8>) -> Result<(), Fail> {
+    begin_all(alloc, pending, &[1, 2, 1, 3])?;
+    finish_all(pending, 1);
+    assert!(rt; resent(alloc, pending)?.is_empty());
+    assert!(rt; given_up(alloc, pending)?.as_slice() == [(1, 2), (3, 3)].as_slice());
+    assert!(rt; begin(alloc, pending, 1)?.number() == 4);
+    Ok(())
+}
+
 #[test]
 fn finished_by_purpose(rt: HostRuntime) -> Result<(), Fail> {
     let mut pending = Pending::new(rt.alloc(), 1, 0);
-    for purpose in [1, 2, 1, 3] {
-        begin(rt.alloc(), &mut pending, purpose)?;
-    }
-    finish_all(&mut pending, 1);
-    let due = pending.due()?;
-    assert!(rt; due.resend.is_empty());
-    assert!(rt; due.gave_up.as_slice() == [(Seq::new(1), 2), (Seq::new(3), 3)].as_slice());
-    assert_eq!(rt; begin(rt.alloc(), &mut pending, 1)?.number(), 4);
+    two_of_four(&rt, rt.alloc(), &mut pending)
+}
+
+/// The next request has this number.
+fn is_numbered(
+    rt: &impl Abort,
+    alloc: Global,
+    pending: &mut Pending<u8>,
+    number: u32,
+) -> Result<(), Fail> {
+    assert!(rt; begin(alloc, pending, 1)?.number() == number, "{number}");
     Ok(())
 }
 
@@ -138,26 +203,35 @@ fn finished_by_purpose(rt: HostRuntime) -> Result<(), Fail> {
 fn numbers(rt: HostRuntime) -> Result<(), Fail> {
     let mut pending = Pending::new_at(rt.alloc(), 3, 3, Seq::new(8_388_607));
     for number in [8_388_607, 0, 1] {
-        let seq = begin(rt.alloc(), &mut pending, 1)?;
-        assert_eq!(rt; seq.number(), number);
+        is_numbered(&rt, rt.alloc(), &mut pending, number)?;
     }
     Ok(())
 }
 
-#[test]
-fn full(rt: HostRuntime) -> Result<(), Fail> {
-    let mut pending = Pending::new(rt.alloc(), 3, 3);
+/// There is room for 256 requests, and for one more where one is finished.
+fn fill(rt: &impl Abort, alloc: Global, pending: &mut Pending<u8>) -> Result<(), Fail> {
     for number in 0..256 {
-        let seq = begin(rt.alloc(), &mut pending, 1)?;
-        assert_eq!(rt; seq.number(), number);
+        is_numbered(rt, alloc, pending, number)?;
     }
     assert!(rt; pending.is_full());
     assert!(rt; pending.prepare().err() == Some(ReliableFault::PendingFull));
     pending.finish(Seq::new(5));
     assert!(rt; !pending.is_full());
-    let seq = begin(rt.alloc(), &mut pending, 1)?;
-    assert_eq!(rt; seq.number(), 256);
-    Ok(())
+    is_numbered(rt, alloc, pending, 256)
+}
+
+#[test]
+fn full(rt: HostRuntime) -> Result<(), Fail> {
+    let mut pending = Pending::new(rt.alloc(), 3, 3);
+    fill(&rt, rt.alloc(), &mut pending)
+}
+
+/// The answer of one octet that is held for a request, 0 where it has another length.
+fn answer_to(held: &Held, source: Endpoint, request: &[u8]) -> Option<u8> {
+    match held.lookup(source, request)? {
+        [answer] => Some(*answer),
+        _ => Some(0),
+    }
 }
 
 /// Keeps an answer to a request for which none is held.
@@ -178,47 +252,60 @@ fn keep(
     Ok(())
 }
 
+/// The one request that the next tick forgets, which is the same as its clone.
+fn is_forgotten(rt: &impl Abort, held: &Held, octets: &[u8]) -> Result<(), Fail> {
+    let due = held.due()?;
+    assert!(rt; due.len() == 1);
+    assert!(rt; due[0].source == place(1) && due[0].octets.as_slice() == octets);
+    let same = due[0].clone()?;
+    assert!(rt; same == due[0]);
+    Ok(())
+}
+
+/// An answer is held for so many ticks and forgotten in the last of them.
+fn is_held_for(rt: &impl Abort, alloc: Global, held: &mut Held, ticks: u32) -> Result<(), Fail> {
+    keep(alloc, held, place(1), b"ask", 9)?;
+    for tick in 1..ticks {
+        assert!(rt; held.due()?.is_empty(), "tick {tick}");
+        held.tick();
+        assert!(rt; answer_to(held, place(1), b"ask") == Some(9), "tick {tick}");
+    }
+    is_forgotten(rt, held, b"ask")?;
+    held.tick();
+    assert!(rt; answer_to(held, place(1), b"ask").is_none());
+    Ok(())
+}
+
 #[test]
 fn held_ticks(rt: HostRuntime) -> Result<(), Fail> {
     let mut held = Held::new(rt.alloc(), 60);
-    keep(rt.alloc(), &mut held, place(1), b"ask", 9)?;
-    for tick in 1..60 {
-        assert!(rt; held.due()?.is_empty(), "tick {tick}");
-        held.tick();
-        assert!(rt;
-            held.lookup(place(1), b"ask") == Some([9].as_slice()),
-            "tick {tick}"
-        );
-    }
-    let due = held.due()?;
-    assert_eq!(rt; due.len(), 1);
-    assert!(rt; due[0].source == place(1) && due[0].octets.as_slice() == b"ask".as_slice());
-    let same = due[0].clone()?;
-    assert!(rt; same == due[0]);
-    held.tick();
-    assert!(rt; held.lookup(place(1), b"ask").is_none());
-    Ok(())
+    is_held_for(&rt, rt.alloc(), &mut held, 60)
+}
+
+/// Three answers to requests that differ in their source or their octets.
+fn keep_three(alloc: Global, held: &mut Held) -> Result<(), Fail> {
+    keep(alloc, held, place(1), b"ask", 9)?;
+    keep(alloc, held, place(2), b"ask", 8)?;
+    keep(alloc, held, place(1), b"asks", 7)
 }
 
 #[test]
 fn whole_requests(rt: HostRuntime) -> Result<(), Fail> {
     let mut held = Held::new(rt.alloc(), 1);
-    keep(rt.alloc(), &mut held, place(1), b"ask", 9)?;
-    keep(rt.alloc(), &mut held, place(2), b"ask", 8)?;
-    keep(rt.alloc(), &mut held, place(1), b"asks", 7)?;
-    for (source, request, answer) in [
-        (place(1), b"ask".as_slice(), Some(9)),
-        (place(2), b"ask", Some(8)),
-        (place(1), b"asks", Some(7)),
-        (place(2), b"asks", None),
-        (place(1), b"as", None),
-        (place(1), b"aska", None),
-        (place(3), b"ask", None),
+    keep_three(rt.alloc(), &mut held)?;
+    for (port, request, answer) in [
+        (1, b"ask".as_slice(), Some(9)),
+        (2, b"ask", Some(8)),
+        (1, b"asks", Some(7)),
+        (2, b"asks", None),
+        (1, b"as", None),
+        (1, b"aska", None),
+        (3, b"ask", None),
     ] {
-        assert!(rt; held.lookup(source, request).map(|a| a.first().copied()) == answer.map(Some));
+        assert!(rt; answer_to(&held, place(port), request) == answer);
     }
     held.tick();
-    assert!(rt; held.lookup(place(1), b"ask").is_none());
+    assert!(rt; answer_to(&held, place(1), b"ask").is_none());
     Ok(())
 }
 
@@ -237,13 +324,12 @@ fn held_full(rt: HostRuntime) -> Result<(), Fail> {
 
 #[test]
 fn faults_in_words(rt: HostRuntime) -> Result<(), Fail> {
-    let alloc = rt.alloc();
     for (fault, words) in [
         (ReliableFault::PendingFull, "256 requests are pending"),
         (ReliableFault::HeldFull, "4096 answers are held"),
         (ReliableFault::Memory, "no memory"),
     ] {
-        assert_eq!(rt; fault.to_string(alloc)?.as_str(), words);
+        is_told(&rt, rt.alloc(), &fault, words)?;
     }
     Ok(())
 }
@@ -272,6 +358,7 @@ struct Met {
     found: u32,
     refused: u32,
     due: u32,
+    gave_up: u32,
 }
 
 /// Looks up a request in both forms, and tells whether an answer is held.
@@ -326,6 +413,38 @@ fn forgotten_by_both(
     Ok(due.len())
 }
 
+/// The next call of both forms: one in so many is a tick, two are look-ups, and the others keep an answer.
+fn call_held(
+    rt: &impl Abort,
+    alloc: Global,
+    held: &mut Held,
+    listed: &mut ListedAnswers,
+    draws: &mut Draws,
+    met: &mut Met,
+    kind: u16,
+) -> Result<(), Fail> {
+    let source = place(draws.below(2));
+    let number = draws.below(30_000);
+    match kind {
+        0 => {
+            let forgotten = forgotten_by_both(rt, alloc, held, listed)?;
+            met.due = met.due.saturating_add(u32::from(forgotten > 0));
+            held.tick();
+            listed.tick();
+        }
+        1 | 2 => {
+            let found = look_up_both(rt, held, listed, source, &number.to_be_bytes());
+            met.found = met.found.saturating_add(u32::from(found));
+        }
+        _ => {
+            let refused = keep_both(rt, alloc, held, listed, source, number)?;
+            met.refused = met.refused.saturating_add(u32::from(refused));
+        }
+    }
+    Ok(())
+}
+
+/// Ticks are rare in the first 6,000 calls, and then frequent.
 #[test]
 fn held_as_by_lists(rt: HostRuntime) -> Result<(), Fail> {
     let alloc = rt.alloc();
@@ -334,27 +453,16 @@ fn held_as_by_lists(rt: HostRuntime) -> Result<(), Fail> {
     let mut draws = Draws::new(15);
     let mut met = Met::default();
     for call in 0..10_000 {
-        let source = place(draws.below(2));
-        let number = draws.below(30_000);
-        match draws.below(if call < 6_000 { 64 } else { 8 }) {
-            0 => {
-                if forgotten_by_both(&rt, alloc, &held, &listed)? > 0 {
-                    met.due = met.due.saturating_add(1);
-                }
-                held.tick();
-                listed.tick();
-            }
-            1 | 2 => {
-                if look_up_both(&rt, &held, &listed, source, &number.to_be_bytes()) {
-                    met.found = met.found.saturating_add(1);
-                }
-            }
-            _ => {
-                if keep_both(&rt, alloc, &mut held, &mut listed, source, number)? {
-                    met.refused = met.refused.saturating_add(1);
-                }
-            }
-        }
+        let kind = draws.below(if call < 6_000 { 64 } else { 8 });
+        call_held(
+            &rt,
+            alloc,
+            &mut held,
+            &mut listed,
+            &mut draws,
+            &mut met,
+            kind,
+        )?;
     }
     assert!(rt; met.found > 0 && met.refused > 0 && met.due > 0, "{met:?}");
     Ok(())
@@ -397,6 +505,55 @@ fn due_of_both(
     Ok((due.resend.len(), due.gave_up.len()))
 }
 
+/// Finishes a request in both forms, which match it alike; tells whether it was pending.
+fn finish_both(
+    rt: &impl Abort,
+    pending: &mut Pending<u8>,
+    listed: &mut ListedRequests,
+    seq: Seq,
+) -> bool {
+    let matched = pending.matched(seq).copied();
+    assert!(rt; matched == listed.matched(seq).copied());
+    pending.finish(seq);
+    listed.finish(seq);
+    matched.is_some()
+}
+
+/// The next call of both forms, of the request with this number where it is of one.
+fn call_pending(
+    rt: &impl Abort,
+    alloc: Global,
+    pending: &mut Pending<u8>,
+    listed: &mut ListedRequests,
+    draws: &mut Draws,
+    met: &mut Met,
+    seq: Seq,
+) -> Result<(), Fail> {
+    match draws.below(64) {
+        0 | 1 => {
+            let (resent, given_up) = due_of_both(rt, alloc, pending, listed)?;
+            met.due = met.due.saturating_add(u32::from(resent > 0));
+            met.gave_up = met.gave_up.saturating_add(u32::from(given_up > 0));
+            pending.tick();
+            listed.tick();
+        }
+        2..=31 => {
+            let found = finish_both(rt, pending, listed, seq);
+            met.found = met.found.saturating_add(u32::from(found));
+        }
+        32 => {
+            finish_all(pending, 5);
+            listed.finish_purpose(5);
+        }
+        _ => {
+            let purpose = draws.below(9) as u8;
+            let refused = begin_both(rt, alloc, pending, listed, purpose)?;
+            met.refused = met.refused.saturating_add(u32::from(refused));
+        }
+    }
+    Ok(())
+}
+
 #[test]
 fn pending_as_by_lists(rt: HostRuntime) -> Result<(), Fail> {
     let alloc = rt.alloc();
@@ -405,43 +562,20 @@ fn pending_as_by_lists(rt: HostRuntime) -> Result<(), Fail> {
     let mut listed = ListedRequests::new(alloc, 20, 3, first);
     let mut draws = Draws::new(15);
     let mut met = Met::default();
-    let mut gave_up = false;
     for _ in 0..10_000 {
         let number = first.wrapping_add(u32::from(draws.below(6_000))) % 8_388_608;
         let seq = Seq::new(number);
-        match draws.below(64) {
-            0 | 1 => {
-                let (resent, given_up) = due_of_both(&rt, alloc, &pending, &listed)?;
-                if resent > 0 {
-                    met.due = met.due.saturating_add(1);
-                }
-                gave_up = gave_up || given_up > 0;
-                pending.tick();
-                listed.tick();
-            }
-            2..=31 => {
-                assert!(rt; pending.matched(seq) == listed.matched(seq));
-                if pending.matched(seq).is_some() {
-                    met.found = met.found.saturating_add(1);
-                }
-                pending.finish(seq);
-                listed.finish(seq);
-            }
-            32 => {
-                finish_all(&mut pending, 5);
-                listed.finish_purpose(5);
-            }
-            _ => {
-                let purpose = draws.below(9) as u8;
-                if begin_both(&rt, alloc, &mut pending, &mut listed, purpose)? {
-                    met.refused = met.refused.saturating_add(1);
-                }
-            }
-        }
+        call_pending(
+            &rt,
+            alloc,
+            &mut pending,
+            &mut listed,
+            &mut draws,
+            &mut met,
+            seq,
+        )?;
     }
-    assert!(rt;
-        gave_up && met.found > 0 && met.refused > 0 && met.due > 0,
-        "{met:?}"
-    );
+    assert!(rt; met.gave_up > 0 && met.found > 0, "{met:?}");
+    assert!(rt; met.refused > 0 && met.due > 0, "{met:?}");
     Ok(())
 }

@@ -97,23 +97,76 @@ fn the_first_counter_is_no_restart(rt: HostRuntime) -> Result<(), Fail> {
     Ok(())
 }
 
+/// A bearer closes with its session, which finds it still by its identity.
+fn closes(
+    rt: &impl Abort,
+    bearers: &mut Bearers,
+    session: Teid,
+    identity: Ebi,
+    own: Teid,
+) -> Result<(), Fail> {
+    bearers.close_of_session(session);
+    let closed = bearers.get(own).ok_or("the bearer")?;
+    assert!(rt; closed.state == State::Closing);
+    assert!(rt; bearers.with_identity(session, identity) == Some(own));
+    Ok(())
+}
+
+/// Of two bearers of the remote 9 the first is found, and once it is removed the second, and then none. The
+/// session of the first has no bearer then, though the second has the same identity.
+fn two_of_one_remote(
+    rt: &impl Abort,
+    bearers: &mut Bearers,
+    first: Teid,
+    second: Teid,
+    session: Teid,
+    identity: Ebi,
+) {
+    assert!(rt; bearers.first_of_remote(Teid(9)) == Some(first));
+    bearers.remove(first);
+    assert!(rt; bearers.first_of_remote(Teid(9)) == Some(second));
+    assert!(rt; bearers.with_identity(session, identity).is_none());
+    bearers.remove(second);
+    assert!(rt; bearers.first_of_remote(Teid(9)).is_none());
+}
+
 #[test]
 fn bearers_of_one_remote_and_of_one_session(rt: HostRuntime) -> Result<(), Fail> {
     let mut draws = Draws::new(Counter(7));
-    let mut bearers = Bearers::new(rt.alloc());
     let (one, two) = (Teid(0x0700_0101), Teid(0x0700_0102));
-    let first = add(&rt, &mut draws, &mut bearers, &bearer(one, Some(9), 5)?)?;
-    let second = add(&rt, &mut draws, &mut bearers, &bearer(two, Some(9), 5)?)?;
-    assert!(rt; bearers.first_of_remote(Teid(9)) == Some(first));
-    bearers.close_of_session(one);
-    let closed = bearers.get(first).expect(&rt, "the first bearer");
-    assert!(rt; closed.state == State::Closing);
-    assert!(rt; bearers.with_identity(one, Ebi::try_new(5)?) == Some(first));
-    bearers.remove(first);
-    assert!(rt; bearers.first_of_remote(Teid(9)) == Some(second));
-    assert!(rt; bearers.with_identity(one, Ebi::try_new(5)?).is_none());
-    bearers.remove(second);
-    assert!(rt; bearers.first_of_remote(Teid(9)).is_none());
+    let of_one = bearer(one, Some(9), 5)?;
+    let of_two = bearer(two, Some(9), 5)?;
+    let mut bearers = Bearers::new(rt.alloc());
+    let first = add(&rt, &mut draws, &mut bearers, &of_one)?;
+    let second = add(&rt, &mut draws, &mut bearers, &of_two)?;
+    let identity = Ebi::try_new(5)?;
+    closes(&rt, &mut bearers, one, identity, first)?;
+    two_of_one_remote(&rt, &mut bearers, first, second, one, identity);
+    Ok(())
+}
+
+/// The lowest identity that is free for a session.
+fn lowest_free(sessions: &Sessions, bearers: &Bearers, session: Teid) -> Result<u8, TablesFault> {
+    let view = View::new(sessions, bearers);
+    Ok(view.lowest_free_identity(session)?.number())
+}
+
+/// Adds a bearer of each identity to a session: each was the lowest that was free, and then none is, but all
+/// are for another session.
+fn add_eleven(
+    rt: &impl Abort,
+    draws: &mut Draws,
+    sessions: &Sessions,
+    bearers: &mut Bearers,
+    session: Teid,
+) -> Result<(), Fail> {
+    for identity in 5..16u8 {
+        assert!(rt; lowest_free(sessions, bearers, session)? == identity);
+        let made = bearer(session, None, identity)?;
+        add(rt, draws, bearers, &made)?;
+    }
+    assert!(rt; lowest_free(sessions, bearers, session) == Err(TablesFault::NoBearerIdentity));
+    assert!(rt; lowest_free(sessions, bearers, Teid(1)) == Ok(5));
     Ok(())
 }
 
@@ -123,13 +176,5 @@ fn eleven_identities(rt: HostRuntime) -> Result<(), Fail> {
     let sessions: Sessions = Table::new(rt.alloc());
     let mut bearers = Bearers::new(rt.alloc());
     let one = Teid(0x0700_0101);
-    for identity in 5..16u8 {
-        let lowest = View::new(&sessions, &bearers).lowest_free_identity(one)?;
-        assert!(rt; lowest.number() == identity);
-        add(&rt, &mut draws, &mut bearers, &bearer(one, None, identity)?)?;
-    }
-    let view = View::new(&sessions, &bearers);
-    assert!(rt; view.lowest_free_identity(one) == Err(TablesFault::NoBearerIdentity));
-    assert!(rt; view.lowest_free_identity(Teid(1))? == Ebi::try_new(5)?);
-    Ok(())
+    add_eleven(&rt, &mut draws, &sessions, &mut bearers, one)
 }

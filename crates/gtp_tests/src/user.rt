@@ -1,6 +1,7 @@
 //! Datagrams whose octets and readings come from outside. Those of examples/datagrams/user stand there
 //! with their clauses.
 
+use crate::values::is_told;
 use gtp_user::*;
 use std::alloc::Global;
 use std::process::Abort;
@@ -8,18 +9,22 @@ use std::test::Fail;
 
 /// How many headers there are.
 fn count(headers: &Extensions) -> usize {
-    let mut count = 0usize;
-    for _ in headers {
-        count = count.saturating_add(1);
-    }
-    count
+    headers
+        .iter()
+        .fold(0usize, |count, _| count.saturating_add(1))
 }
 
-/// The message that the octets spell is this one, with so many extension headers, and is written as
-/// the same octets.
-fn reads_and_writes(
+/// The octets of a message.
+fn written(alloc: Global, message: &UserMessage) -> Result<Vec<u8>, Fail> {
+    if !message.is_encodable() {
+        return Err("not to be encoded".into());
+    }
+    Ok(encode(alloc, message)?)
+}
+
+/// The message that the octets spell has this body and these numbers, and so many extension headers.
+fn reads(
     rt: &impl Abort,
-    alloc: Global,
     octets: &[u8],
     seq: Option<u16>,
     npdu: Option<u8>,
@@ -27,96 +32,121 @@ fn reads_and_writes(
     body: UserBody,
 ) -> Result<(), Fail> {
     let message = decode(octets)?;
-    assert_eq!(rt; message.seq, seq, "sequence number of {octets:?}");
-    assert_eq!(rt; message.npdu, npdu, "N-PDU number of {octets:?}");
-    assert_eq!(rt; count(&message.ext), headers, "headers of {octets:?}");
+    assert!(rt;
+        message.seq == seq && message.npdu == npdu,
+        "numbers of {octets:?}"
+    );
+    assert!(rt; count(&message.ext) == headers, "headers of {octets:?}");
     assert!(rt; message.body == body, "body of {octets:?}");
-    assert!(rt; message.is_encodable());
-    let written = encode(alloc, &message)?;
-    assert!(rt; written.as_slice() == octets, "encoding of {octets:?}");
+    Ok(())
+}
+
+/// The message that the octets spell is written as the same octets.
+fn is_written_again(rt: &impl Abort, alloc: Global, octets: &[u8]) -> Result<(), Fail> {
+    let again = written(alloc, &decode(octets)?)?;
+    assert!(rt; again.as_slice() == octets, "encoding of {octets:?}");
+    Ok(())
+}
+
+/// Messages of the path: each has a sequence number.
+#[test]
+fn numbered_messages(rt: HostRuntime) -> Result<(), Fail> {
+    let teid = Teid(0x0100_0002);
+    let v4 = Ip::V4([10, 0, 0, 2]);
+    let v6 = Ip::V6([0x20, 1, 0x0d, 0xb8, 0, 0, 0, 0, 0, 0, 0, 0, 0, 0, 0, 1]);
+    for (octets, seq, body) in [
+        (
+            b"\x32\x02\x00\x06\x00\x00\x00\x00\x00\x05\x00\x00\x0e\x00".as_slice(),
+            5,
+            UserBody::EchoResponse,
+        ),
+        (
+            b"\x32\x01\x00\x04\x00\x00\x00\x00\x00\x05\x00\x00",
+            5,
+            UserBody::EchoRequest,
+        ),
+        (
+            b"\x32\x1f\x00\x07\x00\x00\x00\x00\x00\x00\x00\x00\x8d\x01\x40",
+            0,
+            UserBody::Notification { types: b"\x40" },
+        ),
+        (
+            b"\x32\x1a\x00\x10\x00\x00\x00\x00\x00\x00\x00\x00\x10\x01\x00\x00\x02\x85\x00\x04\x0a\x00\x00\x02",
+            0,
+            UserBody::ErrorIndication { teid, peer: v4 },
+        ),
+        (
+            b"\x32\x1a\x00\x1c\x00\x00\x00\x00\x00\x00\x00\x00\x10\x01\x00\x00\x02\x85\x00\x10\x20\x01\x0d\xb8\x00\x00\x00\x00\x00\x00\x00\x00\x00\x00\x00\x01",
+            0,
+            UserBody::ErrorIndication { teid, peer: v6 },
+        ),
+    ] {
+        reads(&rt, octets, Some(seq), None, 0, body)?;
+        is_written_again(&rt, rt.alloc(), octets)?;
+    }
+    Ok(())
+}
+
+/// Two headers and three octets of payload.
+const CHAINED: &[u8] =
+    b"\x34\xff\x00\x0f\x01\x00\x00\x02\x00\x00\x00\x20\x01\xaa\xbb\x40\x01\x08\x68\x00abc";
+
+/// Messages of a tunnel.
+#[test]
+fn tunnels(rt: HostRuntime) -> Result<(), Fail> {
+    let teid = Teid(0x0100_0002);
+    let (kind, payload, octets) = (3, b"abc".as_slice(), b"xy".as_slice());
+    let other = UserBody::Other { kind, teid, octets };
+    let empty = UserBody::Packet { teid, payload: b"" };
+    for (octets, seq, npdu, headers, body) in [
+        (
+            b"\x30\xfe\x00\x00\x01\x00\x00\x02".as_slice(),
+            None,
+            None,
+            0,
+            UserBody::EndMarker { teid },
+        ),
+        (
+            b"\x30\xff\x00\x03\x01\x00\x00\x02abc",
+            None,
+            None,
+            0,
+            UserBody::Packet { teid, payload },
+        ),
+        (b"\x30\xff\x00\x00\x01\x00\x00\x02", None, None, 0, empty),
+        (
+            b"\x33\x03\x00\x06\x01\x00\x00\x02\x00\x07\x09\x00xy",
+            Some(7),
+            Some(9),
+            0,
+            other,
+        ),
+        (CHAINED, None, None, 2, UserBody::Packet { teid, payload }),
+    ] {
+        reads(&rt, octets, seq, npdu, headers, body)?;
+        is_written_again(&rt, rt.alloc(), octets)?;
+    }
     Ok(())
 }
 
 #[test]
-fn numbered_messages(rt: HostRuntime) -> Result<(), Fail> {
-    let alloc = rt.alloc();
-    let response = b"\x32\x02\x00\x06\x00\x00\x00\x00\x00\x05\x00\x00\x0e\x00";
-    reads_and_writes(
-        &rt,
-        alloc,
-        response,
-        Some(5),
-        None,
-        0,
-        UserBody::EchoResponse,
-    )?;
-    let request = b"\x32\x01\x00\x04\x00\x00\x00\x00\x00\x05\x00\x00";
-    reads_and_writes(&rt, alloc, request, Some(5), None, 0, UserBody::EchoRequest)?;
-    let types = b"\x32\x1f\x00\x07\x00\x00\x00\x00\x00\x00\x00\x00\x8d\x01\x40";
-    let body = UserBody::Notification { types: b"\x40" };
-    reads_and_writes(&rt, alloc, types, Some(0), None, 0, body)?;
-    let error =
-        b"\x32\x1a\x00\x10\x00\x00\x00\x00\x00\x00\x00\x00\x10\x01\x00\x00\x02\x85\x00\x04\x0a\x00\x00\x02";
-    let body = UserBody::ErrorIndication {
-        teid: Teid(0x0100_0002),
-        peer: Ip::V4([10, 0, 0, 2]),
-    };
-    reads_and_writes(&rt, alloc, error, Some(0), None, 0, body)?;
-    let error =
-        b"\x32\x1a\x00\x1c\x00\x00\x00\x00\x00\x00\x00\x00\x10\x01\x00\x00\x02\x85\x00\x10\x20\x01\x0d\xb8\x00\x00\x00\x00\x00\x00\x00\x00\x00\x00\x00\x01";
-    let body = UserBody::ErrorIndication {
-        teid: Teid(0x0100_0002),
-        peer: Ip::V6([0x20, 1, 0x0d, 0xb8, 0, 0, 0, 0, 0, 0, 0, 0, 0, 0, 0, 1]),
-    };
-    reads_and_writes(&rt, alloc, error, Some(0), None, 0, body)
-}
-
-#[test]
-fn tunnels(rt: HostRuntime) -> Result<(), Fail> {
-    let alloc = rt.alloc();
-    let teid = Teid(0x0100_0002);
-    let end = b"\x30\xfe\x00\x00\x01\x00\x00\x02";
-    reads_and_writes(&rt, alloc, end, None, None, 0, UserBody::EndMarker { teid })?;
-    let packet = b"\x30\xff\x00\x03\x01\x00\x00\x02abc";
-    let body = UserBody::Packet {
-        teid,
-        payload: b"abc",
-    };
-    reads_and_writes(&rt, alloc, packet, None, None, 0, body)?;
-    let packet = b"\x30\xff\x00\x00\x01\x00\x00\x02";
-    let body = UserBody::Packet { teid, payload: b"" };
-    reads_and_writes(&rt, alloc, packet, None, None, 0, body)?;
-    let other = b"\x33\x03\x00\x06\x01\x00\x00\x02\x00\x07\x09\x00xy";
-    let body = UserBody::Other {
-        kind: 3,
-        teid,
-        octets: b"xy",
-    };
-    reads_and_writes(&rt, alloc, other, Some(7), Some(9), 0, body)?;
-    let chained =
-        b"\x34\xff\x00\x0f\x01\x00\x00\x02\x00\x00\x00\x20\x01\xaa\xbb\x40\x01\x08\x68\x00abc";
-    let body = UserBody::Packet {
-        teid,
-        payload: b"abc",
-    };
-    reads_and_writes(&rt, alloc, chained, None, None, 2, body)?;
-    let mut headers = decode(chained)?.ext.into_iter();
-    let first = ExtensionHeader {
-        kind: 0x20,
-        content: b"\xaa\xbb",
-    };
-    assert!(rt; headers.next() == Some(first));
-    let second = ExtensionHeader {
-        kind: 0x40,
-        content: b"\x08\x68",
-    };
-    assert!(rt; headers.next() == Some(second));
+fn headers_in_order(rt: HostRuntime) -> Result<(), Fail> {
+    let mut headers = decode(CHAINED)?.ext.into_iter();
+    for (kind, content) in [(0x20, b"\xaa\xbb"), (0x40, b"\x08\x68")] {
+        let header = headers.next().ok_or("a header")?;
+        assert!(rt; header.kind == kind && header.content == content.as_slice());
+    }
     assert!(rt; headers.next().is_none());
     Ok(())
 }
 
+/// The first fault of the octets is this one.
+fn fails(rt: &impl Abort, octets: &[u8], fault: UserFault) {
+    assert!(rt; decode(octets).err() == Some(fault), "{octets:?}");
+}
+
 #[test]
-fn faults(rt: HostRuntime) {
+fn faults_of_headers(rt: HostRuntime) {
     for (octets, fault) in [
         (b"".as_slice(), UserFault::Short { held: 0 }),
         (
@@ -140,8 +170,16 @@ fn faults(rt: HostRuntime) {
             b"\x32\xff\x00\x03\x01\x00\x00\x02\x00\x00\x00",
             UserFault::Short { held: 11 },
         ),
+    ] {
+        fails(&rt, octets, fault);
+    }
+}
+
+#[test]
+fn faults_of_chains(rt: HostRuntime) {
+    for (octets, fault) in [
         (
-            b"\x34\xff\x00\x0b\x01\x00\x00\x02\x00\x00\x00\x20\x00\xaa\xbb\x00abc",
+            b"\x34\xff\x00\x0b\x01\x00\x00\x02\x00\x00\x00\x20\x00\xaa\xbb\x00abc".as_slice(),
             UserFault::ExtensionZero { at: 12 },
         ),
         (
@@ -168,8 +206,16 @@ fn faults(rt: HostRuntime) {
             b"\x34\xff\x00\x0b\x01\x00\x00\x02\x00\x00\x00\x80\x01\xaa\xbb\x00abc",
             UserFault::ExtensionNeeded { kind: 0x80 },
         ),
+    ] {
+        fails(&rt, octets, fault);
+    }
+}
+
+#[test]
+fn faults_of_elements(rt: HostRuntime) {
+    for (octets, fault) in [
         (
-            b"\x32\x02\x00\x04\x00\x00\x00\x00\x00\x05\x00\x00",
+            b"\x32\x02\x00\x04\x00\x00\x00\x00\x00\x05\x00\x00".as_slice(),
             UserFault::Missing { kind: 14 },
         ),
         (
@@ -201,15 +247,14 @@ fn faults(rt: HostRuntime) {
             UserFault::Element { at: 12 },
         ),
     ] {
-        assert!(rt;
-            decode(octets).err() == Some(fault),
-            "{octets:?} and {fault:?}"
-        );
+        fails(&rt, octets, fault);
     }
 }
 
 #[test]
 fn flags(rt: HostRuntime) -> Result<(), Fail> {
+    let teid = Teid(0x0100_0002);
+    let payload = b"ab".as_slice();
     for (flags, seq, npdu) in [
         (0x31, None, Some(9)),
         (0x32, Some(7), None),
@@ -221,49 +266,53 @@ fn flags(rt: HostRuntime) -> Result<(), Fail> {
         (0x3c, None, None),
     ] {
         let octets = [flags, 255, 0, 6, 1, 0, 0, 2, 0, 7, 9, 0, 97, 98];
-        let message = decode(&octets)?;
-        assert_eq!(rt; message.seq, seq, "flags {flags}");
-        assert_eq!(rt; message.npdu, npdu, "flags {flags}");
-        assert_eq!(rt; count(&message.ext), 0, "flags {flags}");
-        let teid = Teid(0x0100_0002);
-        assert!(rt;
-            message.body
-                == UserBody::Packet {
-                    teid,
-                    payload: b"ab"
-                }
-        );
+        reads(
+            &rt,
+            &octets,
+            seq,
+            npdu,
+            0,
+            UserBody::Packet { teid, payload },
+        )?;
     }
+    Ok(())
+}
+
+/// The message that the octets spell has this body.
+fn has_body(rt: &impl Abort, octets: &[u8], body: UserBody) -> Result<(), Fail> {
+    assert!(rt; decode(octets)?.body == body, "body of {octets:?}");
     Ok(())
 }
 
 #[test]
 fn octets_that_are_not_walked(rt: HostRuntime) -> Result<(), Fail> {
-    let request = decode(b"\x30\x01\x00\x03\x00\x00\x00\x09\x0d\x0d\x0d")?;
-    assert!(rt; request.body == UserBody::EchoRequest);
-    assert_eq!(rt; request.seq, Some(0));
-    let end = decode(b"\x30\xfe\x00\x01\x01\x00\x00\x02\x0d")?;
-    assert!(rt;
-        end.body
-            == UserBody::EndMarker {
-                teid: Teid(0x0100_0002)
-            }
-    );
-    let twice = decode(
-        b"\x32\x1f\x00\x0a\x00\x00\x00\x00\x00\x00\x00\x00\x8d\x01\x40\x8d\x01\x41",
-    )?;
-    assert!(rt; twice.body == UserBody::Notification { types: b"\x40" });
-    let skipped = decode(
-        b"\x32\x02\x00\x0b\x00\x00\x00\x00\x00\x05\x00\x00\xff\x00\x02\x01\x02\x0e\x00",
-    )?;
-    assert!(rt; skipped.body == UserBody::EchoResponse);
+    let request = b"\x30\x01\x00\x03\x00\x00\x00\x09\x0d\x0d\x0d";
+    assert!(rt; decode(request)?.seq == Some(0));
+    let teid = Teid(0x0100_0002);
+    for (octets, body) in [
+        (request.as_slice(), UserBody::EchoRequest),
+        (
+            b"\x30\xfe\x00\x01\x01\x00\x00\x02\x0d",
+            UserBody::EndMarker { teid },
+        ),
+        (
+            b"\x32\x1f\x00\x0a\x00\x00\x00\x00\x00\x00\x00\x00\x8d\x01\x40\x8d\x01\x41",
+            UserBody::Notification { types: b"\x40" },
+        ),
+        (
+            b"\x32\x02\x00\x0b\x00\x00\x00\x00\x00\x05\x00\x00\xff\x00\x02\x01\x02\x0e\x00",
+            UserBody::EchoResponse,
+        ),
+    ] {
+        has_body(&rt, octets, body)?;
+    }
     Ok(())
 }
 
-/// A G-PDU with so many headers of so many units of four octets, and a payload of so many octets.
-fn chained(alloc: Global, headers: u8, units: u8, payload: u16) -> Result<Vec<u8>, Fail> {
+/// What stands behind the numbers of a G-PDU: so many headers of so many units of four octets, and a payload
+/// of so many octets.
+fn tail(alloc: Global, headers: u8, units: u8, payload: u16) -> Result<Vec<u8>, Fail> {
     let mut tail = Vec::new(alloc);
-    tail.extend_from_slice(&[0, 0, 0])?;
     for _ in 0..headers {
         tail.extend_from_slice(&[0x20, units])?;
         for _ in 2..u16::from(units) * 4 {
@@ -274,11 +323,37 @@ fn chained(alloc: Global, headers: u8, units: u8, payload: u16) -> Result<Vec<u8
     for _ in 0..payload {
         tail.push(0xbb)?;
     }
-    let size = u16::try_from(tail.len()).or(Err("too long"))?.to_be_bytes();
+    Ok(tail)
+}
+
+/// A G-PDU without numbers, and with this tail.
+fn packet(alloc: Global, tail: &[u8]) -> Result<Vec<u8>, Fail> {
+    let size = u16::try_from(tail.len())?.checked_add(3).ok_or("too long")?;
+    let [high, low] = size.to_be_bytes();
     let mut octets = Vec::new(alloc);
-    octets.extend_from_slice(&[0x34, 255, size[0], size[1], 1, 0, 0, 2])?;
-    octets.extend_from_slice(&tail)?;
+    octets.extend_from_slice(&[0x34, 255, high, low, 1, 0, 0, 2, 0, 0, 0])?;
+    octets.extend_from_slice(tail)?;
     Ok(octets)
+}
+
+/// A message has so many headers of so many units, and a payload of so many octets.
+fn has_chain(
+    rt: &impl Abort,
+    message: &UserMessage,
+    headers: u8,
+    units: u8,
+    payload: u16,
+) -> Result<(), Fail> {
+    assert!(rt; count(&message.ext) == usize::from(headers));
+    for header in &message.ext {
+        assert!(rt; header.kind == 0x20);
+        assert!(rt; header.content.len() + 2 == 4 * usize::from(units));
+    }
+    let UserBody::Packet { payload: read, .. } = message.body else {
+        return Err("no packet".into());
+    };
+    assert!(rt; read.len() == usize::from(payload));
+    Ok(())
 }
 
 #[test]
@@ -293,60 +368,76 @@ fn chains(rt: HostRuntime) -> Result<(), Fail> {
         (0, 1, 65_000),
         (1, 1, 65_000),
     ] {
-        let octets = chained(rt.alloc(), headers, units, payload)?;
-        let message = decode(octets.as_slice())?;
-        assert_eq!(rt; count(&message.ext), usize::from(headers));
-        for header in &message.ext {
-            assert_eq!(rt; header.kind, 0x20);
-            assert_eq!(rt; header.content.len() + 2, 4 * usize::from(units));
-        }
-        let UserBody::Packet { payload: read, .. } = message.body else {
-            return Err("no packet".into());
-        };
-        assert_eq!(rt; read.len(), usize::from(payload));
-        assert!(rt; message.is_encodable());
-        let written = encode(rt.alloc(), &message)?;
+        let tail = tail(rt.alloc(), headers, units, payload)?;
+        let octets = packet(rt.alloc(), &tail)?;
+        let message = decode(&octets)?;
+        has_chain(&rt, &message, headers, units, payload)?;
+        let again = written(rt.alloc(), &message)?;
+        assert!(rt; headers == 0 || again == octets, "{headers} headers");
+    }
+    Ok(())
+}
+
+/// A message without numbers and headers.
+fn plain(body: UserBody) -> UserMessage {
+    UserMessage {
+        seq: None,
+        npdu: None,
+        ext: Extensions::none(),
+        body,
+    }
+}
+
+/// How long a packet with so many octets is when it is written, or that it is too long.
+fn length_of_packet(alloc: Global, size: usize) -> Result<Option<usize>, Fail> {
+    let payload = vec![in alloc; 7u8; size]?;
+    let teid = Teid(1);
+    let message = plain(UserBody::Packet {
+        teid,
+        payload: &payload,
+    });
+    if !message.is_encodable() {
+        return Err("not to be encoded".into());
+    }
+    match encode(alloc, &message) {
+        Ok(octets) => Ok(Some(octets.len())),
+        Err(UserFault::TooLong) => Ok(None),
+        Err(fault) => Err(fault.into()),
+    }
+}
+
+#[test]
+fn lengths(rt: HostRuntime) -> Result<(), Fail> {
+    for (size, length) in [
+        (0, Some(8)),
+        (65_000, Some(65_008)),
+        (65_535, Some(65_543)),
+        (65_536, None),
+    ] {
         assert!(rt;
-            headers == 0 || written == octets,
-            "{headers} headers of {units} units"
+            length_of_packet(rt.alloc(), size)? == length,
+            "{size} octets"
         );
     }
     Ok(())
 }
 
-fn sevens(alloc: Global, size: usize) -> Result<Vec<u8>, Fail> {
-    Ok(vec![in alloc; 7u8; size]?)
-}
-
 #[test]
-fn lengths(rt: HostRuntime) -> Result<(), Fail> {
-    for (size, fits) in [(0, true), (65_000, true), (65_535, true), (65_536, false)] {
-        let payload = sevens(rt.alloc(), size)?;
-        let message = UserMessage {
-            seq: None,
-            npdu: None,
-            ext: Extensions::none(),
-            body: UserBody::Packet {
-                teid: Teid(1),
-                payload: payload.as_slice(),
-            },
-        };
-        let written = encode(rt.alloc(), &message);
-        if fits {
-            assert_eq!(rt; written?.len(), 8 + size);
-        } else {
-            assert!(rt; written.err() == Some(UserFault::TooLong));
-        }
-    }
+fn long_notifications(rt: HostRuntime) {
     let types = [0u8; 256];
     let message = UserMessage {
         seq: Some(1),
-        npdu: None,
-        ext: Extensions::none(),
-        body: UserBody::Notification { types: &types },
+        ..plain(UserBody::Notification { types: &types })
     };
     assert!(rt; !message.is_encodable());
-    Ok(())
+}
+
+/// The fault of a chain that is made of these octets, if there is one.
+fn is_made(rt: &impl Abort, first: u8, octets: &[u8], fault: Option<UserFault>) {
+    assert!(rt;
+        Extensions::try_new(first, octets).err() == fault,
+        "{first} {octets:?}"
+    );
 }
 
 #[test]
@@ -373,42 +464,37 @@ fn made_chains(rt: HostRuntime) {
             Some(UserFault::ExtensionNeeded { kind: 0xc1 }),
         ),
     ] {
-        assert!(rt;
-            Extensions::try_new(first, octets).err() == fault,
-            "{first} {octets:?}"
-        );
+        is_made(&rt, first, octets, fault);
     }
 }
 
 #[test]
 fn faults_in_words(rt: HostRuntime) -> Result<(), Fail> {
-    let alloc = rt.alloc();
+    let (at, kind) = (12, 192);
+    let length = UserFault::Length { stated: 3, held: 2 };
     for (fault, words) in [
         (UserFault::Short { held: 7 }, "only 7 octets"),
         (UserFault::Version { version: 2 }, "version 2"),
         (UserFault::Protocol, "not of the protocol GTP"),
+        (length, "the length is stated as 3 and is 2"),
         (
-            UserFault::Length { stated: 3, held: 2 },
-            "the length is stated as 3 and is 2",
-        ),
-        (
-            UserFault::ExtensionZero { at: 12 },
+            UserFault::ExtensionZero { at },
             "the extension header at 12 has length 0",
         ),
         (
-            UserFault::ExtensionPast { at: 12 },
+            UserFault::ExtensionPast { at },
             "the extension header at 12 is not whole",
         ),
         (
-            UserFault::ExtensionNeeded { kind: 192 },
+            UserFault::ExtensionNeeded { kind },
             "the extension header of type 192 is not understood",
         ),
         (UserFault::Missing { kind: 14 }, "the element 14 is missing"),
-        (UserFault::Element { at: 12 }, "there is no element at 12"),
+        (UserFault::Element { at }, "there is no element at 12"),
         (UserFault::Memory, "no memory"),
         (UserFault::TooLong, "the length is above 65535"),
     ] {
-        assert_eq!(rt; fault.to_string(alloc)?.as_str(), words);
+        is_told(&rt, rt.alloc(), &fault, words)?;
     }
     Ok(())
 }

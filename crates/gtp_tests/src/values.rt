@@ -1,9 +1,24 @@
+//! Ages, ranges and texts of values.
+
 use gtp_values::*;
+use std::alloc::Global;
+use std::fmt::{Debug, Display};
+use std::process::Abort;
+use std::str::FromStr;
 use std::test::Fail;
+
+/// What a counter that was heard is to the one that is known.
+fn has_age(rt: &impl Abort, known: u8, heard: u8, age: Age) {
+    assert_eq!(rt;
+        Counter(known).age(Counter(heard)),
+        age,
+        "{heard} after {known}"
+    );
+}
 
 #[test]
 fn ages_of_counters(rt: HostRuntime) {
-    let rows = [
+    for (known, heard, age) in [
         (1, 1, Age::Same),
         (1, 2, Age::Later),
         (1, 128, Age::Later),
@@ -12,39 +27,73 @@ fn ages_of_counters(rt: HostRuntime) {
         (255, 126, Age::Later),
         (255, 127, Age::Earlier),
         (0, 255, Age::Earlier),
-    ];
-    for (known, heard, age) in rows {
-        assert_eq!(rt;
-            Counter(known).age(Counter(heard)),
-            age,
-            "{heard} after {known}"
-        );
+    ] {
+        has_age(&rt, known, heard, age);
     }
+}
+
+/// A text is read as this value, and the value is written as that text.
+fn is_text_of<T>(rt: &impl Abort, alloc: Global, text: &str, value: T) -> Result<(), Fail>
+where
+    T: FromStr<Err = ValueFault> + Display + PartialEq + Debug + Copy,
+{
+    let read: T = text.parse()?;
+    assert_eq!(rt; read, value);
+    assert_eq!(rt; value.to_string(alloc)?.as_str(), text);
+    Ok(())
+}
+
+/// A text was refused for this fault.
+fn is_refused<T>(rt: &impl Abort, text: &str, read: Result<T, ValueFault>, fault: ValueFault)
+where
+    T: PartialEq + Debug + Copy,
+{
+    assert_eq!(rt; read, Err(fault), "of {text}");
 }
 
 #[test]
 fn subscribers(rt: HostRuntime) {
     let digits = [0, 0, 1, 0, 1, 0, 1, 2, 3, 4, 5, 6, 7, 8, 9, 0];
-    assert_eq!(rt; Imsi::try_new(&digits[..5]), Err(ValueFault::TooShort));
+    is_refused(
+        &rt,
+        "5 digits",
+        Imsi::try_new(&digits[..5]),
+        ValueFault::TooShort,
+    );
     assert!(rt; Imsi::try_new(&digits[..6]).is_ok());
     assert!(rt; Imsi::try_new(&digits[..15]).is_ok());
-    assert_eq!(rt; Imsi::try_new(&digits), Err(ValueFault::TooLong));
-    assert_eq!(rt;
-        Imsi::try_new(&[1, 2, 3, 10, 5, 6]),
-        Err(ValueFault::BadDigit)
+    is_refused(
+        &rt,
+        "16 digits",
+        Imsi::try_new(&digits),
+        ValueFault::TooLong,
     );
-    assert_eq!(rt; Imsi::try_new(&[10]), Err(ValueFault::TooShort));
+    is_refused(
+        &rt,
+        "a 10",
+        Imsi::try_new(&[1, 2, 3, 10, 5, 6]),
+        ValueFault::BadDigit,
+    );
+    is_refused(
+        &rt,
+        "a 10 alone",
+        Imsi::try_new(&[10]),
+        ValueFault::TooShort,
+    );
 }
 
 #[test]
 fn subscribers_as_texts(rt: HostRuntime) -> Result<(), Fail> {
-    let alloc = rt.alloc();
-    for text in ["001010", "001010123456789"] {
-        let imsi: Imsi = text.parse()?;
-        assert_eq!(rt; imsi.to_string(alloc)?.as_str(), text);
-    }
+    let imsi = Imsi::try_new(&[0, 0, 1, 0, 1, 0])?;
+    is_text_of(&rt, rt.alloc(), "001010", imsi)?;
+    let imsi = Imsi::try_new(&[0, 0, 1, 0, 1, 0, 1, 2, 3, 4, 5, 6, 7, 8, 9])?;
+    is_text_of(&rt, rt.alloc(), "001010123456789", imsi)?;
     let imsi = Imsi::try_new(&[0, 0, 1, 0, 1, 9])?;
-    assert_eq!(rt; Imsi::from_text("001019"), Ok(imsi));
+    is_text_of(&rt, rt.alloc(), "001019", imsi)
+}
+
+#[test]
+fn texts_of_no_subscriber(rt: HostRuntime) {
     for (text, fault) in [
         ("", ValueFault::TooShort),
         ("00101", ValueFault::TooShort),
@@ -54,33 +103,48 @@ fn subscribers_as_texts(rt: HostRuntime) -> Result<(), Fail> {
         ("00101:9", ValueFault::BadDigit),
         ("a", ValueFault::TooShort),
     ] {
-        assert_eq!(rt; Imsi::from_text(text), Err(fault), "of {text}");
+        is_refused(&rt, text, Imsi::from_text(text), fault);
     }
-    Ok(())
 }
 
 #[test]
 fn access_points_as_texts(rt: HostRuntime) -> Result<(), Fail> {
-    let alloc = rt.alloc();
-    let operator = Apn::try_new(b"\x08internet\x06mnc012\x06mcc345\x04gprs")?;
     for (text, octets) in [
-        ("internet", Apn::try_new(b"\x08internet")?),
-        ("internet.mnc012.mcc345.gprs", operator),
-        ("a.b", Apn::try_new(b"\x01a\x01b")?),
+        ("internet", b"\x08internet".as_slice()),
+        (
+            "internet.mnc012.mcc345.gprs",
+            b"\x08internet\x06mnc012\x06mcc345\x04gprs",
+        ),
+        ("a.b", b"\x01a\x01b"),
     ] {
-        let apn: Apn = text.parse()?;
-        assert_eq!(rt; apn, octets);
-        assert_eq!(rt; octets.to_string(alloc)?.as_str(), text);
+        is_text_of(&rt, rt.alloc(), text, Apn::try_new(octets)?)?;
     }
-    let long = "abcdefghijklmnopqrstuvwxyzabcdefghijklmnopqrstuvwxyzabcdefghijk";
-    let name = format!(in alloc; "{long}.{}", &long[..35])?;
-    assert_eq!(rt; name.len(), 99);
-    assert_eq!(rt; Apn::from_text(&name)?.octets().len(), 100);
-    let longer = format!(in alloc; "{name}x")?;
-    let labels = format!(in alloc; "{long}l.org")?;
+    Ok(())
+}
+
+/// 63 octets: the longest label.
+const LONG_LABEL: &str = "abcdefghijklmnopqrstuvwxyzabcdefghijklmnopqrstuvwxyzabcdefghijk";
+
+/// A name of two labels, of 63 octets and of 35: the longest that fits in 100 octets.
+const LONG_NAME: &str = concat!(
+    "abcdefghijklmnopqrstuvwxyzabcdefghijklmnopqrstuvwxyzabcdefghijk",
+    ".abcdefghijklmnopqrstuvwxyzabcdefghi"
+);
+
+#[test]
+fn the_longest_access_point(rt: HostRuntime) -> Result<(), Fail> {
+    assert!(rt; LONG_LABEL.len() == 63 && LONG_NAME.len() == 99);
+    assert!(rt; Apn::from_text(LONG_NAME)?.octets().len() == 100);
+    let longer = format!(in rt.alloc(); "{LONG_NAME}x")?;
+    is_refused(&rt, &longer, Apn::from_text(&longer), ValueFault::TooLong);
+    Ok(())
+}
+
+#[test]
+fn texts_of_no_access_point(rt: HostRuntime) -> Result<(), Fail> {
+    let labels = format!(in rt.alloc(); "{LONG_LABEL}l.org")?;
     for (text, fault) in [
         ("", ValueFault::TooShort),
-        (longer.as_str(), ValueFault::TooLong),
         (labels.as_str(), ValueFault::BadLabel),
         (".", ValueFault::BadLabel),
         ("internet.", ValueFault::BadLabel),
@@ -89,29 +153,30 @@ fn access_points_as_texts(rt: HostRuntime) -> Result<(), Fail> {
         ("inter net", ValueFault::BadLabel),
         ("caf\u{e9}", ValueFault::BadLabel),
     ] {
-        assert_eq!(rt; Apn::from_text(text), Err(fault), "of {text}");
+        is_refused(&rt, text, Apn::from_text(text), fault);
     }
     Ok(())
 }
 
+/// 2001:db8::1.
+const DOCUMENTATION: Ip = Ip::V6([0x20, 1, 0xd, 0xb8, 0, 0, 0, 0, 0, 0, 0, 0, 0, 0, 0, 1]);
+
 #[test]
 fn addresses_as_texts(rt: HostRuntime) -> Result<(), Fail> {
-    let alloc = rt.alloc();
-    let documentation = [0x20, 1, 0xd, 0xb8, 0, 0, 0, 0, 0, 0, 0, 0, 0, 0, 0, 1];
     for (text, address) in [
         ("10.0.0.1", Ip::V4([10, 0, 0, 1])),
         ("0.0.0.0", Ip::V4([0; 4])),
         ("255.255.255.255", Ip::V4([255; 4])),
-        ("20010db8000000000000000000000001", Ip::V6(documentation)),
+        ("20010db8000000000000000000000001", DOCUMENTATION),
     ] {
-        let ip: Ip = text.parse()?;
-        assert_eq!(rt; ip, address);
-        assert_eq!(rt; address.to_string(alloc)?.as_str(), text);
+        is_text_of(&rt, rt.alloc(), text, address)?;
     }
-    assert_eq!(rt;
-        Ip::from_text("20010DB8000000000000000000000001"),
-        Ok(Ip::V6(documentation))
-    );
+    assert!(rt; Ip::from_text("20010DB8000000000000000000000001")? == DOCUMENTATION);
+    Ok(())
+}
+
+#[test]
+fn texts_of_no_address(rt: HostRuntime) {
     for (text, fault) in [
         ("", ValueFault::TooShort),
         ("10.0.0", ValueFault::TooShort),
@@ -124,24 +189,25 @@ fn addresses_as_texts(rt: HostRuntime) -> Result<(), Fail> {
         ("10.0.0.1.1", ValueFault::BadDigit),
         ("10.0.0.1 ", ValueFault::BadDigit),
     ] {
-        assert_eq!(rt; Ip::from_text(text), Err(fault), "of {text}");
+        is_refused(&rt, text, Ip::from_text(text), fault);
     }
-    Ok(())
 }
 
 #[test]
 fn identifiers_as_texts(rt: HostRuntime) -> Result<(), Fail> {
-    let alloc = rt.alloc();
     for (text, teid) in [
         ("00000000", Teid(0)),
         ("01000002", Teid(16_777_218)),
         ("fedcba98", Teid(4_275_878_552)),
     ] {
-        let read: Teid = text.parse()?;
-        assert_eq!(rt; read, teid);
-        assert_eq!(rt; teid.to_string(alloc)?.as_str(), text);
+        is_text_of(&rt, rt.alloc(), text, teid)?;
     }
-    assert_eq!(rt; Teid::from_text("FEDCBA98"), Ok(Teid(4_275_878_552)));
+    assert!(rt; Teid::from_text("FEDCBA98")? == Teid(4_275_878_552));
+    Ok(())
+}
+
+#[test]
+fn texts_of_no_identifier(rt: HostRuntime) {
     for (text, fault) in [
         ("", ValueFault::TooShort),
         ("1000002", ValueFault::TooShort),
@@ -150,9 +216,8 @@ fn identifiers_as_texts(rt: HostRuntime) -> Result<(), Fail> {
         ("0x000002", ValueFault::BadDigit),
         ("+1000002", ValueFault::BadDigit),
     ] {
-        assert_eq!(rt; Teid::from_text(text), Err(fault), "of {text}");
+        is_refused(&rt, text, Teid::from_text(text), fault);
     }
-    Ok(())
 }
 
 #[test]
@@ -164,22 +229,32 @@ fn addresses_in_order(rt: HostRuntime) {
     assert!(rt; port(low, 2152) < port(high, 2123) && port(low, 2123) < port(low, 2152));
 }
 
+/// The end at an address is the one that has this address alone.
+fn is_end_at(rt: &impl Abort, address: Ip, v4: Option<[u8; 4]>, v6: Option<[u8; 16]>) {
+    let end = FTeid::new(Below::new(6), Teid(7), address);
+    assert!(rt; FTeid::try_new(6, Teid(7), v4, v6) == Ok(end));
+    assert!(rt; end.v4() == v4 && end.v6() == v6);
+}
+
 #[test]
 fn tunnel_ends_of_one_address(rt: HostRuntime) {
-    let interface = Below::new(6);
-    for (address, v4, v6) in [
-        (Ip::V4([10, 0, 0, 1]), Some([10, 0, 0, 1]), None),
-        (Ip::V6([1; 16]), None, Some([1; 16])),
-    ] {
-        let end = FTeid::new(interface, Teid(7), address);
-        assert_eq!(rt; Ok(end), FTeid::try_new(6, Teid(7), v4, v6));
-        assert_eq!(rt; (end.v4(), end.v6()), (v4, v6));
-    }
+    is_end_at(&rt, Ip::V4([10, 0, 0, 1]), Some([10, 0, 0, 1]), None);
+    is_end_at(&rt, Ip::V6([1; 16]), None, Some([1; 16]));
+}
+
+/// A fault is told in these words.
+pub(crate) fn is_told(
+    rt: &impl Abort,
+    alloc: Global,
+    fault: &impl Display,
+    words: &str,
+) -> Result<(), Fail> {
+    assert_eq!(rt; fault.to_string(alloc)?.as_str(), words);
+    Ok(())
 }
 
 #[test]
 fn faults_in_words(rt: HostRuntime) -> Result<(), Fail> {
-    let alloc = rt.alloc();
     for (fault, words) in [
         (ValueFault::TooShort, "too short"),
         (ValueFault::TooLong, "too long"),
@@ -187,8 +262,7 @@ fn faults_in_words(rt: HostRuntime) -> Result<(), Fail> {
         (ValueFault::BadLabel, "a label that is none"),
         (ValueFault::OutOfRange, "out of range"),
     ] {
-        assert_eq!(rt; fault.to_string(alloc)?.as_str(), words);
+        is_told(&rt, rt.alloc(), &fault, words)?;
     }
-    assert_eq!(rt; Memory.to_string(alloc)?.as_str(), "no memory");
-    Ok(())
+    is_told(&rt, rt.alloc(), &Memory, "no memory")
 }

@@ -331,27 +331,51 @@ fn are_alike(both: &Both) -> bool {
     true
 }
 
-#[test]
-fn ten_thousand_calls(rt: HostRuntime) -> Result<(), Fail> {
-    let alloc = rt.alloc();
-    let mut both = Both::new(alloc, 15)?;
-    for call in 0..10_000u32 {
-        match both.next() % 100 {
-            0..=39 => add_session(&mut both, &rt)?,
-            40..=64 => add_bearer(&mut both, &rt)?,
-            65..=76 => open_bearer(&mut both)?,
-            77..=80 => open_session(&mut both),
-            81..=83 => close_session(&mut both),
-            84..=89 => remove(&mut both, &rt),
-            _ => ask_of_both(&mut both, &rt, alloc)?,
+/// The next call of both, drawn by lot.
+fn call(both: &mut Both, rt: &impl Abort, alloc: Global) -> Result<(), Fail> {
+    match both.next() % 100 {
+        0..=39 => add_session(both, rt),
+        40..=64 => add_bearer(both, rt),
+        65..=76 => open_bearer(both),
+        84..=89 => {
+            remove(both, rt);
+            Ok(())
         }
-        if call % 100 == 99 {
-            assert!(rt; are_alike(&both), "after call {call}");
-        }
-        if call % 4000 == 3999 {
-            restart(&mut both, alloc)?;
+        90.. => ask_of_both(both, rt, alloc),
+        kind => {
+            change_session(both, kind);
+            Ok(())
         }
     }
+}
+
+/// Opens a session in four of seven cases, and closes one in the others.
+fn change_session(both: &mut Both, kind: u32) {
+    if kind <= 80 {
+        open_session(both);
+    } else {
+        close_session(both);
+    }
+}
+
+/// Makes so many calls, and compares after each hundred of them; the peer restarts after each 4,000.
+fn call_times(both: &mut Both, rt: &impl Abort, alloc: Global, times: u32) -> Result<(), Fail> {
+    for number in 0..times {
+        call(both, rt, alloc)?;
+        if number % 100 == 99 {
+            assert!(rt; are_alike(both), "after call {number}");
+        }
+        if number % 4000 == 3999 {
+            restart(both, alloc)?;
+        }
+    }
+    Ok(())
+}
+
+#[test]
+fn ten_thousand_calls(rt: HostRuntime) -> Result<(), Fail> {
+    let mut both = Both::new(rt.alloc(), 15)?;
+    call_times(&mut both, &rt, rt.alloc(), 10_000)?;
     for (kind, times) in both.met.iter().enumerate() {
         assert!(rt; *times > 0, "kind {kind}");
     }

@@ -10,26 +10,32 @@ fn teid(number: u32) -> Teid {
     Teid(0x0700_0000 | number)
 }
 
-/// A thousand sessions under the TEIDs from 1 on, with the addresses from 10.1.0.1 on.
-fn thousand_sessions(rt: &impl Abort, alloc: Global, draws: &mut Draws) -> Result<Sessions, Fail> {
-    let mut sessions: Sessions = Table::new(alloc);
+/// Adds a thousand sessions under the TEIDs from 1 on, with the addresses from 10.1.0.1 on.
+fn add_thousand(rt: &impl Abort, draws: &mut Draws, sessions: &mut Sessions) -> Result<(), Fail> {
     for place in 0..1000u32 {
-        put_session(rt, draws, &mut sessions, &session(0x0a01_0001 + place)?)?;
+        let made = session(0x0a01_0001 + place)?;
+        put_session(rt, draws, sessions, &made)?;
     }
-    Ok(sessions)
+    Ok(())
+}
+
+/// Of a thousand sessions the tenth is removed, which makes room for one.
+fn make_room(rt: &impl Abort, sessions: &mut Sessions) {
+    assert!(rt; sessions.is_full());
+    assert!(rt; sessions.prepare() == Err(TablesFault::SessionsFull));
+    let tenth = sessions.get(teid(10)).expect(rt, "the tenth session");
+    assert!(rt; tenth.address == Some(0x0a01_000a));
+    sessions.remove(teid(10));
+    assert!(rt; sessions.get(teid(10)).is_none());
+    assert!(rt; sessions.prepare().is_ok());
 }
 
 #[test]
 fn a_thousand_sessions(rt: HostRuntime) -> Result<(), Fail> {
     let mut draws = Draws::new(Counter(7));
-    let mut sessions = thousand_sessions(&rt, rt.alloc(), &mut draws)?;
-    assert!(rt; sessions.is_full());
-    assert!(rt; sessions.prepare() == Err(TablesFault::SessionsFull));
-    let tenth = sessions.get(teid(10)).expect(&rt, "the tenth session");
-    assert!(rt; tenth.address == Some(0x0a01_000a));
-    sessions.remove(teid(10));
-    assert!(rt; sessions.get(teid(10)).is_none());
-    assert!(rt; sessions.prepare().is_ok());
+    let mut sessions: Sessions = Table::new(rt.alloc());
+    add_thousand(&rt, &mut draws, &mut sessions)?;
+    make_room(&rt, &mut sessions);
     Ok(())
 }
 
@@ -43,23 +49,39 @@ fn the_limits_of_a_pool(rt: HostRuntime) -> Result<(), Fail> {
     Ok(())
 }
 
+/// The lowest address that is free of so many from 10.1.0.1 on, where all sessions stand.
+fn lowest_free_of(sessions: &Sessions, bearers: &Bearers, count: u32) -> Result<u32, Fail> {
+    let pool = Pool::try_new(0x0a01_0001, count)?;
+    Ok(View::new(sessions, bearers).lowest_free_address(pool)?)
+}
+
+/// No address of a pool is free.
+fn is_used_up(rt: &impl Abort, sessions: &Sessions, bearers: &Bearers, pool: Pool) {
+    let free = View::new(sessions, bearers).lowest_free_address(pool);
+    assert!(rt; free == Err(TablesFault::PoolEmpty));
+}
+
+/// The free addresses beside those of a thousand sessions: of a pool of as many, of the largest, of an empty
+/// one, of what a restart leaves, and where one session is removed.
+fn addresses(rt: &impl Abort, sessions: &mut Sessions, bearers: &Bearers) -> Result<(), Fail> {
+    let just_used_up = Pool::try_new(0x0a01_0001, 1000)?;
+    is_used_up(rt, sessions, bearers, just_used_up);
+    is_used_up(rt, sessions, bearers, Pool::try_new(1, 0)?);
+    assert!(rt; lowest_free_of(sessions, bearers, 65_536)? == 0x0a01_03e9);
+    let left = View::after_restart(sessions, bearers);
+    assert!(rt; left.lowest_free_address(just_used_up) == Ok(0x0a01_0001));
+    sessions.remove(teid(300));
+    assert!(rt; lowest_free_of(sessions, bearers, 1000)? == 0x0a01_012c);
+    Ok(())
+}
+
 #[test]
 fn addresses_of_a_thousand_sessions(rt: HostRuntime) -> Result<(), Fail> {
     let mut draws = Draws::new(Counter(7));
-    let mut sessions = thousand_sessions(&rt, rt.alloc(), &mut draws)?;
     let bearers = Bearers::new(rt.alloc());
-    let just_used_up = Pool::try_new(0x0a01_0001, 1000)?;
-    let one_more = Pool::try_new(0x0a01_0001, 65_536)?;
-    let view = View::new(&sessions, &bearers);
-    assert!(rt; view.lowest_free_address(just_used_up) == Err(TablesFault::PoolEmpty));
-    assert!(rt; view.lowest_free_address(one_more)? == 0x0a01_03e9);
-    assert!(rt; view.lowest_free_address(Pool::try_new(1, 0)?) == Err(TablesFault::PoolEmpty));
-    let left = View::after_restart(&sessions, &bearers);
-    assert!(rt; left.lowest_free_address(just_used_up)? == 0x0a01_0001);
-    sessions.remove(teid(300));
-    let view = View::new(&sessions, &bearers);
-    assert!(rt; view.lowest_free_address(just_used_up)? == 0x0a01_012c);
-    Ok(())
+    let mut sessions: Sessions = Table::new(rt.alloc());
+    add_thousand(&rt, &mut draws, &mut sessions)?;
+    addresses(&rt, &mut sessions, &bearers)
 }
 
 /// Adds eleven bearers of each of a thousand sessions, each with a remote of its own.
@@ -95,21 +117,27 @@ fn remove_all_bearers(rt: &impl Abort, bearers: &mut Bearers) {
     }
 }
 
-#[test]
-fn a_thousand_sessions_with_eleven_bearers(rt: HostRuntime) -> Result<(), Fail> {
-    let mut draws = Draws::new(Counter(7));
-    let mut sessions = thousand_sessions(&rt, rt.alloc(), &mut draws)?;
-    let mut bearers = Bearers::new(rt.alloc());
-    add_eleven_each(&rt, &mut draws, &mut bearers)?;
-    find_all_bearers(&rt, &bearers);
-    remove_all_bearers(&rt, &mut bearers);
-    assert!(rt; bearers.len() == 0);
+/// Removes a thousand sessions in an order that jumps.
+fn remove_all_sessions(rt: &impl Abort, sessions: &mut Sessions) {
     for turn in 0..1000u32 {
         let number = turn * 7 % 1000;
         assert!(rt; sessions.get(teid(1 + number)).is_some());
         sessions.remove(teid(1 + number));
     }
     assert!(rt; sessions.len() == 0);
+}
+
+#[test]
+fn a_thousand_sessions_with_eleven_bearers(rt: HostRuntime) -> Result<(), Fail> {
+    let mut draws = Draws::new(Counter(7));
+    let mut bearers = Bearers::new(rt.alloc());
+    let mut sessions: Sessions = Table::new(rt.alloc());
+    add_thousand(&rt, &mut draws, &mut sessions)?;
+    add_eleven_each(&rt, &mut draws, &mut bearers)?;
+    find_all_bearers(&rt, &bearers);
+    remove_all_bearers(&rt, &mut bearers);
+    assert!(rt; bearers.len() == 0);
+    remove_all_sessions(&rt, &mut sessions);
     Ok(())
 }
 
