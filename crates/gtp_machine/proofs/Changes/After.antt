@@ -21,7 +21,7 @@ use Rattle.gtp_machine.proofs.Origins.Contexts.{ServingContexts, ServingContexts
 use Rattle.gtp_machine.proofs.Changes.Shrinking.{NodeShrinks, Shrunk, Shrunk-itself}
 use Rattle.gtp_machine.proofs.Changes.Matching.{IsMatched, IsMatched-shrinks, IsMatched-session, IsMatched-bearer}
 use Rattle.gtp_machine.proofs.Changes.Steps.{Logs, Logs-silent, Logs-plain, Logs-repeat, IsPlain, NothingOwns}
-use Rattle.gtp_machine.proofs.Basics.Options.{none_some}
+use Rattle.gtp_values.proofs.Outcomes.{none_some}
 
 -- what holds of the sessions and bearers of a gateway
 abbrev pub Contexts : Role → List Sent → FiniteMap Session → FiniteMap Bearer → Type 0

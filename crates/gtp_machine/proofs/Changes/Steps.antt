@@ -10,7 +10,7 @@ use Rattle.gtp_machine.specs.Choice.{IsFree}
 use Rattle.gtp_machine.specs.World.{other, Sent, HasSent}
 use Rattle.gtp_machine.proofs.Origins.Drawing.{Draws, IsMadeNow}
 use Rattle.gtp_machine.proofs.Origins.Entries.{IsFor}
-use Rattle.gtp_machine.proofs.Basics.Options.{none_some}
+use Rattle.gtp_values.proofs.Outcomes.{none_some}
 
 -- a packet that was handed in in this step
 pub record IsHandedNow (out : Out) (target : ℕ) (payload : List ℕ) : Type 0 where

@@ -24,7 +24,8 @@ use Rattle.gtp_machine.proofs.Changes.Steps.{Logs-silent, Logs-plain, at_result,
 use Rattle.gtp_machine.proofs.Changes.After.{IsPending, IsStanding, IsReady, Knows, After, nothing_told, later, held_now, matched_session, matched_bearer, still_stands}
 use Rattle.gtp_machine.proofs.Rows.Common.{unchanged}
 use Rattle.gtp_machine.proofs.Rows.Taking.{Took, took, drops, ends, gives_answer, takes_echo, takes_echo_response}
-use Rattle.gtp_machine.proofs.Basics.Options.{some_same, none_some}
+use Rattle.gtp_values.proofs.Outcomes.{none_some}
+use Rattle.gtp_machine.proofs.Basics.Options.{some_same}
 use Rattle.gtp_machine.proofs.Rows.Control.{ControlCarried, control_came}
 use Rattle.gtp_machine.proofs.Basics.Kinds.{by_packet}
 

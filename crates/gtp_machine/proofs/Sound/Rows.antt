@@ -27,7 +27,7 @@ use Rattle.gtp_machine.proofs.Basics.FiniteMaps.{get-insert_same}
 use Rattle.gtp_machine.proofs.Sound.Parts.{one_value, waiting_active, at_here}
 use Rattle.gtp_machine.proofs.Sound.Changes.{fresh, without_sound, without_session_sound, without_bearer_sound, finished_sound, holding_sound, known_sound, asks_sound, free_opened, session_comes, bearer_comes, bearer_changes, closing_sound, is_session, is_bearer, session_opens, bearer_opens}
 use Rattle.gtp_machine.proofs.Changes.Forgetting.{leaves}
-use Rattle.gtp_machine.proofs.Basics.Options.{some_is, none_some}
+use Rattle.gtp_values.proofs.Outcomes.{none_some, some_same as some_is}
 use Rattle.gtp_machine.proofs.Basics.Kinds.{by_serving, by_packet}
 
 module _ (role : Role) where

@@ -22,7 +22,7 @@ use Rattle.gtp_machine.specs.Packet.{SessionAsked, BearerAnswered, PacketTakes, 
 use Rattle.gtp_machine.specs.Sound.{IsSound, CanMove, IsNotEmpty, AlwaysSteps}
 use Rattle.gtp_machine.proofs.Sound.Changes.{known_sound, is_session, is_bearer}
 use Rattle.gtp_machine.proofs.Sound.Rows.{restarted_sound}
-use Rattle.gtp_machine.proofs.Basics.Options.{some_is}
+use Rattle.gtp_values.proofs.Outcomes.{some_same as some_is}
 use Rattle.gtp_machine.proofs.Sound.Free.{free_teid, free_key}
 use Rattle.gtp_machine.proofs.Basics.Kinds.{by_serving, by_packet}
 

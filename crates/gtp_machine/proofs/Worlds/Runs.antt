@@ -21,7 +21,7 @@ use Rattle.gtp_machine.proofs.Rows.Stepping.{Carried, Taken, step_after}
 use Rattle.gtp_machine.proofs.Worlds.Hearing.{Hearing, Hearing-step, Hearing-peer, same_counter}
 use Rattle.gtp_machine.proofs.Worlds.Ticking.{move_quiet, moved_nothing, moved_twice}
 use Rattle.gtp_machine.proofs.Worlds.Kept.{Packets, Packets-step, Packets-elsewhere, Remembers, Remembers-step, Remembers-elsewhere, Remembers-restart, AnsweredOnce-step, Making, Making-step, Making-fresh, Making-late}
-use Rattle.gtp_machine.proofs.Basics.Options.{none_some}
+use Rattle.gtp_values.proofs.Outcomes.{none_some}
 use Rattle.std.specs.FinMap.{empty}
 
 -- what holds of one gateway of the world
