@@ -297,7 +297,7 @@ static size_t contexts_beside(uint8_t *octets, size_t want)
     return close_control(octets, len);
 }
 
-/* Contexts within each other, in the one that the message's table names. */
+/* Nested contexts, in the one that the message's table names. */
 static size_t contexts_within(uint8_t *octets, size_t want)
 {
     const uint8_t *first = copies[SESSION_REQUEST].octets[0];
@@ -327,7 +327,7 @@ static void measure_growth(int turns)
         { "unknown elements", unknown_elements },
         { "identities", identities },
         { "contexts beside each other", contexts_beside },
-        { "contexts within each other", contexts_within },
+        { "nested contexts", contexts_within },
     };
     static uint8_t octets[LONGEST];
     for (size_t k = 0; k < sizeof kinds / sizeof *kinds; k++)
