@@ -5,7 +5,7 @@ ghost use Rattle.std.specs.Prelude.{true, false, length, map, IsTrue, IsOk, OnOk
 ghost use Rattle.std.specs.Prelude.{IfOk, IfErr, IfSome, IfNone, IsSomeAnd, Err};
 ghost use Rattle.std.specs.List.{filter_map};
 ghost use Rattle.gtp_reliable.specs.Held.{just_kept, after_tick, forgets, IsHeld};
-ghost use Rattle.gtp_reliable.specs.Held.{HasAnswer, IsHold, IsReady, IsQuiet};
+ghost use Rattle.gtp_reliable.specs.Held.{AreAnswers, HasAnswer, IsHold, IsReady, IsQuiet};
 ghost use Rattle.gtp_reliable.specs.Forgotten.{question_of};
 
 use crate::fault::ReliableFault;
@@ -119,7 +119,9 @@ impl Held {
 
     /// Whether 4,096 answers are held. Takes no memory.
     pub fn is_full(&self) -> bool
-        ensures { IsTrue result ↔ (4096 ≤ length self.now.pairs) }
+        ensures full { IsTrue result ↔ (4096 ≤ length self.now.pairs) }
+        // And what holds of the answers at all times.
+        ensures always { AreAnswers self.now }
     {
         self.pairs.len() >= MOST
     }
@@ -168,6 +170,8 @@ impl Held {
         ensures list { IfOk result (λ v. map question_of v.items ≡ forgets self.now) }
         ensures quiet { IsQuiet self.now → IsOk result }
         ensures fault { IfErr result (λ f. f ≡ ReliableFault.Memory) }
+        // What holds of the answers at all times.
+        ensures always { AreAnswers self.now }
     {
         let requests = forgotten_by_tick(self.alloc, &self.pairs, self.ticks, self.hold)?;
         Ok(requests)

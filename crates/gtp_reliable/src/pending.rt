@@ -8,7 +8,7 @@ ghost use Rattle.std.specs.List.{filter_map};
 ghost use Rattle.gtp_reliable.specs.Waiting.{just_sent, after_tick, sent_again, given_up};
 ghost use Rattle.gtp_reliable.specs.Pending.{numbers, number_after, is_pending, IsNextFree};
 ghost use Rattle.gtp_reliable.specs.Pending.{purpose_of, IsPrepared, AreLimits, SameTimes};
-ghost use Rattle.gtp_reliable.specs.Pending.{IsQuiet, resends, given_ups};
+ghost use Rattle.gtp_reliable.specs.Pending.{AreRequests, IsQuiet, resends, given_ups};
 ghost use Rattle.gtp_reliable.specs.Due.{message_of};
 ghost use Rattle.gtp_reliable.specs.Purposes.{AreRising, is_given_up};
 
@@ -220,7 +220,9 @@ impl<P: Copy> Pending<P> {
 
     /// Whether 256 requests are pending. Takes no memory.
     pub fn is_full(&self) -> bool
-        ensures { IsTrue result ↔ (256 ≤ length self.now.waiting) }
+        ensures full { IsTrue result ↔ (256 ≤ length self.now.waiting) }
+        // And what holds of the requests at all times.
+        ensures always { AreRequests self.now }
     {
         self.waiting.len() >= MOST
     }
@@ -235,6 +237,8 @@ impl<P: Copy> Pending<P> {
             (f ≡ ReliableFault.PendingFull) ⊎ (f ≡ ReliableFault.Memory)) }
         ensures memory { result ≡ Err ReliableFault.Memory → self.old.has_room ≡ false }
         ensures err { OnErr result (self.new ≡ self.old) }
+        // What holds of the requests at all times.
+        ensures always { AreRequests self.old }
     {
         if self.is_full() {
             return Err(ReliableFault::PendingFull);
@@ -313,6 +317,8 @@ impl<P: Copy> Pending<P> {
         ensures waiting { self.new.waiting ≡ filter (λ w. not (meets w.purpose)) self.old.waiting }
         ensures next { self.new.next ≡ self.old.next }
         ensures times { SameTimes self.old self.new }
+        // What holds of the requests at all times.
+        ensures always { AreRequests self.old }
     {
         drop_where(&mut self.waiting, &test);
         take_out_where(&mut self.purposes, &test);
@@ -324,6 +330,8 @@ impl<P: Copy> Pending<P> {
         ensures gave_up { IfOk result (λ due. due.gave_up.items ≡ given_ups self.now) }
         ensures quiet { IsQuiet self.now → IsOk result }
         ensures fault { IfErr result (λ f. f ≡ ReliableFault.Memory) }
+        // What holds of the requests at all times.
+        ensures always { AreRequests self.now }
     {
         let due = due_of(self.alloc, self.waiting.as_slice(), self.t3, self.n3)?;
         Ok(due)

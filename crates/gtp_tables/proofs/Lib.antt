@@ -1,4 +1,5 @@
 pub mod Entries
+pub mod Defaults
 pub mod Found
 pub mod Identities
 pub mod Kept

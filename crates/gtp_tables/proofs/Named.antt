@@ -1,7 +1,8 @@
 -- The index by remote TEID after a change.
 use Rattle.std.proofs.Common.{◌≡◌, ◌<◌, ◌≤◌, ℕ, ◌&&◌, Bool, true, false, cond, Option, Some, None, refl, sym, ap, ◌∙◌, nat_eq, arith}
+use Rattle.std.specs.declared.cmp.Ordering.TheVariants.{Less}
 use Rattle.std.specs.Ordering.{nat_cmp, eq_by_cmp, ordering_then, is_eq, is_gt}
-use Rattle.std.specs.BTreeMap.Range.{IsLeBy}
+use Rattle.std.specs.BTreeMap.Range.{IsLeBy, IsLtBy}
 use Rattle.std.specs.Prelude.{◌==◌, List, [], ◌∷◌, map, is_some, option_map, if◌then◌else◌}
 use Rattle.std.specs.FinMap.{find, get, insert, remove, entries, get-insert, get-remove, get-from_entries, get-entries}
 use Rattle.std.specs.Cmp.{nat_cmp_total}
@@ -83,6 +84,23 @@ own_after remote own o high = by high
   where
     by : is_gt (ordering_then (nat_cmp remote remote) (nat_cmp own o)) ≡ false → own ≤ o
     by high = grind (arith, nat_tests)
+
+-- ---- the same after a pair
+
+pub past : (remote after o : ℕ) → after < o → IsLtBy pair_cmp (remote, after) (remote, o)
+past remote after o less = grind (arith, nat_tests, less)
+
+pub squeezed_past : (x : ℕ × ℕ) (remote after o : ℕ) → IsLtBy pair_cmp (remote, after) x → IsLeBy pair_cmp x (remote, o) → (x.0 ≡ remote → ⊥) → ⊥
+squeezed_past x remote after o low high other = by x.0 x.1 remote after o low high other
+  where
+    by : (a b r s k : ℕ) → ordering_then (nat_cmp r a) (nat_cmp s b) ≡ Less → is_gt (ordering_then (nat_cmp a r) (nat_cmp b k)) ≡ false → (a ≡ r → ⊥) → ⊥
+    by a b r s k low high other = grind (arith, nat_tests)
+
+pub own_past : (remote : ℕ) (x : ℕ × ℕ) (after : ℕ) → IsLtBy pair_cmp (remote, after) x → x.0 ≡ remote → after < x.1
+own_past remote x after low is = by x.0 x.1 remote after low is
+  where
+    by : (a b r s : ℕ) → ordering_then (nat_cmp r a) (nat_cmp s b) ≡ Less → a ≡ r → s < b
+    by a b r s low is = grind (arith, nat_tests)
 
 -- ---- what is found
 

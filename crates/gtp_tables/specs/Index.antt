@@ -1,10 +1,12 @@
 -- Bearers by the peer's TEID.
-use Rattle.std.specs.Prelude.{◌≡◌, ◌≢◌, ℕ, Bool, false, Option, Some, None, nat_eq}
+use Rattle.std.specs.Prelude.{◌≡◌, ◌≢◌, ℕ, ◌&&◌, Bool, true, false, Option, Some, None, nat_eq}
 use Rattle.std.specs.FinMap.{get}
 use Rattle.std.specs.declared.cmp.Ordering.{Ordering}
 use Rattle.std.specs.Ordering.{nat_cmp, ordering_then}
 use Rattle.std.specs.BTreeSet.{BTreeSet, contains}
 use Rattle.gtp_tables.specs.declared.context.Bearer.{Bearer}
+use Rattle.gtp_tables.specs.declared.context.Kind.{Kind}
+use Rattle.gtp_tables.specs.declared.context.Kind.TheVariants.{Default, Dedicated}
 use Rattle.gtp_values.specs.FiniteMap.{FiniteMap}
 
 -- by remote and then by own TEID
@@ -35,6 +37,23 @@ pub record HasRemote (bearers : FiniteMap Bearer) (remote teid : ℕ) : Type 0 w
   pub bearer : Bearer
   pub stands : get bearers teid ≡ Some bearer
   pub has : bearer.remote ≡ Some remote
+
+-- the default bearer of a session has this remote
+pub record HasDefault (bearers : FiniteMap Bearer) (remote session : ℕ) : Type 0 where
+  pub teid : ℕ
+  pub at : HasRemote bearers remote teid
+  pub default : at.bearer.kind ≡ Default
+  pub of : at.bearer.session ≡ session
+
+-- the bearer is the default one
+abbrev pub is_default : Kind → Bool
+is_default Default = true
+is_default Dedicated = false
+
+-- whether what stands at a place is the default bearer of the session
+abbrev pub default_of : ℕ → Option Bearer → Bool
+default_of session None = false
+default_of session (Some b) = is_default b.kind && nat_eq b.session session
 
 -- no bearer has this remote
 abbrev pub IsUnnamed : FiniteMap Bearer → ℕ → Type 0

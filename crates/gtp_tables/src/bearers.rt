@@ -12,10 +12,11 @@ ghost use Rattle.gtp_values.specs.FiniteMap.{Each, kept, changed, with_value};
 ghost use Rattle.gtp_tables.specs.Deciding.{Answers};
 ghost use Rattle.gtp_tables.specs.Identity.{closing_bearer, has_number, IsUnused, IsBearerWith};
 ghost use Rattle.gtp_tables.specs.Index.{remote_at, HasRemote, IsUnnamed, IsUnopened, IsAt};
+ghost use Rattle.gtp_tables.specs.Index.{default_of, HasDefault};
 
-use crate::context::{Bearer, State};
+use crate::context::{Bearer, Kind, State};
 use crate::fault::TablesFault;
-use crate::index::{first_named, keep_named, name_if, unname_if};
+use crate::index::{first_named, keep_named, name_if, next_named, unname_if};
 use crate::table::Table;
 use gtp_values::{Ebi, Memory, Teid};
 use indexmap::IndexMap;
@@ -125,6 +126,35 @@ impl Bearers {
         }
     }
 
+    /// The bearer after this one, in order of the own TEIDs, that has this remote TEID.
+    pub fn next_of_remote(&self, remote: Teid, after: Teid) -> Option<Teid>
+        ensures found { IfSome result (λ teid. HasRemote self.now remote.0 teid.0) }
+        ensures after { IfSome result (λ teid. after.0 < teid.0) }
+        ensures next { IfSome result (λ teid. (t : ℕ) → after.0 < t
+            → HasRemote self.now remote.0 t → teid.0 ≤ t) }
+        ensures none { IfNone result ((t : ℕ) → after.0 < t
+            → HasRemote self.now remote.0 t → ⊥) }
+    {
+        match next_named(&self.by_remote, remote.0, after.0) {
+            Some(teid) => Some(Teid(teid)),
+            None => None,
+        }
+    }
+
+    /// Whether the default bearer of the session has this remote TEID.
+    pub fn has_default(&self, remote: Teid, session: Teid) -> bool
+        ensures { IsTrue result ↔ HasDefault self.now remote.0 session.0 }
+    {
+        let mut next = self.first_of_remote(remote);
+        while let Some(teid) = next {
+            if is_default_of(self.get(teid), session.0) {
+                return true;
+            }
+            next = self.next_of_remote(remote, teid);
+        }
+        false
+    }
+
     /// Whether a TEID is above all those in the table, so that a bearer can be added under it.
     pub fn is_above(&self, teid: Teid) -> bool
         ensures { IsTrue result ↔ Each (λ key _. key < teid.0) self.now }
@@ -217,6 +247,16 @@ fn has(bearer: &Bearer, session: u32, identity: Ebi) -> bool
     ensures { result ≡ has_number session identity bearer.now }
 {
     bearer.session == session && bearer.identity == Some(identity)
+}
+
+/// Whether it is the default bearer of the session.
+fn is_default_of(bearer: Option<Bearer>, session: u32) -> bool
+    ensures { result ≡ default_of session bearer }
+{
+    match bearer {
+        Some(bearer) => bearer.kind == Kind::Default && bearer.session == session,
+        None => false,
+    }
 }
 
 /// The remote TEID of a bearer.

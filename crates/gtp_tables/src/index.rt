@@ -12,6 +12,7 @@ use crate::table::Table;
 use gtp_values::Teid;
 use std::alloc::AllocError;
 use std::collections::BTreeSet;
+use std::ops::Bound;
 
 /// Names an own TEID under a remote one.
 fn name(index: &mut BTreeSet<(u32, u32)>, remote: u32, own: u32) -> Result<(), AllocError>
@@ -67,6 +68,22 @@ pub(crate) fn first_named(index: &BTreeSet<(u32, u32)>, remote: u32) -> Option<u
 {
     match index.range((remote, 0)..).next() {
         Some(&(r, own)) if r == remote => Some(own),
+        _ => None,
+    }
+}
+
+/// The lowest own TEID after this one that is named under a remote one.
+pub(crate) fn next_named(index: &BTreeSet<(u32, u32)>, remote: u32, after: u32) -> Option<u32>
+    ensures found { IfSome result (λ o. contains pair_cmp index.now (remote, o) ≡ true) }
+    ensures after { IfSome result (λ o. after < o) }
+    ensures lowest { IfSome result (λ own. (o : ℕ) → after < o
+        → contains pair_cmp index.now (remote, o) ≡ true → own ≤ o) }
+    ensures none { IfNone result ((o : ℕ) → after < o
+        → contains pair_cmp index.now (remote, o) ≡ false) }
+{
+    let above = (Bound::Excluded((remote, after)), Bound::Unbounded);
+    match index.range(above).next() {
+        Some(&(r, next)) if r == remote => Some(next),
         _ => None,
     }
 }

@@ -68,8 +68,9 @@ impl<V: Copy> Table<V> {
         self.rows.get(&teid.0).copied()
     }
 
-    /// Room for one more. Nothing else changes.
-    pub(crate) fn reserve_one(&mut self) -> Result<(), Memory>
+    /// Room for one more, however many there are: `Memory` where an allocation was refused. Nothing
+    /// else changes.
+    pub fn reserve_one(&mut self) -> Result<(), Memory>
         ensures ok { OnOk result (self.new ≡ record self.old { has_room = true }) }
         ensures err { OnErr result (self.new ≡ self.old) }
         ensures ready { self.old.has_room ≡ true → IsOk result }
@@ -142,6 +143,17 @@ impl<V: Copy> Table<V> {
         drop_where(&mut self.rows, test);
     }
 
+    /// Removes what stands under each TEID that meets the test, whose answer a TEID determines. Takes
+    /// no memory.
+    pub fn remove_keys_where<F: Fn(&u32) -> bool>(&mut self, test: F)
+        requires callable { F.IsAlwaysCallable test }
+        requires decides { (goes : ℕ → Bool) × Answers (FnReturnsAt F.Fn test) goes }
+        ensures { (goes : ℕ → Bool) → Answers (FnReturnsAt F.Fn test) goes
+            → self.new ≡ record self.old { table = kept (λ t _. not (goes t)) self.old.table } }
+    {
+        drop_keys_where(&mut self.rows, test);
+    }
+
     /// Removes what stands under a TEID, if anything does. Takes no memory.
     pub fn remove(&mut self, teid: Teid)
         ensures { self.new ≡ record self.old { table = map.remove self.old.table teid.0 } }
@@ -196,6 +208,22 @@ fn drop_where<V: Copy, F: Fn(&V) -> bool>(rows: &mut IndexMap<u32, V>, test: F)
             ensures { ((r : Bool) × FnReturnsAt F.Fn test value.old r × (result ≡ not r))
                 × (value.new ≡ value.old) }
         { !meets(&test, &*value) },
+    );
+}
+
+/// Drops the rows whose key meets the test.
+fn drop_keys_where<V: Copy, F: Fn(&u32) -> bool>(rows: &mut IndexMap<u32, V>, test: F)
+    requires callable { F.IsAlwaysCallable test }
+    ensures entries { (goes : ℕ → Bool) → Answers (FnReturnsAt F.Fn test) goes
+        → rows.new.entries ≡ filter (λ e. not (goes e.0)) rows.old.entries }
+    ensures room { spare rows.old ≤ spare rows.new }
+{
+    rows.retain(
+        |key: &u32, value: &mut V| -> bool
+            requires { F.IsAlwaysCallable test }
+            ensures { ((r : Bool) × FnReturnsAt F.Fn test key.now r × (result ≡ not r))
+                × (value.new ≡ value.old) }
+        { !meets(&test, key) },
     );
 }
 
