@@ -1,0 +1,71 @@
+-- Create Session Requests that were answered, as rows of the machine.
+use Rattle.std.proofs.Common.{◌≡◌, ℕ, Bool, false, List, [], ◌∷◌, Some, refl, sym, ◌∙◌, ap}
+use Rattle.std.specs.FinMap.{insert}
+use Rattle.gtp_values.specs.declared.address.Endpoint.{Endpoint}
+use Rattle.gtp_values.specs.declared.cause.Cause.{Cause}
+use Rattle.gtp_machine.specs.Answer.{refusing}
+use Rattle.gtp_machine.specs.Config.{Config}
+use Rattle.gtp_machine.specs.Element.{Ipv4, tunnel_end, cause_of}
+use Rattle.gtp_machine.specs.Input.{Effect, Of_create_session}
+use Rattle.gtp_machine.specs.Message.{CreateSessionRequest, RequestedBearer, Message, Create_session_response}
+use Rattle.gtp_machine.specs.Node.{Active, Default, Node}
+use Rattle.gtp_machine.specs.Packet.{session_cause, session_response, session_made}
+use Rattle.gtp_machine.specs.Spelling.{datagram_of}
+use Rattle.gtp_gateway.specs.declared.hearing.Heard.{Heard}
+use Rattle.gtp_gateway.specs.declared.hearing.Heard.TheVariants as heards
+use Rattle.gtp_gateway.specs.declared.session_grant.Grant.{Grant}
+use Rattle.gtp_gateway.specs.declared.session_request.SessionRequest.{SessionRequest}
+use Rattle.gtp_gateway.specs.declared.control_step.ControlStep.{ControlStep}
+use Rattle.gtp_gateway.specs.Answering.{answering}
+use Rattle.gtp_gateway.specs.Change.{changed_by}
+use Rattle.gtp_gateway.specs.Grant.{change_of, grants, IsAnsweredSo}
+use Rattle.gtp_gateway.specs.Hearing.{node_heard}
+use Rattle.gtp_gateway.specs.Parts.{arrival_of}
+use Rattle.gtp_gateway.specs.Row.{IsRow}
+use Rattle.gtp_gateway.specs.SessionAsked.{SaysSession}
+use Rattle.gtp_gateway.specs.Station.{Station}
+use Rattle.gtp_gateway.proofs.Rows.{answers_made, config_stays}
+use Rattle.gtp_gateway.proofs.Weighing.{counter_stays}
+
+pub held_stays : (heard : Heard) (n : Node) → (node_heard heard n).held ≡ n.held
+held_stays heards.Nothing n = refl
+held_stays (heards.First counter) n = refl
+held_stays (heards.Same counter) n = refl
+held_stays (heards.Later counter) n = refl
+held_stays (heards.Earlier counter) n = refl
+
+pub answered_so : (Takes : Node → Effect → Type 0) (source : Endpoint) (octets : List ℕ) (m : Message) (cause : ℕ) (made : Bool) (left heard : Node) (old : Station) (step : ControlStep) (new : Station) → heard.config ≡ old.node.config → IsAnsweredSo source octets m cause made left old step new → Takes heard (answering made (arrival_of source octets) m cause left)
+    → IsRow Takes (arrival_of source octets) old.role heard step new
+answered_so Takes source octets m cause made left heard old step new config a takes =
+    answers_made Takes (arrival_of source octets) (record old { node = heard }) new step a.sent m cause made left a.is (a.goes ∙ ap (λ (c : Config). datagram_of c (record { destination = source; message = m })) (sym config)) a.becomes a.role takes
+
+module _ (r : SessionRequest) (q : CreateSessionRequest) (says : SaysSession r q) (heard : Heard) (node : Node) where
+  abbrev left : Node
+  left = node_heard heard node
+
+  pub refusal_same : (cause : Cause) → refusing Of_create_session r.control.teid r.seq cause node.counter ≡ refusing Of_create_session q.control.teid q.number cause left.counter
+  refusal_same cause = λ i. refusing Of_create_session (sym says.control i).teid (sym says.number i) cause (sym (counter_stays heard node) i)
+
+  module _ (g : Grant) (identity : g.identity ≡ r.default.identity) where
+    pub grant_same : grants r g node ≡ Create_session_response (session_response left q g.drawn.control.0 g.drawn.user.0 g.address)
+    grant_same = λ i. Create_session_response (record {
+      header = (sym says.control i).teid;
+      number = sym says.number i;
+      cause = cause_of (session_cause (sym says.pdn i));
+      control = Some (tunnel_end 7 g.drawn.control.0 (sym (config_stays heard node) i).own.control);
+      address = Some (Ipv4 g.address);
+      ambr = sym says.ambr i;
+      contexts = record { identity = (sym says.context i).identity; cause = cause_of 16; user = Some (tunnel_end 5 g.drawn.user.0 (sym (config_stays heard node) i).own.user); qos = Some (sym says.context i).qos; charging = Some g.drawn.user.0 } ∷ [];
+      recovery = Some (sym (counter_stays heard node) i);
+    })
+
+    -- the identity that was chosen is the one that is asked for
+    chosen : g.identity ≡ q.context.identity
+    chosen = identity ∙ ap (λ (c : RequestedBearer). c.identity) (sym says.context)
+
+    pub made_same : changed_by (change_of r g) left ≡ session_made left q g.drawn.control.0 g.drawn.user.0 g.address
+    made_same = λ i. record left {
+      drawn = g.drawn.user.0 ∷ g.drawn.control.0 ∷ left.drawn;
+      sessions = insert left.sessions g.drawn.control.0 (record { remote = Some (sym says.control i).teid; subscriber = record { imsi = sym says.imsi i; access_point = sym says.access_point i; identity = chosen i }; address = Some g.address; state = Active });
+      bearers = insert left.bearers g.drawn.user.0 (record { remote = Some (sym says.context i).user.teid; session = g.drawn.control.0; identity = Some (chosen i); kind = Default; state = Active; ended = false });
+    }

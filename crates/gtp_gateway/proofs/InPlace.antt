@@ -1,0 +1,427 @@
+-- What messages say, by the values of their rows, where they lie.
+use Rattle.std.proofs.Common.{◌≡◌, ℕ, ◌<◌, Bool, true, false, length, List, [], ◌∷◌, Option, Some, None, option_map, refl, sym, ◌∙◌, ap, subst, arith}
+use Rattle.std.specs.Prelude.{◌==◌, if◌then◌else◌}
+use Rattle.std.proofs.lemmas.Bool.Decides.{nat_tests}
+use Rattle.gtp_ie.specs.Element.{Element, all_of}
+use Rattle.gtp_ie.specs.Value.{Value, OfRecovery}
+use Rattle.gtp_ie.specs.declared.value.numbers.Recovery.{Recovery}
+use Rattle.gtp_v2.specs.Table.{Field, Plain, Groups, Table, start, after}
+use Rattle.gtp_v2.specs.Grammar.{RowsAre, GroupsAre, LinesAre}
+use Rattle.gtp_v2.specs.Headed.{Headed}
+use Rattle.gtp_v2.specs.Message.{Content, Fields, MessageValue}
+use Rattle.gtp_v2.specs.Datagram.{IsMessage, CarriesBy}
+use Rattle.gtp_v2.specs.Tables.{table_of}
+use Rattle.gtp_v2.specs.Viewed.{in_row, values_by, front_value, in_groups, groups_by}
+use Rattle.gtp_v2.specs.EchoRequest.{echo_request}
+use Rattle.gtp_v2.specs.EchoResponse.{echo_response}
+use Rattle.gtp_v2.specs.CreateSessionRequest.{create_session_request, session_request_context_rows}
+use Rattle.gtp_v2.specs.CreateSessionResponse.{create_session_response}
+use Rattle.gtp_v2.specs.DeleteSessionRequest.{delete_session_request}
+use Rattle.gtp_v2.specs.DeleteSessionResponse.{delete_session_response}
+use Rattle.gtp_v2.specs.CreateBearerRequest.{create_bearer_request, bearer_request_context_rows}
+use Rattle.gtp_v2.specs.CreateBearerResponse.{create_bearer_response}
+use Rattle.gtp_v2.specs.DeleteBearerResponse.{delete_bearer_response}
+use Rattle.gtp_machine.specs.declared.role.Role.{Role}
+use Rattle.gtp_machine.specs.declared.role.Role.TheVariants.{Serving, Packet}
+use Rattle.gtp_machine.specs.Message.{CreateSessionRequest, CreateBearerRequest, Create_session_request, Create_bearer_request, recovery_of}
+use Rattle.gtp_machine.specs.Node.{written}
+use Rattle.gtp_machine.specs.Decoded.{first_in, number_of, number_at, row, content_message, message_of}
+use Rattle.gtp_gateway.specs.declared.procedure.Procedure.{Procedure}
+use Rattle.gtp_gateway.specs.declared.procedure.Procedure.TheVariants.{EchoAsked, EchoAnswered, SessionAsked, SessionAnswered, DeletionAsked, DeletionAnswered, BearerAsked, BearerAnswered, RemovalAsked, RemovalAnswered}
+use Rattle.gtp_gateway.specs.Procedure.{procedure_at, has, takes_by}
+use Rattle.gtp_gateway.specs.InPlace.{tells_counter}
+use Rattle.gtp_gateway.specs.Contexts.{HasCause}
+use Rattle.gtp_gateway.proofs.ResponseContexts.{group_has, each_group}
+use Rattle.gtp_values.specs.FiniteMap.{Among}
+
+-- the type of message that a procedure takes
+abbrev pub type_of : Procedure → ℕ
+type_of EchoAsked = 1
+type_of EchoAnswered = 2
+type_of SessionAsked = 32
+type_of SessionAnswered = 33
+type_of DeletionAsked = 36
+type_of DeletionAnswered = 37
+type_of BearerAsked = 95
+type_of BearerAnswered = 96
+type_of RemovalAsked = 99
+type_of RemovalAnswered = 100
+
+abbrev procedure : Procedure → Option Procedure
+procedure p = Some p
+
+chain : (kind number : ℕ) (q p : Procedure) (rest : Option Procedure) → number ≡ type_of q → (rest ≡ Some p → kind ≡ type_of p) → (if kind == number then Some q else rest) ≡ Some p → kind ≡ type_of p
+chain kind number q p rest of later is = by (kind == number) refl is
+  where
+    by : (b : Bool) → (kind == number) ≡ b → (if b then Some q else rest) ≡ Some p → kind ≡ type_of p
+    by true same is =
+        let here : kind ≡ number = grind (arith, nat_tests, same) in
+        let one : q ≡ p = cc in
+        here ∙ (of ∙ ap type_of one)
+    by false other is = later is
+
+-- a procedure takes messages of its type alone
+pub type_is : (kind : ℕ) (p : Procedure) → procedure_at kind ≡ Some p → kind ≡ type_of p
+type_is kind p =
+    chain kind 1 EchoAsked p _ refl
+    (chain kind 2 EchoAnswered p _ refl
+    (chain kind 32 SessionAsked p _ refl
+    (chain kind 33 SessionAnswered p _ refl
+    (chain kind 36 DeletionAsked p _ refl
+    (chain kind 37 DeletionAnswered p _ refl
+    (chain kind 95 BearerAsked p _ refl
+    (chain kind 96 BearerAnswered p _ refl
+    (chain kind 99 RemovalAsked p _ refl
+    (chain kind 100 RemovalAnswered p _ refl (λ none. absurd cc))))))))))
+
+-- ---- the fields of a message are those of its table's lines
+
+-- the fields of a message whose type has this table
+pub record HasFields (table : Table) (m : MessageValue) : Type 0 where
+  pub elements : List Element
+  pub fields : List Field
+  pub are : LinesAre start table.lines elements fields
+  pub content : m.content ≡ Fields fields
+
+pub fields_of : (kind : ℕ) (table : Table) (octets : List ℕ) (m : MessageValue) → table_of kind ≡ Some table → m.kind ≡ kind → IsMessage octets m → HasFields table m
+fields_of kind table octets m tabled of is =
+    let h : Headed = is.0 in
+    let content : Content = is.2.0 in
+    let known : table_of h.kind ≡ Some table = ap (λ (n : MessageValue). table_of n.kind) (sym is.2.2) ∙ (ap table_of of ∙ tabled) in
+    let carries = subst (λ (t : Option Table). CarriesBy t h content) known is.2.1 in
+    record { elements = carries.2.0; fields = carries.1; are = carries.2.2; content = ap (λ (n : MessageValue). n.content) is.2.2 ∙ carries.3 }
+
+-- a message of this type that carries these fields
+pub record Says (kind : ℕ) (fields : List Field) (m : MessageValue) : Type 0 where
+  pub of : m.kind ≡ kind
+  pub content : m.content ≡ Fields fields
+
+pub reads_so : (kind : ℕ) (fields : List Field) (m : MessageValue) → Says kind fields m → message_of m ≡ content_message kind (written m.teid) m.seq (Fields fields)
+reads_so kind fields m says = λ i. content_message (says.of i) (written m.teid) m.seq (says.content i)
+
+pub row_so : (kind element instance : ℕ) (fields : List Field) (m : MessageValue) → Says kind fields m → in_row element instance m ≡ values_by element instance (table_of kind) (Fields fields)
+row_so kind element instance fields m says = λ i. values_by element instance (table_of (says.of i)) (says.content i)
+
+pub groups_so : (kind element instance : ℕ) (fields : List Field) (m : MessageValue) → Says kind fields m → in_groups element instance m ≡ groups_by element instance (table_of kind) (Fields fields)
+groups_so kind element instance fields m says = λ i. groups_by element instance (table_of (says.of i)) (says.content i)
+
+-- an Echo Request or an Echo Response: its restart counter
+pub record IsEcho (kind : ℕ) (m : MessageValue) : Type 0 where
+  pub counter : Value
+  pub says : Says kind (Plain (counter ∷ []) ∷ []) m
+
+pub echo_asked : (octets : List ℕ) (m : MessageValue) → m.kind ≡ 1 → IsMessage octets m → IsEcho 1 m
+echo_asked octets m of is = let f = fields_of 1 echo_request octets m refl of is in by f.fields f.elements f.are f.content
+  where
+    by : (fs : List Field) (es : List Element) → LinesAre start echo_request.lines es fs → m.content ≡ Fields fs → IsEcho 1 m
+    by [] es are content = absurd are
+    by (f ∷ []) es are content = record { counter = are.0.1.0; says = record { of = of; content = content ∙ (λ i. Fields ((are.0.2 ∙ ap Plain are.0.1.2) i ∷ [])) } }
+    by (f ∷ g ∷ fs) es are content = absurd cc
+
+pub echo_answered : (octets : List ℕ) (m : MessageValue) → m.kind ≡ 2 → IsMessage octets m → IsEcho 2 m
+echo_answered octets m of is = let f = fields_of 2 echo_response octets m refl of is in by f.fields f.elements f.are f.content
+  where
+    by : (fs : List Field) (es : List Element) → LinesAre start echo_response.lines es fs → m.content ≡ Fields fs → IsEcho 2 m
+    by [] es are content = absurd are
+    by (f ∷ []) es are content = record { counter = are.0.1.0; says = record { of = of; content = content ∙ (λ i. Fields ((are.0.2 ∙ ap Plain are.0.1.2) i ∷ [])) } }
+    by (f ∷ g ∷ fs) es are content = absurd cc
+
+-- a Delete Session Request
+pub record IsDeletionRequest (m : MessageValue) : Type 0 where
+  pub linked : List Value
+  pub says : Says 36 (Plain linked ∷ []) m
+
+pub deletion_asked : (octets : List ℕ) (m : MessageValue) → m.kind ≡ 36 → IsMessage octets m → IsDeletionRequest m
+deletion_asked octets m of is = let f = fields_of 36 delete_session_request octets m refl of is in by f.fields f.elements f.are f.content
+  where
+    by : (fs : List Field) (es : List Element) → LinesAre start delete_session_request.lines es fs → m.content ≡ Fields fs → IsDeletionRequest m
+    by [] es are content = absurd are
+    by (f ∷ []) es are content = record { linked = are.0.0; says = record { of = of; content = content ∙ (λ i. Fields (are.0.2 i ∷ [])) } }
+    by (f ∷ g ∷ fs) es are content = absurd cc
+
+-- a Delete Session Response
+pub record IsDeletionAnswer (m : MessageValue) : Type 0 where
+  pub cause : Value
+  pub recovery : List Value
+  pub says : Says 37 (Plain (cause ∷ []) ∷ Plain recovery ∷ []) m
+
+pub deletion_answered : (octets : List ℕ) (m : MessageValue) → m.kind ≡ 37 → IsMessage octets m → IsDeletionAnswer m
+deletion_answered octets m of is = let f = fields_of 37 delete_session_response octets m refl of is in by f.fields f.elements f.are f.content
+  where
+    by : (fs : List Field) (es : List Element) → LinesAre start delete_session_response.lines es fs → m.content ≡ Fields fs → IsDeletionAnswer m
+    by [] es are content = absurd are
+    by (a ∷ []) es are content = absurd are.1
+    by (a ∷ b ∷ []) es are content = record { cause = are.0.1.0; recovery = are.1.0.0; says = record { of = of; content = content ∙ (λ i. Fields ((are.0.2 ∙ ap Plain are.0.1.2) i ∷ are.1.0.2 i ∷ [])) } }
+    by (a ∷ b ∷ c ∷ fs) es are content = absurd cc
+
+-- a Delete Bearer Response
+pub record IsRemovalAnswer (m : MessageValue) : Type 0 where
+  pub cause : Value
+  pub linked : List Value
+  pub groups : List (List (List Value))
+  pub recovery : List Value
+  pub says : Says 100 (Plain (cause ∷ []) ∷ Plain linked ∷ Groups groups ∷ Plain recovery ∷ []) m
+
+pub removal_answered : (octets : List ℕ) (m : MessageValue) → m.kind ≡ 100 → IsMessage octets m → IsRemovalAnswer m
+removal_answered octets m of is = let f = fields_of 100 delete_bearer_response octets m refl of is in by f.fields f.elements f.are f.content
+  where
+    by : (fs : List Field) (es : List Element) → LinesAre start delete_bearer_response.lines es fs → m.content ≡ Fields fs → IsRemovalAnswer m
+    by [] es are content = absurd are
+    by (a ∷ []) es are content = absurd are.1
+    by (a ∷ b ∷ []) es are content = absurd are.1.1
+    by (a ∷ b ∷ c ∷ []) es are content = absurd are.1.1.1
+    by (a ∷ b ∷ c ∷ d ∷ []) es are content = record {
+      cause = are.0.1.0;
+      linked = are.1.0.0;
+      groups = are.1.1.0.0;
+      recovery = are.1.1.1.0.0;
+      says = record { of = of; content = content ∙ (λ i. Fields ((are.0.2 ∙ ap Plain are.0.1.2) i ∷ are.1.0.2 i ∷ are.1.1.0.2 i ∷ are.1.1.1.0.2 i ∷ [])) };
+    }
+    by (a ∷ b ∷ c ∷ d ∷ e ∷ fs) es are content = absurd cc
+
+-- a Create Bearer Response
+pub record IsBearerAnswer (m : MessageValue) : Type 0 where
+  pub cause : Value
+  pub groups : List (List (List Value))
+  pub each : (group : List (List Value)) → Among group groups → HasCause group
+  pub recovery : List Value
+  pub says : Says 96 (Plain (cause ∷ []) ∷ Groups groups ∷ Plain recovery ∷ []) m
+
+pub bearer_answered : (octets : List ℕ) (m : MessageValue) → m.kind ≡ 96 → IsMessage octets m → IsBearerAnswer m
+bearer_answered octets m of is = let f = fields_of 96 create_bearer_response octets m refl of is in by f.fields f.elements f.are f.content
+  where
+    by : (fs : List Field) (es : List Element) → LinesAre start create_bearer_response.lines es fs → m.content ≡ Fields fs → IsBearerAnswer m
+    by [] es are content = absurd are
+    by (a ∷ []) es are content = absurd are.1
+    by (a ∷ b ∷ []) es are content = absurd are.1.1
+    by (a ∷ b ∷ c ∷ []) es are content = record {
+      cause = are.0.1.0;
+      groups = are.1.0.0;
+      each = each_group (λ e g is. group_has _ is.0 g is.2) _ are.1.0.0 are.1.0.1.0;
+      recovery = are.1.1.0.0;
+      says = record { of = of; content = content ∙ (λ i. Fields ((are.0.2 ∙ ap Plain are.0.1.2) i ∷ are.1.0.2 i ∷ are.1.1.0.2 i ∷ [])) };
+    }
+    by (a ∷ b ∷ c ∷ d ∷ fs) es are content = absurd cc
+
+-- a Create Session Response
+pub record IsSessionAnswer (m : MessageValue) : Type 0 where
+  pub cause : Value
+  pub control : List Value
+  pub address : List Value
+  pub ambr : List Value
+  pub groups : List (List (List Value))
+  pub each : (group : List (List Value)) → Among group groups → HasCause group
+  pub recovery : List Value
+  pub says : Says 33 (Plain (cause ∷ []) ∷ Plain control ∷ Plain address ∷ Plain ambr ∷ Groups groups ∷ Plain recovery ∷ []) m
+
+pub session_answered : (octets : List ℕ) (m : MessageValue) → m.kind ≡ 33 → IsMessage octets m → IsSessionAnswer m
+session_answered octets m of is = let f = fields_of 33 create_session_response octets m refl of is in by f.fields f.elements f.are f.content
+  where
+    by : (fs : List Field) (es : List Element) → LinesAre start create_session_response.lines es fs → m.content ≡ Fields fs → IsSessionAnswer m
+    by [] es are content = absurd are
+    by (a ∷ []) es are content = absurd are.1
+    by (a ∷ b ∷ []) es are content = absurd are.1.1
+    by (a ∷ b ∷ c ∷ []) es are content = absurd are.1.1.1
+    by (a ∷ b ∷ c ∷ d ∷ []) es are content = absurd are.1.1.1.1
+    by (a ∷ b ∷ c ∷ d ∷ e ∷ []) es are content = absurd are.1.1.1.1.1
+    by (a ∷ b ∷ c ∷ d ∷ e ∷ f ∷ []) es are content = record {
+      cause = are.0.1.0;
+      control = are.1.0.0;
+      address = are.1.1.0.0;
+      ambr = are.1.1.1.0.0;
+      groups = are.1.1.1.1.0.0;
+      each = each_group (λ e g is. group_has _ is.0 g is.2) _ are.1.1.1.1.0.0 are.1.1.1.1.0.1.0;
+      recovery = are.1.1.1.1.1.0.0;
+      says = record { of = of; content = content ∙ (λ i. Fields ((are.0.2 ∙ ap Plain are.0.1.2) i ∷ are.1.0.2 i ∷ are.1.1.0.2 i ∷ are.1.1.1.0.2 i ∷ are.1.1.1.1.0.2 i ∷ are.1.1.1.1.1.0.2 i ∷ [])) };
+    }
+    by (a ∷ b ∷ c ∷ d ∷ e ∷ f ∷ g ∷ fs) es are content = absurd cc
+
+-- the values of a bearer context of a Create Session Request
+pub record IsRequestedContext : Type 0 where
+  pub identity : Value
+  pub qos : Value
+  pub user : Value
+
+abbrev pub requested_context : IsRequestedContext → List (List Value)
+requested_context c = (c.identity ∷ []) ∷ (c.qos ∷ []) ∷ (c.user ∷ []) ∷ []
+
+requested_rows : (accepting : Bool) (es : List Element) (all : List (List Value)) → RowsAre accepting session_request_context_rows es all → (c : IsRequestedContext) × (all ≡ requested_context c)
+requested_rows accepting es [] are = absurd are
+requested_rows accepting es (a ∷ []) are = absurd are.1
+requested_rows accepting es (a ∷ b ∷ []) are = absurd are.1.1
+requested_rows accepting es (a ∷ b ∷ c ∷ []) are = (record { identity = are.0.0; qos = are.1.0.0; user = are.1.1.0.0 }, λ i. are.0.2 i ∷ are.1.0.2 i ∷ are.1.1.0.2 i ∷ [])
+requested_rows accepting es (a ∷ b ∷ c ∷ d ∷ all) are = absurd cc
+
+-- the first of some groups, and the others
+pub record SomeGroup (Are : Bool → List Element → List (List Value) → Type 0) (groups : List (List (List Value))) : Type 0 where
+  pub accepting : Bool
+  pub elements : List Element
+  pub first : List (List Value)
+  pub are : Are accepting elements first
+  pub further : List (List (List Value))
+  pub is : groups ≡ first ∷ further
+
+pub some_group : (accepting : Bool) (rows : _) (es : List Element) (groups : List (List (List Value))) → GroupsAre accepting rows es groups → 0 < length groups → SomeGroup (λ accepts es all. RowsAre accepts rows es all) groups
+some_group accepting rows es [] are some = absurd (omega (arith, some))
+some_group accepting rows [] (g ∷ groups) are some = absurd (let no : g ∷ groups ≡ [] = are in cc)
+some_group accepting rows (e ∷ es) (g ∷ groups) are some = record { accepting = accepting; elements = are.0.0; first = g; are = are.0.2; further = groups; is = refl }
+
+-- a Create Session Request: it has a bearer context
+pub record IsSessionRequest (m : MessageValue) : Type 0 where
+  pub imsi : Value
+  pub rat : Value
+  pub network : List Value
+  pub control : Value
+  pub access_point : Value
+  pub selection : List Value
+  pub pdn : Value
+  pub address : List Value
+  pub ambr : List Value
+  pub first : IsRequestedContext
+  pub further : List (List (List Value))
+  pub recovery : List Value
+  pub says : Says 32 (Plain (imsi ∷ []) ∷ Plain (rat ∷ []) ∷ Plain network ∷ Plain (control ∷ []) ∷ Plain (access_point ∷ []) ∷ Plain selection ∷ Plain (pdn ∷ []) ∷ Plain address ∷ Plain ambr ∷ Groups (requested_context first ∷ further) ∷ Plain recovery ∷ []) m
+
+pub session_taken : (role : Role) (q : CreateSessionRequest) → has role SessionAsked ≡ true → takes_by role (Create_session_request q) ≡ true
+session_taken Serving q is = absurd cc
+session_taken Packet q is = refl
+
+pub bearer_taken : (role : Role) (r : CreateBearerRequest) → has role BearerAsked ≡ true → takes_by role (Create_bearer_request r) ≡ true
+bearer_taken Serving r is = refl
+bearer_taken Packet r is = absurd cc
+
+-- the third row of a bearer context of a Create Bearer Request has a value
+third_row : (accepting : Bool) (es : List Element) (rows : List (List Value)) → RowsAre accepting bearer_request_context_rows es rows → (user : Value) × (row 2 rows ≡ user ∷ [])
+third_row accepting es [] are = absurd are
+third_row accepting es (a ∷ []) are = absurd are.1
+third_row accepting es (a ∷ b ∷ []) are = absurd are.1.1
+third_row accepting es (a ∷ b ∷ c ∷ rows) are = (are.1.1.0.0, are.1.1.0.2)
+
+-- a Create Bearer Request: it has a bearer context, with an F-TEID
+pub record IsBearerRequest (m : MessageValue) : Type 0 where
+  pub transaction : List Value
+  pub linked : Value
+  pub first : List (List Value)
+  pub further : List (List (List Value))
+  pub user : Value
+  pub says : Says 95 (Plain transaction ∷ Plain (linked ∷ []) ∷ Groups (first ∷ further) ∷ []) m
+  pub ends : row 2 first ≡ user ∷ []
+
+pub bearer_asked : (octets : List ℕ) (m : MessageValue) → m.kind ≡ 95 → IsMessage octets m → IsBearerRequest m
+bearer_asked octets m of is = let f = fields_of 95 create_bearer_request octets m refl of is in by f.fields f.elements f.are f.content
+  where
+    by : (fs : List Field) (es : List Element) → LinesAre start create_bearer_request.lines es fs → m.content ≡ Fields fs → IsBearerRequest m
+    by [] es are content = absurd are
+    by (a ∷ []) es are content = absurd are.1
+    by (a ∷ b ∷ []) es are content = absurd are.1.1
+    by (a ∷ b ∷ c ∷ []) es are content =
+        let groups = are.1.1.0 in
+        let some = some_group (after (after start a) b).accepting bearer_request_context_rows (all_of 93 0 es) groups.0 groups.1.0 groups.1.1 in
+        let end = third_row some.accepting some.elements some.first some.are in
+        record {
+          transaction = are.0.0;
+          linked = are.1.0.1.0;
+          first = some.first;
+          further = some.further;
+          user = end.0;
+          says = record { of = of; content = content ∙ (λ x. Fields (are.0.2 x ∷ (are.1.0.2 ∙ ap Plain are.1.0.1.2) x ∷ (groups.2 ∙ ap Groups some.is) x ∷ [])) };
+          ends = end.1;
+        }
+    by (a ∷ b ∷ c ∷ d ∷ fs) es are content = absurd cc
+
+pub session_asked : (octets : List ℕ) (m : MessageValue) → m.kind ≡ 32 → IsMessage octets m → IsSessionRequest m
+session_asked octets m of is = let f = fields_of 32 create_session_request octets m refl of is in by f.fields f.elements f.are f.content
+  where
+    by : (fs : List Field) (es : List Element) → LinesAre start create_session_request.lines es fs → m.content ≡ Fields fs → IsSessionRequest m
+    by [] es are content = absurd are
+    by (a ∷ []) es are content = absurd are.1
+    by (a ∷ b ∷ []) es are content = absurd are.1.1
+    by (a ∷ b ∷ c ∷ []) es are content = absurd are.1.1.1
+    by (a ∷ b ∷ c ∷ d ∷ []) es are content = absurd are.1.1.1.1
+    by (a ∷ b ∷ c ∷ d ∷ e ∷ []) es are content = absurd are.1.1.1.1.1
+    by (a ∷ b ∷ c ∷ d ∷ e ∷ f ∷ []) es are content = absurd are.1.1.1.1.1.1
+    by (a ∷ b ∷ c ∷ d ∷ e ∷ f ∷ g ∷ []) es are content = absurd are.1.1.1.1.1.1.1
+    by (a ∷ b ∷ c ∷ d ∷ e ∷ f ∷ g ∷ h ∷ []) es are content = absurd are.1.1.1.1.1.1.1.1
+    by (a ∷ b ∷ c ∷ d ∷ e ∷ f ∷ g ∷ h ∷ i ∷ []) es are content = absurd are.1.1.1.1.1.1.1.1.1
+    by (a ∷ b ∷ c ∷ d ∷ e ∷ f ∷ g ∷ h ∷ i ∷ j ∷ []) es are content = absurd are.1.1.1.1.1.1.1.1.1.1
+    by (a ∷ b ∷ c ∷ d ∷ e ∷ f ∷ g ∷ h ∷ i ∷ j ∷ k ∷ []) es are content =
+        let r4 = are.1.1.1 in
+        let r8 = r4.1.1.1.1 in
+        let groups = r8.1.1.0 in
+        let last = r8.1.1.1.0 in
+        let some = some_group (after (after (after (after (after (after (after (after (after start a) b) c) d) e) f) g) h) i).accepting session_request_context_rows (all_of 93 0 es) groups.0 groups.1.0 groups.1.1 in
+        let first = requested_rows some.accepting some.elements some.first some.are in
+        record {
+          imsi = are.0.1.0;
+          rat = are.1.0.1.0;
+          network = are.1.1.0.0;
+          control = r4.0.1.0;
+          access_point = r4.1.0.1.0;
+          selection = r4.1.1.0.0;
+          pdn = r4.1.1.1.0.1.0;
+          address = r8.0.0;
+          ambr = r8.1.0.0;
+          first = first.0;
+          further = some.further;
+          recovery = last.0;
+          says = record {
+            of = of;
+            content = content ∙ (λ x. Fields ((are.0.2 ∙ ap Plain are.0.1.2) x ∷ (are.1.0.2 ∙ ap Plain are.1.0.1.2) x ∷ are.1.1.0.2 x ∷ (r4.0.2 ∙ ap Plain r4.0.1.2) x ∷ (r4.1.0.2 ∙ ap Plain r4.1.0.1.2) x ∷ r4.1.1.0.2 x ∷ (r4.1.1.1.0.2 ∙ ap Plain r4.1.1.1.0.1.2) x ∷ r8.0.2 x ∷ r8.1.0.2 x ∷ (groups.2 ∙ ap Groups (some.is ∙ (λ y. first.1 y ∷ some.further))) x ∷ last.2 x ∷ []));
+          };
+        }
+    by (a ∷ b ∷ c ∷ d ∷ e ∷ f ∷ g ∷ h ∷ i ∷ j ∷ k ∷ l ∷ fs) es are content = absurd cc
+
+-- ---- the sender's restart counter
+
+needed : (v : Value) (r : Option Recovery) → option_map (λ (x : Recovery). OfRecovery x.0.0) r ≡ Some v → option_map (λ (x : Recovery). x.0.0) r ≡ Some (number_at (v ∷ []))
+needed v None is = absurd cc
+needed v (Some r) is = let same : OfRecovery r.0.0 ≡ v = cc in ap (λ (x : Value). Some (number_at (x ∷ []))) same
+
+if_there : (vs : List Value) (r : Option Recovery) → option_map (λ (x : Recovery). OfRecovery x.0.0) r ≡ front_value vs → option_map (λ (x : Recovery). x.0.0) r ≡ first_in number_of vs
+if_there [] None is = refl
+if_there [] (Some r) is = absurd cc
+if_there (v ∷ vs) None is = absurd cc
+if_there (v ∷ vs) (Some r) is = let same : OfRecovery r.0.0 ≡ v = cc in ap number_of same
+
+pub tells_else : (p : Procedure) → (p ≡ DeletionAsked → ⊥) → (p ≡ BearerAsked → ⊥) → (p ≡ RemovalAsked → ⊥) → tells_counter p ≡ true
+tells_else EchoAsked a b c = refl
+tells_else EchoAnswered a b c = refl
+tells_else SessionAsked a b c = refl
+tells_else SessionAnswered a b c = refl
+tells_else DeletionAsked a b c = absurd (a refl)
+tells_else DeletionAnswered a b c = refl
+tells_else BearerAsked a b c = absurd (b refl)
+tells_else BearerAnswered a b c = refl
+tells_else RemovalAsked a b c = absurd (c refl)
+tells_else RemovalAnswered a b c = refl
+
+-- the counter that was read in the row of a Recovery is the one that the message tells
+pub counter_read : (octets : List ℕ) (m : MessageValue) (p : Procedure) (r : Option Recovery) → IsMessage octets m → procedure_at m.kind ≡ Some p → tells_counter p ≡ true
+    → ((vs : List Value) → in_row 3 0 m ≡ Some vs → option_map (λ (x : Recovery). OfRecovery x.0.0) r ≡ front_value vs) → option_map (λ (x : Recovery). x.0.0) r ≡ recovery_of (message_of m)
+counter_read octets m p r is at tells reads = by p (type_is m.kind p at) tells
+  where
+    so : (kind : ℕ) (fields : List Field) (vs : List Value) → Says kind fields m → values_by 3 0 (table_of kind) (Fields fields) ≡ Some vs → recovery_of (content_message kind (written m.teid) m.seq (Fields fields)) ≡ first_in number_of vs → option_map (λ (x : Recovery). x.0.0) r ≡ recovery_of (message_of m)
+    so kind fields vs says row tells = if_there vs r (reads vs (row_so kind 3 0 fields m says ∙ row)) ∙ (sym tells ∙ ap recovery_of (sym (reads_so kind fields m says)))
+
+    echo : (kind : ℕ) (e : IsEcho kind m) → values_by 3 0 (table_of kind) (Fields (Plain (e.counter ∷ []) ∷ [])) ≡ Some (e.counter ∷ []) → recovery_of (content_message kind (written m.teid) m.seq (Fields (Plain (e.counter ∷ []) ∷ []))) ≡ Some (number_at (e.counter ∷ [])) → option_map (λ (x : Recovery). x.0.0) r ≡ recovery_of (message_of m)
+    echo kind e row tells = needed e.counter r (reads (e.counter ∷ []) (row_so kind 3 0 _ m e.says ∙ row)) ∙ (sym tells ∙ ap recovery_of (sym (reads_so kind _ m e.says)))
+
+    by : (p : Procedure) → m.kind ≡ type_of p → tells_counter p ≡ true → option_map (λ (x : Recovery). x.0.0) r ≡ recovery_of (message_of m)
+    by EchoAsked of tells = echo 1 (echo_asked octets m of is) refl refl
+    by EchoAnswered of tells = echo 2 (echo_answered octets m of is) refl refl
+    by SessionAsked of tells = let a = session_asked octets m of is in so 32 _ a.recovery a.says refl refl
+    by SessionAnswered of tells = let a = session_answered octets m of is in so 33 _ a.recovery a.says refl refl
+    by DeletionAsked of tells = absurd cc
+    by DeletionAnswered of tells = let a = deletion_answered octets m of is in so 37 _ a.recovery a.says refl refl
+    by BearerAsked of tells = absurd cc
+    by BearerAnswered of tells = let a = bearer_answered octets m of is in so 96 _ a.recovery a.says refl refl
+    by RemovalAsked of tells = absurd cc
+    by RemovalAnswered of tells = let a = removal_answered octets m of is in so 100 _ a.recovery a.says refl refl
+
+-- ---- what a row that is needed has, once it was read
+
+pub found_value : {T : Type 0} (value : T → Value) (v : Value) (t : T) (r : Option T) → r ≡ Some t → option_map value r ≡ front_value (v ∷ []) → value t ≡ v
+found_value {T} value v t r found is = let same : option_map value (Some t) ≡ Some v = ap (option_map value) (sym found) ∙ is in cc
+
+pub no_value : {T : Type 0} (value : T → Value) (v : Value) (r : Option T) → r ≡ None → option_map value r ≡ front_value (v ∷ []) → ⊥
+no_value {T} value v r none is = let same : option_map value None ≡ Some v = ap (option_map value) (sym none) ∙ is in cc

@@ -1,0 +1,45 @@
+-- Messages of a gateway's own are sent as they are spelled, and read as they are.
+use Rattle.std.proofs.Common.{◌≡◌, ℕ, ◌+◌, ◌≤◌, List, Some, None, length, sym, ◌∙◌, ap, arith}
+use Rattle.gtp_values.specs.declared.address.Ip.{Ip}
+use Rattle.gtp_v2.specs.declared.message.Message as decoded
+use Rattle.gtp_v2.specs.Body.{message_value}
+use Rattle.gtp_v2.specs.Datagram.{IsMessage}
+use Rattle.gtp_v2.specs.Encoding.{canonical_encoding}
+use Rattle.gtp_user.specs.declared.message.UserMessage.{UserMessage}
+use Rattle.gtp_user.specs.Message as user_messages
+use Rattle.gtp_user.specs.Encoding.{octets_of, encoding, options_encoding, content_encoding}
+use Rattle.gtp_machine.specs.Reading.{control_message, user_message}
+use Rattle.gtp_machine.specs.Spelling.{spelled_on, spelled, plain_user}
+use Rattle.gtp_machine.proofs.Octets.ByGrammar.{decoded_reads}
+use Rattle.gtp_gateway.specs.Own.{IsOwn, IsUserOwn}
+use Rattle.gtp_gateway.specs.Spelled.{message_read, message_in}
+
+pub own_spelled : (m : decoded.Message) → IsOwn m → canonical_encoding (message_value m) ≡ spelled (control_message m)
+own_spelled m own = ap canonical_encoding own.says ∙ sym (ap (λ p. spelled_on p (control_message m)) own.control)
+
+pub own_read : (octets : List ℕ) (m : decoded.Message) → IsMessage octets (message_value m) → message_in octets ≡ control_message m
+unfolding message_in
+own_read octets m is = ap message_read (sym (decoded_reads octets m is))
+
+pub user_own_spelled : (m : UserMessage) → IsUserOwn m → encoding (user_messages.message_value m) ≡ spelled (user_message m)
+user_own_spelled m own = ap encoding own.says ∙ sym (ap (λ p. spelled_on p (user_message m)) own.user)
+
+pub packet_short : (teid : ℕ) (payload : List ℕ) → length payload ≤ 65000 → length (encoding (plain_user None (user_messages.Packet teid payload))) ≤ 65535 + 8
+unfolding options_encoding content_encoding
+packet_short teid payload few = omega (arith, few)
+
+pub marker_short : (teid : ℕ) → length (encoding (plain_user None (user_messages.EndMarker teid))) ≤ 65535 + 8
+unfolding options_encoding content_encoding
+marker_short teid = omega arith
+
+pub indication_short : (teid : ℕ) (address : Ip) → length (octets_of address) ≤ 16 → length (encoding (plain_user (Some 0) (user_messages.ErrorIndication teid address))) ≤ 65535 + 8
+unfolding options_encoding content_encoding
+indication_short teid address few = omega (arith, few)
+
+pub notification_short : (types : List ℕ) → length types ≤ 255 → length (encoding (plain_user (Some 0) (user_messages.Notification types))) ≤ 65535 + 8
+unfolding options_encoding content_encoding
+notification_short types few = omega (arith, few)
+
+pub echo_short : (number : ℕ) → length (encoding (plain_user (Some number) user_messages.EchoResponse)) ≤ 65535 + 8
+unfolding options_encoding content_encoding
+echo_short number = omega arith

@@ -1,0 +1,61 @@
+-- Datagrams of either plane that were taken, as datagrams that were received.
+use Rattle.std.proofs.Common.{◌≡◌, ℕ, List, Result, Ok, Err, refl, sym, ◌∙◌, ap, subst}
+use Rattle.std.specs.Prelude.{IfOk, OnErr}
+use Rattle.std.proofs.lemmas.Grind.{merely}
+use mathlib.Core.Logic.{∥∥₁_elim, ∥∥₁_prop}
+use Rattle.gtp_values.specs.declared.address.Endpoint.{Endpoint}
+use Rattle.gtp_machine.specs.Message.{Plane, Control, User}
+use Rattle.gtp_machine.specs.Input.{Out, nothing}
+use Rattle.gtp_machine.specs.Sound.{IsSound, IsWellFormed}
+use Rattle.gtp_machine.specs.Reading.{control_reading}
+use Rattle.gtp_machine.proofs.Sound.Rows.{stays_sound}
+use Rattle.gtp_machine.proofs.Sound.Reads.{reads_whole}
+use Rattle.gtp_gateway.specs.declared.step.Step.{Step}
+use Rattle.gtp_gateway.specs.declared.control_step.ControlStep.{ControlStep}
+use Rattle.gtp_gateway.specs.declared.user_step.UserStep.{UserStep}
+use Rattle.gtp_gateway.specs.Parts.{arrival_of}
+use Rattle.gtp_gateway.specs.Received.{coming, of_control, of_user, IsReceived}
+use Rattle.gtp_gateway.specs.Station.{Station, IsWhole}
+use Rattle.gtp_gateway.specs.Taken.{IsTaken}
+use Rattle.gtp_gateway.specs.UserTaken.{IsUserTaken}
+
+pub control_received : (source : Endpoint) (octets : List ℕ) (old : Station) (step : ControlStep) (new : Station) → IsTaken source octets old step new → IsReceived Control source octets old (of_control step) new
+control_received source octets old step new taken =
+    let t = taken.tells in
+    record {
+      effect = taken.effect;
+      takes = taken.takes;
+      tells = record { sent = t.sent; outcome = t.outcome; heard = t.heard; restart = t.restart; made = t.made; accepted = ap (λ (o : Out). o.accepted) t.all; all = t.all ∙ (λ i. record nothing { sent = taken.effect.out.sent; heard = taken.effect.out.heard; learned = taken.effect.out.learned; made = taken.effect.out.made; accepted = ap (λ (o : Out). o.accepted) (sym t.all) i }) };
+      becomes = taken.becomes;
+      role = taken.role;
+    }
+
+pub user_received : (source : Endpoint) (octets : List ℕ) (old : Station) (step : UserStep) (new : Station) → IsUserTaken source octets old step new → IsReceived User source octets old (of_user step) new
+user_received source octets old step new taken =
+    let t = taken.tells in
+    let e = taken.effect in
+    record {
+      effect = e;
+      takes = taken.takes;
+      tells = record {
+        sent = t.sent;
+        outcome = t.outcome;
+        heard = sym (ap (λ (o : Out). o.heard) t.all);
+        restart = sym (ap (λ (o : Out). o.learned) t.all);
+        made = sym (ap (λ (o : Out). o.made) t.all);
+        accepted = t.accepted;
+        all = t.all ∙ (λ i. record nothing { sent = e.out.sent; heard = ap (λ (o : Out). o.heard) (sym t.all) i; learned = ap (λ (o : Out). o.learned) (sym t.all) i; made = ap (λ (o : Out). o.made) (sym t.all) i; accepted = e.out.accepted });
+      };
+      becomes = taken.becomes;
+      role = taken.role;
+    }
+
+formed : (plane : Plane) (source : Endpoint) (octets : List ℕ) → IsWellFormed (coming plane source octets)
+formed Control source octets = reads_whole (arrival_of source octets) (control_reading octets) refl
+formed User source octets = tt
+
+-- what a datagram leaves is sound: it was a step, or changed nothing
+pub received_sound : {E : Type 0} (plane : Plane) (source : Endpoint) (octets : List ℕ) (r : Result Step E) (old new : Station) → IfOk r (λ step. IsReceived plane source octets old step new) → OnErr r (new ≡ old) → IsWhole old → IsWhole new
+received_sound plane source octets (Ok step) old new taken same whole =
+    ∥∥₁_elim whole ∥∥₁_prop (λ before. merely (subst (λ r. IsSound r new.node) (sym taken.role) (subst (IsSound old.role) (sym taken.becomes) (stays_sound old.role old.node (coming plane source octets) taken.effect before (formed plane source octets) taken.takes))))
+received_sound plane source octets (Err fault) old new taken same whole = subst IsWhole (sym same) whole

@@ -1,0 +1,152 @@
+-- Requests that a tick sends again, as the machine's moves.
+use Rattle.std.proofs.Common.{◌≡◌, inl, inr, ℕ, Bool, true, false, cond, List, [], ◌∷◌, ◌++◌, map, Option, Some, None, refl, sym, ◌∙◌, ap, subst, arith}
+use Rattle.std.specs.List.{AllByRecursion, filter_map, cons_option}
+use Rattle.std.proofs.lemmas.Bool.Decides.{nat_tests}
+use Rattle.std.proofs.lemmas.List.Elements.{recursion_from_All}
+use Rattle.std.specs.FinMap.{get, find, get-from_entries}
+use Rattle.std.specs.Ordering.{nat_cmp, eq_by_cmp}
+use Rattle.std.specs.Cmp.{nat_cmp_total}
+use Rattle.gtp_values.specs.declared.address.Ip.{Ip}
+use Rattle.gtp_values.specs.FiniteMap.{Among}
+use Rattle.gtp_reliable.specs.declared.waiting.NextTick.{NextTick}
+use Rattle.gtp_reliable.specs.declared.waiting.NextTick.TheVariants.{WaitsOn, SentAgain, GivenUp}
+use Rattle.gtp_reliable.specs.Waiting.{Waiting, next_tick, sent_again, sent_again_by}
+use Rattle.gtp_reliable.specs.Waiting as reliable
+use Rattle.gtp_reliable.specs.Pending.{is_pending, AreDistinct}
+use Rattle.gtp_machine.specs.Config.{Config, control_end, own_end}
+use Rattle.gtp_machine.specs.Input.{Move, Resend, Out, Sending, says}
+use Rattle.gtp_machine.specs.declared.outcome.Outcome.TheVariants.{Moved}
+use Rattle.gtp_machine.specs.Message.{Message, Plane, Control, plane_of, Echo_request, Create_session_request, Delete_session_request, Create_bearer_request, Delete_bearer_request}
+use Rattle.gtp_machine.specs.Node.{PendingRequest, Node}
+use Rattle.gtp_machine.specs.Spelling.{datagram_of, spelled}
+use Rattle.gtp_machine.specs.Tick.{TickStep, joined}
+use Rattle.gtp_gateway.specs.declared.purpose.Purpose.{Purpose}
+use Rattle.gtp_gateway.specs.declared.purpose.Purpose.TheVariants.{Echo, CreateSession, DeleteSession, ReleaseSession, CreateBearer, DeleteBearer}
+use Rattle.gtp_gateway.specs.Parts.{pending_of, pending_in}
+use Rattle.gtp_gateway.specs.Spelled.{message_in, is_for, IsAsked, AreAsked}
+use Rattle.gtp_gateway.specs.Ticked.{datagram_again}
+use Rattle.gtp_gateway.proofs.Requests.{not_found}
+
+-- the requests that are sent again
+abbrev pub again_in : ℕ → ℕ → List (Waiting Purpose) → List reliable.Message
+again_in t3 n3 ws = filter_map (sent_again t3 n3) ws
+
+-- what the machine sends for one
+abbrev pub sending_again : Config → reliable.Message → Sending
+sending_again config m = record { destination = control_end config.peer.control; message = message_in m.octets }
+
+-- a request is one of those that wait
+record IsOf (ws : List (Waiting Purpose)) (m : reliable.Message) : Type 0 where
+  pub waiting : Waiting Purpose
+  pub among : Among waiting ws
+  pub is : m ≡ record { seq = waiting.seq; to = waiting.to; octets = waiting.octets }
+
+of_more : (w : Waiting Purpose) (ws : List (Waiting Purpose)) (m : reliable.Message) → IsOf ws m → IsOf (w ∷ ws) m
+of_more w ws m of = record { waiting = of.waiting; among = inr of.among; is = of.is }
+
+of_waiting : (t3 n3 : ℕ) (ws : List (Waiting Purpose)) (m : reliable.Message) → Among m (again_in t3 n3 ws) → IsOf ws m
+of_waiting t3 n3 [] m among = absurd among
+of_waiting t3 n3 (w ∷ ws) m among = by (next_tick t3 n3 w) (of_waiting t3 n3 ws m) among
+  where
+    by : (t : NextTick) → (Among m (again_in t3 n3 ws) → IsOf ws m) → Among m (cons_option (sent_again_by t w) (again_in t3 n3 ws)) → IsOf (w ∷ ws) m
+    by WaitsOn later among = of_more w ws m (later among)
+    by SentAgain later (inl is) = record { waiting = w; among = inl refl; is = is }
+    by SentAgain later (inr there) = of_more w ws m (later there)
+    by GivenUp later among = of_more w ws m (later among)
+
+tied : (a b : ℕ) → eq_by_cmp nat_cmp a b ≡ true → a ≡ b
+tied a b h = grind (arith, nat_tests)
+
+itself : (a : ℕ) → eq_by_cmp nat_cmp a a ≡ true
+itself a = grind (arith, nat_tests)
+
+-- what waits stands under its number
+found_there : (ws : List (Waiting Purpose)) (w : Waiting Purpose) → AreDistinct ws → Among w ws → find nat_cmp w.seq (map pending_of ws) ≡ Some (pending_of w).1
+found_there [] w distinct among = absurd among
+found_there (v ∷ ws) w distinct (inl is) =
+    subst (λ (x : Waiting Purpose). find nat_cmp x.seq (map pending_of (v ∷ ws)) ≡ Some (pending_of x).1) (sym is)
+    (ap (λ (b : Bool). cond b (Some (pending_of v).1) (find nat_cmp v.seq (map pending_of ws))) (itself v.seq))
+found_there (v ∷ ws) w distinct (inr there) = by (eq_by_cmp nat_cmp w.seq v.seq) refl (found_there ws w distinct.1 there)
+  where
+    by : (b : Bool) → eq_by_cmp nat_cmp w.seq v.seq ≡ b → find nat_cmp w.seq (map pending_of ws) ≡ Some (pending_of w).1 → cond b (Some (pending_of v).1) (find nat_cmp w.seq (map pending_of ws)) ≡ Some (pending_of w).1
+    by true same later =
+        let none = not_found ws w.seq (subst (λ (n : ℕ). is_pending n ws ≡ false) (sym (tied w.seq v.seq same)) distinct.0) in
+        absurd (let no : ◌≡◌ {A = Option PendingRequest} None (Some (pending_of w).1) = sym none ∙ later in cc)
+    by false other later = later
+
+pub stands_there : (ws : List (Waiting Purpose)) (w : Waiting Purpose) → AreDistinct ws → Among w ws → get (pending_in ws) w.seq ≡ Some (pending_of w).1
+stands_there ws w distinct among = get-from_entries nat_cmp_total (map pending_of ws) w.seq ∙ found_there ws w distinct among
+
+-- a request waits under the number, with these octets
+record Stands (node : Node) (m : reliable.Message) : Type 0 where
+  pub pending : PendingRequest
+  pub waits : get node.pending m.seq ≡ Some pending
+  pub says : pending.request ≡ message_in m.octets
+
+stands : (node : Node) (ws : List (Waiting Purpose)) → node.pending ≡ pending_in ws → AreDistinct ws → (m : reliable.Message) → IsOf ws m → Stands node m
+stands node ws pending distinct m of =
+    record {
+      pending = (pending_of of.waiting).1;
+      waits = (λ i. get (pending i) (of.is i).seq) ∙ stands_there ws of.waiting distinct of.among;
+      says = ap (λ (x : reliable.Message). message_in x.octets) (sym of.is);
+    }
+
+moves_each : (node : Node) (ms : List reliable.Message) (moves : List Move) (rest : Out) (new : Node) → ((m : reliable.Message) → Among m ms → Stands node m) → TickStep node moves rest new
+    → TickStep node (map Resend (map (λ (m : reliable.Message). m.seq) ms) ++ moves) (record rest { sent = map (sending_again node.config) ms ++ rest.sent }) new
+moves_each node [] moves rest new each tick = tick
+moves_each node (m ∷ ms) moves rest new each tick =
+    let here = each m (inl refl) in (
+      record { out = says (control_end node.config.peer.control) here.pending.request; outcome = Moved; node = node },
+      record rest { sent = map (sending_again node.config) ms ++ rest.sent },
+      record { at = record { pending = here.pending; waits = here.waits }; gives = refl },
+      moves_each node ms moves rest new (λ k among. each k (inr among)) tick,
+      ap (λ (r : Message). joined (says (control_end node.config.peer.control) r) (record rest { sent = map (sending_again node.config) ms ++ rest.sent })) (sym here.says),
+    )
+
+-- the moves that send again, in order of beginning
+pub resending : (node : Node) (t3 n3 : ℕ) (ws : List (Waiting Purpose)) (moves : List Move) (rest : Out) (new : Node) → node.pending ≡ pending_in ws → AreDistinct ws → TickStep node moves rest new
+    → TickStep node (map Resend (map (λ (m : reliable.Message). m.seq) (again_in t3 n3 ws)) ++ moves) (record rest { sent = map (sending_again node.config) (again_in t3 n3 ws) ++ rest.sent }) new
+resending node t3 n3 ws moves rest new pending distinct tick = moves_each node (again_in t3 n3 ws) moves rest new (λ m among. stands node ws pending distinct m (of_waiting t3 n3 ws m among)) tick
+
+-- requests are messages of the control plane
+on_control : (purpose : Purpose) (m : Message) → is_for purpose m ≡ true → plane_of m ≡ Control
+on_control Echo (Echo_request q) is = refl
+on_control Echo m is = absurd cc
+on_control (CreateSession session bearer) (Create_session_request q) is = refl
+on_control (CreateSession session bearer) m is = absurd cc
+on_control (DeleteSession session named) (Delete_session_request q) is = refl
+on_control (DeleteSession session named) m is = absurd cc
+on_control (ReleaseSession session named) (Delete_bearer_request q) is = refl
+on_control (ReleaseSession session named) m is = absurd cc
+on_control (CreateBearer session bearer named) (Create_bearer_request q) is = refl
+on_control (CreateBearer session bearer named) m is = absurd cc
+on_control (DeleteBearer session bearer named) (Delete_bearer_request q) is = refl
+on_control (DeleteBearer session bearer named) m is = absurd cc
+
+asked_there : (peer : Ip) (ws : List (Waiting Purpose)) (w : Waiting Purpose) → AllByRecursion (IsAsked peer) ws → Among w ws → IsAsked peer w
+asked_there peer [] w each among = absurd among
+asked_there peer (v ∷ ws) w each (inl is) = subst (IsAsked peer) (sym is) each.0
+asked_there peer (v ∷ ws) w each (inr there) = asked_there peer ws w each.1 there
+
+-- the octets that are kept are the machine's datagram
+same_datagram : (config : Config) (ws : List (Waiting Purpose)) (m : reliable.Message) → AreAsked config.peer.control ws → IsOf ws m → datagram_again config m ≡ datagram_of config (sending_again config m)
+same_datagram config ws m each of =
+    let w = of.waiting in
+    let asked = asked_there config.peer.control ws w (recursion_from_All (IsAsked config.peer.control) ws each) of.among in
+    let plane = on_control w.purpose (message_in w.octets) asked.purpose in
+    let kept : datagram_again config (record { seq = w.seq; to = w.to; octets = w.octets }) ≡ record { plane = Control; from = control_end config.own.control; to = control_end config.peer.control; octets = spelled (message_in w.octets) } = λ i. record { plane = Control; from = control_end config.own.control; to = asked.to i; octets = asked.octets i } in
+    let made : datagram_of config (sending_again config (record { seq = w.seq; to = w.to; octets = w.octets })) ≡ record { plane = Control; from = control_end config.own.control; to = control_end config.peer.control; octets = spelled (message_in w.octets) } =
+    ap (λ (p : Plane). record { plane = p; from = own_end config p; to = control_end config.peer.control; octets = spelled (message_in w.octets) }) plane in
+    ap (datagram_again config) of.is ∙ (kept ∙ (sym made ∙ ap (λ (x : reliable.Message). datagram_of config (sending_again config x)) (sym of.is)))
+
+same_each : {X Y : Type 0} (f g : X → Y) (xs : List X) → ((x : X) → Among x xs → f x ≡ g x) → map f xs ≡ map g xs
+same_each f g [] same = refl
+same_each f g (x ∷ xs) same = λ i. same x (inl refl) i ∷ same_each f g xs (λ y among. same y (inr among)) i
+
+-- what is sent again is what the machine sends
+pub resent : (config : Config) (t3 n3 : ℕ) (ws : List (Waiting Purpose)) → AreAsked config.peer.control ws → map (datagram_again config) (again_in t3 n3 ws) ≡ map (datagram_of config) (map (sending_again config) (again_in t3 n3 ws))
+resent config t3 n3 ws each = same_each (datagram_again config) (λ m. datagram_of config (sending_again config m)) (again_in t3 n3 ws) (λ m among. same_datagram config ws m each (of_waiting t3 n3 ws m among)) ∙ twice (again_in t3 n3 ws)
+  where
+    twice : (ms : List reliable.Message) → map (λ m. datagram_of config (sending_again config m)) ms ≡ map (datagram_of config) (map (sending_again config) ms)
+    twice [] = refl
+    twice (m ∷ ms) = λ i. datagram_of config (sending_again config m) ∷ twice ms i

@@ -1,0 +1,174 @@
+-- What a step that sends nothing comes to, as a row of the machine.
+use Rattle.std.proofs.Common.{◌≡◌, inl, inr, ℕ, Bool, true, false, List, [], ◌∷◌, Option, None, Some, option_map, map, Result, Ok, Err, refl, sym, ◌∙◌, ap, subst}
+use Rattle.std.specs.Prelude.{IfOk}
+use Rattle.gtp_machine.specs.Node.{Arrival, Node, holding}
+use Rattle.gtp_values.specs.declared.address.Endpoint.{Endpoint}
+use Rattle.gtp_values.specs.declared.counter.Counter.{Counter}
+use Rattle.gtp_machine.specs.Config.{Config}
+use Rattle.gtp_machine.specs.declared.role.Role.{Role}
+use Rattle.gtp_machine.specs.declared.role.Role.TheVariants.{Serving, Packet}
+use Rattle.gtp_machine.specs.Message.{Message, recovery_of}
+use Rattle.gtp_machine.specs.Answer.{IsNew, answered}
+use Rattle.gtp_machine.specs.Recovery.{Hears, learned_by}
+use Rattle.gtp_machine.specs.Reading.{control_reading}
+use Rattle.gtp_machine.specs.Spelling.{datagram_of}
+use Rattle.gtp_machine.specs.Step.{Step as MachineStep}
+use Rattle.gtp_machine.specs.Input.{Effect, ControlReading, Control_message, Control_came, nothing, dropped}
+use Rattle.gtp_machine.specs.declared.outcome.DropReason.{DropReason}
+use Rattle.gtp_machine.specs.declared.outcome.DropReason.TheVariants.{OldCounter, Unexpected}
+use Rattle.gtp_machine.specs.declared.outcome.Outcome.{Outcome}
+use Rattle.gtp_machine.specs.declared.outcome.Outcome.TheVariants.{Dropped, Answered}
+use Rattle.gtp_gateway.specs.declared.sent.Sent.{Sent}
+use Rattle.gtp_gateway.specs.declared.control_step.ControlStep.{ControlStep}
+use Rattle.gtp_gateway.specs.Answering.{answering}
+use Rattle.gtp_gateway.specs.Sent.{datagram_by}
+use Rattle.gtp_gateway.specs.Row.{TellsRow, IsRow, IsHeardRow}
+use Rattle.gtp_gateway.specs.Station.{Station}
+use Rattle.gtp_gateway.specs.Taken.{plain_report, Tells, IsTaken}
+use Rattle.gtp_gateway.specs.Hearing.{weighed_by, node_heard, IsEarlier, report_heard, effect_heard}
+use Rattle.gtp_gateway.specs.Procedure.{TakesBy, takes_by}
+use Rattle.gtp_gateway.specs.Parts.{arrival_of}
+use Rattle.gtp_gateway.specs.declared.hearing.Heard.{Heard}
+use Rattle.gtp_gateway.specs.declared.hearing.Heard.TheVariants as heards
+use Rattle.gtp_gateway.proofs.Weighing.{told_is, later_is, hears_on, hears_old}
+
+-- what follows of the value, where there is one
+pub if_ok : {A E : Type 0} {P Q : A → Type 0} (r : Result A E) → ((x : A) → P x → Q x) → IfOk r P → IfOk r Q
+if_ok (Ok x) each is = each x is
+if_ok (Err e) each is = tt
+
+pub drops : (Takes : Node → Effect → Type 0) (request : Arrival) (s : Station) (step : ControlStep) (why : DropReason) → step ≡ record { out = None; report = plain_report (Dropped why) } → Takes s.node (dropped s.node why) → IsRow Takes request s.role s.node step s
+drops Takes request s step why is takes =
+    subst (λ (t : ControlStep). IsRow Takes request s.role s.node t s) (sym is)
+    (record {
+      effect = dropped s.node why;
+      takes = takes;
+      tells = record { sent = refl; outcome = refl; made = refl; heard = refl; learned = refl; untold = refl; unlearned = refl; all = refl };
+      becomes = refl;
+      role_stays = refl;
+    })
+
+pub ends : (Takes : Node → Effect → Type 0) (request : Arrival) (old new : Station) (step : ControlStep) (outcome : Outcome) (node : Node) → step ≡ record { out = None; report = plain_report outcome } → new.node ≡ node → new.role ≡ old.role → Takes old.node (record { out = nothing; outcome = outcome; node = node }) → IsRow Takes request old.role old.node step new
+ends Takes request old new step outcome node is becomes role takes =
+    subst (λ (t : ControlStep). IsRow Takes request old.role old.node t new) (sym is)
+    (record {
+      effect = record { out = nothing; outcome = outcome; node = node };
+      takes = takes;
+      tells = record { sent = refl; outcome = refl; made = refl; heard = refl; learned = refl; untold = refl; unlearned = refl; all = refl };
+      becomes = becomes;
+      role_stays = role;
+    })
+
+-- an answer that is held, for a request for which a context may have been made
+pub answers_made : (Takes : Node → Effect → Type 0) (request : Arrival) (old new : Station) (step : ControlStep) (sent : Sent) (m : Message) (cause : ℕ) (made : Bool) (node : Node) → step ≡ record { out = Some sent; report = record (plain_report (Answered cause)) { made = made } } → datagram_by sent ≡ datagram_of old.node.config (record { destination = request.source; message = m }) → new.node ≡ holding request m node → new.role ≡ old.role
+    → Takes old.node (answering made request m cause node) → IsRow Takes request old.role old.node step new
+answers_made Takes request old new step sent m cause made node is goes becomes role takes =
+    subst (λ (t : ControlStep). IsRow Takes request old.role old.node t new) (sym is)
+    (record {
+      effect = answering made request m cause node;
+      takes = takes;
+      tells = record { sent = λ i. goes i ∷ []; outcome = refl; made = refl; heard = refl; learned = refl; untold = refl; unlearned = refl; all = refl };
+      becomes = becomes;
+      role_stays = role;
+    })
+
+-- the same, where none was made
+pub answers : (Takes : Node → Effect → Type 0) (request : Arrival) (old new : Station) (step : ControlStep) (sent : Sent) (m : Message) (cause : ℕ) (node : Node) → step ≡ record { out = Some sent; report = plain_report (Answered cause) } → datagram_by sent ≡ datagram_of old.node.config (record { destination = request.source; message = m }) → new.node ≡ holding request m node → new.role ≡ old.role → Takes old.node (answered request m cause node)
+    → IsRow Takes request old.role old.node step new
+answers Takes request old new step sent m cause node is goes becomes role takes = answers_made Takes request old new step sent m cause false node is goes becomes role takes
+
+-- a row of one kind, at a gateway that has heard the counter, as a row of another
+pub as_row : (T U : Node → Effect → Type 0) (request : Arrival) (role there : Role) (old heard : Node) (step : ControlStep) (new : Station) → there ≡ role → heard ≡ old → ((node : Node) (e : Effect) → T node e → U node e) → IsRow T request there heard step new → IsRow U request role old step new
+as_row T U request role there old heard step new same_role same each row =
+    subst (λ (r : Role). IsRow U request r old step new) same_role
+    (subst (λ (n : Node). IsRow U request there n step new) same
+    (record { effect = row.effect; takes = each heard row.effect row.takes; tells = row.tells; becomes = row.becomes; role_stays = row.role_stays }))
+
+-- ---- with the counter that was heard
+
+-- an effect, where a counter was heard
+abbrev pub told : Option Counter → Option ℕ → Effect → Effect
+told None known e = e
+told (Some counter) known e = effect_heard counter.0 known e
+
+pub hears : (Takes : Node → Effect → Type 0) (old : Node) (recovery : Option Counter) (taken : Effect) → (IsEarlier (weighed_by recovery old.known) → ⊥) → Takes (node_heard (weighed_by recovery old.known) old) taken → Hears Takes old (option_map (λ (c : Counter). c.0) recovery) (told recovery old.known taken)
+hears Takes old None taken on takes = takes
+hears Takes old (Some counter) taken on takes = hears_on Takes old counter taken on takes
+
+pub hears_early : (Takes : Node → Effect → Type 0) (old : Node) (recovery : Option Counter) → IsEarlier (weighed_by recovery old.known) → Hears Takes old (option_map (λ (c : Counter). c.0) recovery) (told recovery old.known (dropped old OldCounter))
+hears_early Takes old None early = absurd early
+hears_early Takes old (Some counter) early = hears_old Takes old counter early
+
+-- hearing does not change the configuration
+pub config_stays : (heard : Heard) (n : Node) → (node_heard heard n).config ≡ n.config
+config_stays heards.Nothing n = refl
+config_stays (heards.First counter) n = refl
+config_stays (heards.Same counter) n = refl
+config_stays (heards.Later counter) n = refl
+config_stays (heards.Earlier counter) n = refl
+
+-- a message that the gateway takes, from the peer, for which no answer is held
+pub message_taken : (role : Role) (old : Node) (request : Arrival) (m : Message) (e : Effect) → request.source.ip ≡ old.config.peer.control → IsNew old request → takes_by role m ≡ true → Hears (TakesBy role request m) old (recovery_of m) e → MachineStep role old (Control_came request (Control_message m)) e
+message_taken Serving old request m e peer new takes hears = inr (peer, inr (new, inr (takes, hears)))
+message_taken Packet old request m e peer new takes hears = inr (peer, inr (new, inr (takes, hears)))
+
+-- one that it does not take
+pub message_left : (role : Role) (old : Node) (request : Arrival) (m : Message) → request.source.ip ≡ old.config.peer.control → IsNew old request → (takes_by role m ≡ true → ⊥) → MachineStep role old (Control_came request (Control_message m)) (dropped old Unexpected)
+message_left Serving old request m peer new not = inr (peer, inr (new, inl (not, refl)))
+message_left Packet old request m peer new not = inr (peer, inr (new, inl (not, refl)))
+
+tells_heard : (config : Config) (request : Arrival) (old : Station) (step : ControlStep) (recovery : Option Counter) (e : Effect) → config ≡ old.node.config → TellsRow config request step e → Tells old request (record step { report = report_heard (weighed_by recovery old.node.known) step.report }) (told recovery old.node.known e)
+tells_heard config request old step None e same tells =
+    record {
+      sent = tells.sent ∙ ap (λ (c : Config). map (datagram_of c) e.out.sent) same;
+      outcome = tells.outcome;
+      heard = sym tells.heard;
+      restart = sym tells.learned;
+      made = tells.made;
+      all = tells.all ∙ (λ i. record nothing { sent = e.out.sent; heard = sym tells.heard i; learned = sym tells.learned i; made = e.out.made });
+    }
+tells_heard config request old step (Some counter) e same tells =
+    record {
+      sent = tells.sent ∙ ap (λ (c : Config). map (datagram_of c) e.out.sent) same;
+      outcome = tells.outcome;
+      heard = told_is old.node.known counter;
+      restart = later_is old.node.known counter;
+      made = tells.made;
+      all = λ i. record (tells.all i) { heard = Some counter.0; learned = learned_by old.node.known counter.0 };
+    }
+
+told_node : (recovery : Option Counter) (known : Option ℕ) (e : Effect) → (told recovery known e).node ≡ e.node
+told_node None known e = refl
+told_node (Some counter) known e = refl
+
+-- a row, once the counter was heard, is a step on what the octets read as
+pub row_taken : (source : Endpoint) (octets : List ℕ) (old : Station) (m : Message) (recovery : Option Counter) (step : ControlStep) (new : Station) → source.ip ≡ old.node.config.peer.control → IsNew old.node (arrival_of source octets) → control_reading octets ≡ Control_message m → takes_by old.role m ≡ true
+    → option_map (λ (c : Counter). c.0) recovery ≡ recovery_of m → (IsEarlier (weighed_by recovery old.node.known) → ⊥) → IsHeardRow (arrival_of source octets) m (weighed_by recovery old.node.known) old step new
+    → IsTaken source octets old (record step { report = report_heard (weighed_by recovery old.node.known) step.report }) new
+row_taken source octets old m recovery step new peer fresh reads takes counter on row =
+    let request : Arrival = arrival_of source octets in
+    let effect : Effect = told recovery old.node.known row.effect in
+    let heard = subst (λ (r : Option ℕ). Hears (TakesBy old.role request m) old.node r effect) counter (hears (TakesBy old.role request m) old.node recovery row.effect on row.takes) in
+    record {
+      effect = effect;
+      takes = subst (λ (r : ControlReading). MachineStep old.role old.node (Control_came request r) effect) (sym reads) (message_taken old.role old.node request m effect peer fresh takes heard);
+      tells = tells_heard _ request old step recovery row.effect (config_stays (weighed_by recovery old.node.known) old.node) row.tells;
+      becomes = row.becomes ∙ sym (told_node recovery old.node.known row.effect);
+      role = row.role_stays;
+    }
+
+-- a message with a counter of an earlier start is dropped
+pub early_taken : (source : Endpoint) (octets : List ℕ) (old : Station) (m : Message) (recovery : Option Counter) → source.ip ≡ old.node.config.peer.control → IsNew old.node (arrival_of source octets) → control_reading octets ≡ Control_message m → takes_by old.role m ≡ true
+    → option_map (λ (c : Counter). c.0) recovery ≡ recovery_of m → IsEarlier (weighed_by recovery old.node.known)
+    → IsTaken source octets old (record { out = None; report = report_heard (weighed_by recovery old.node.known) (plain_report (Dropped OldCounter)) }) old
+early_taken source octets old m recovery peer fresh reads takes counter early =
+    let request : Arrival = arrival_of source octets in
+    let effect : Effect = told recovery old.node.known (dropped old.node OldCounter) in
+    let heard = subst (λ (r : Option ℕ). Hears (TakesBy old.role request m) old.node r effect) counter (hears_early (TakesBy old.role request m) old.node recovery early) in
+    record {
+      effect = effect;
+      takes = subst (λ (r : ControlReading). MachineStep old.role old.node (Control_came request r) effect) (sym reads) (message_taken old.role old.node request m effect peer fresh takes heard);
+      tells = tells_heard old.node.config request old (record { out = None; report = plain_report (Dropped OldCounter) }) recovery (dropped old.node OldCounter) refl (record { sent = refl; outcome = refl; made = refl; heard = refl; learned = refl; untold = refl; unlearned = refl; all = refl });
+      becomes = sym (told_node recovery old.node.known (dropped old.node OldCounter));
+      role = refl;
+    }

@@ -1,0 +1,29 @@
+-- Steps of either gateway on a datagram of the control plane.
+use Rattle.std.proofs.Common.{inl, inr, ℕ, List, [], ◌∷◌, subst}
+use Rattle.std.specs.List.{AllByRecursion}
+use Rattle.std.proofs.lemmas.List.Elements.{recursion_from_All}
+use Rattle.gtp_values.specs.declared.address.Endpoint.{Endpoint}
+use Rattle.gtp_reliable.specs.Held.{HeldPair, HasAnswer}
+use Rattle.gtp_machine.specs.declared.role.Role.{Role}
+use Rattle.gtp_machine.specs.declared.role.Role.TheVariants.{Serving, Packet}
+use Rattle.gtp_machine.specs.Node.{Arrival, Node}
+use Rattle.gtp_machine.specs.Answer.{ControlStep}
+use Rattle.gtp_machine.specs.Input.{ControlReading, Control_came, Effect}
+use Rattle.gtp_machine.specs.Packet.{PacketReads}
+use Rattle.gtp_machine.specs.Serving.{ServingReads}
+use Rattle.gtp_machine.specs.Step.{Step}
+use Rattle.gtp_gateway.specs.Spelled.{AreSpelled, AreAnswered}
+
+-- before a datagram is read, both gateways take the same steps
+pub by_role : (role : Role) (old : Node) (request : Arrival) (reading : ControlReading) (e : Effect) → ((Reads : Arrival → Node → Effect → Type 0) → ControlStep Reads request old e) → Step role old (Control_came request reading) e
+by_role Serving old request reading e step = step (ServingReads reading)
+by_role Packet old request reading e step = step (PacketReads reading)
+
+answered_there : (ps : List HeldPair) (source : Endpoint) (request answer : List ℕ) → AllByRecursion (λ (p : HeldPair). AreSpelled p.answer) ps → HasAnswer source request answer ps → AreSpelled answer
+answered_there [] source request answer each has = absurd has
+answered_there (p ∷ ps) source request answer each (inl here) = subst AreSpelled here.1 each.0
+answered_there (p ∷ ps) source request answer each (inr there) = answered_there ps source request answer each.1 there
+
+-- an answer that is held is kept as it is spelled
+pub spelled_answer : (ps : List HeldPair) (source : Endpoint) (request answer : List ℕ) → AreAnswered ps → HasAnswer source request answer ps → AreSpelled answer
+spelled_answer ps source request answer each has = answered_there ps source request answer (recursion_from_All (λ (p : HeldPair). AreSpelled p.answer) ps each) has

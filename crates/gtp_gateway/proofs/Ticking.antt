@@ -1,0 +1,120 @@
+-- A tick, as the machine's moves.
+use Rattle.std.proofs.Common.{◌≡◌, ℕ, suc, ◌+◌, ◌<◌, ◌≤◌, true, List, [], ◌∷◌, ◌++◌, length, map, Option, Some, None, nat_lt, refl, sym, ◌∙◌, ap, subst, append_assoc, arith}
+use Rattle.std.specs.Prelude.{filter, All, Result, Ok, Err, IfOk, OnErr}
+use Rattle.std.proofs.lemmas.Grind.{merely}
+use mathlib.Core.Logic.{∥∥₁_elim, ∥∥₁_prop}
+use Rattle.std.specs.List.{AllByRecursion, filter_map, cons_option}
+use Rattle.std.proofs.lemmas.Bool.Decides.{nat_tests}
+use Rattle.std.proofs.lemmas.List.{length-map}
+use Rattle.std.proofs.lemmas.List.Elements.{recursion_from_All}
+use Rattle.gtp_reliable.specs.Waiting.{Waiting, after_tick, after_tick_by, next_tick, sent_again, sent_again_by, given_up, given_up_by}
+use Rattle.gtp_reliable.specs.Waiting as reliable
+use Rattle.gtp_reliable.specs.Held.{AreApart}
+use Rattle.gtp_reliable.specs.Pending.{AreDistinct}
+use Rattle.gtp_reliable.specs.declared.waiting.NextTick.{NextTick}
+use Rattle.gtp_reliable.specs.declared.waiting.NextTick.TheVariants.{WaitsOn}
+use Rattle.gtp_machine.specs.Input.{Resend, Give_up, Forget, Out, nothing}
+use Rattle.gtp_machine.specs.Node.{Held, Node}
+use Rattle.gtp_machine.specs.Sound.{IsSound}
+use Rattle.gtp_machine.specs.Tick.{TickStep, Ticks}
+use Rattle.gtp_machine.proofs.Sound.Ticks.{tick_stays_sound}
+use Rattle.gtp_gateway.specs.declared.purpose.Purpose.{Purpose}
+use Rattle.gtp_gateway.specs.Parts.{pending_in, held_of}
+use Rattle.gtp_gateway.specs.declared.tick.Ticked.{Ticked}
+use Rattle.gtp_gateway.specs.Station.{Station, IsWhole}
+use Rattle.gtp_gateway.specs.Ticked.{due_in, tick_later, GivesUpEach, IsTicked}
+use Rattle.gtp_gateway.specs.UserTaken.{WaitOn}
+use Rattle.gtp_gateway.proofs.Forgetting.{gone_in, left_in, forgot, forgetting}
+use Rattle.gtp_gateway.proofs.Giving.{are_moves, giving_up, pending_stays}
+use Rattle.gtp_gateway.proofs.Resending.{again_in, sending_again, resending}
+
+-- what the moves give, where these numbers are told
+abbrev pub given_by : Station → List ℕ → Out
+given_by s told =
+    record nothing {
+      sent = map (sending_again s.node.config) (again_in s.timing.timers.t3 s.timing.timers.n3 s.timing.waiting) ++ [];
+      gave_up = told ++ [];
+      forgot = gone_in s.timing.timers.hold s.timing.held;
+    }
+
+-- the node after the give-ups, once the tick has been counted
+abbrev pub node_later : Station → Node
+node_later mid = record mid.node { pending = pending_in (tick_later mid.timing).waiting; held = map held_of (tick_later mid.timing).held }
+
+module _ (old mid : Station) (told : List ℕ) (pending : old.node.pending ≡ pending_in old.timing.waiting) (keeps : mid.node.held ≡ map held_of mid.timing.held) (distinct : AreDistinct old.timing.waiting) (apart : AreApart old.timing.held) (waits : WaitOn old mid) (each : GivesUpEach old.node (due_in old.timing).give_ups told mid.node) where
+  later : node_later mid ≡ record mid.node { held = left_in old.timing.timers.hold old.timing.held }
+  later =
+      let t3 = old.timing.timers.t3 in
+      let n3 = old.timing.timers.n3 in
+      let mid_pending : mid.node.pending ≡ pending_in (filter waits.stays old.timing.waiting) = waits.pending ∙ ap (λ t. pending_in t.waiting) waits.timing in
+      let now : pending_in (tick_later mid.timing).waiting ≡ mid.node.pending = ap (λ t. pending_in (tick_later t).waiting) waits.timing ∙ (sym (pending_stays t3 n3 old.timing.waiting waits.stays old.node told mid.node each mid_pending) ∙ sym mid_pending) in
+      let left : map held_of (tick_later mid.timing).held ≡ left_in old.timing.timers.hold old.timing.held = ap (λ t. map held_of (tick_later t).held) waits.timing in
+      λ i. record mid.node { pending = now i; held = left i }
+
+  pub ticks : (new : Node) → new ≡ node_later mid → Ticks old.node (due_in old.timing) (given_by old told) new
+  ticks new becomes =
+      let t3 = old.timing.timers.t3 in
+      let n3 = old.timing.timers.n3 in
+      let hold = old.timing.timers.hold in
+      let forgets = map Forget (gone_in hold old.timing.held) in
+      let last : Node = record mid.node { held = left_in hold old.timing.held } in
+      let same : mid.node.held ≡ map held_of old.timing.held = keeps ∙ ap (λ t. map held_of t.held) waits.timing in
+      let forgetting_step = subst (λ (l : List Held). TickStep (record mid.node { held = l }) forgets (forgot (gone_in hold old.timing.held)) last) (sym same) (forgetting mid.node hold old.timing.held apart) in
+      let giving_step = giving_up (due_in old.timing).give_ups old.node told mid.node forgets (forgot (gone_in hold old.timing.held)) last each forgetting_step in
+      let step = resending old.node t3 n3 old.timing.waiting (map Give_up told ++ forgets) (record (forgot (gone_in hold old.timing.held)) { gave_up = told ++ [] }) last pending distinct giving_step in
+      record {
+        moves = map Resend (due_in old.timing).resends ++ (map Give_up told ++ forgets);
+        are = record {
+          given_up = map Give_up told;
+          gives_up = are_moves (due_in old.timing).give_ups old.node told mid.node each;
+          all = sym (append_assoc (map Resend (due_in old.timing).resends) (map Give_up told) forgets);
+        };
+        step = subst (λ (n : Node). TickStep old.node (map Resend (due_in old.timing).resends ++ (map Give_up told ++ forgets)) (given_by old told) n) (sym (becomes ∙ later)) step;
+      }
+
+-- no more is done than there is
+pub fewer : {X Y : Type 0} (h : X → Option Y) (xs : List X) → length (filter_map h xs) ≤ length xs
+fewer h [] = omega arith
+fewer {Y = Y} h (x ∷ xs) = by (h x) (filter_map h xs) (fewer h xs)
+  where
+    by : (o : Option Y) (ys : List Y) → length ys ≤ length xs → length (cons_option o ys) ≤ suc (length xs)
+    by None ys few = omega (arith, few)
+    by (Some y) ys few = omega (arith, few)
+
+pub few_by : {X Y Z : Type 0} (f : X → Y) (xs : List X) (h : Z → Option Y) (zs : List Z) (most : ℕ) → map f xs ≡ filter_map h zs → length zs ≤ most → length xs ≤ most
+few_by f xs h zs most same few = omega (arith, length-map xs f, ap length same, fewer h zs, few)
+
+pub few_sent : {X Y Z W : Type 0} (f : X → Y) (g : W → Y) (xs : List X) (h : Z → Option W) (zs : List Z) (most : ℕ) → map f xs ≡ map g (filter_map h zs) → length zs ≤ most → length xs ≤ most
+few_sent f g xs h zs most same few = omega (arith, length-map xs f, length-map (filter_map h zs) g, ap length same, fewer h zs, few)
+
+-- ---- where nothing is due
+
+no_items : {X Y : Type 0} (f : X → Y) (xs : List X) → map f xs ≡ [] → xs ≡ []
+no_items f [] none = refl
+no_items f (x ∷ xs) none = absurd cc
+
+below : (t3 n3 : ℕ) (w : Waiting Purpose) → w.waited + 1 < t3 → nat_lt (w.waited + 1) t3 ≡ true
+below t3 n3 w lt = grind (arith, nat_tests)
+
+waits_on : (t3 n3 : ℕ) (w : Waiting Purpose) → w.waited + 1 < t3 → next_tick t3 n3 w ≡ WaitsOn
+waits_on t3 n3 w lt = rw (below t3 n3 w lt) refl
+
+none_again : (t3 n3 : ℕ) (ws : List (Waiting Purpose)) → AllByRecursion (λ (w : Waiting Purpose). w.waited + 1 < t3) ws → filter_map (sent_again t3 n3) ws ≡ []
+none_again t3 n3 [] idle = refl
+none_again t3 n3 (w ∷ ws) idle = ap (λ (t : NextTick). cons_option (sent_again_by t w) (filter_map (sent_again t3 n3) ws)) (waits_on t3 n3 w idle.0) ∙ none_again t3 n3 ws idle.1
+
+none_up : (t3 n3 : ℕ) (ws : List (Waiting Purpose)) → AllByRecursion (λ (w : Waiting Purpose). w.waited + 1 < t3) ws → filter_map (given_up t3 n3) ws ≡ []
+none_up t3 n3 [] idle = refl
+none_up t3 n3 (w ∷ ws) idle = ap (λ (t : NextTick). cons_option (given_up_by t w) (filter_map (given_up t3 n3) ws)) (waits_on t3 n3 w idle.0) ∙ none_up t3 n3 ws idle.1
+
+pub none_resent : {X : Type 0} (f : X → reliable.Message) (xs : List X) (t3 n3 : ℕ) (ws : List (Waiting Purpose)) → All (λ (w : Waiting Purpose). w.waited + 1 < t3) ws → map f xs ≡ filter_map (sent_again t3 n3) ws → xs ≡ []
+none_resent f xs t3 n3 ws idle same = no_items f xs (same ∙ none_again t3 n3 ws (recursion_from_All (λ (w : Waiting Purpose). w.waited + 1 < t3) ws idle))
+
+pub none_given_up : (t3 n3 : ℕ) (ws : List (Waiting Purpose)) → All (λ (w : Waiting Purpose). w.waited + 1 < t3) ws → filter_map (given_up t3 n3) ws ≡ []
+none_given_up t3 n3 ws idle = none_up t3 n3 ws (recursion_from_All (λ (w : Waiting Purpose). w.waited + 1 < t3) ws idle)
+
+-- what a tick leaves is sound: it was a tick of the machine, or changed nothing
+pub tick_sound : {E : Type 0} (r : Result Ticked E) (old new : Station) → IfOk r (λ ticked. IsTicked old ticked new) → OnErr r (new ≡ old) → IsWhole old → IsWhole new
+tick_sound (Ok ticked) old new is same whole =
+    ∥∥₁_elim whole ∥∥₁_prop (λ before. merely (subst (λ r. IsSound r new.node) (sym is.role) (tick_stays_sound old.role old.node is.ticks.moves is.out new.node before is.ticks.step)))
+tick_sound (Err fault) old new is same whole = subst IsWhole (sym same) whole

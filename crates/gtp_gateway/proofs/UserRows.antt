@@ -1,0 +1,121 @@
+-- Datagrams of the user plane for which nothing is sent.
+use Rattle.std.proofs.Common.{◌≡◌, ◌≢◌, ℕ, true, List, [], ◌∷◌, Option, Some, None, Result, Ok, Err, refl, sym, ◌∙◌, ap, subst}
+use Rattle.std.specs.Prelude.{filter, IsSome, IfOk, OnErr}
+use Rattle.std.proofs.lemmas.Grind.{merely}
+use mathlib.Core.Logic.{∥∥₁_elim, ∥∥₁_prop}
+use Rattle.gtp_values.specs.declared.address.Endpoint.{Endpoint}
+use Rattle.gtp_reliable.specs.Waiting.{Waiting}
+use Rattle.gtp_machine.specs.Message.{User}
+use Rattle.gtp_machine.specs.Spelling.{datagram_of}
+use Rattle.gtp_machine.specs.Reading.{user_reading}
+use Rattle.gtp_machine.specs.Sound.{IsSound}
+use Rattle.gtp_machine.specs.User.{UserRead}
+use Rattle.gtp_machine.proofs.Sound.Rows.{stays_sound}
+use Rattle.std.specs.FinMap.{get}
+use Rattle.gtp_machine.specs.Choice.{HasBearer}
+use Rattle.gtp_machine.specs.Node.{Node}
+use Rattle.gtp_machine.specs.Input.{User_came, UserReading, User_fault, nothing, Effect, dropped, undecodable}
+use Rattle.gtp_machine.specs.declared.outcome.DropReason.{DropReason}
+use Rattle.gtp_machine.specs.declared.outcome.Outcome.{Outcome}
+use Rattle.gtp_machine.specs.declared.outcome.Outcome.TheVariants.{Accepted, Broken, Dropped}
+use Rattle.gtp_gateway.specs.declared.purpose.Purpose.{Purpose}
+use Rattle.gtp_gateway.specs.declared.user_step.Accepted as packets
+use Rattle.gtp_gateway.specs.declared.user_step.UserStep.{UserStep}
+use Rattle.gtp_gateway.specs.declared.user_reply.Reply.{Reply}
+use Rattle.gtp_gateway.specs.declared.user_reply.Reply.TheVariants.{ErrorIndication, Notification, EchoResponse}
+use Rattle.gtp_gateway.specs.declared.user_receive.Judged.{Judged}
+use Rattle.gtp_gateway.specs.declared.user_receive.Judged.TheVariants as judged
+use Rattle.gtp_gateway.specs.Parts.{pending_in}
+use Rattle.gtp_gateway.specs.Replying.{sending_of, outcome_of, replied, IsReplyBy}
+use Rattle.gtp_gateway.specs.Station.{Station, IsWhole}
+use Rattle.gtp_gateway.specs.UserTaken.{plain_step, AreEntries, WaitOn, IsTakenBy, IsJudgedBy, IsFaultJudged, IsUserTaken}
+
+-- no bearer stands there
+pub none_there : (node : Node) (t : ℕ) → get node.bearers t ≡ None → HasBearer node t → ⊥
+none_there node t none at = let same : None ≡ Some at.bearer = sym none ∙ at.stands in cc
+
+filter_all : {X : Type 0} (xs : List X) → filter (λ _. true) xs ≡ xs
+filter_all [] = refl
+filter_all (x ∷ xs) = λ i. x ∷ filter_all xs i
+
+-- what a gateway's pending requests are
+abbrev pub IsPendingIn : Station → Type 0
+IsPendingIn s = s.node.pending ≡ pending_in s.timing.waiting
+
+-- all requests wait on
+pub all_wait : (old new : Station) → new.timing ≡ old.timing → IsPendingIn new → WaitOn old new
+all_wait old new same pending =
+    record {
+      stays = λ _. true;
+      timing = same ∙ ap (λ (ws : List (Waiting Purpose)). record old.timing { waiting = ws }) (sym (filter_all old.timing.waiting));
+      pending = pending;
+    }
+
+module _ (Takes : Node → Effect → Type 0) (old : Station) where
+  -- nothing is told but an outcome, and no packet is accepted
+  pub plain : (outcome : Outcome) (node : Node) (new : Station) → (outcome ≡ Accepted → ⊥) → Takes old.node (record { out = nothing; outcome = outcome; node = node }) → new.node ≡ node → new.role ≡ old.role → (outcome ≢ Broken → new.timing ≡ old.timing) → WaitOn old new → IsTakenBy Takes old (plain_step outcome) new
+  plain outcome node new other takes becomes role same waits =
+      record {
+        effect = record { out = nothing; outcome = outcome; node = node };
+        takes = takes;
+        tells = record { sent = refl; outcome = refl; accepted = refl; packet = (λ is. absurd (other is), λ some. absurd cc); all = refl };
+        becomes = becomes;
+        role = role;
+        same = same;
+        waits = waits;
+      }
+
+  not_accepted : (why : DropReason) → Dropped why ≡ Accepted → ⊥
+  not_accepted why is = cc
+
+  -- the datagram is dropped
+  pub drops : IsPendingIn old → (why : DropReason) → Takes old.node (dropped old.node why) → IsTakenBy Takes old (plain_step (Dropped why)) old
+  drops pending why takes = plain (Dropped why) old.node old (not_accepted why) takes refl refl (λ _. refl) (all_wait old old refl pending)
+
+  -- the reply is sent, and nothing changes
+  pub replies : (reply : Reply) (step : UserStep) (new : Station) → IsPendingIn new → Takes old.node (replied reply old.node) → new ≡ old → IsReplyBy reply new.node.config step → IsTakenBy Takes old step new
+  replies reply step new pending takes same sends =
+      record {
+        effect = replied reply old.node;
+        takes = takes;
+        tells = record {
+          sent = sends.sent ∙ ap (λ (s : Station). datagram_of s.node.config (sending_of reply s.node.config) ∷ []) same;
+          outcome = sends.outcome;
+          accepted = subst (λ (o : Option packets.Accepted). AreEntries old.node o []) (sym sends.none) refl;
+          packet = (λ is. absurd (not_taken reply (sym sends.outcome ∙ is)), λ some. absurd (none_some step.accepted sends.none some));
+          all = refl;
+        };
+        becomes = ap (λ (s : Station). s.node) same;
+        role = ap (λ (s : Station). s.role) same;
+        same = λ _. ap (λ (s : Station). s.timing) same;
+        waits = all_wait old new (ap (λ (s : Station). s.timing) same) pending;
+      }
+    where
+      not_taken : (r : Reply) → outcome_of r ≡ Accepted → ⊥
+      not_taken (ErrorIndication teid) is = cc
+      not_taken Notification is = cc
+      not_taken (EchoResponse to number) is = cc
+
+      none_some : (o : Option packets.Accepted) → o ≡ None → IsSome o → ⊥
+      none_some None is some = cc
+      none_some (Some p) is some = cc
+
+-- what takes a datagram by one relation takes it by a wider one
+pub judged_wider : (Takes Wider : Node → Effect → Type 0) (old new : Station) (j : Judged) → ((e : Effect) → Takes old.node e → Wider old.node e) → IsJudgedBy Takes old j new → IsJudgedBy Wider old j new
+judged_wider Takes Wider old new (judged.Taken step) wider taken = record { effect = taken.effect; takes = wider taken.effect taken.takes; tells = taken.tells; becomes = taken.becomes; role = taken.role; same = taken.same; waits = taken.waits }
+judged_wider Takes Wider old new (judged.Replies reply) wider (takes, same) = (wider (replied reply old.node) takes, same)
+
+-- a datagram at fault
+pub fault_judged : (source : Endpoint) (reading : UserReading) (old : Station) (j : Judged) → IsPendingIn old → IsFaultJudged reading j → IsJudgedBy (UserRead old.role source reading) old j old
+fault_judged source reading old (judged.Taken step) pending (number, is, shown) =
+    subst (λ (s : UserStep). IsTakenBy (UserRead old.role source reading) old s old) (sym shown)
+    (subst (λ (r : UserReading). IsTakenBy (UserRead old.role source r) old (plain_step (Dropped (undecodable User number))) old) (sym is)
+    (drops (UserRead old.role source (User_fault number)) old pending (undecodable User number) refl))
+fault_judged source reading old (judged.Replies reply) pending (is, shown) =
+    (subst (λ (r : UserReading). UserRead old.role source r old.node (replied reply old.node)) (sym is) (ap (λ (r : Reply). replied r old.node) shown), refl)
+
+-- what a datagram of the user plane leaves is sound: it was a step, or changed nothing
+pub user_sound : {E : Type 0} (source : Endpoint) (octets : List ℕ) (r : Result UserStep E) (old new : Station) → IfOk r (λ step. IsUserTaken source octets old step new) → OnErr r (new ≡ old) → IsWhole old → IsWhole new
+user_sound source octets (Ok step) old new taken same whole =
+    ∥∥₁_elim whole ∥∥₁_prop (λ before. merely (subst (λ r. IsSound r new.node) (sym taken.role) (subst (IsSound old.role) (sym taken.becomes) (stays_sound old.role old.node (User_came source (user_reading octets)) taken.effect before tt taken.takes))))
+user_sound source octets (Err fault) old new taken same whole = subst IsWhole (sym same) whole

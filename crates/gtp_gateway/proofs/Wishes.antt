@@ -1,0 +1,48 @@
+-- Commands that ask the peer for something, by their last rule.
+use Rattle.std.proofs.Common.{◌≡◌, ◌↔◌, inl, inr, ℕ, Bool, true, false, refl, ◌∙◌, arith}
+use Rattle.std.specs.Prelude.{◌==◌, ◌&&◌, not}
+use Rattle.std.proofs.lemmas.Bool.Decides.{nat_tests}
+use Rattle.std.specs.Bool.{beq}
+use Rattle.gtp_machine.specs.Ordered.{Unless}
+use Rattle.gtp_machine.specs.Node.{Node, written}
+use Rattle.gtp_machine.specs.Input.{refused}
+use Rattle.gtp_machine.specs.declared.outcome.Refusal.{Refusal}
+use Rattle.gtp_gateway.specs.declared.wish.Wish.{Wish}
+use Rattle.gtp_gateway.specs.declared.wish.Wish.TheVariants.{Echo, CreateSession, DeleteSession, ReleaseSession, CreateBearer, DeleteBearer}
+use Rattle.gtp_gateway.specs.Asking.{about}
+use Rattle.gtp_gateway.specs.Change.{changed_by}
+use Rattle.gtp_gateway.specs.Spelled.{is_for}
+use Rattle.gtp_gateway.specs.Wish.{request_of, purpose_of, change_of, teid_of, AsksFor}
+use Rattle.gtp_gateway.proofs.Refusals.{asks_on}
+
+itself : (b : Bool) → beq b b ≡ true
+itself true = refl
+itself false = refl
+
+self_equal : (n : ℕ) → (n == n) ≡ true
+self_equal n = grind (arith, nat_tests)
+
+-- the request is one that is sent for the purpose
+pub meant : (wish : Wish) (number : _) (old : Node) → is_for (purpose_of wish) (request_of wish number old) ≡ true
+meant Echo number old = refl
+meant (CreateSession drawn spec) number old = (λ i. self_equal drawn.control.0 i && (self_equal drawn.user.0 i && true))
+meant (DeleteSession teid session) number old = itself _
+meant (ReleaseSession teid session) number old = itself _
+meant (CreateBearer drawn session of tft qos) number old = (λ i. (self_equal drawn.teid.0 i) && beq (not (written of.remote == 0)) (not (written of.remote == 0))) ∙ itself _
+meant (DeleteBearer teid bearer session of identity) number old = itself _
+
+-- what asks is not refused
+pub wish_goes_on : (wish : Wish) (old : Node) (why : Refusal) → AsksFor wish old (refused old why) → ⊥
+wish_goes_on wish old why asks = asks_on old (changed_by (change_of wish) old) asks.number (about (purpose_of wish) (request_of wish asks.number old)) (teid_of wish) why asks.gives
+
+-- one last rule in the place of another, where neither is a refusal
+pub in_place : {T X R : Type 0} {A B : R → Type 0} → ((r : R) → A r → ⊥) → ((r : R) → B r → ⊥) → T ↔ Unless R X A → T ↔ Unless R X B
+in_place {T} {X} {R} {A} {B} no_a no_b is = (λ t. there (is.0 t), λ u. is.1 (back u))
+  where
+    there : Unless R X A → Unless R X B
+    there (inl none) = inl none
+    there (inr asks) = absurd (no_a asks.0 asks.1)
+
+    back : Unless R X B → Unless R X A
+    back (inl none) = inl none
+    back (inr asks) = absurd (no_b asks.0 asks.1)

@@ -1,0 +1,32 @@
+use Rattle.std.proofs.Common.{sym}
+use Rattle.gtp_v2.specs.Viewed.{in_row}
+use Rattle.gtp_gateway.specs.declared.procedure.Procedure.TheVariants.{BearerAnswered}
+use Rattle.gtp_gateway.proofs.BearerAnswers.{given_others, given_contexts, given_only}
+use Rattle.gtp_gateway.proofs.ByProcedure.{cause_is}
+use Rattle.gtp_gateway.proofs.InPlace.{type_is, reads_so, row_so, bearer_answered}
+use Rattle.gtp_gateway.proofs.bearer_response.bearer_response_in.Goals as goal
+
+pub response_in-requires : goal.response_in-requires
+response_in-requires c =
+    let m = c.args.view.now.message in
+    let a = bearer_answered c.requires.spelled.0 m (type_is m.kind BearerAnswered c.requires.of) c.requires.spelled.1 in
+    (a.cause, row_so 96 2 0 _ m a.says)
+
+pub only_context_in-requires : goal.only_context_in-requires
+only_context_in-requires c = (given_others, _, given_contexts c.requires.spelled.0 c.args.view.now.message c.requires.spelled.1 c.requires.of)
+
+pub returns : goal.returns
+returns c =
+    let m = c.args.view.now.message in
+    let a = bearer_answered c.requires.spelled.0 m (type_is m.kind BearerAnswered c.requires.of) c.requires.spelled.1 in
+    let r = c.response_in in
+    record {
+      response = _;
+      is = reads_so 96 _ m a.says;
+      says = record {
+        number = sym r.ensures.seq;
+        header = sym r.ensures.header;
+        cause = cause_is a.cause r.result.cause (in_row 2 0 m) (row_so 96 2 0 _ m a.says) r.ensures.cause;
+        contexts = given_only a.groups c.only_context_in.result (c.only_context_in.ensures given_others a.groups (given_contexts c.requires.spelled.0 m c.requires.spelled.1 c.requires.of));
+      };
+    }

@@ -1,0 +1,24 @@
+use Rattle.std.proofs.Common.{◌≤◌, ℕ, length, sym, ◌∙◌, ap, subst, arith}
+use Rattle.std.specs.FinMap.{entries, len-entries}
+use Rattle.gtp_gateway.proofs.Listed.{drop_at, drop_past, drop_none}
+use Rattle.gtp_gateway.proofs.listing.SessionListIterator.next.Goals as goal
+
+pub returns-then-self-len-clause-steps : goal.returns-then-self-len-clause-steps
+returns-then-self-len-clause-steps c =
+    let all = c.self.inside.sessions.now.table in
+    let past = subst (λ (n : ℕ). n ≤ c.self.inside.next) (c.len.ensures ∙ len-entries all) c.if-self-len.true in
+    let none = sym c.self.view_is ∙ drop_past (entries all) c.self.inside.next past in
+    (none, none)
+
+pub returns-in_default-clause-steps : goal.returns-in_default-clause-steps
+returns-in_default-clause-steps c =
+    let none = sym c.self.view_is ∙ drop_none (entries c.self.inside.sessions.now.table) c.self.inside.next (sym c.in_default.ensures) in
+    (none, none)
+
+pub returns-clause-steps : goal.returns-clause-steps
+returns-clause-steps c = sym c.self.view_is ∙ drop_at (entries c.self.inside.sessions.now.table) c.self.inside.next (c.in-Some.entry.0.0, c.in-Some.entry.1) (sym c.in-Some.ensures)
+
+pub returns-clause-goes : goal.returns-clause-goes
+returns-clause-goes c =
+    let e = sym c.self.view_is ∙ drop_at (entries c.self.inside.sessions.now.table) c.self.inside.next (c.in-Some.entry.0.0, c.in-Some.entry.1) (sym c.in-Some.ensures) in
+    record { on = λ _. (tt, tt, omega (arith, ap length e)); keeps = tt; rests = λ _. tt }

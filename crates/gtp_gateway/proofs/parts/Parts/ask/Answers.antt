@@ -1,0 +1,29 @@
+use Rattle.std.proofs.Common.{◌≡◌, List, [], ◌∷◌, ◌++◌, ◌∙◌, ap}
+use Rattle.std.specs.FinMap.{insert}
+use Rattle.gtp_reliable.specs.Waiting.{Waiting, just_sent}
+use Rattle.gtp_machine.specs.Message.{Message}
+use Rattle.gtp_machine.specs.Node.{Node}
+use Rattle.gtp_machine.specs.Reading.{control_message}
+use Rattle.gtp_gateway.specs.declared.purpose.Purpose.{Purpose}
+use Rattle.gtp_gateway.specs.Asking.{about}
+use Rattle.gtp_gateway.specs.Parts.{pending_in, node_of}
+use Rattle.gtp_gateway.specs.Spelled.{message_in}
+use Rattle.gtp_gateway.proofs.Requests.{pending_push}
+use Rattle.gtp_gateway.proofs.parts.Parts.ask.Goals as goal
+
+-- the request is kept by its octets, which read as it
+pub returns-clause-node : goal.returns-clause-node
+returns-clause-node c =
+    let old = c.args.self.now in
+    let seq = c.args.seq in
+    let purpose = c.args.purpose in
+    let ws = old.pending.waiting in
+    let request : Message = control_message c.args.message.now in
+    let said : message_in c.in_ok-kept.kept.items ≡ request = ap message_in (c.in_ok-kept.ensures.items ∙ c.as_slice.ensures.value) ∙ c.in_ok-octets.ensures.read in
+    let w : Waiting Purpose = just_sent seq c.control_end_of-to.result c.in_ok-kept.kept.items purpose in
+    let same : c.apply.new.self.pending.waiting ≡ ws = ap (λ r. r.waiting) (c.in_ok-apply.ensures.pending c.requires.keeps) in
+    let pushed : pending_in c.begin.new.self.waiting ≡ insert (pending_in ws) seq (about purpose request) =
+    ap pending_in (c.begin.ensures.waiting ∙ ap (λ (l : List (Waiting Purpose)). l ++ w ∷ []) same)
+    ∙ pending_push ws w (about purpose request) c.requires.prepared.number.free (λ i. about purpose (said i)) in
+    (λ i. record (node_of c.apply.new.self) { pending = pushed i })
+    ∙ ap (λ (n : Node). record n { pending = insert (pending_in ws) seq (about purpose request) }) c.in_ok-apply.ensures.node

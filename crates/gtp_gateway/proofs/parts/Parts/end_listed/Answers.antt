@@ -1,0 +1,51 @@
+use Rattle.std.proofs.Common.{◌≡◌, ◌<◌, List, length, None, inr, sym, subst, arith}
+use Rattle.gtp_ie.specs.declared.value.numbers.EbiValue.{EbiValue}
+use Rattle.gtp_machine.specs.Choice.{HasHeldRoom}
+use Rattle.gtp_machine.specs.Input.{Effect}
+use Rattle.gtp_machine.specs.Serving.{RemovalJudged, RemovalAsked}
+use Rattle.gtp_gateway.specs.declared.change.Change.TheVariants.{Stays}
+use Rattle.gtp_gateway.specs.declared.ending.RemovalAnswer.{RemovalAnswer}
+use Rattle.gtp_gateway.specs.Ending.{ReadsIdentities, removal_effect}
+use Rattle.gtp_gateway.specs.Parts.{arrival_of}
+use Rattle.gtp_gateway.specs.Station.{station_of}
+use Rattle.gtp_gateway.proofs.Answers.{held_few}
+use Rattle.gtp_gateway.proofs.Endings.{row_as, many_judged}
+use Rattle.gtp_gateway.proofs.Rows.{if_ok}
+use Rattle.gtp_gateway.proofs.parts.Parts.end_listed.Goals as goal
+
+pub returns-then-len-gt-MOST_IDENTITIES-clause-taken : goal.returns-then-len-gt-MOST_IDENTITIES-clause-taken
+returns-then-len-gt-MOST_IDENTITIES-clause-taken c =
+    let old = station_of c.args.self.now in
+    let new = station_of c.answer_removal.new.self in
+    let source = c.args.source in
+    let octets = c.args.octets.now in
+    let request = arrival_of source octets in
+    let r = c.args.request.now in
+    let m = c.args.view.now.message in
+    let ids = c.in_ok-identities.identities.items in
+    let a : RemovalAnswer = record { header = c.args.header; cause = 94; linked = None; change = Stays } in
+    let room : HasHeldRoom old.node = record { few = held_few c.args.self.now.held.pairs (λ many. omega (arith, many, c.requires.few)) } in
+    let many : 11 < length ids = omega (arith, c.if-len-gt-MOST_IDENTITIES.true, c.len.ensures) in
+    if_ok c.answer_removal.result
+    (λ step taken. λ d says reads.
+    row_as (λ n e. e ≡ removal_effect request d a n) (RemovalAsked request d) request old.role old.node step new
+    (λ e is. inr (room, subst (λ (x : Effect). RemovalJudged request d old.node x) (sym is) (many_judged request r d old.node c.args.header ids says (reads ids c.in_ok-identities.ensures) c.requires.asked many)))
+    (taken d says.number))
+    c.answer_removal.ensures.taken
+
+pub returns-clause-taken : goal.returns-clause-taken
+returns-clause-taken c =
+    let old = station_of c.args.self.now in
+    let new = station_of c.end_named.new.self in
+    let source = c.args.source in
+    let octets = c.args.octets.now in
+    let request = arrival_of source octets in
+    let r = c.args.request.now in
+    let m = c.args.view.now.message in
+    let ids : List EbiValue = c.as_slice.result.now in
+    let room : HasHeldRoom old.node = record { few = held_few c.args.self.now.held.pairs (λ many. omega (arith, many, c.requires.few)) } in
+    if_ok c.end_named.result
+    (λ step ends. λ d says reads.
+    row_as (RemovalJudged request d) (RemovalAsked request d) request old.role old.node step new (λ e judged. inr (room, judged))
+    (ends d says (reads ids (subst (λ (l : List EbiValue). ReadsIdentities m l) (sym c.as_slice.ensures.value) c.in_ok-identities.ensures))))
+    c.end_named.ensures.taken

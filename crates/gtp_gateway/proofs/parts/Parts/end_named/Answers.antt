@@ -1,0 +1,39 @@
+use Rattle.std.proofs.Common.{◌≡◌, ℕ, List, [], map, Some, None, sym, ◌∙◌, ap, subst}
+use Rattle.gtp_machine.specs.Answer.{answered}
+use Rattle.gtp_machine.specs.Config.{control_end}
+use Rattle.gtp_machine.specs.Element.{cause_of}
+use Rattle.gtp_machine.specs.Message.{Message, Control, Delete_bearer_response}
+use Rattle.gtp_machine.specs.Node.{holding}
+use Rattle.gtp_machine.specs.Reading.{control_message}
+use Rattle.gtp_machine.specs.Serving.{RemovalJudged, removal_cause}
+use Rattle.gtp_machine.specs.Spelling.{spelled}
+use Rattle.gtp_gateway.specs.declared.ending.NamedBearer.{NamedBearer}
+use Rattle.gtp_gateway.specs.Ending.{NamesEach, identity_named, number_in, removed_by, without_each}
+use Rattle.gtp_gateway.specs.Parts.{arrival_of}
+use Rattle.gtp_gateway.specs.Station.{Station, station_of}
+use Rattle.gtp_gateway.proofs.Endings.{ends_judged}
+use Rattle.gtp_gateway.proofs.Rows.{answers}
+use Rattle.gtp_gateway.proofs.parts.Parts.end_named.Goals as goal
+
+pub returns-clause-taken : goal.returns-clause-taken
+returns-clause-taken c = λ d says listed.
+    let old = station_of c.args.self.now in
+    let request = arrival_of c.args.source c.args.octets.now in
+    let r = c.args.request.now in
+    let header = c.args.header.0 in
+    let ids = c.args.identities.now in
+    let ns : List NamedBearer = c.as_slice-bearers.result.now in
+    let value : ns ≡ c.in_ok-named.named.items = c.as_slice-bearers.ensures.value in
+    let names : NamesEach old.node r.header.0 [] ns = subst (λ (l : List NamedBearer). NamesEach old.node r.header.0 [] l) (sym value) c.in_ok-named.ensures.names in
+    let same : map identity_named ns ≡ map number_in ids = ap (map identity_named) value ∙ c.in_ok-named.ensures.identities in
+    let m : Message = Delete_bearer_response (record { header = header; number = d.number; cause = cause_of (removal_cause (map removed_by ns)); linked = None; contexts = map removed_by ns; recovery = Some old.node.counter }) in
+    let said : control_message c.in_ok-message.message ≡ m = c.in_ok-message.ensures.says ∙ (λ i. Delete_bearer_response (record { header = header; number = sym says.number i; cause = cause_of (removal_cause (map removed_by ns)); linked = None; contexts = map removed_by ns; recovery = Some old.node.counter })) in
+    let ready = c.in_ok-ready.ensures in
+    let config = ap (λ s. s.config) c.end_each.ensures.config ∙ ap (λ (s : Station). s.node.config) c.ready_answer.ensures.same in
+    let left = c.end_each.ensures.node ∙ ap (λ (s : Station). without_each ns s.node) c.ready_answer.ensures.same in
+    answers (RemovalJudged request d) request old (station_of c.give.new.self) c.sent.result c.give.result m c.cause_of_all.result (without_each ns old.node) c.sent.ensures
+    (c.give.ensures.sent ∙ (λ i. record { plane = Control; from = control_end (config i).own.control; to = c.args.source; octets = (ready.octets ∙ ap spelled said) i }))
+    (c.give.ensures.node ∙ (λ i. holding (arrival_of c.args.source (ready.request i)) ((ready.read ∙ said) i) (left i)))
+    (c.give.ensures.role ∙ (c.end_each.ensures.role ∙ ap (λ (s : Station). s.role) c.ready_answer.ensures.same))
+    (subst (λ (cause : ℕ). RemovalJudged request d old.node (answered request m cause (without_each ns old.node))) (sym c.cause_of_all.ensures)
+    (ends_judged request r d old.node header ids ns says listed c.requires.asked c.requires.short same names))

@@ -1,0 +1,32 @@
+use Rattle.std.proofs.Common.{◌≡◌, Some, true, ◌∙◌, ap}
+use Rattle.gtp_machine.specs.Config.{control_end}
+use Rattle.gtp_machine.specs.Message.{Control}
+use Rattle.gtp_machine.specs.Node.{holding}
+use Rattle.gtp_machine.specs.Reading.{control_message}
+use Rattle.gtp_machine.specs.Spelling.{spelled}
+use Rattle.gtp_machine.specs.declared.outcome.Outcome.TheVariants.{Answered}
+use Rattle.gtp_gateway.specs.Change.{changed_by}
+use Rattle.gtp_gateway.specs.Grant.{change_of, grants}
+use Rattle.gtp_gateway.specs.Hearing.{node_heard}
+use Rattle.gtp_gateway.specs.Parts.{arrival_of}
+use Rattle.gtp_gateway.specs.Settings.{Settings}
+use Rattle.gtp_gateway.specs.Station.{Station, station_of}
+use Rattle.gtp_gateway.specs.Taken.{plain_report}
+use Rattle.gtp_gateway.proofs.parts.Parts.grant_session.Goals as goal
+
+pub returns-clause-granted : goal.returns-clause-granted
+returns-clause-granted c =
+    let old = station_of c.args.self.now in
+    let ready = c.in_ok-ready.ensures in
+    let change = change_of c.args.request.now c.args.grant.now in
+    let said : control_message c.in_ok-message.message ≡ grants c.args.request.now c.args.grant.now old.node = c.in_ok-message.ensures.says in
+    let same : station_of c.ready_answer.new.self ≡ old = c.ready_answer.ensures.same in
+    let config : c.make_granted.new.self.config.config ≡ old.node.config = ap (λ (s : Settings). s.config) c.make_granted.ensures.config ∙ ap (λ (s : Station). s.node.config) same in
+    record {
+      sent = c.give-out.result;
+      is = c.answered.ensures ∙ (λ i. record { out = Some c.give-out.result; report = record (plain_report (Answered (c.session_cause.ensures i))) { made = true } });
+      goes = c.give-out.ensures.sent ∙ (λ i. record { plane = Control; from = control_end (config i).own.control; to = c.args.source; octets = (ready.octets ∙ ap spelled said) i });
+      becomes = c.give-out.ensures.node
+          ∙ (λ i. holding (arrival_of c.args.source (ready.request i)) ((ready.read ∙ said) i) ((c.in_ok-make_granted.ensures.node ∙ ap (λ (s : Station). changed_by change (node_heard c.args.heard s.node)) same) i));
+      role = c.give-out.ensures.role ∙ c.make_granted.ensures.role ∙ ap (λ (s : Station). s.role) same;
+    }

@@ -1,0 +1,126 @@
+use Rattle.std.proofs.Common.{◌≡◌, ℕ, ◌∷◌, [], Some, true, false, inl, inr, refl, sym, ◌∙◌, ap, subst}
+use Rattle.std.specs.FinMap.{get, insert}
+use Rattle.gtp_machine.specs.Answer.{refusing}
+use Rattle.gtp_machine.specs.Choice.{HasFreeIdentity, IsFreeIdentity}
+use Rattle.gtp_machine.specs.Element.{cause_of, tunnel_end}
+use Rattle.gtp_machine.specs.Input.{Of_create_bearer}
+use Rattle.gtp_machine.specs.Message.{Create_bearer_response}
+use Rattle.gtp_machine.specs.Node.{Bearer, Dedicated, Active}
+use Rattle.gtp_machine.specs.Serving.{no_resources}
+use Rattle.gtp_gateway.specs.Answering.{answering}
+use Rattle.gtp_gateway.specs.Parts.{node_of}
+use Rattle.gtp_gateway.proofs.Columns.{yes, no}
+use Rattle.gtp_gateway.proofs.parts.Parts.judge_bearer.Goals as goal
+
+pub returns-then-not-is_open : goal.returns-then-not-is_open
+returns-then-not-is_open c = record {
+  judged = λ request q says.
+      let old = node_of c.args.self.now in
+      inr (
+        record { session = c.in-Some.session; stands = ap (get old.sessions) says.header ∙ (sym c.get.ensures ∙ c.in-Some.is) },
+        inl (no c.is_open.ensures c.if-not-is_open.true, refl),
+      );
+  chosen = tt;
+}
+
+pub returns-then-not-request : goal.returns-then-not-request
+returns-then-not-request c = record {
+  judged = λ request q says.
+      let old = node_of c.args.self.now in
+      inr (
+        record { session = c.in-Some.session; stands = ap (get old.sessions) says.header ∙ (sym c.get.ensures ∙ c.in-Some.is) },
+        inr (
+          yes c.is_open.ensures c.if-not-is_open.false,
+          inl (
+            no says.alone c.if-not-request.true,
+            λ i. answering false request (refusing Of_create_bearer (c.written_teid-header.ensures i) q.number (cause_of 94) old.counter) 94 old,
+          ),
+        ),
+      );
+  chosen = refl;
+}
+
+pub returns-then-not-is_default : goal.returns-then-not-is_default
+returns-then-not-is_default c = record {
+  judged = λ request q says.
+      let old = node_of c.args.self.now in
+      inr (
+        record { session = c.in-Some.session; stands = ap (get old.sessions) says.header ∙ (sym c.get.ensures ∙ c.in-Some.is) },
+        inr (
+          yes c.is_open.ensures c.if-not-is_open.false,
+          inr (
+            yes says.alone c.if-not-request.false,
+            inl (
+              λ linked. no c.is_default.ensures c.if-not-is_default.true (sym says.linked ∙ linked),
+              λ i. answering false request (refusing Of_create_bearer (c.written_teid-header.ensures i) q.number (cause_of 64) old.counter) 64 old,
+            ),
+          ),
+        ),
+      );
+  chosen = refl;
+}
+
+pub returns-in_default-choose : goal.returns-in_default-choose
+returns-in_default-choose c = record {
+  judged = λ request q says.
+      let old = node_of c.args.self.now in
+      inr (
+        record { session = c.in-Some.session; stands = ap (get old.sessions) says.header ∙ (sym c.get.ensures ∙ c.in-Some.is) },
+        inr (
+          yes c.is_open.ensures c.if-not-is_open.false,
+          inr (
+            yes says.alone c.if-not-request.false,
+            inr (
+              says.linked ∙ yes c.is_default.ensures c.if-not-is_default.false,
+              inl (
+                λ free. c.in_default-choose.ensures.none (subst (λ (t : ℕ). HasFreeIdentity old t) says.header free.0, free.1),
+                λ i. answering false request (Create_bearer_response (no_resources old q (c.written_teid-header.ensures i))) 73 old,
+              ),
+            ),
+          ),
+        ),
+      );
+  chosen = tt;
+}
+
+pub returns : goal.returns
+returns c = record {
+  judged = λ request q says.
+      let old = node_of c.args.self.now in
+      let grant = c.in-Some-choose.grant in
+      let chosen = c.in-Some-choose.ensures.some in
+      let teid = grant.drawn.teid.0 in
+      let free : IsFreeIdentity old q.header grant.identity = record { range = record { low = chosen.identity.range.least; high = chosen.identity.range.most }; unused = subst (λ (t : ℕ). (k : ℕ) (b : Bearer) → get old.bearers k ≡ Some b → b.session ≡ t → b.identity ≡ Some grant.identity → ⊥) (sym says.header) chosen.identity.unused } in
+      inr (
+        record { session = c.in-Some.session; stands = ap (get old.sessions) says.header ∙ (sym c.get.ensures ∙ c.in-Some.is) },
+        inr (
+          yes c.is_open.ensures c.if-not-is_open.false,
+          inr (
+            yes says.alone c.if-not-request.false,
+            inr (
+              says.linked ∙ yes c.is_default.ensures c.if-not-is_default.false,
+              inr (
+                (record { identity = grant.identity; free = free }, chosen.drawn.left),
+                record {
+                  user = teid;
+                  identity = grant.identity;
+                  user_free = chosen.drawn.free;
+                  identity_free = free;
+                  gives = λ i. answering true request
+                      (Create_bearer_response (record {
+                        header = c.written_teid-header.ensures i;
+                        number = q.number;
+                        cause = cause_of 16;
+                        contexts = record { identity = grant.identity; cause = cause_of 16; serving_user = Some (tunnel_end 4 teid old.config.own.user); packet_user = Some q.context.user } ∷ [];
+                        recovery = Some old.counter;
+                      }))
+                      16
+                      (record old { drawn = teid ∷ old.drawn; bearers = insert old.bearers teid (record { remote = Some (sym says.user i).teid; session = sym says.header i; identity = Some grant.identity; kind = Dedicated; state = Active; ended = false }) });
+                },
+              ),
+            ),
+          ),
+        ),
+      );
+  chosen = c.in-Some-choose.ensures.some;
+}

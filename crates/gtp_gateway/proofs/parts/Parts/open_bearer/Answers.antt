@@ -1,0 +1,17 @@
+use Rattle.std.proofs.Common.{◌∙◌}
+use Rattle.gtp_gateway.specs.Hearing.{node_heard}
+use Rattle.gtp_gateway.specs.Parts.{node_of}
+use Rattle.gtp_gateway.proofs.Settled.{bearer_stood, heard_opened}
+use Rattle.gtp_gateway.proofs.parts.Parts.open_bearer.Goals as goal
+
+pub open-requires : goal.open-requires
+open-requires c =
+    let at = c.requires.can in
+    record { unopened = record { bearer = at.bearer; stands = bearer_stood c.args.heard (node_of c.args.self.now) c.args.teid.0 at.bearer at.stands; blank = at.blank } }
+
+pub returns-clause-node : goal.returns-clause-node
+returns-clause-node c =
+    let old = node_of c.args.self.now in
+    c.hear.ensures.node
+    ∙ ((λ i. node_heard c.args.heard (record old { bearers = c.in_ok-open.ensures.ok i }))
+    ∙ heard_opened c.args.heard old c.args.teid c.args.bearer c.requires.can)

@@ -1,0 +1,37 @@
+use Rattle.std.proofs.Common.{sym, subst}
+use Rattle.gtp_machine.specs.Message.{Plane, Control, User}
+use Rattle.gtp_gateway.specs.declared.step.Step.{Step}
+use Rattle.gtp_gateway.specs.Received.{IsReceived, KeepsTiming}
+use Rattle.gtp_gateway.specs.Station.{station_of}
+use Rattle.gtp_gateway.proofs.Receiving.{control_received, user_received}
+use Rattle.gtp_gateway.proofs.parts.Parts.receive.Goals as goal
+
+pub returns-in_ok-step-in-Control-clause-received : goal.returns-in_ok-step-in-Control-clause-received
+returns-in_ok-step-in-Control-clause-received c =
+    let old = station_of c.args.self.now in
+    let new = station_of c.receive_control.new.self in
+    let octets = c.args.octets.now in
+    subst (λ (p : Plane). IsReceived p c.args.source octets old c.from.result new) (sym c.in-Control.is)
+    (subst (λ (r : Step). IsReceived Control c.args.source octets old r new) (sym c.from.ensures)
+    (control_received c.args.source octets old c.in_ok-step-in-Control.step new c.in_ok-step-in-Control.ensures.taken))
+
+pub returns-in_ok-step-in-User-clause-received : goal.returns-in_ok-step-in-User-clause-received
+returns-in_ok-step-in-User-clause-received c =
+    let old = station_of c.args.self.now in
+    let new = station_of c.receive_user.new.self in
+    let octets = c.args.octets.now in
+    subst (λ (p : Plane). IsReceived p c.args.source octets old c.from-in-User.result new) (sym c.in-User.is)
+    (subst (λ (r : Step). IsReceived User c.args.source octets old r new) (sym c.from-in-User.ensures)
+    (user_received c.args.source octets old c.in_ok-step-in-User.step new c.in_ok-step-in-User.ensures.taken))
+
+pub returns-in_ok-step-in-Control-clause-timing : goal.returns-in_ok-step-in-Control-clause-timing
+returns-in_ok-step-in-Control-clause-timing c =
+    subst (λ (p : Plane). KeepsTiming p c.from.result (station_of c.args.self.now) (station_of c.receive_control.new.self)) (sym c.in-Control.is) tt
+
+pub returns-in_ok-step-in-User-clause-timing : goal.returns-in_ok-step-in-User-clause-timing
+returns-in_ok-step-in-User-clause-timing c =
+    let old = station_of c.args.self.now in
+    let new = station_of c.receive_user.new.self in
+    let taken = c.in_ok-step-in-User.ensures.taken in
+    subst (λ (p : Plane). KeepsTiming p c.from-in-User.result old new) (sym c.in-User.is)
+    (subst (λ (r : Step). KeepsTiming User r old new) (sym c.from-in-User.ensures) (taken.same, taken.waits))

@@ -1,0 +1,30 @@
+use Rattle.std.proofs.Common.{◌≡◌, ◌∙◌, ap}
+use Rattle.gtp_machine.specs.Answer.{refusing}
+use Rattle.gtp_machine.specs.Config.{control_end}
+use Rattle.gtp_machine.specs.Input.{Of_create_session}
+use Rattle.gtp_machine.specs.Message.{Message, Control}
+use Rattle.gtp_machine.specs.Node.{holding}
+use Rattle.gtp_machine.specs.Reading.{control_message}
+use Rattle.gtp_machine.specs.Spelling.{spelled}
+use Rattle.gtp_gateway.specs.Hearing.{node_heard}
+use Rattle.gtp_gateway.specs.Parts.{arrival_of}
+use Rattle.gtp_gateway.specs.Settings.{Settings}
+use Rattle.gtp_gateway.specs.Station.{Station, station_of}
+use Rattle.gtp_gateway.proofs.parts.Parts.refuse_session.Goals as goal
+
+pub returns-clause-refused : goal.returns-clause-refused
+returns-clause-refused c =
+    let old = station_of c.args.self.now in
+    let ready = c.in_ok-ready.ensures in
+    let m : Message = refusing Of_create_session c.args.request.now.control.teid c.args.request.now.seq c.args.cause old.node.counter in
+    let said : control_message c.refusal-message.result ≡ m = c.refusal-message.ensures.says ∙ (λ i. refusing Of_create_session (c.teid-header.ensures i) c.args.request.now.seq c.args.cause (c.counter-counter.ensures i)) in
+    let same : station_of c.ready_answer.new.self ≡ old = c.ready_answer.ensures.same in
+    let config : c.hear.new.self.config.config ≡ old.node.config = ap (λ (s : Settings). s.config) c.hear.ensures.config ∙ ap (λ (s : Station). s.node.config) same in
+    record {
+      sent = c.give-out.result;
+      is = c.answered.ensures;
+      goes = c.give-out.ensures.sent ∙ (λ i. record { plane = Control; from = control_end (config i).own.control; to = c.args.source; octets = (ready.octets ∙ ap spelled said) i });
+      becomes = c.give-out.ensures.node
+          ∙ (λ i. holding (arrival_of c.args.source (ready.request i)) ((ready.read ∙ said) i) ((c.hear.ensures.node ∙ ap (λ (s : Station). node_heard c.args.heard s.node) same) i));
+      role = c.give-out.ensures.role ∙ c.hear.ensures.role ∙ ap (λ (s : Station). s.role) same;
+    }

@@ -1,0 +1,46 @@
+use Rattle.std.proofs.Common.{◌≡◌, Option, inl, inr, refl, sym, subst}
+use Rattle.gtp_machine.specs.Reading.{control_message}
+use Rattle.gtp_machine.specs.Serving.{BearerJudged, BearerAsked}
+use Rattle.gtp_machine.specs.declared.outcome.DropReason.TheVariants.{HeldFull, ContextNotActive}
+use Rattle.gtp_gateway.specs.declared.granting.BearerVerdict.{BearerVerdict}
+use Rattle.gtp_gateway.specs.Answering.{answering}
+use Rattle.gtp_gateway.specs.Change.{changed_by}
+use Rattle.gtp_gateway.specs.Granting.{bearer_answer, bearer_effect}
+use Rattle.gtp_gateway.specs.Parts.{arrival_of, node_of}
+use Rattle.gtp_gateway.specs.Station.{station_of}
+use Rattle.gtp_gateway.proofs.Answers.{held_few, held_many}
+use Rattle.gtp_gateway.proofs.Columns.{yes, no}
+use Rattle.gtp_gateway.proofs.Rows.{drops, answers_made}
+use Rattle.gtp_gateway.proofs.parts.Parts.take_bearer_request.Goals as goal
+
+pub returns-then-is_full-clause-taken : goal.returns-then-is_full-clause-taken
+returns-then-is_full-clause-taken c = λ q says.
+    let old = c.args.self.now in
+    let request = arrival_of c.args.source c.args.octets.now in
+    drops (BearerAsked request q) request (station_of old) c.dropped.result HeldFull c.dropped.ensures (inl (λ room. held_many old.held.pairs (yes c.is_full.ensures.full c.if-is_full.true) room.few, refl))
+
+pub returns-in_default-clause-taken : goal.returns-in_default-clause-taken
+returns-in_default-clause-taken c = λ q says.
+    let old = c.args.self.now in
+    let node = node_of old in
+    let request = arrival_of c.args.source c.args.octets.now in
+    drops (BearerAsked request q) request (station_of old) c.dropped-in_default.result ContextNotActive c.dropped-in_default.ensures
+    (inr (
+      record { few = held_few old.held.pairs (no c.is_full.ensures.full c.if-is_full.false) },
+      subst (λ (v : Option BearerVerdict). BearerJudged request q node (bearer_effect request c.args.request.now q v node)) c.in_default.is (c.judge_bearer.ensures.judged request q says),
+    ))
+
+pub returns-clause-taken : goal.returns-clause-taken
+returns-clause-taken c = λ q says.
+    let old = c.args.self.now in
+    let node = node_of old in
+    let request = arrival_of c.args.source c.args.octets.now in
+    let r = c.args.request.now in
+    let v = c.in-Some.verdict in
+    let judged = subst (λ (o : Option BearerVerdict). BearerJudged request q node (bearer_effect request r q o node)) c.in-Some.is (c.judge_bearer.ensures.judged request q says) in
+    let said : control_message c.in_ok-message.message ≡ bearer_answer v.answer v.header.0 q node = c.in_ok-message.ensures.says q says in
+    answers_made (BearerAsked request q) request (station_of old) (station_of c.answer.new.self) c.answered.result c.in_ok-out.out (control_message c.in_ok-message.message) c.cause.result c.is_granted.result (changed_by c.change.result node) c.answered.ensures c.in_ok-out.ensures.sent c.in_ok-out.ensures.node c.in_ok-out.ensures.role
+    (inr (
+      record { few = held_few old.held.pairs (no c.is_full.ensures.full c.if-is_full.false) },
+      subst (λ e. BearerJudged request q node e) (λ i. answering (sym c.is_granted.ensures i) request (sym said i) (sym c.cause.ensures i) (changed_by (sym c.change.ensures i) node)) judged,
+    ))

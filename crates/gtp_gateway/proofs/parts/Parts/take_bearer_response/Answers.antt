@@ -1,0 +1,16 @@
+use Rattle.std.proofs.Common.{ℕ, subst}
+use Rattle.gtp_machine.specs.Packet.{BearerAnswered}
+use Rattle.gtp_gateway.specs.Hearing.{node_heard}
+use Rattle.gtp_gateway.specs.Settled.{effect_by}
+use Rattle.gtp_gateway.specs.Station.{station_of}
+use Rattle.gtp_gateway.proofs.Settled.{settled, if_ok}
+use Rattle.gtp_gateway.proofs.parts.Parts.take_bearer_response.Goals as goal
+
+pub returns-clause-taken : goal.returns-clause-taken
+returns-clause-taken c =
+    let old = station_of c.args.self.now in
+    let new = station_of c.settle.new.self in
+    let r = c.args.answer.now in
+    let v = c.judge_bearer_response-verdict.result in
+    let n = node_heard c.args.heard old.node in
+    if_ok (λ step is becomes request x says. settled (BearerAnswered x) request c.args.heard old new v r.response.seq step is becomes c.settle.ensures.role (subst (λ (i : ℕ). BearerAnswered x n (effect_by v i n)) says.number (c.judge_bearer_response-verdict.ensures.judged x says))) c.settle.result c.settle.ensures.step c.settle.ensures.node

@@ -1,0 +1,154 @@
+use Rattle.std.proofs.Common.{◌≡◌, true, Some, refl, sym, ◌∙◌, ap, subst}
+use Rattle.gtp_machine.specs.Answer.{echoed}
+use Rattle.gtp_machine.specs.Message.{recovery_of}
+use Rattle.gtp_machine.specs.Decoded.{message_of}
+use Rattle.gtp_machine.specs.Packet.{SessionAsked, DeletionAsked, BearerAnswered, RemovalAnswered}
+use Rattle.gtp_machine.specs.Response.{EchoAnswered}
+use Rattle.gtp_machine.specs.Serving.{BearerAsked, SessionAnswered, DeletionAnswered, RemovalAsked}
+use Rattle.gtp_gateway.specs.declared.procedure.Procedure.{Procedure}
+use Rattle.gtp_gateway.specs.declared.procedure.Procedure.TheVariants as procedures
+use Rattle.gtp_gateway.specs.Hearing.{node_heard}
+use Rattle.gtp_gateway.specs.Parts.{arrival_of}
+use Rattle.gtp_gateway.specs.Procedure.{has, TakesBy}
+use Rattle.gtp_gateway.specs.Station.{station_of}
+use Rattle.gtp_gateway.proofs.ByProcedure.{unheard, deletion_request_is, takes_deletion_request, echo_request_is, takes_echo_request, echo_response_is, takes_echo_response, deletion_response_is, takes_deletion_response, removal_response_is, removal_cause, takes_removal_response, takes_session_request}
+use Rattle.gtp_gateway.proofs.Endings.{delete_bearer_is, takes_removal_request}
+use Rattle.gtp_gateway.proofs.InPlace.{type_is}
+use Rattle.gtp_gateway.proofs.Grants.{has_context, create_bearer_is, takes_bearer_request}
+use Rattle.gtp_gateway.proofs.BearerAnswers.{takes_bearer_response}
+use Rattle.gtp_gateway.proofs.Rows.{if_ok, as_row}
+use Rattle.gtp_gateway.proofs.SessionAnswers.{takes_session_response}
+use Rattle.gtp_gateway.proofs.parts.Parts.take_heard.Goals as goal
+
+pub returns-in-EchoAsked-clause-taken : goal.returns-in-EchoAsked-clause-taken
+returns-in-EchoAsked-clause-taken c =
+    let old = station_of c.args.self.now in
+    let m = c.args.view.now.message in
+    let request = arrival_of c.args.source c.args.octets.now in
+    let says = echo_request_is c.args.octets.now m c.requires.spelled (c.requires.of ∙ ap (λ (p : Procedure). Some p) c.in-EchoAsked.is) in
+    if_ok c.take_echo_request.result (λ step taken. as_row (λ n e. e ≡ echoed request says.request n) (TakesBy old.role request (message_of m)) request old.role old.role (node_heard c.args.heard old.node) (node_heard c.args.heard old.node) step (station_of c.take_echo_request.new.self) refl refl
+    (takes_echo_request old.role request says.request (message_of m) says.is)
+    (taken request says.request refl (says.number ∙ sym c.seq.ensures)))
+    c.take_echo_request.ensures.taken
+
+pub returns-in-EchoAnswered-clause-taken : goal.returns-in-EchoAnswered-clause-taken
+returns-in-EchoAnswered-clause-taken c =
+    let old = station_of c.args.self.now in
+    let m = c.args.view.now.message in
+    let request = arrival_of c.args.source c.args.octets.now in
+    let says = echo_response_is c.args.octets.now m c.requires.spelled (c.requires.of ∙ ap (λ (p : Procedure). Some p) c.in-EchoAnswered.is) in
+    let heard = station_of c.hear.new.self in
+    as_row (EchoAnswered says.response) (TakesBy old.role request (message_of m)) request old.role heard.role (node_heard c.args.heard old.node) heard.node _ (station_of c.take_echo_response.new.self) c.hear.ensures.role c.hear.ensures.node
+    (takes_echo_response old.role request says.response (message_of m) says.is)
+    (c.take_echo_response.ensures request says.response (says.number ∙ sym c.seq-in-EchoAnswered.ensures))
+
+pub take_echo_request-requires : goal.take_echo_request-requires
+take_echo_request-requires c = record { weighed = (c.requires.weighed.0, c.requires.weighed.2) }
+
+pub hear-requires : goal.hear-requires
+hear-requires c = (c.requires.weighed.0, c.requires.weighed.2)
+
+pub returns-in-DeletionAsked-clause-taken : goal.returns-in-DeletionAsked-clause-taken
+returns-in-DeletionAsked-clause-taken c =
+    let old = station_of c.args.self.now in
+    let m = c.args.view.now.message in
+    let request = arrival_of c.args.source c.args.octets.now in
+    let says = deletion_request_is c.args.octets.now m c.deletion_request_in-request.result c.requires.spelled (c.requires.of ∙ ap (λ (p : Procedure). Some p) c.in-DeletionAsked.is) c.deletion_request_in-request.ensures in
+    if_ok c.take_deletion_request.result (λ step taken. as_row (DeletionAsked request says.request) (TakesBy old.role request (message_of m)) request old.role old.role (node_heard c.args.heard old.node) old.node step (station_of c.take_deletion_request.new.self) refl (unheard c.args.heard (message_of m) old c.requires.weighed (ap recovery_of says.is))
+    (takes_deletion_request old.role request says.request (message_of m) (subst (λ (p : Procedure). has old.role p ≡ true) c.in-DeletionAsked.is c.requires.has) says.is)
+    (taken says.request says.says))
+    c.take_deletion_request.ensures.taken
+
+pub returns-in-DeletionAnswered-clause-taken : goal.returns-in-DeletionAnswered-clause-taken
+returns-in-DeletionAnswered-clause-taken c =
+    let old = station_of c.args.self.now in
+    let m = c.args.view.now.message in
+    let request = arrival_of c.args.source c.args.octets.now in
+    let r = c.response_in-response in
+    let says = deletion_response_is c.args.octets.now m r.result.cause c.requires.spelled (c.requires.of ∙ ap (λ (p : Procedure). Some p) c.in-DeletionAnswered.is) r.ensures.cause in
+    let heard = station_of c.hear-in-DeletionAnswered.new.self in
+    as_row (DeletionAnswered says.response) (TakesBy old.role request (message_of m)) request old.role heard.role (node_heard c.args.heard old.node) heard.node _ (station_of c.take_deletion_response.new.self) c.hear-in-DeletionAnswered.ensures.role c.hear-in-DeletionAnswered.ensures.node
+    (takes_deletion_response old.role request says.response (message_of m) (subst (λ (p : Procedure). has old.role p ≡ true) c.in-DeletionAnswered.is c.requires.has) says.is)
+    (c.take_deletion_response.ensures request says.response (says.header ∙ sym r.ensures.header) (says.number ∙ sym r.ensures.seq) says.cause)
+
+pub returns-in-RemovalAnswered-clause-taken : goal.returns-in-RemovalAnswered-clause-taken
+returns-in-RemovalAnswered-clause-taken c =
+    let old = station_of c.args.self.now in
+    let m = c.args.view.now.message in
+    let request = arrival_of c.args.source c.args.octets.now in
+    let r = c.response_in-response-in-RemovalAnswered in
+    let says = removal_response_is c.args.octets.now m r.result.cause c.requires.spelled (c.requires.of ∙ ap (λ (p : Procedure). Some p) c.in-RemovalAnswered.is) r.ensures.cause in
+    let heard = station_of c.hear-in-RemovalAnswered.new.self in
+    as_row (RemovalAnswered says.response) (TakesBy old.role request (message_of m)) request old.role heard.role (node_heard c.args.heard old.node) heard.node _ (station_of c.take_removal_response.new.self) c.hear-in-RemovalAnswered.ensures.role c.hear-in-RemovalAnswered.ensures.node
+    (takes_removal_response old.role request says.response (message_of m) (subst (λ (p : Procedure). has old.role p ≡ true) c.in-RemovalAnswered.is c.requires.has) says.is)
+    (c.take_removal_response.ensures request says.response (says.header ∙ sym r.ensures.header) (says.number ∙ sym r.ensures.seq) says.cause)
+
+pub session_request_in-request-requires-clause-of : goal.session_request_in-request-requires-clause-of
+session_request_in-request-requires-clause-of c = type_is c.args.view.now.message.kind procedures.SessionAsked (c.requires.of ∙ ap (λ (p : Procedure). Some p) c.in-SessionAsked.is)
+
+pub returns-in-SessionAsked-clause-taken : goal.returns-in-SessionAsked-clause-taken
+returns-in-SessionAsked-clause-taken c =
+    let old = station_of c.args.self.now in
+    let m = c.args.view.now.message in
+    let request = arrival_of c.args.source c.args.octets.now in
+    let q = c.session_request_in-request.ensures in
+    if_ok c.take_session_request.result (λ step taken. as_row (SessionAsked request q.0) (TakesBy old.role request (message_of m)) request old.role old.role (node_heard c.args.heard old.node) (node_heard c.args.heard old.node) step (station_of c.take_session_request.new.self) refl refl
+    (takes_session_request old.role request q.0 (message_of m) (subst (λ (p : Procedure). has old.role p ≡ true) c.in-SessionAsked.is c.requires.has) q.1)
+    (taken q.0 q.2))
+    c.take_session_request.ensures.taken
+
+pub take_session_request-requires-clause-weighed : goal.take_session_request-requires-clause-weighed
+take_session_request-requires-clause-weighed c = (c.requires.weighed.0, c.requires.weighed.2)
+
+pub returns-in-BearerAsked-clause-taken : goal.returns-in-BearerAsked-clause-taken
+returns-in-BearerAsked-clause-taken c =
+    let old = station_of c.args.self.now in
+    let m = c.args.view.now.message in
+    let request = arrival_of c.args.source c.args.octets.now in
+    let says = create_bearer_is c.args.octets.now m c.bearer_request_in-request.result c.requires.spelled (c.requires.of ∙ ap (λ (p : Procedure). Some p) c.in-BearerAsked.is) c.bearer_request_in-request.ensures in
+    if_ok c.take_bearer_request.result (λ step taken. as_row (BearerAsked request says.request) (TakesBy old.role request (message_of m)) request old.role old.role (node_heard c.args.heard old.node) old.node step (station_of c.take_bearer_request.new.self) refl (unheard c.args.heard (message_of m) old c.requires.weighed (ap recovery_of says.is))
+    (takes_bearer_request old.role request says.request (message_of m) (subst (λ (p : Procedure). has old.role p ≡ true) c.in-BearerAsked.is c.requires.has) says.is)
+    (taken says.request says.says))
+    c.take_bearer_request.ensures.taken
+
+pub bearer_request_in-request-requires : goal.bearer_request_in-request-requires
+bearer_request_in-request-requires c = has_context c.args.octets.now c.args.view.now.message c.requires.spelled (c.requires.of ∙ ap (λ (p : Procedure). Some p) c.in-BearerAsked.is)
+
+pub response_in-response-requires-in-RemovalAnswered : goal.response_in-response-requires-in-RemovalAnswered
+response_in-response-requires-in-RemovalAnswered c = removal_cause c.args.octets.now c.args.view.now.message c.requires.spelled (c.requires.of ∙ ap (λ (p : Procedure). Some p) c.in-RemovalAnswered.is)
+
+pub returns-in-SessionAnswered-clause-taken : goal.returns-in-SessionAnswered-clause-taken
+returns-in-SessionAnswered-clause-taken c =
+    let old = station_of c.args.self.now in
+    let m = c.args.view.now.message in
+    let request = arrival_of c.args.source c.args.octets.now in
+    let reads = c.session_response_in-answer.ensures in
+    if_ok c.take_session_response.result (λ step taken. as_row (SessionAnswered reads.response) (TakesBy old.role request (message_of m)) request old.role old.role (node_heard c.args.heard old.node) (node_heard c.args.heard old.node) step (station_of c.take_session_response.new.self) refl refl
+    (takes_session_response old.role request reads.response (message_of m) (subst (λ (p : Procedure). has old.role p ≡ true) c.in-SessionAnswered.is c.requires.has) reads.is)
+    (taken request reads.response reads.says))
+    c.take_session_response.ensures.taken
+
+pub take_removal_request-requires-clause-kind : goal.take_removal_request-requires-clause-kind
+take_removal_request-requires-clause-kind c = type_is c.args.view.now.message.kind procedures.RemovalAsked (c.requires.of ∙ ap (λ (p : Procedure). Some p) c.in-RemovalAsked.is)
+
+pub returns-in-RemovalAsked-clause-taken : goal.returns-in-RemovalAsked-clause-taken
+returns-in-RemovalAsked-clause-taken c =
+    let old = station_of c.args.self.now in
+    let m = c.args.view.now.message in
+    let request = arrival_of c.args.source c.args.octets.now in
+    let says = delete_bearer_is c.args.octets.now m c.deletion_request_in-request-in-RemovalAsked.result c.requires.spelled (c.requires.of ∙ ap (λ (p : Procedure). Some p) c.in-RemovalAsked.is) c.deletion_request_in-request-in-RemovalAsked.ensures in
+    if_ok c.take_removal_request.result (λ step taken. as_row (RemovalAsked request says.request) (TakesBy old.role request (message_of m)) request old.role old.role (node_heard c.args.heard old.node) old.node step (station_of c.take_removal_request.new.self) refl (unheard c.args.heard (message_of m) old c.requires.weighed (ap recovery_of says.is))
+    (takes_removal_request old.role request says.request (message_of m) (subst (λ (p : Procedure). has old.role p ≡ true) c.in-RemovalAsked.is c.requires.has) says.is)
+    (taken says.request says.says says.reads))
+    c.take_removal_request.ensures.taken
+
+pub returns-in-BearerAnswered-clause-taken : goal.returns-in-BearerAnswered-clause-taken
+returns-in-BearerAnswered-clause-taken c =
+    let old = station_of c.args.self.now in
+    let m = c.args.view.now.message in
+    let request = arrival_of c.args.source c.args.octets.now in
+    let reads = c.bearer_response_in-answer.ensures in
+    if_ok c.take_bearer_response.result (λ step taken. as_row (BearerAnswered reads.response) (TakesBy old.role request (message_of m)) request old.role old.role (node_heard c.args.heard old.node) (node_heard c.args.heard old.node) step (station_of c.take_bearer_response.new.self) refl refl
+    (takes_bearer_response old.role request reads.response (message_of m) (subst (λ (p : Procedure). has old.role p ≡ true) c.in-BearerAnswered.is c.requires.has) reads.is)
+    (taken request reads.response reads.says))
+    c.take_bearer_response.ensures.taken

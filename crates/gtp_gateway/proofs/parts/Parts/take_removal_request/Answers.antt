@@ -1,0 +1,44 @@
+use Rattle.std.proofs.Common.{◌≡◌, inl, inr, refl, sym, subst}
+use Rattle.gtp_machine.specs.Choice.{HasHeldRoom}
+use Rattle.gtp_machine.specs.Input.{Effect}
+use Rattle.gtp_machine.specs.Serving.{RemovalJudged, RemovalAsked}
+use Rattle.gtp_machine.specs.declared.outcome.DropReason.TheVariants.{HeldFull, ContextNotActive}
+use Rattle.gtp_gateway.specs.Ending.{removal_effect}
+use Rattle.gtp_gateway.specs.Parts.{arrival_of}
+use Rattle.gtp_gateway.specs.Station.{station_of}
+use Rattle.gtp_gateway.proofs.Answers.{held_few, held_many}
+use Rattle.gtp_gateway.proofs.Columns.{yes, no}
+use Rattle.gtp_gateway.proofs.Endings.{row_as}
+use Rattle.gtp_gateway.proofs.Rows.{if_ok, drops}
+use Rattle.gtp_gateway.proofs.parts.Parts.take_removal_request.Goals as goal
+
+pub returns-then-is_full-clause-taken : goal.returns-then-is_full-clause-taken
+returns-then-is_full-clause-taken c = λ d says reads.
+    let old = c.args.self.now in
+    let request = arrival_of c.args.source c.args.octets.now in
+    drops (RemovalAsked request d) request (station_of old) c.dropped.result HeldFull c.dropped.ensures (inl (λ room. held_many old.held.pairs (yes c.is_full.ensures.full c.if-is_full.true) room.few, refl))
+
+pub returns-in-NotOpened-clause-taken : goal.returns-in-NotOpened-clause-taken
+returns-in-NotOpened-clause-taken c = λ d says reads.
+    let old = c.args.self.now in
+    let request = arrival_of c.args.source c.args.octets.now in
+    drops (RemovalAsked request d) request (station_of old) c.dropped-in-NotOpened.result ContextNotActive c.dropped-in-NotOpened.ensures
+    (inr (record { few = held_few old.held.pairs (no c.is_full.ensures.full c.if-is_full.false) }, c.in-NotOpened.ensures request d says))
+
+pub returns-in-Answered-clause-taken : goal.returns-in-Answered-clause-taken
+returns-in-Answered-clause-taken c =
+    let old = station_of c.args.self.now in
+    let new = station_of c.answer_removal.new.self in
+    let source = c.args.source in
+    let octets = c.args.octets.now in
+    let request = arrival_of source octets in
+    let r = c.args.request.now in
+    let m = c.args.view.now.message in
+    let a = c.in-Answered.answer in
+    let room : HasHeldRoom old.node = record { few = held_few c.args.self.now.held.pairs (no c.is_full.ensures.full c.if-is_full.false) } in
+    if_ok c.answer_removal.result
+    (λ step taken. λ d says reads.
+    row_as (λ n e. e ≡ removal_effect request d a n) (RemovalAsked request d) request old.role old.node step new
+    (λ e is. inr (room, subst (λ (x : Effect). RemovalJudged request d old.node x) (sym is) (c.in-Answered.ensures.judged request d says)))
+    (taken d says.number))
+    c.answer_removal.ensures.taken

@@ -1,0 +1,62 @@
+use Rattle.std.proofs.Common.{◌<◌, List, length, false, true, inl, inr, refl, sym, subst}
+use Rattle.gtp_machine.specs.Answer.{answered, making}
+use Rattle.gtp_machine.specs.Choice.{HasHeldRoom}
+use Rattle.gtp_machine.specs.Input.{Effect}
+use Rattle.gtp_machine.specs.Message.{Message}
+use Rattle.gtp_machine.specs.Node.{Held}
+use Rattle.gtp_machine.specs.Packet.{SessionJudged, SessionAsked, session_cause}
+use Rattle.gtp_machine.specs.declared.outcome.DropReason.TheVariants.{HeldFull}
+use Rattle.gtp_machine.specs.declared.outcome.Outcome.TheVariants.{Dropped}
+use Rattle.gtp_gateway.specs.declared.session_grant.SessionVerdict.{SessionVerdict}
+use Rattle.gtp_gateway.specs.Grant.{session_effect, IsVerdict}
+use Rattle.gtp_gateway.specs.Hearing.{node_heard}
+use Rattle.gtp_gateway.specs.Parts.{arrival_of, node_of}
+use Rattle.gtp_gateway.specs.Station.{station_of}
+use Rattle.gtp_gateway.proofs.Answers.{held_few, held_many}
+use Rattle.gtp_gateway.proofs.Answered.{held_stays, answered_so, refusal_same, grant_same, made_same}
+use Rattle.gtp_gateway.proofs.Columns.{yes, no}
+use Rattle.gtp_gateway.proofs.Rows.{if_ok, ends, config_stays}
+use Rattle.gtp_gateway.proofs.parts.Parts.take_session_request.Goals as goal
+
+pub returns-then-is_full-clause-taken : goal.returns-then-is_full-clause-taken
+returns-then-is_full-clause-taken c = λ q says.
+    let old = c.args.self.now in
+    let left = node_heard c.args.heard (node_of old) in
+    let request = arrival_of c.args.source c.args.octets.now in
+    ends (SessionAsked request q) request (record (station_of old) { node = left }) (station_of c.hear.new.self) c.dropped.result (Dropped HeldFull) left c.dropped.ensures c.hear.ensures.node c.hear.ensures.role
+    (inl (λ room. held_many old.held.pairs (yes c.is_full.ensures.full c.if-is_full.true) (subst (λ (held : List Held). length held < 4096) (held_stays c.args.heard (node_of old)) room.few), refl))
+
+pub returns-in-Refused-clause-taken : goal.returns-in-Refused-clause-taken
+returns-in-Refused-clause-taken c =
+    let old = station_of c.args.self.now in
+    let left = node_heard c.args.heard old.node in
+    let request = arrival_of c.args.source c.args.octets.now in
+    let r = c.args.request.now in
+    let cause = c.in-Refused.cause in
+    let room : HasHeldRoom left = record { few = subst (λ (held : List Held). length held < 4096) (sym (held_stays c.args.heard old.node)) (held_few c.args.self.now.held.pairs (no c.is_full.ensures.full c.if-is_full.false)) } in
+    if_ok c.refuse_session.result (λ step a q says.
+    answered_so (SessionAsked request q) c.args.source c.args.octets.now _ cause.value false left left old step (station_of c.refuse_session.new.self) (config_stays c.args.heard old.node) a
+    (inr (
+      room,
+      subst (λ (m : Message). SessionJudged request q left (answered request m cause.value left)) (sym (refusal_same r q says c.args.heard old.node cause))
+          (subst (λ (v : SessionVerdict). SessionJudged request q left (session_effect request q v left)) c.in-Refused.is (c.judge_session.ensures.judged request q says)),
+    )))
+    c.refuse_session.ensures.refused
+
+pub returns-in-Granted-clause-taken : goal.returns-in-Granted-clause-taken
+returns-in-Granted-clause-taken c =
+    let old = station_of c.args.self.now in
+    let left = node_heard c.args.heard old.node in
+    let request = arrival_of c.args.source c.args.octets.now in
+    let r = c.args.request.now in
+    let g = c.in-Granted.grant in
+    let room : HasHeldRoom left = record { few = subst (λ (held : List Held). length held < 4096) (sym (held_stays c.args.heard old.node)) (held_few c.args.self.now.held.pairs (no c.is_full.ensures.full c.if-is_full.false)) } in
+    let chosen = subst (λ (v : SessionVerdict). IsVerdict r.default.identity v c.args.heard old.node) c.in-Granted.is c.judge_session.ensures.is in
+    if_ok c.grant_session.result (λ step a q says.
+    answered_so (SessionAsked request q) c.args.source c.args.octets.now _ (session_cause r.pdn.0) true _ left old step (station_of c.grant_session.new.self) (config_stays c.args.heard old.node) a
+    (inr (
+      room,
+      subst (λ (e : Effect). SessionJudged request q left e) (λ i. making request (sym (grant_same r q says c.args.heard old.node g chosen.identity_is) i) (session_cause (says.pdn i)) (sym (made_same r q says c.args.heard old.node g chosen.identity_is) i))
+          (subst (λ (v : SessionVerdict). SessionJudged request q left (session_effect request q v left)) c.in-Granted.is (c.judge_session.ensures.judged request q says)),
+    )))
+    c.grant_session.ensures.granted

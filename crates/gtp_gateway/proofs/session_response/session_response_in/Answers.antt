@@ -1,0 +1,35 @@
+use Rattle.std.proofs.Common.{sym, ◌∙◌, ap}
+use Rattle.gtp_machine.specs.Element.{ipv4_of, teid_in}
+use Rattle.gtp_v2.specs.Viewed.{in_row}
+use Rattle.gtp_gateway.specs.declared.procedure.Procedure.TheVariants.{SessionAnswered}
+use Rattle.gtp_gateway.proofs.ByProcedure.{cause_is}
+use Rattle.gtp_gateway.proofs.InPlace.{type_is, reads_so, row_so, session_answered}
+use Rattle.gtp_gateway.proofs.SessionAnswers.{created_others, created_contexts, created_only, end_is, paa_is}
+use Rattle.gtp_gateway.proofs.session_response.session_response_in.Goals as goal
+
+pub response_in-requires : goal.response_in-requires
+response_in-requires c =
+    let m = c.args.view.now.message in
+    let a = session_answered c.requires.spelled.0 m (type_is m.kind SessionAnswered c.requires.of) c.requires.spelled.1 in
+    (a.cause, row_so 33 2 0 _ m a.says)
+
+pub only_context_in-requires : goal.only_context_in-requires
+only_context_in-requires c = (created_others, _, created_contexts c.requires.spelled.0 c.args.view.now.message c.requires.spelled.1 c.requires.of)
+
+pub returns : goal.returns
+returns c =
+    let m = c.args.view.now.message in
+    let a = session_answered c.requires.spelled.0 m (type_is m.kind SessionAnswered c.requires.of) c.requires.spelled.1 in
+    let r = c.response_in in
+    record {
+      response = _;
+      is = reads_so 33 _ m a.says;
+      says = record {
+        number = sym r.ensures.seq;
+        header = sym r.ensures.header;
+        cause = cause_is a.cause r.result.cause (in_row 2 0 m) (row_so 33 2 0 _ m a.says) r.ensures.cause;
+        control = ap teid_in (end_is a.control c.value.result (c.value.ensures.field a.control (row_so 33 87 1 _ m a.says))) ∙ sym c.teid_of.ensures;
+        address = ap ipv4_of (paa_is a.address c.value-2.result (c.value-2.ensures.field a.address (row_so 33 79 0 _ m a.says))) ∙ sym c.ipv4_in.ensures;
+        contexts = created_only a.groups c.only_context_in.result (c.only_context_in.ensures created_others a.groups (created_contexts c.requires.spelled.0 m c.requires.spelled.1 c.requires.of));
+      };
+    }

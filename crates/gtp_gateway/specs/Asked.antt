@@ -1,0 +1,45 @@
+-- Requests that a gateway gets.
+use Rattle.std.specs.Prelude.{◌≡◌, ℕ, List, Some, option_map}
+use Rattle.gtp_values.specs.declared.address.Endpoint.{Endpoint}
+use Rattle.gtp_ie.specs.Value.{Value, OfEbi}
+use Rattle.gtp_v2.specs.Message.{MessageValue}
+use Rattle.gtp_v2.specs.Viewed.{in_row, front_value}
+use Rattle.gtp_machine.specs.Answer.{answered}
+use Rattle.gtp_machine.specs.Element.{cause_of}
+use Rattle.gtp_machine.specs.Input.{Effect}
+use Rattle.gtp_machine.specs.Message.{Delete_session_response}
+use Rattle.gtp_machine.specs.Message as messages
+use Rattle.gtp_machine.specs.Node.{Arrival, Node, written}
+use Rattle.gtp_machine.specs.Packet.{DeletionJudged, DeletionAsked}
+use Rattle.gtp_gateway.specs.declared.deletion.DeletionRequest.{DeletionRequest}
+use Rattle.gtp_gateway.specs.declared.deletion.DeletionVerdict.{DeletionVerdict}
+use Rattle.gtp_gateway.specs.declared.control_step.ControlStep.{ControlStep}
+use Rattle.gtp_gateway.specs.Change.{changed_by, CanChange}
+use Rattle.gtp_gateway.specs.Parts.{arrival_of}
+use Rattle.gtp_gateway.specs.Row.{IsRow}
+use Rattle.gtp_gateway.specs.Station.{Station}
+
+-- what was read of a message is what stands in its rows
+pub record ReadsDeletion (m : MessageValue) (r : DeletionRequest) : Type 0 where
+  pub number : r.seq ≡ m.seq
+  pub header : r.header.0 ≡ written m.teid
+  pub linked : (vs : List Value) → in_row 73 0 m ≡ Some vs → option_map (λ e. OfEbi e) r.linked ≡ front_value vs
+
+-- the machine's message says what was read
+pub record SaysDeletion (r : DeletionRequest) (d : messages.DeleteSessionRequest) : Type 0 where
+  pub number : d.number ≡ r.seq
+  pub header : d.header ≡ r.header.0
+  pub linked : d.linked ≡ r.linked
+
+-- the effect that a verdict stands for
+abbrev pub deletion_effect : Arrival → messages.DeleteSessionRequest → DeletionVerdict → Node → Effect
+deletion_effect request d v old = answered request (Delete_session_response (record { header = v.header.0; number = d.number; cause = cause_of v.cause; recovery = Some old.counter })) v.cause (changed_by v.change old)
+
+-- the verdict is the machine's, and what it changes can change
+pub record JudgesDeletion (r : DeletionRequest) (old : Node) (v : DeletionVerdict) : Type 0 where
+  pub judged : (request : Arrival) (d : messages.DeleteSessionRequest) → SaysDeletion r d → DeletionJudged request d old (deletion_effect request d v old)
+  pub can : CanChange v.change old
+
+-- a Delete Session Request was taken
+abbrev pub TakesDeletionRequest : Endpoint → List ℕ → DeletionRequest → Station → ControlStep → Station → Type 0
+TakesDeletionRequest source octets r old step new = (d : messages.DeleteSessionRequest) → SaysDeletion r d → IsRow (DeletionAsked (arrival_of source octets) d) (arrival_of source octets) old.role old.node step new

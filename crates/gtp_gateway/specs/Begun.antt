@@ -1,0 +1,59 @@
+-- Commands that were carried out, and commands that were refused.
+use Rattle.std.specs.Prelude.{◌≡◌, ◌↔◌, ℕ, [], ◌∷◌, map, Option, option_map, Result, Err}
+use Rattle.gtp_reliable.specs.Pending.{IsNextFree}
+use Rattle.gtp_machine.specs.Ordered.{Unless}
+use Rattle.gtp_machine.specs.Choice.{HasPendingRoom}
+use Rattle.gtp_machine.specs.declared.outcome.Refusal.TheVariants.{PendingFull}
+use Rattle.gtp_machine.specs.Input.{Command, Mark_end, Send_user, Commanded, Effect, refused}
+use Rattle.gtp_machine.specs.declared.outcome.Refusal.{Refusal}
+use Rattle.gtp_machine.specs.declared.outcome.Outcome.{Outcome}
+use Rattle.gtp_machine.specs.declared.outcome.Outcome.TheVariants as outcomes
+use Rattle.gtp_machine.specs.Spelling.{datagram_of}
+use Rattle.gtp_machine.specs.Step.{Step}
+use Rattle.gtp_gateway.specs.declared.fault.CommandFault.{CommandFault}
+use Rattle.gtp_gateway.specs.declared.fault.CommandFault.TheVariants.{Refused}
+use Rattle.gtp_gateway.specs.declared.purpose.Purpose.{Purpose}
+use Rattle.gtp_gateway.specs.declared.sent.Begun.{Begun}
+use Rattle.gtp_gateway.specs.Asking.{after_begun}
+use Rattle.gtp_gateway.specs.Sent.{datagram_by}
+use Rattle.gtp_gateway.specs.Station.{Station}
+
+-- what a command comes to: a request is sent, or a packet or an End Marker
+abbrev pub outcome_by : Command → Option ℕ → Outcome
+outcome_by (Mark_end bearer) teid = outcomes.GoneOut
+outcome_by (Send_user bearer payload) teid = outcomes.GoneOut
+outcome_by command teid = outcomes.Begun teid
+
+-- the command was carried out: that is a step of the machine, whose one datagram is the one that is sent
+pub record IsDone (command : Command) (old : Station) (begun : Begun) (new : Station) : Type 0 where
+  pub effect : Effect
+  pub step : Step old.role old.node (Commanded command) effect
+  pub sent : datagram_by begun.out ∷ [] ≡ map (datagram_of old.node.config) effect.out.sent
+  pub outcome : effect.outcome ≡ outcome_by command (option_map (λ t. t.0) begun.teid)
+  pub becomes : new.node ≡ effect.node
+  pub role : new.role ≡ old.role
+
+-- the request that was sent has the next free number, and waits from now on
+pub record AsksNext (old : Station) (begun : Begun) (new : Station) : Type 0 where
+  pub number : ℕ
+  pub free : IsNextFree old.timing.next old.timing.waiting number
+  pub purpose : Purpose
+  pub timing : new.timing ≡ after_begun number purpose begun.out.to begun.out.octets.items old.timing
+
+-- a command is refused so exactly where the machine refuses it so
+abbrev pub IsRefusedWhere : Command → Station → Result Begun CommandFault → Type 0
+IsRefusedWhere command old result = (why : Refusal) → (result ≡ Err (Refused why)) ↔ Step old.role old.node (Commanded command) (refused old.node why)
+
+-- the last rule of a command that sends a request: it is refused where 256 are pending, and else the request is sent
+abbrev pub IsLastRefused : (Effect → Type 0) → Station → Result Begun CommandFault → Type 0
+IsLastRefused Asks old result = (why : Refusal) → (result ≡ Err (Refused why)) ↔ Unless (HasPendingRoom old.node) (refused old.node why ≡ refused old.node PendingFull) (λ few. Asks (refused old.node why))
+
+-- a request was sent, by the last rule of its command
+pub record IsAsked (Asks : Effect → Type 0) (old : Station) (begun : Begun) (new : Station) : Type 0 where
+  pub effect : Effect
+  pub room : HasPendingRoom old.node
+  pub asks : Asks effect
+  pub sent : datagram_by begun.out ∷ [] ≡ map (datagram_of old.node.config) effect.out.sent
+  pub outcome : effect.outcome ≡ outcomes.Begun (option_map (λ t. t.0) begun.teid)
+  pub becomes : new.node ≡ effect.node
+  pub role : new.role ≡ old.role

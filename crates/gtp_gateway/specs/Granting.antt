@@ -1,0 +1,124 @@
+-- Create Bearer Requests, as the serving gateway takes them.
+use Rattle.std.specs.Prelude.{◌≡◌, ◌↔◌, ℕ, Bool, true, false, IsTrue, List, [], ◌∷◌, Option, Some, None}
+use Rattle.gtp_values.specs.declared.address.Endpoint.{Endpoint}
+use Rattle.gtp_values.specs.Cause.{is_accepting_value}
+use Rattle.gtp_tables.specs.Identity.{IsLowestUnused}
+use Rattle.gtp_ie.specs.Value.{Value, OfEbi, OfFTeid}
+use Rattle.gtp_v2.specs.CreateBearerRequest.{bearer_request_context_rows}
+use Rattle.gtp_v2.specs.Message.{MessageValue}
+use Rattle.gtp_v2.specs.Viewed.{in_row, in_groups}
+use Rattle.gtp_machine.specs.Answer.{refusing}
+use Rattle.gtp_machine.specs.Decoded.{row}
+use Rattle.gtp_machine.specs.Element.{cause_of, tunnel_end}
+use Rattle.gtp_machine.specs.Input.{Of_create_bearer, Effect, dropped}
+use Rattle.gtp_machine.specs.declared.outcome.DropReason.TheVariants.{ContextNotActive}
+use Rattle.gtp_machine.specs.Message.{Message, Create_bearer_response}
+use Rattle.gtp_machine.specs.Message as messages
+use Rattle.gtp_machine.specs.Node.{Arrival, Node, Bearer, Dedicated, Active, written}
+use Rattle.gtp_machine.specs.Serving.{no_resources, BearerJudged, BearerAsked}
+use Rattle.gtp_gateway.specs.declared.change.Change.{Change}
+use Rattle.gtp_gateway.specs.declared.change.Change.TheVariants.{Stays, MakesBearer}
+use Rattle.gtp_gateway.specs.declared.granting.BearerRequest.{BearerRequest}
+use Rattle.gtp_gateway.specs.declared.granting.Grant.{Grant}
+use Rattle.gtp_gateway.specs.declared.granting.BearerAnswer.{BearerAnswer}
+use Rattle.gtp_gateway.specs.declared.granting.BearerAnswer.TheVariants.{Refused, NoResources, Granted}
+use Rattle.gtp_gateway.specs.declared.granting.BearerVerdict.{BearerVerdict}
+use Rattle.gtp_gateway.specs.declared.control_step.ControlStep.{ControlStep}
+use Rattle.gtp_gateway.specs.Answering.{answering}
+use Rattle.gtp_gateway.specs.Change.{changed_by}
+use Rattle.gtp_gateway.specs.Drawing.{IsOneDrawn}
+use Rattle.gtp_gateway.specs.Parts.{arrival_of}
+use Rattle.gtp_gateway.specs.Row.{IsRow}
+use Rattle.gtp_gateway.specs.Station.{Station}
+
+-- the rows of a Create Bearer Request: its linked identity, and bearer contexts, of which the first has an F-TEID
+pub record HasBearerContext (m : MessageValue) : Type 0 where
+  pub linked : Value
+  pub first : List (List Value)
+  pub further : List (List (List Value))
+  pub user : Value
+  pub links : in_row 73 0 m ≡ Some (linked ∷ [])
+  pub groups : in_groups 93 0 m ≡ Some (bearer_request_context_rows, first ∷ further)
+  pub ends : row 2 first ≡ user ∷ []
+
+-- what was read of the bearer contexts is what stands in them
+pub record ReadsContexts (r : BearerRequest) (first : List (List Value)) (further : List (List (List Value))) : Type 0 where
+  pub user : row 2 first ≡ OfFTeid r.user ∷ []
+  pub alone : IsTrue r.is_alone ↔ (further ≡ [])
+
+-- what was read of a message is what stands in its rows
+pub record ReadsBearer (m : MessageValue) (r : BearerRequest) : Type 0 where
+  pub number : r.seq ≡ m.seq
+  pub header : r.header.0 ≡ written m.teid
+  pub linked : in_row 73 0 m ≡ Some (OfEbi r.linked ∷ [])
+  pub contexts : (first : List (List Value)) (further : List (List (List Value))) → in_groups 93 0 m ≡ Some (bearer_request_context_rows, first ∷ further) → ReadsContexts r first further
+
+-- the machine's message says what was read
+pub record SaysBearer (r : BearerRequest) (q : messages.CreateBearerRequest) : Type 0 where
+  pub number : q.number ≡ r.seq
+  pub header : q.header ≡ r.header.0
+  pub linked : q.linked ≡ r.linked
+  pub user : q.context.user ≡ r.user
+  pub alone : IsTrue r.is_alone ↔ (q.further ≡ [])
+
+-- the lowest identity that no bearer of the session has, and the next TEID
+pub record IsGrant (session : ℕ) (g : Grant) (node : Node) : Type 0 where
+  pub identity : IsLowestUnused node.bearers session g.identity
+  pub drawn : IsOneDrawn g.drawn node
+
+-- the bearer that is granted
+abbrev pub granted_to : BearerRequest → ℕ → Bearer
+granted_to r identity = record { remote = Some r.user.teid; session = r.header.0; identity = Some identity; kind = Dedicated; state = Active; ended = false }
+
+-- the answer to a request, at this node
+abbrev pub bearer_answer : BearerAnswer → ℕ → messages.CreateBearerRequest → Node → Message
+bearer_answer (Refused cause) header q old = refusing Of_create_bearer header q.number (cause_of cause) old.counter
+bearer_answer NoResources header q old = Create_bearer_response (no_resources old q header)
+bearer_answer (Granted g) header q old =
+    Create_bearer_response (record {
+      header = header;
+      number = q.number;
+      cause = cause_of 16;
+      contexts = record { identity = g.identity; cause = cause_of 16; serving_user = Some (tunnel_end 4 g.drawn.teid.0 old.config.own.user); packet_user = Some q.context.user } ∷ [];
+      recovery = Some old.counter;
+    })
+
+abbrev pub cause_in : BearerAnswer → ℕ
+cause_in (Refused cause) = cause
+cause_in NoResources = 73
+cause_in (Granted g) = 16
+
+abbrev pub is_granted : BearerAnswer → Bool
+is_granted (Refused cause) = false
+is_granted NoResources = false
+is_granted (Granted g) = true
+
+abbrev pub change_for : BearerRequest → BearerAnswer → Change
+change_for r (Refused cause) = Stays
+change_for r NoResources = Stays
+change_for r (Granted g) = MakesBearer g.drawn.draws g.drawn.teid (granted_to r g.identity)
+
+-- what is granted may be chosen so, and the cause of a refusal does not accept
+abbrev pub IsChosen : ℕ → BearerAnswer → Node → Type 0
+IsChosen session (Refused cause) node = is_accepting_value cause ≡ false
+IsChosen session NoResources node = Unit {0}
+IsChosen session (Granted g) node = IsGrant session g node
+
+-- the effect that a verdict stands for; without one the session is not active
+abbrev pub bearer_effect : Arrival → BearerRequest → messages.CreateBearerRequest → Option BearerVerdict → Node → Effect
+bearer_effect request r q None old = dropped old ContextNotActive
+bearer_effect request r q (Some v) old = answering (is_granted v.answer) request (bearer_answer v.answer v.header.0 q old) (cause_in v.answer) (changed_by (change_for r v.answer) old)
+
+-- what a verdict chooses
+abbrev pub Chooses : ℕ → Option BearerVerdict → Node → Type 0
+Chooses session None node = Unit {0}
+Chooses session (Some v) node = IsChosen session v.answer node
+
+-- the verdict is the machine's, and what it grants may be granted
+pub record JudgesBearer (r : BearerRequest) (old : Node) (v : Option BearerVerdict) : Type 0 where
+  pub judged : (request : Arrival) (q : messages.CreateBearerRequest) → SaysBearer r q → BearerJudged request q old (bearer_effect request r q v old)
+  pub chosen : Chooses r.header.0 v old
+
+-- a Create Bearer Request was taken
+abbrev pub TakesBearerRequest : Endpoint → List ℕ → BearerRequest → Station → ControlStep → Station → Type 0
+TakesBearerRequest source octets r old step new = (q : messages.CreateBearerRequest) → SaysBearer r q → IsRow (BearerAsked (arrival_of source octets) q) (arrival_of source octets) old.role old.node step new

@@ -1,0 +1,77 @@
+-- Create Session Responses that the serving gateway gets.
+use Rattle.std.specs.Prelude.{◌≡◌, ℕ, List, [], ◌∷◌, Option, Some, None}
+use Rattle.std.specs.FinMap.{get}
+use Rattle.gtp_values.specs.FiniteMap.{FiniteMap}
+use Rattle.gtp_v2.specs.Message.{MessageValue}
+use Rattle.gtp_machine.specs.Decoded.{message_of}
+use Rattle.gtp_machine.specs.Element.{ipv4_of, teid_in}
+use Rattle.gtp_machine.specs.Message.{CreatedBearer, Create_session_response}
+use Rattle.gtp_machine.specs.Message as messages
+use Rattle.gtp_machine.specs.Node.{Session, Arrival, Node}
+use Rattle.gtp_machine.specs.Serving.{SessionAnswered}
+use Rattle.gtp_gateway.specs.declared.contexts.ResponseContext.{ResponseContext}
+use Rattle.gtp_gateway.specs.declared.hearing.Heard.{Heard}
+use Rattle.gtp_gateway.specs.declared.purpose.Purpose.{Purpose}
+use Rattle.gtp_gateway.specs.declared.purpose.Purpose.TheVariants.{CreateSession}
+use Rattle.gtp_gateway.specs.declared.response.Response.{Response}
+use Rattle.gtp_gateway.specs.declared.session_response.AskedSession.{AskedSession}
+use Rattle.gtp_gateway.specs.declared.session_response.DescribedSession.{DescribedSession}
+use Rattle.gtp_gateway.specs.declared.session_response.SessionResponse.{SessionResponse}
+use Rattle.gtp_gateway.specs.declared.settle.Verdict.{Verdict}
+use Rattle.gtp_gateway.specs.declared.control_step.ControlStep.{ControlStep}
+use Rattle.gtp_gateway.specs.Hearing.{node_heard}
+use Rattle.gtp_gateway.specs.Row.{IsRow}
+use Rattle.gtp_gateway.specs.Settled.{effect_by, CanSettle}
+use Rattle.gtp_gateway.specs.Station.{Station}
+
+-- the bearer context says what was read
+pub record SaysCreated (c : ResponseContext) (k : CreatedBearer) : Type 0 where
+  pub identity : k.identity ≡ c.identity
+  pub cause : k.cause ≡ c.cause
+  pub user : teid_in k.user ≡ c.user
+
+-- it is the only one; or there is none, or more than one
+abbrev pub SaysOnlyCreated : Option ResponseContext → List CreatedBearer → Type 0
+SaysOnlyCreated None contexts = (k : CreatedBearer) → contexts ≡ k ∷ [] → ⊥
+SaysOnlyCreated (Some c) contexts = (k : CreatedBearer) × (contexts ≡ k ∷ []) × SaysCreated c k
+
+-- the machine's message says what was read
+pub record SaysSession (r : SessionResponse) (a : messages.CreateSessionResponse) : Type 0 where
+  pub number : a.number ≡ r.response.seq
+  pub header : a.header ≡ r.response.header.0
+  pub cause : a.cause ≡ r.response.cause
+  pub control : teid_in a.control ≡ r.control
+  pub address : ipv4_of a.address ≡ r.address
+  pub contexts : SaysOnlyCreated r.context a.contexts
+
+-- the message is a Create Session Response that says what was read
+pub record ReadsSession (m : MessageValue) (r : SessionResponse) : Type 0 where
+  pub response : messages.CreateSessionResponse
+  pub is : message_of m ≡ Create_session_response response
+  pub says : SaysSession r response
+
+-- the request is a Create Session Request for the session that the response names
+abbrev pub FitsSessionOf : Purpose → Response → Type 0
+FitsSessionOf (CreateSession session bearer) r = session.0 ≡ r.header.0
+FitsSessionOf purpose r = ⊥
+
+-- the request asks for this session, which the response names
+pub record IsAskedSession (purpose : Purpose) (r : Response) (k : AskedSession) : Type 0 where
+  pub is : purpose ≡ CreateSession k.session k.bearer
+  pub named : k.session.0 ≡ r.header.0
+
+-- the session stands, and the response has one bearer context, of its default identity, and an IPv4 address
+pub record IsDescribed (sessions : FiniteMap Session) (session : ℕ) (r : SessionResponse) (d : DescribedSession) : Type 0 where
+  pub stands : get sessions session ≡ Some d.session
+  pub alone : r.context ≡ Some d.context
+  pub default : d.context.identity ≡ d.session.subscriber.identity
+  pub given : r.address ≡ Some d.address
+
+-- the verdict is the machine's, and can be carried out
+pub record JudgesSession (r : SessionResponse) (old : Node) (v : Verdict) : Type 0 where
+  pub judged : (a : messages.CreateSessionResponse) → SaysSession r a → SessionAnswered a old (effect_by v a.number old)
+  pub can : CanSettle v old
+
+-- a Create Session Response was taken
+abbrev pub TakesSession : SessionResponse → Heard → Station → ControlStep → Station → Type 0
+TakesSession r heard old step new = (request : Arrival) (a : messages.CreateSessionResponse) → SaysSession r a → IsRow (SessionAnswered a) request old.role (node_heard heard old.node) step new

@@ -1,0 +1,70 @@
+-- What responses come to that open sessions and bearers.
+use Rattle.std.specs.Prelude.{◌≡◌, ℕ, Bool, true, false, Some, None, IsSome}
+use Rattle.std.specs.FinMap.{get, insert, remove}
+use Rattle.gtp_values.specs.FiniteMap.{FiniteMap}
+use Rattle.gtp_values.specs.declared.identifiers.Teid.{Teid}
+use Rattle.gtp_machine.specs.Message.{Message}
+use Rattle.gtp_machine.specs.Node.{Session, Bearer, Node}
+use Rattle.gtp_machine.specs.Input.{Effect, nothing}
+use Rattle.gtp_machine.specs.Removal.{finished_about}
+use Rattle.gtp_machine.specs.declared.outcome.Outcome.{Outcome}
+use Rattle.gtp_machine.specs.declared.outcome.Outcome.TheVariants.{Opened, Dropped}
+use Rattle.gtp_gateway.specs.declared.hearing.Heard.{Heard}
+use Rattle.gtp_gateway.specs.declared.hearing.Heard.TheVariants.{Nothing, First, Same, Later, Earlier}
+use Rattle.gtp_gateway.specs.declared.purpose.Purpose.{Purpose}
+use Rattle.gtp_gateway.specs.declared.settle.Verdict.{Verdict}
+use Rattle.gtp_gateway.specs.declared.settle.Verdict.TheVariants.{Drops, Finishes, OpensSession, OpensBearer}
+use Rattle.gtp_gateway.specs.Asking.{about}
+use Rattle.gtp_gateway.specs.Hearing.{goes_with}
+use Rattle.gtp_gateway.specs.Parts.{session_of, bearer_of}
+use Rattle.gtp_gateway.specs.Spelled.{is_for}
+
+-- whether a request goes as the counter is heard
+abbrev pub goes_after : Heard → FiniteMap Session → Purpose → Bool
+goes_after Nothing sessions purpose = false
+goes_after (First counter) sessions purpose = false
+goes_after (Same counter) sessions purpose = false
+goes_after (Later counter) sessions purpose = goes_with sessions purpose
+goes_after (Earlier counter) sessions purpose = false
+
+-- a request for the purpose waits under the number
+pub record IsWaiting (node : Node) (number : ℕ) (purpose : Purpose) : Type 0 where
+  pub message : Message
+  pub waits : get node.pending number ≡ Some (about purpose message)
+  pub meant : is_for purpose message ≡ true
+
+-- what is told of a verdict
+abbrev pub outcome_by : Verdict → Outcome
+outcome_by (Drops why) = Dropped why
+outcome_by (Finishes purpose outcome) = outcome
+outcome_by (OpensSession session opened teid bearer) = Opened
+outcome_by (OpensBearer teid bearer) = Opened
+
+-- a node with this bearer
+abbrev pub with_bearer : Teid → Bearer → Node → Node
+with_bearer teid bearer node = record node { bearers = insert node.bearers teid.0 bearer }
+
+-- the node after a verdict on the response with the number
+abbrev pub node_by : Verdict → ℕ → Node → Node
+node_by (Drops why) number node = node
+node_by (Finishes purpose outcome) number node = finished_about node number (session_of purpose) (bearer_of purpose)
+node_by (OpensSession session opened teid bearer) number node = record node { sessions = insert node.sessions session.0 opened; bearers = insert node.bearers teid.0 bearer; pending = remove node.pending number }
+node_by (OpensBearer teid bearer) number node = record node { bearers = insert node.bearers teid.0 bearer; pending = remove node.pending number }
+
+-- the effect that a verdict stands for
+abbrev pub effect_by : Verdict → ℕ → Node → Effect
+effect_by verdict number node = record { out = nothing; outcome = outcome_by verdict; node = node_by verdict number node }
+
+-- a bearer without a remote stands there, and is opened in its session
+pub record IsOpenedAt (bearers : FiniteMap Bearer) (teid : ℕ) (opened : Bearer) : Type 0 where
+  pub bearer : Bearer
+  pub stands : get bearers teid ≡ Some bearer
+  pub blank : bearer.remote ≡ None
+  pub of : opened.session ≡ bearer.session
+
+-- what a verdict needs: what is opened stands
+abbrev pub CanSettle : Verdict → Node → Type 0
+CanSettle (Drops why) node = Unit {0}
+CanSettle (Finishes purpose outcome) node = Unit {0}
+CanSettle (OpensSession session opened teid bearer) node = IsSome (get node.sessions session.0) × IsOpenedAt node.bearers teid.0 bearer
+CanSettle (OpensBearer teid bearer) node = IsOpenedAt node.bearers teid.0 bearer

@@ -1,0 +1,40 @@
+-- A gateway as contracts see it.
+use Rattle.std.specs.Prelude.{ℕ, List, []}
+use Rattle.gtp_reliable.specs.Waiting.{Waiting}
+use Rattle.gtp_reliable.specs.Held.{HeldPair}
+use Rattle.gtp_machine.specs.declared.role.Role.{Role}
+use Rattle.gtp_machine.specs.Node.{Node, fresh_node}
+use Rattle.gtp_machine.specs.Sound.{IsSound}
+use Rattle.gtp_gateway.specs.declared.config.Timers.{Timers}
+use Rattle.gtp_gateway.specs.declared.purpose.Purpose.{Purpose}
+use Rattle.gtp_gateway.specs.declared.parts.Parts.{Parts}
+use Rattle.gtp_gateway.specs.Settings.{Settings}
+use Rattle.gtp_gateway.specs.Parts.{node_of}
+
+-- what ticks and sequence numbers go by: the times, the number from which the next free one is sought, the requests that wait, in order of beginning, and
+-- the answers that are held, in order of keeping, each with how long it waits or is held
+pub record Timing : Type 0 where
+  pub timers : Timers
+  pub next : ℕ
+  pub waiting : List (Waiting Purpose)
+  pub held : List HeldPair
+
+-- which gateway it is, the node of the machine that it stands for, and what its ticks go by
+pub record Station : Type 0 where
+  pub role : Role
+  pub node : Node
+  pub timing : Timing
+
+abbrev pub timing_of : Parts → Timing
+timing_of g = record { timers = record { t3 = g.pending.t3; n3 = g.pending.n3; hold = g.held.hold }; next = g.pending.next; waiting = g.pending.waiting; held = g.held.pairs }
+
+abbrev pub station_of : Parts → Station
+station_of g = record { role = g.role; node = node_of g; timing = timing_of g }
+
+-- a gateway that has just started with this restart counter: its first request has the number 0
+abbrev pub starting : Role → Settings → ℕ → Station
+starting role settings counter = record { role = role; node = fresh_node settings.config counter; timing = record { timers = settings.timers; next = 0; waiting = []; held = [] } }
+
+-- the gateway is sound: what a step needs stands
+abbrev pub IsWhole : Station → Type 0
+IsWhole s = ∥ IsSound s.role s.node ∥₁

@@ -1,0 +1,177 @@
+//! Create Bearer Responses (TS 29.274 7.2.4), as the packet gateway takes them.
+
+ghost use Rattle.std.specs.Prelude.{◌≡◌, ◌↔◌, ℕ, List, Option, Some, IsTrue, IfSome, IfNone, IfOk, OnErr};
+ghost use Rattle.gtp_v2.specs.Datagram.{IsMessage};
+ghost use Rattle.gtp_values.specs.declared.counter.Counter.{Counter as AnyCounter};
+ghost use Rattle.gtp_machine.specs.Node.{Active, Closing};
+ghost use Rattle.gtp_gateway.specs.declared.procedure.Procedure.TheVariants.{BearerAnswered};
+ghost use Rattle.gtp_gateway.specs.BearerAnswer.{ReadsBearer, FitsBearerOf, IsAskedBearer, CanOpenIn, JudgesBearer, TakesBearer};
+ghost use Rattle.gtp_gateway.specs.Hearing.{weighed_by, node_heard};
+ghost use Rattle.gtp_gateway.specs.Parts.{node_of};
+ghost use Rattle.gtp_gateway.specs.Procedure.{procedure_at};
+ghost use Rattle.gtp_gateway.specs.Station.{IsWhole, station_of};
+
+use crate::contexts::{ResponseContext, accepts, only_context_in};
+use crate::control_step::ControlStep;
+use crate::hearing::Heard;
+use crate::parts::Parts;
+use crate::purpose::Purpose;
+use crate::response::{Response, response_in};
+use crate::settle::Verdict;
+use gtp_machine::{DropReason, Outcome};
+use gtp_tables::{Bearer, Session, State, View};
+use gtp_v2::DatagramView;
+use gtp_values::{Below, Ebi, Memory, Teid};
+
+/// What a Create Bearer Response says.
+#[derive(Clone, Copy, Debug, PartialEq, Eq)]
+pub struct BearerResponse {
+    pub response: Response,
+    /// The bearer context, where it is the only one.
+    pub context: Option<ResponseContext>,
+}
+
+/// The bearer that was asked for, with its session.
+#[derive(Clone, Copy, Debug, PartialEq, Eq)]
+pub struct AskedBearer {
+    pub session: Teid,
+    pub bearer: Teid,
+}
+
+/// What a Create Bearer Response says.
+pub fn bearer_response_in(view: &DatagramView<'_>) -> BearerResponse
+    requires spelled { (octets : List ℕ) × IsMessage octets view.now.message }
+    requires of { procedure_at view.now.message.kind ≡ Some BearerAnswered }
+    ensures { ReadsBearer view.now.message result }
+{
+    BearerResponse {
+        response: response_in(view),
+        context: only_context_in(view),
+    }
+}
+
+/// The bearer that a request asks for, where it is a Create Bearer Request for the session that the
+/// response names.
+fn fits_bearer(purpose: &Purpose, response: &Response) -> Option<AskedBearer>
+    ensures some { IfSome result (IsAskedBearer purpose.now response.now) }
+    ensures none { IfNone result (FitsBearerOf purpose.now response.now → ⊥) }
+{
+    match *purpose {
+        Purpose::CreateBearer {
+            session,
+            bearer,
+            is_named,
+        } if response.names(session, is_named) => Some(AskedBearer { session, bearer }),
+        _ => None,
+    }
+}
+
+/// Whether the F-TEID that comes back is the bearer's.
+fn returns_bearer(context: &ResponseContext, bearer: Teid) -> bool
+    ensures { IsTrue result ↔ (context.now.returned ≡ Some bearer.0) }
+{
+    context.returned == Some(bearer.0)
+}
+
+/// Whether a session is closing.
+fn is_closing(session: &Session) -> bool
+    ensures { IsTrue result ↔ (session.now.state ≡ Closing) }
+{
+    session.state == State::Closing
+}
+
+/// The identity with which a bearer of the session can be opened: it is 5 to 15, and no bearer of the
+/// session has it, which stands and is not closing.
+fn openable(view: &View<'_>, session: Teid, identity: Below<16>) -> Option<Ebi>
+    ensures some { IfSome result (λ e.
+        (e ≡ identity) × CanOpenIn view.now.sessions view.now.bearers session.0 identity) }
+    ensures none { IfNone result
+        (CanOpenIn view.now.sessions view.now.bearers session.0 identity → ⊥) }
+{
+    let Ok(identity) = Ebi::try_new(identity.number()) else {
+        return None;
+    };
+    if view.with_identity(session, identity).is_some() {
+        return None;
+    }
+    let Some(at) = view.session(session) else {
+        return None;
+    };
+    if is_closing(&at) {
+        return None;
+    }
+    Some(identity)
+}
+
+/// A dedicated bearer, opened.
+fn opened_dedicated(bearer: &Bearer, user: Option<u32>, identity: Ebi) -> Bearer
+    ensures { result ≡ record bearer.now {
+      remote = user;
+      identity = Some identity;
+      state = Active;
+    } }
+{
+    Bearer {
+        remote: user,
+        identity: Some(identity),
+        state: State::Active,
+        ..*bearer
+    }
+}
+
+impl Parts {
+    /// What a Create Bearer Response comes to, once its counter was heard. It changes nothing.
+    fn judge_bearer_response(&self, answer: &BearerResponse, heard: Heard) -> Verdict
+        requires whole { IsWhole (station_of self.now) }
+        ensures { JudgesBearer answer.now (node_heard heard (node_of self.now)) result }
+    {
+        let Some(purpose) = self.waiting_after(answer.response.seq, heard) else {
+            return Verdict::Drops(DropReason::NoPending);
+        };
+        let Some(asked) = fits_bearer(&purpose, &answer.response) else {
+            return Verdict::Drops(DropReason::Mismatch);
+        };
+        if !accepts(&answer.response.cause) {
+            return Verdict::rejects(purpose, answer.response.cause);
+        }
+        let Some(context) = answer.context else {
+            return Verdict::Drops(DropReason::Mismatch);
+        };
+        if !accepts(&context.cause) {
+            return Verdict::rejects(purpose, context.cause);
+        }
+        if !returns_bearer(&context, asked.bearer) {
+            return Verdict::Drops(DropReason::Mismatch);
+        }
+        let view = self.view_after(heard);
+        let Some(identity) = openable(&view, asked.session, context.identity) else {
+            return Verdict::Finishes {
+                purpose,
+                outcome: Outcome::Clash,
+            };
+        };
+        let Some(bearer) = view.bearer(asked.bearer) else {
+            unreachable!()
+        };
+        Verdict::OpensBearer {
+            teid: asked.bearer,
+            bearer: opened_dedicated(&bearer, context.user, identity),
+        }
+    }
+
+    /// Takes a Create Bearer Response: what does not accept, or clashes, removes the pending bearer.
+    pub fn take_bearer_response(
+        &mut self,
+        answer: &BearerResponse,
+        heard: Heard,
+    ) -> Result<ControlStep, Memory>
+        requires whole { IsWhole (station_of self.old) }
+        requires weighed { (told : Option AnyCounter) × (heard ≡ weighed_by told self.old.peer) }
+        ensures taken { IfOk result (λ step. TakesBearer answer.now heard
+            (station_of self.old) step (station_of self.new)) }
+        ensures err { OnErr result (station_of self.new ≡ station_of self.old) }
+    {
+        let verdict = self.judge_bearer_response(answer, heard);
+        self.settle(answer.response.seq, heard, verdict)
+    }
+}

@@ -1,0 +1,149 @@
+//! What a gateway is set up with.
+
+ghost use Rattle.std.specs.Prelude.{◌≡◌, ◌↔◌, IsOk, IfOk, IfErr};
+ghost use Rattle.gtp_values.specs.declared.fault.ValueFault.TheVariants.{OutOfRange};
+ghost use Rattle.gtp_gateway.specs.Settings.{settings_of, AreSettings};
+
+use gtp_tables::Pool;
+use gtp_values::{Apn, Ip, Memory, ValueFault};
+use std::alloc::Global;
+use std::marker::Model;
+
+/// The most access points that a gateway is configured for.
+const MOST_ACCESS_POINTS: usize = 16;
+
+/// The address of a gateway on each plane.
+#[derive(Clone, Copy, Debug, PartialEq, Eq)]
+pub struct Addresses {
+    pub control: Ip,
+    pub user: Ip,
+}
+
+/// How long messages are kept, in ticks (TS 29.274 7.6).
+#[derive(Clone, Copy, Debug, PartialEq, Eq)]
+pub struct Timers {
+    /// After so many ticks without an answer a request is sent again (T3-RESPONSE): 1 to 1,000.
+    pub t3: u32,
+    /// So often it is sent again before it is given up (N3-REQUESTS): 0 to 100.
+    pub n3: u32,
+    /// So long the answer to a request is held, should it come again: 1 to 100,000.
+    pub hold: u32,
+}
+
+impl Default for Timers {
+    fn default() -> Timers
+        ensures { result ≡ record { t3 = 3; n3 = 3; hold = 60 } }
+    {
+        Timers {
+            t3: 3,
+            n3: 3,
+            hold: 60,
+        }
+    }
+}
+
+/// The two ends of the path, the access points that the packet gateway serves, the addresses that it
+/// gives, and the times.
+#[derive(Debug, Drop)]
+pub struct Config {
+    own: Addresses,
+    peer: Addresses,
+    access_points: Vec<Apn>,
+    pool: Pool,
+    timers: Timers,
+}
+
+impl Model for Config {
+    ghost use Rattle.gtp_gateway.specs.Settings.{Settings, settings_of, AreSettings};
+
+    ghost Value = { Settings };
+
+    ghost view = { λ c. settings_of c.own c.peer c.access_points.items c.pool c.timers };
+
+    ghost invariant = { λ c. AreSettings c.access_points.items c.timers };
+}
+
+impl Config {
+    /// The configuration of a gateway: `OutOfRange` above 16 access points, and where a time is out
+    /// of its range. Takes no memory.
+    pub fn try_new(
+        own: Addresses,
+        peer: Addresses,
+        access_points: Vec<Apn>,
+        pool: Pool,
+        timers: Timers,
+    ) -> Result<Config, ValueFault>
+        ensures ok { IsOk result ↔ AreSettings access_points.items timers }
+        ensures value { IfOk result (λ config.
+            config ≡ settings_of own peer access_points.items pool timers) }
+        ensures fault { IfErr result (λ f. f ≡ OutOfRange) }
+    {
+        let are_few = access_points.len() <= MOST_ACCESS_POINTS;
+        let are_times = matches!(timers.t3, 1..=1_000)
+            && timers.n3 <= 100
+            && matches!(timers.hold, 1..=100_000);
+        if !are_few || !are_times {
+            return Err(ValueFault::OutOfRange);
+        }
+        Ok(Config {
+            own,
+            peer,
+            access_points,
+            pool,
+            timers,
+        })
+    }
+
+    /// The same once more.
+    pub(crate) fn copy(&self, alloc: Global) -> Result<Config, Memory>
+        ensures { IfOk result (λ config. config ≡ self.now) }
+    {
+        let access_points = Vec::from_slice(alloc, self.access_points.as_slice())?;
+        Ok(Config {
+            own: self.own,
+            peer: self.peer,
+            access_points,
+            pool: self.pool,
+            timers: self.timers,
+        })
+    }
+
+    /// The gateway's own addresses.
+    pub fn own(&self) -> Addresses
+        ensures control { result.control ≡ self.now.config.own.control }
+        ensures user { result.user ≡ self.now.config.own.user }
+    {
+        self.own
+    }
+
+    /// The addresses of the other gateway.
+    pub fn peer(&self) -> Addresses
+        ensures control { result.control ≡ self.now.config.peer.control }
+        ensures user { result.user ≡ self.now.config.peer.user }
+    {
+        self.peer
+    }
+
+    /// The access points, in the order in which they were given.
+    pub fn access_points(&self) -> &[Apn]
+        ensures { result.now ≡ self.now.config.access_points }
+    {
+        self.access_points.as_slice()
+    }
+
+    /// The addresses that the packet gateway gives to sessions.
+    pub fn pool(&self) -> Pool
+        ensures start { result.start ≡ self.now.config.pool_start }
+        ensures count { result.count ≡ self.now.config.pool_count }
+    {
+        self.pool
+    }
+
+    /// The times, which are in their ranges.
+    pub fn timers(&self) -> Timers
+        ensures value { result ≡ self.now.timers }
+        ensures range { AreSettings self.now.config.access_points result }
+    {
+        self.timers
+    }
+}

@@ -1,0 +1,96 @@
+//! What responses and their bearer contexts say, read where they lie (TS 29.274 tables 7.2.2-2,
+//! 7.2.4-2).
+
+ghost use Rattle.std.specs.Prelude.{◌≡◌, ◌↔◌, IsTrue, List, Some, option_map};
+ghost use Rattle.gtp_ie.specs.Element.{Element};
+ghost use Rattle.gtp_ie.specs.Value.{Value};
+ghost use Rattle.gtp_v2.specs.Rows.{optional_at};
+ghost use Rattle.gtp_machine.specs.Element.{IsAccepting, ipv4_of, teid_in};
+ghost use Rattle.gtp_machine.specs.Decoded.{address_of, number_from};
+ghost use Rattle.gtp_gateway.specs.Contexts.{AreContexts, ReadsContext, ReadsOnly};
+
+use gtp_v2::{ContextView, DatagramView, EbiValue};
+use gtp_values::{Below, Cause, FTeid, Paa};
+
+/// What a bearer context of a response says.
+#[derive(Clone, Copy, Debug, PartialEq, Eq)]
+pub struct ResponseContext {
+    pub identity: Below<16>,
+    pub cause: Cause,
+    /// The TEID of the peer's F-TEID for the user plane (instance 2).
+    pub user: Option<u32>,
+    /// The TEID of the receiver's own F-TEID for the user plane, which comes back from its request
+    /// (instance 3).
+    pub returned: Option<u32>,
+}
+
+/// Whether the cause of a response or of a bearer context accepts (TS 29.274 8.4).
+pub fn accepts(cause: &Cause) -> bool
+    ensures { IsTrue result ↔ IsAccepting cause.now }
+{
+    cause.is_accepting()
+}
+
+/// The TEID of an F-TEID that may be absent.
+pub fn teid_of(end: Option<FTeid>) -> Option<u32>
+    ensures { result ≡ teid_in end }
+{
+    match end {
+        Some(end) => Some(end.teid().0),
+        None => None,
+    }
+}
+
+/// The number that the octets of an IPv4 address stand for.
+fn number_of_address(octets: [u8; 4]) -> u32
+    ensures { result ≡ number_from 0 octets }
+{
+    u32::from_be_bytes(octets)
+}
+
+/// The IPv4 address of a PDN Address Allocation (TS 29.274 8.14), as a number.
+pub fn ipv4_in(address: Option<Paa>) -> Option<u32>
+    ensures { result ≡ ipv4_of (option_map address_of address) }
+{
+    match address {
+        Some(Paa::V4(octets)) => Some(number_of_address(octets)),
+        _ => None,
+    }
+}
+
+/// What a bearer context says that has an identity and a cause.
+fn context_in(context: &ContextView<'_>) -> ResponseContext
+    requires identity { (v : Value) × (optional_at 73 0 context.now ≡ Some v) }
+    requires cause { (v : Value) × (optional_at 2 0 context.now ≡ Some v) }
+    ensures { ReadsContext context.now result }
+{
+    let Some(EbiValue(identity)) = context.value::<EbiValue>(0) else {
+        unreachable!()
+    };
+    let Some(cause) = context.value::<Cause>(0) else {
+        unreachable!()
+    };
+    ResponseContext {
+        identity,
+        cause,
+        user: teid_of(context.value(2)),
+        returned: teid_of(context.value(3)),
+    }
+}
+
+/// What the only bearer context of a response says, where there is exactly one.
+pub fn only_context_in(view: &DatagramView<'_>) -> Option<ResponseContext>
+    requires { (others : List Element → List (List Value)) × (groups : List (List (List Value)))
+        × AreContexts view.now.message others groups }
+    ensures { (others : List Element → List (List Value)) (groups : List (List (List Value)))
+        → AreContexts view.now.message others groups → ReadsOnly others groups result }
+{
+    let mut contexts = view.contexts();
+    let Some(first) = contexts.next() else {
+        return None;
+    };
+    match contexts.next() {
+        Some(_) => None,
+        None => Some(context_in(&first)),
+    }
+}

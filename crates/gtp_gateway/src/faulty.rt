@@ -1,0 +1,269 @@
+//! Datagrams of the control plane that are at fault (TS 29.274 7.7).
+
+ghost use Rattle.std.specs.Prelude.{◌≡◌, ◌<◌, true, IfOk, option_map};
+ghost use Rattle.gtp_v2.specs.Instances.{ElementInstanceIsSmall, InstanceIsSmall};
+ghost use Rattle.gtp_machine.specs.Answer.{fault_number, defect_cause, opened_remote, faulty_header};
+ghost use Rattle.gtp_machine.specs.Reading.{control_fault, request_kind, missing_in, defect_in, element_fault};
+ghost use Rattle.std.specs.FinMap as map;
+ghost use Rattle.gtp_gateway.specs.Faulty.{kind_of, defect_of, fault_of, reading_of, is_answered, dropped_for};
+ghost use Rattle.gtp_gateway.specs.Parts.{node_of};
+ghost use Rattle.gtp_gateway.specs.Station.{station_of};
+ghost use Rattle.gtp_gateway.specs.Faulty.{IsFaultTaken};
+ghost use Rattle.gtp_gateway.specs.declared.faulty.Flaw.TheVariants as flaws;
+
+use crate::control_step::ControlStep;
+use crate::messages::{fault_cause, refusal};
+use crate::parts::Parts;
+use crate::user::written_teid;
+use gtp_ie::IeFault;
+use gtp_machine::{DropReason, FaultName, Outcome, Plane, Role};
+use gtp_tables::State;
+use gtp_v2::kinds::{
+    CREATE_BEARER_REQUEST, CREATE_SESSION_REQUEST, DELETE_BEARER_REQUEST, DELETE_SESSION_REQUEST,
+};
+use gtp_v2::{Head, V2Fault};
+use gtp_values::{Below, Endpoint, FTeid, Memory, Seq, Teid};
+use std::alloc::Global;
+
+/// The requests whose faults are answered.
+#[derive(Clone, Copy, Debug, PartialEq, Eq)]
+pub enum Request {
+    CreateSession,
+    DeleteSession,
+    CreateBearer,
+    DeleteBearer,
+}
+
+/// Why an element of a request can't be taken (TS 29.274 7.7.6 to 7.7.8).
+#[derive(Clone, Copy, Debug, PartialEq, Eq)]
+pub enum Defect {
+    MandatoryMissing,
+    ConditionalMissing,
+    TooShort,
+    OutOfRange,
+}
+
+/// A request with a faulty element.
+#[derive(Clone, Copy, Debug, PartialEq, Eq)]
+pub struct FaultyRequest {
+    pub kind: Request,
+    /// The TEID of its header.
+    pub header: Teid,
+    pub seq: Seq,
+    pub defect: Defect,
+    /// The type of the element.
+    pub element: u8,
+    pub instance: Below<16>,
+    /// The sender's F-TEID for the control plane, where it reads.
+    pub sender: Option<FTeid>,
+}
+
+/// What is wrong with a datagram.
+#[derive(Clone, Copy, Debug, PartialEq, Eq)]
+pub enum Flaw {
+    /// A fault by its printed number, which is not answered.
+    Plain(u8),
+    /// An element of a request that is answered.
+    Faulty(FaultyRequest),
+}
+
+impl Defect {
+    /// The printed number of the fault: H6 for a missing element, H7 for a bad one.
+    fn number(self) -> u8
+        ensures { result ≡ fault_number (defect_of self) }
+    {
+        match self {
+            Defect::MandatoryMissing | Defect::ConditionalMissing => 6,
+            Defect::TooShort | Defect::OutOfRange => 7,
+        }
+    }
+
+    /// The cause that it is answered with: mandatory or conditional element missing, invalid length,
+    /// mandatory element incorrect.
+    fn cause(self) -> u8
+        ensures { result ≡ defect_cause (defect_of self) }
+    {
+        match self {
+            Defect::MandatoryMissing => 70,
+            Defect::ConditionalMissing => 103,
+            Defect::TooShort => 67,
+            Defect::OutOfRange => 69,
+        }
+    }
+}
+
+/// The request of a type, where its faults are answered.
+fn request_of(kind: u8) -> Option<Request>
+    ensures { option_map (λ k. kind_of k) result ≡ request_kind kind }
+{
+    match kind {
+        CREATE_SESSION_REQUEST => Some(Request::CreateSession),
+        DELETE_SESSION_REQUEST => Some(Request::DeleteSession),
+        CREATE_BEARER_REQUEST => Some(Request::CreateBearer),
+        DELETE_BEARER_REQUEST => Some(Request::DeleteBearer),
+        _ => None,
+    }
+}
+
+/// A missing element.
+fn missing(conditional: bool) -> Defect
+    ensures { defect_of result ≡ missing_in conditional }
+{
+    if conditional {
+        Defect::ConditionalMissing
+    } else {
+        Defect::MandatoryMissing
+    }
+}
+
+/// An element at fault: of a request that is answered, or of another message.
+fn flaw_in(head: &Head, defect: Defect, element: u8, instance: u8) -> Flaw
+    requires { instance < 16 }
+    ensures { reading_of result
+        ≡ defect_in (request_kind head.now.kind) head.now (defect_of defect) element instance }
+{
+    match request_of(head.kind) {
+        None => Flaw::Plain(defect.number()),
+        Some(kind) => Flaw::Faulty(FaultyRequest {
+            kind,
+            header: head.teid.unwrap_or(Teid(0)),
+            seq: head.seq,
+            defect,
+            element,
+            instance: Below::new(instance),
+            sender: head.sender,
+        }),
+    }
+}
+
+/// An element that has no value; one that runs past the end of its list is answered by none.
+fn element_flaw(head: &Head, fault: &IeFault) -> Flaw
+    requires { ElementInstanceIsSmall fault.now }
+    ensures { reading_of result ≡ element_fault head.now fault.now }
+{
+    match *fault {
+        IeFault::ShortValue { kind, instance, .. } => {
+            flaw_in(head, Defect::TooShort, kind, instance)
+        }
+        IeFault::BadValue { kind, instance, .. } => {
+            flaw_in(head, Defect::OutOfRange, kind, instance)
+        }
+        IeFault::Truncated { .. } | IeFault::Memory | IeFault::TooLong => Flaw::Plain(7),
+    }
+}
+
+/// What is wrong with a datagram, by its first fault.
+pub fn flaw_of(fault: &V2Fault) -> Flaw
+    requires { InstanceIsSmall fault.now }
+    ensures { reading_of result ≡ control_fault fault.now }
+{
+    match fault {
+        V2Fault::Short { .. } => Flaw::Plain(1),
+        V2Fault::Version { .. } => Flaw::Plain(2),
+        V2Fault::Length { .. } => Flaw::Plain(3),
+        V2Fault::FlagT { .. } => Flaw::Plain(4),
+        V2Fault::Piggyback => Flaw::Plain(5),
+        V2Fault::Missing {
+            kind,
+            instance,
+            conditional,
+            head,
+        } => flaw_in(head, missing(*conditional), *kind, *instance),
+        V2Fault::Element { fault, head } => element_flaw(head, fault),
+        V2Fault::Memory => Flaw::Plain(8),
+        V2Fault::TooLong => Flaw::Plain(9),
+    }
+}
+
+/// Whether a gateway takes such requests, and so answers their faults.
+fn answers(role: Role, kind: Request) -> bool
+    ensures { result ≡ is_answered role kind }
+{
+    match kind {
+        Request::CreateSession | Request::DeleteSession => role == Role::Packet,
+        Request::CreateBearer | Request::DeleteBearer => role == Role::Serving,
+    }
+}
+
+/// A datagram with the fault of this printed number is dropped.
+fn undecodable(number: u8) -> ControlStep
+    ensures { result ≡ dropped_for number }
+{
+    ControlStep::dropped(DropReason::Undecodable(FaultName {
+        plane: Plane::Control,
+        number,
+    }))
+}
+
+impl Parts {
+    /// The remote of a session that was opened, or 0.
+    fn opened_remote(&self, session: Teid) -> Teid
+        ensures { result.0 ≡ opened_remote (map.get self.now.sessions.table session.0) }
+    {
+        match self.sessions.get(session) {
+            None => Teid(0),
+            Some(session) => match session.state {
+                State::Pending => Teid(0),
+                State::Active | State::Closing => written_teid(session.remote),
+            },
+        }
+    }
+
+    /// The header of the answer to a faulty request (TS 29.274 5.5.2).
+    fn faulty_header(&self, faulty: &FaultyRequest) -> Teid
+        ensures { result.0 ≡ faulty_header (node_of self.now) (kind_of faulty.now.kind)
+            (fault_of faulty.now) }
+    {
+        match faulty.kind {
+            Request::CreateSession => match faulty.sender {
+                None => Teid(0),
+                Some(sender) => sender.teid(),
+            },
+            Request::DeleteSession | Request::CreateBearer | Request::DeleteBearer => {
+                self.opened_remote(faulty.header)
+            }
+        }
+    }
+
+    /// A faulty request is answered with the element at fault; the answer is not held.
+    fn answer_fault(
+        &self,
+        alloc: Global,
+        source: Endpoint,
+        faulty: &FaultyRequest,
+    ) -> Result<ControlStep, Memory>
+        requires { is_answered self.now.role faulty.now.kind ≡ true }
+        ensures { IfOk result (λ step. IsFaultTaken source (reading_of (flaws.Faulty faulty.now))
+            (station_of self.now) step) }
+    {
+        let cause = fault_cause(faulty.defect.cause(), faulty.element, faulty.instance);
+        let header = self.faulty_header(faulty);
+        let counter = self.draws.counter();
+        let message = refusal(alloc, faulty.kind, header, faulty.seq, cause, counter);
+        let out = self.reply(alloc, source, &message)?;
+        Ok(ControlStep::sent(out, Outcome::Answered(faulty.defect.cause())))
+    }
+
+    /// Takes a datagram at fault: a request that the gateway takes is answered, and all else is
+    /// dropped. Nothing changes.
+    pub fn take_flaw(
+        &self,
+        alloc: Global,
+        source: Endpoint,
+        flaw: &Flaw,
+    ) -> Result<ControlStep, Memory>
+        ensures { IfOk result (λ step.
+            IsFaultTaken source (reading_of flaw.now) (station_of self.now) step) }
+    {
+        match flaw {
+            Flaw::Plain(number) => Ok(undecodable(*number)),
+            Flaw::Faulty(faulty) => {
+                if answers(self.role, faulty.kind) {
+                    self.answer_fault(alloc, source, faulty)
+                } else {
+                    Ok(undecodable(faulty.defect.number()))
+                }
+            }
+        }
+    }
+}

@@ -1,0 +1,265 @@
+//! Create Bearer Requests (TS 29.274 7.2.3), as the serving gateway takes them.
+
+ghost use Rattle.std.specs.Prelude.{◌≡◌, ◌↔◌, IsTrue, IfOk, IfSome, IfNone, OnErr};
+ghost use Rattle.gtp_machine.specs.Choice.{HasFreeIdentity, HasDraws};
+ghost use Rattle.gtp_machine.specs.Reading.{control_message};
+ghost use Rattle.gtp_machine.specs.Message as messages;
+ghost use Rattle.gtp_gateway.specs.Granting.{HasBearerContext, ReadsBearer, SaysBearer, IsGrant, IsChosen};
+ghost use Rattle.gtp_gateway.specs.Granting.{granted_to, bearer_answer, cause_in, is_granted, change_for};
+ghost use Rattle.gtp_gateway.specs.Granting.{JudgesBearer, TakesBearerRequest};
+ghost use Rattle.gtp_gateway.specs.Own.{IsOwn};
+ghost use Rattle.gtp_gateway.specs.Parts.{node_of};
+ghost use Rattle.gtp_gateway.specs.Station.{IsWhole, station_of};
+ghost use Rattle.gtp_gateway.specs.Taken.{IsFresh};
+
+use crate::bearer_messages::{bearer_grant, no_resources_response};
+use crate::change::Change;
+use crate::closing::is_open;
+use crate::control_step::ControlStep;
+use crate::drawing::OneDrawn;
+use crate::faulty::Request;
+use crate::messages::{own_end, plain_cause, refusal};
+use crate::needed::{needed, needed_in};
+use crate::parts::Parts;
+use crate::user::written_teid;
+use gtp_machine::DropReason;
+use gtp_tables::{Bearer, Kind, Session, State, View};
+use gtp_v2::{DatagramView, EbiValue, Message};
+use gtp_values::{Below, Ebi, Endpoint, FTeid, Memory, Seq, Teid};
+use std::alloc::Global;
+
+/// What a Create Bearer Request says, as far as the serving gateway looks at it.
+#[derive(Clone, Copy, Debug, PartialEq, Eq)]
+pub struct BearerRequest {
+    pub seq: Seq,
+    /// The TEID of its header.
+    pub header: Teid,
+    /// The linked EPS bearer identity.
+    pub linked: Below<16>,
+    /// The packet gateway's F-TEID of the user plane, in the first bearer context.
+    pub user: FTeid,
+    /// There is no further bearer context.
+    pub is_alone: bool,
+}
+
+/// What a bearer is made with: its identity, and the TEID that is drawn for it.
+#[derive(Clone, Copy, Debug, PartialEq, Eq)]
+pub struct Grant {
+    pub identity: Ebi,
+    pub drawn: OneDrawn,
+}
+
+/// How a Create Bearer Request is answered.
+#[derive(Clone, Copy, Debug, PartialEq, Eq)]
+pub enum BearerAnswer {
+    /// It is refused, with Cause and Recovery alone.
+    Refused { cause: u8 },
+    /// There is no identity or no TEID for the bearer.
+    NoResources,
+    /// The bearer is made.
+    Granted(Grant),
+}
+
+/// What the request comes to: its answer, and the TEID in the header of that.
+#[derive(Clone, Copy, Debug, PartialEq, Eq)]
+pub struct BearerVerdict {
+    pub header: Teid,
+    pub answer: BearerAnswer,
+}
+
+/// What a Create Bearer Request says.
+pub fn bearer_request_in(view: &DatagramView<'_>) -> BearerRequest
+    requires { HasBearerContext view.now.message }
+    ensures { ReadsBearer view.now.message result }
+{
+    let mut contexts = view.contexts();
+    let Some(first) = contexts.next() else {
+        unreachable!()
+    };
+    BearerRequest {
+        seq: view.seq(),
+        header: view.teid().unwrap_or(Teid(0)),
+        linked: needed::<EbiValue>(view, 0).0,
+        user: needed_in(&first, 1),
+        is_alone: contexts.next().is_none(),
+    }
+}
+
+/// Whether the linked identity is the session's default.
+pub fn is_default(linked: Below<16>, session: &Session) -> bool
+    ensures { IsTrue result ↔ (linked ≡ session.now.subscriber.identity) }
+{
+    linked.number() == session.subscriber.identity.number()
+}
+
+impl BearerAnswer {
+    /// The cause of the answer.
+    fn cause(&self) -> u8
+        ensures { result ≡ cause_in self.now }
+    {
+        match *self {
+            BearerAnswer::Refused { cause } => cause,
+            BearerAnswer::NoResources => 73,
+            BearerAnswer::Granted(_) => 16,
+        }
+    }
+
+    /// Whether a bearer is made.
+    fn is_granted(&self) -> bool
+        ensures { result ≡ is_granted self.now }
+    {
+        matches!(self, BearerAnswer::Granted(_))
+    }
+
+    /// What changes.
+    fn change(&self, request: &BearerRequest) -> Change
+        ensures { result ≡ change_for request.now self.now }
+    {
+        match *self {
+            BearerAnswer::Refused { .. } | BearerAnswer::NoResources => Change::Stays,
+            BearerAnswer::Granted(grant) => Change::MakesBearer {
+                draws: grant.drawn.draws,
+                teid: grant.drawn.teid,
+                bearer: granted_bearer(request, grant.identity),
+            },
+        }
+    }
+}
+
+/// The bearer that is granted: a dedicated one, active at once.
+fn granted_bearer(request: &BearerRequest, identity: Ebi) -> Bearer
+    ensures { result ≡ granted_to request.now identity }
+{
+    Bearer {
+        remote: Some(request.user.teid().0),
+        session: request.header.0,
+        identity: Some(identity),
+        kind: Kind::Dedicated,
+        state: State::Active,
+        ended: false,
+    }
+}
+
+impl Parts {
+    /// The lowest identity that no bearer of the session has, and the next TEID, where there are both.
+    fn choose(&self, session: Teid) -> Option<Grant>
+        requires whole { IsWhole (station_of self.now) }
+        ensures some { IfSome result (λ g. IsGrant session.0 g (node_of self.now)) }
+        ensures none { IfNone result
+            (HasFreeIdentity (node_of self.now) session.0 × HasDraws (node_of self.now) 1 → ⊥) }
+    {
+        let view = View::new(&self.sessions, &self.bearers);
+        let Ok(identity) = view.lowest_free_identity(session) else {
+            return None;
+        };
+        let Some(drawn) = self.draw_one() else {
+            return None;
+        };
+        Some(Grant { identity, drawn })
+    }
+
+    /// What a Create Bearer Request comes to; none where its session is not active, and then it is
+    /// dropped. It changes nothing.
+    fn judge_bearer(&self, request: &BearerRequest) -> Option<BearerVerdict>
+        requires whole { IsWhole (station_of self.now) }
+        ensures { JudgesBearer request.now (node_of self.now) result }
+    {
+        let Some(session) = self.sessions.get(request.header) else {
+            return Some(BearerVerdict {
+                header: Teid(0),
+                answer: BearerAnswer::Refused { cause: 64 },
+            });
+        };
+        if !is_open(&session) {
+            return None;
+        }
+        let header = written_teid(session.remote);
+        if !request.is_alone {
+            return Some(BearerVerdict {
+                header,
+                answer: BearerAnswer::Refused { cause: 94 },
+            });
+        }
+        if !is_default(request.linked, &session) {
+            return Some(BearerVerdict {
+                header,
+                answer: BearerAnswer::Refused { cause: 64 },
+            });
+        }
+        let Some(grant) = self.choose(request.header) else {
+            return Some(BearerVerdict {
+                header,
+                answer: BearerAnswer::NoResources,
+            });
+        };
+        Some(BearerVerdict {
+            header,
+            answer: BearerAnswer::Granted(grant),
+        })
+    }
+
+    /// The answer to a Create Bearer Request.
+    fn bearer_response(
+        &self,
+        alloc: Global,
+        request: &BearerRequest,
+        verdict: &BearerVerdict,
+    ) -> Result<Message, Memory>
+        requires { IsChosen request.now.header.0 verdict.now.answer (node_of self.now) }
+        ensures says { IfOk result (λ message. (q : messages.CreateBearerRequest)
+            → SaysBearer request.now q → control_message message
+            ≡ bearer_answer verdict.now.answer verdict.now.header.0 q (node_of self.now)) }
+        ensures own { IfOk result (λ message. IsOwn message) }
+    {
+        let header = verdict.header;
+        let seq = request.seq;
+        let counter = self.draws.counter();
+        match verdict.answer {
+            BearerAnswer::Refused { cause } => {
+                let cause = plain_cause(cause);
+                Ok(refusal(alloc, Request::CreateBearer, header, seq, cause, counter))
+            }
+            BearerAnswer::NoResources => {
+                no_resources_response(alloc, header, seq, request.user, counter)
+            }
+            BearerAnswer::Granted(grant) => {
+                let own = own_end(Below::new(4), grant.drawn.teid, self.config.own().user);
+                bearer_grant(
+                    alloc,
+                    header,
+                    seq,
+                    grant.identity,
+                    own,
+                    request.user,
+                    counter,
+                )
+            }
+        }
+    }
+
+    /// Takes a Create Bearer Request.
+    pub fn take_bearer_request(
+        &mut self,
+        alloc: Global,
+        source: Endpoint,
+        octets: &[u8],
+        request: &BearerRequest,
+    ) -> Result<ControlStep, Memory>
+        requires whole { IsWhole (station_of self.old) }
+        requires fresh { IsFresh source octets.now (station_of self.old) self.old.held.pairs }
+        ensures taken { IfOk result (λ step. TakesBearerRequest source octets.now request.now
+            (station_of self.old) step (station_of self.new)) }
+        ensures err { OnErr result (station_of self.new ≡ station_of self.old) }
+    {
+        if self.held.is_full() {
+            return Ok(ControlStep::dropped(DropReason::HeldFull));
+        }
+        let Some(verdict) = self.judge_bearer(request) else {
+            return Ok(ControlStep::dropped(DropReason::ContextNotActive));
+        };
+        let message = self.bearer_response(alloc, request, &verdict)?;
+        let answer = verdict.answer;
+        let out = self.answer(alloc, source, octets, &message, answer.change(request))?;
+        Ok(ControlStep::answered(out, answer.cause(), answer.is_granted()))
+    }
+}

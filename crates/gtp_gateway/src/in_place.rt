@@ -1,0 +1,33 @@
+//! What is read of a message where it lies.
+
+ghost use Rattle.std.specs.Prelude.{◌≡◌, ℕ, List, Some, option_map};
+ghost use Rattle.gtp_v2.specs.Datagram.{IsMessage};
+ghost use Rattle.gtp_machine.specs.Message.{recovery_of};
+ghost use Rattle.gtp_machine.specs.Decoded.{message_of};
+ghost use Rattle.gtp_gateway.specs.Procedure.{procedure_at};
+
+use crate::procedure::Procedure;
+use gtp_v2::{DatagramView, Recovery};
+use gtp_values::Counter;
+
+/// The sender's restart counter, where the message that the procedure takes tells one.
+pub fn counter_in(view: &DatagramView<'_>, procedure: Procedure) -> Option<Counter>
+    requires spelled { (octets : List ℕ) × IsMessage octets view.now.message }
+    requires taken { procedure_at view.now.message.kind ≡ Some procedure }
+    ensures { option_map (λ c. c.0) result ≡ recovery_of (message_of view.now.message) }
+{
+    match procedure {
+        Procedure::DeletionAsked | Procedure::BearerAsked | Procedure::RemovalAsked => None,
+        _ => counter_of(view.value(0)),
+    }
+}
+
+/// The counter of a Recovery.
+fn counter_of(recovery: Option<Recovery>) -> Option<Counter>
+    ensures { option_map (λ c. c.0) result ≡ option_map (λ r. r.0.0) recovery }
+{
+    match recovery {
+        Some(Recovery(counter)) => Some(counter),
+        None => None,
+    }
+}

@@ -1,0 +1,417 @@
+//! The messages that a gateway sends.
+
+ghost use Rattle.std.specs.Prelude.{◌≡◌, ◌∷◌, false, [], Some, None, IfOk};
+ghost use Rattle.gtp_machine.specs.Message.{Echo_request, Echo_response, Create_session_request, Create_session_response, Delete_session_request, Delete_session_response, Create_bearer_request, Delete_bearer_request};
+ghost use Rattle.gtp_machine.specs.Decoded.{address_of};
+ghost use Rattle.gtp_machine.specs.Element.{Ipv4, cause_of, cause_at, tunnel_end};
+ghost use Rattle.gtp_machine.specs.Packet.{session_cause};
+ghost use Rattle.gtp_machine.specs.Spelling.{paa_of};
+ghost use Rattle.gtp_gateway.specs.SessionAsked.{granted};
+ghost use Rattle.gtp_machine.specs.Answer.{refusing};
+ghost use Rattle.gtp_machine.specs.Input.{Of_create_session, Of_delete_session, Of_create_bearer, Of_delete_bearer};
+ghost use Rattle.gtp_values.specs.Cause.{is_accepting_value};
+ghost use Rattle.gtp_gateway.specs.Faulty.{kind_of};
+ghost use Rattle.gtp_gateway.specs.Specified.{requested};
+ghost use Rattle.gtp_machine.specs.Reading.{control_message};
+ghost use Rattle.gtp_gateway.specs.Own.{IsOwn};
+
+use crate::faulty::Request;
+use crate::session::SessionSpec;
+use crate::session_request::SessionRequest;
+use gtp_v2::{
+    BearerRequestContext, Body, ChargingId, CreateBearerRequest, CreateBearerResponse,
+    CreateSessionRequest, CreateSessionResponse, DeleteBearerRequest, DeleteBearerResponse,
+    DeleteSessionRequest, DeleteSessionResponse, EbiValue, EchoRequest, EchoResponse, Listed,
+    Message, Paa, PdnType, Recovery, SessionRequestContext, SessionResponseContext,
+};
+use gtp_values::{Below, Cause, Counter, Ebi, FTeid, Ip, Memory, Offending, Qos, Seq, Teid, Tft};
+use std::alloc::Global;
+
+/// An Echo Request (TS 29.274 7.1.1).
+pub fn echo_request(seq: Seq, counter: Counter) -> Message
+    ensures says { control_message result
+        ≡ Echo_request (record { number = seq; recovery = counter.0 }) }
+    ensures own { IsOwn result }
+{
+    Message {
+        teid: None,
+        seq,
+        priority: None,
+        body: Body::EchoRequest(EchoRequest {
+            recovery: Recovery(counter),
+        }),
+    }
+}
+
+/// An Echo Response (TS 29.274 7.1.2).
+pub fn echo_response(seq: Seq, counter: Counter) -> Message
+    ensures says { control_message result
+        ≡ Echo_response (record { number = seq; recovery = counter.0 }) }
+    ensures own { IsOwn result }
+{
+    Message {
+        teid: None,
+        seq,
+        priority: None,
+        body: Body::EchoResponse(EchoResponse {
+            recovery: Recovery(counter),
+        }),
+    }
+}
+
+/// A Delete Session Response (TS 29.274 7.2.10.1).
+pub fn deletion_response(header: Teid, seq: Seq, cause: u8, counter: Counter) -> Message
+    ensures says { control_message result ≡ Delete_session_response (record {
+      header = header.0;
+      number = seq;
+      cause = cause_of cause;
+      recovery = Some counter.0;
+    }) }
+    ensures own { IsOwn result }
+{
+    Message {
+        teid: Some(header),
+        seq,
+        priority: None,
+        body: Body::DeleteSessionResponse(DeleteSessionResponse {
+            cause: plain_cause(cause),
+            recovery: Some(Recovery(counter)),
+        }),
+    }
+}
+
+/// A cause that names no element.
+pub fn plain_cause(value: u8) -> Cause
+    ensures { result ≡ cause_of value }
+{
+    Cause {
+        value,
+        pce: false,
+        bce: false,
+        cs: false,
+        offending: None,
+    }
+}
+
+/// A cause that names the type and instance of the element at fault.
+pub fn fault_cause(value: u8, kind: u8, instance: Below<16>) -> Cause
+    ensures { result ≡ cause_at value kind instance }
+{
+    Cause {
+        offending: Some(Offending { kind, instance }),
+        ..plain_cause(value)
+    }
+}
+
+/// A response that refuses a request: Cause and Recovery alone.
+pub fn refusal(
+    alloc: Global,
+    request: Request,
+    header: Teid,
+    seq: Seq,
+    cause: Cause,
+    counter: Counter,
+) -> Message
+    requires { is_accepting_value cause.value ≡ false }
+    ensures says { control_message result
+        ≡ refusing (kind_of request) header.0 seq cause counter.0 }
+    ensures own { IsOwn result }
+{
+    match request {
+        Request::CreateSession => session_refusal(alloc, header, seq, cause, counter),
+        Request::DeleteSession => deletion_refusal(header, seq, cause, counter),
+        Request::CreateBearer => bearer_refusal(alloc, header, seq, cause, counter),
+        Request::DeleteBearer => removal_refusal(alloc, header, seq, cause, counter),
+    }
+}
+
+/// A Create Session Response that refuses.
+fn session_refusal(alloc: Global, header: Teid, seq: Seq, cause: Cause, counter: Counter) -> Message
+    requires { is_accepting_value cause.value ≡ false }
+    ensures says { control_message result ≡ refusing Of_create_session header.0 seq cause counter.0 }
+    ensures own { IsOwn result }
+{
+    Message {
+        teid: Some(header),
+        seq,
+        priority: None,
+        body: Body::CreateSessionResponse(CreateSessionResponse {
+            cause,
+            control: None,
+            paa: None,
+            ambr: None,
+            contexts: Listed::of(Vec::new(alloc)),
+            recovery: Some(Recovery(counter)),
+        }),
+    }
+}
+
+/// A Delete Session Response that refuses.
+fn deletion_refusal(header: Teid, seq: Seq, cause: Cause, counter: Counter) -> Message
+    requires { is_accepting_value cause.value ≡ false }
+    ensures says { control_message result ≡ refusing Of_delete_session header.0 seq cause counter.0 }
+    ensures own { IsOwn result }
+{
+    Message {
+        teid: Some(header),
+        seq,
+        priority: None,
+        body: Body::DeleteSessionResponse(DeleteSessionResponse {
+            cause,
+            recovery: Some(Recovery(counter)),
+        }),
+    }
+}
+
+/// A Create Bearer Response that refuses.
+fn bearer_refusal(alloc: Global, header: Teid, seq: Seq, cause: Cause, counter: Counter) -> Message
+    requires { is_accepting_value cause.value ≡ false }
+    ensures says { control_message result ≡ refusing Of_create_bearer header.0 seq cause counter.0 }
+    ensures own { IsOwn result }
+{
+    Message {
+        teid: Some(header),
+        seq,
+        priority: None,
+        body: Body::CreateBearerResponse(CreateBearerResponse {
+            cause,
+            contexts: Listed::of(Vec::new(alloc)),
+            recovery: Some(Recovery(counter)),
+        }),
+    }
+}
+
+/// A Delete Bearer Response that refuses.
+fn removal_refusal(alloc: Global, header: Teid, seq: Seq, cause: Cause, counter: Counter) -> Message
+    requires { is_accepting_value cause.value ≡ false }
+    ensures says { control_message result ≡ refusing Of_delete_bearer header.0 seq cause counter.0 }
+    ensures own { IsOwn result }
+{
+    Message {
+        teid: Some(header),
+        seq,
+        priority: None,
+        body: Body::DeleteBearerResponse(DeleteBearerResponse {
+            cause,
+            linked_ebi: None,
+            contexts: Listed::of(Vec::new(alloc)),
+            recovery: Some(Recovery(counter)),
+        }),
+    }
+}
+
+/// A Delete Session Request (TS 29.274 7.2.9.1), with the identity of the default bearer.
+pub fn deletion_request(header: Teid, seq: Seq, identity: Ebi) -> Message
+    ensures says { control_message result ≡ Delete_session_request (record {
+      header = header.0;
+      number = seq;
+      linked = Some identity;
+    }) }
+    ensures own { IsOwn result }
+{
+    Message {
+        teid: Some(header),
+        seq,
+        priority: None,
+        body: Body::DeleteSessionRequest(DeleteSessionRequest {
+            linked_ebi: Some(EbiValue::from(identity)),
+        }),
+    }
+}
+
+/// A Delete Bearer Request (TS 29.274 7.2.9.2) for a whole session, with the identity of its default
+/// bearer.
+pub fn release_request(alloc: Global, header: Teid, seq: Seq, identity: Ebi) -> Message
+    ensures says { control_message result ≡ Delete_bearer_request (record {
+      header = header.0;
+      number = seq;
+      linked = Some identity;
+      identities = [];
+    }) }
+    ensures own { IsOwn result }
+{
+    Message {
+        teid: Some(header),
+        seq,
+        priority: None,
+        body: Body::DeleteBearerRequest(DeleteBearerRequest {
+            linked_ebi: Some(EbiValue::from(identity)),
+            ebis: Listed::of(Vec::new(alloc)),
+        }),
+    }
+}
+
+/// A Delete Bearer Request (TS 29.274 7.2.9.2) for one dedicated bearer.
+pub fn bearer_deletion_request(
+    alloc: Global,
+    header: Teid,
+    seq: Seq,
+    identity: Ebi,
+) -> Result<Message, Memory>
+    ensures says { IfOk result (λ message. control_message message
+        ≡ Delete_bearer_request (record {
+          header = header.0;
+          number = seq;
+          linked = None;
+          identities = identity ∷ [];
+        })) }
+    ensures own { IfOk result (λ message. IsOwn message) }
+{
+    let ebis = Vec::from_slice(alloc, &[EbiValue::from(identity)])?;
+    Ok(Message {
+        teid: Some(header),
+        seq,
+        priority: None,
+        body: Body::DeleteBearerRequest(DeleteBearerRequest {
+            linked_ebi: None,
+            ebis: Listed::of(ebis),
+        }),
+    })
+}
+
+/// An F-TEID (TS 29.274 8.22) that a gateway gives, with its own address.
+pub fn own_end(interface: Below<64>, teid: Teid, ip: Ip) -> FTeid
+    ensures { result ≡ tunnel_end interface teid.0 ip }
+{
+    FTeid::new(interface, teid, ip)
+}
+
+/// A Create Bearer Request (TS 29.274 7.2.3) for one bearer, whose identity is to be given.
+#[allow(clippy::too_many_arguments)]
+pub fn bearer_request(
+    alloc: Global,
+    header: Teid,
+    seq: Seq,
+    linked: Ebi,
+    tft: Tft,
+    qos: Qos,
+    user: FTeid,
+    charging: u32,
+) -> Result<Message, Memory>
+    ensures says { IfOk result (λ message. control_message message
+        ≡ Create_bearer_request (record {
+          header = header.0;
+          number = seq;
+          transaction = None;
+          linked = linked;
+          context = record {
+            identity = 0;
+            tft = tft;
+            user = user;
+            qos = qos;
+            charging = Some charging;
+          };
+          further = [];
+        })) }
+    ensures own { IfOk result (λ message. IsOwn message) }
+{
+    let context = BearerRequestContext {
+        ebi: EbiValue(Below::new(0)),
+        tft,
+        user,
+        qos,
+        charging_id: Some(ChargingId(charging)),
+    };
+    let contexts = Vec::from_slice(alloc, &[context])?;
+    Ok(Message {
+        teid: Some(header),
+        seq,
+        priority: None,
+        body: Body::CreateBearerRequest(CreateBearerRequest {
+            pti: None,
+            linked_ebi: EbiValue::from(linked),
+            contexts: Listed::of(contexts),
+        }),
+    })
+}
+
+/// A Create Session Request (TS 29.274 7.2.1), with the serving gateway's F-TEIDs.
+pub fn session_request(
+    alloc: Global,
+    seq: Seq,
+    spec: &SessionSpec,
+    control: FTeid,
+    user: FTeid,
+    counter: Counter,
+) -> Result<Message, Memory>
+    ensures says { IfOk result (λ message. control_message message
+        ≡ Create_session_request (requested spec.now seq control user counter.0)) }
+    ensures own { IfOk result (λ message. IsOwn message) }
+{
+    let context = SessionRequestContext {
+        ebi: EbiValue::from(spec.subscriber.identity),
+        qos: spec.qos,
+        user,
+    };
+    let contexts = Vec::from_slice(alloc, &[context])?;
+    Ok(Message {
+        teid: Some(Teid(0)),
+        seq,
+        priority: None,
+        body: Body::CreateSessionRequest(CreateSessionRequest {
+            imsi: spec.subscriber.imsi,
+            rat: spec.rat,
+            serving_network: Some(spec.plmn),
+            control,
+            apn: spec.subscriber.access_point,
+            selection: Some(spec.selection),
+            pdn_type: spec.pdn,
+            paa: Some(Paa::V4([0; 4])),
+            ambr: Some(spec.ambr),
+            contexts: Listed::of(contexts),
+            recovery: Some(Recovery(counter)),
+        }),
+    })
+}
+
+/// The number of the answer to a session that is granted: 18 (new PDN type due to network preference)
+/// where IPv4v6 was asked for, else 16 (TS 29.274 8.4).
+pub fn session_cause(pdn: PdnType) -> u8
+    ensures { result ≡ session_cause pdn.0 }
+{
+    if pdn.0.number() == 3 { 18 } else { 16 }
+}
+
+/// An IPv4 address that is a number, as a PDN Address Allocation (TS 29.274 8.14).
+fn paa_of(address: u32) -> Paa
+    ensures octets { result ≡ paa_of (Ipv4 address) }
+    ensures back { address_of result ≡ Ipv4 address }
+{
+    Paa::V4(address.to_be_bytes())
+}
+
+/// A Create Session Response (TS 29.274 7.2.2) that grants a session, with the packet gateway's F-TEIDs.
+pub fn session_response(
+    alloc: Global,
+    request: &SessionRequest,
+    control: FTeid,
+    user: FTeid,
+    address: u32,
+    counter: Counter,
+) -> Result<Message, Memory>
+    ensures says { IfOk result (λ message. control_message message
+        ≡ Create_session_response (granted request.now control user address counter.0)) }
+    ensures own { IfOk result (λ message. IsOwn message) }
+{
+    let context = SessionResponseContext {
+        ebi: EbiValue(request.default.identity),
+        cause: plain_cause(16),
+        user: Some(user),
+        qos: Some(request.default.qos),
+        charging_id: Some(ChargingId(user.teid().0)),
+    };
+    let contexts = Vec::from_slice(alloc, &[context])?;
+    Ok(Message {
+        teid: Some(request.control.teid()),
+        seq: request.seq,
+        priority: None,
+        body: Body::CreateSessionResponse(CreateSessionResponse {
+            cause: plain_cause(session_cause(request.pdn)),
+            control: Some(control),
+            paa: Some(paa_of(address)),
+            ambr: request.ambr,
+            contexts: Listed::of(contexts),
+            recovery: Some(Recovery(counter)),
+        }),
+    })
+}

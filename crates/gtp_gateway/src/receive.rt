@@ -1,0 +1,123 @@
+//! Datagrams of the control plane, as they come in (TS 29.274 7.6, 7.7).
+
+ghost use Rattle.std.specs.Prelude.{◌≡◌, ◌↔◌, IsTrue, Some, true, IfOk, IfErr, IfSome, IfNone, OnErr};
+ghost use Rattle.gtp_gateway.specs.Procedure.{procedure_at, has, HasNot};
+ghost use Rattle.gtp_gateway.specs.Station.{IsWhole, station_of};
+ghost use Rattle.gtp_gateway.specs.Received.{IsReceived, KeepsTiming, NeedsMemory};
+ghost use Rattle.gtp_gateway.specs.Taken.{IsEntered, IsTaken};
+
+use crate::ask::control_end_of;
+use crate::control_step::ControlStep;
+use crate::faulty::flaw_of;
+use crate::parts::Parts;
+use crate::procedure::{Procedure, procedure_of};
+use crate::sent::Sent;
+use crate::step::Step;
+use gtp_machine::{DropReason, Outcome, Plane};
+use gtp_v2::view;
+use gtp_values::{Endpoint, Memory};
+use std::alloc::Global;
+
+/// What is known of a datagram before it is read.
+#[derive(Debug, Drop)]
+pub enum Entrance {
+    /// It is from elsewhere, or a request that was answered before: this is what it comes to.
+    Settled(ControlStep),
+    /// It is from the peer, and no answer is held for it.
+    New,
+}
+
+impl Parts {
+    /// Whether a datagram of the control plane comes from the peer's address, whatever the port.
+    fn is_from_peer(&self, source: Endpoint) -> bool
+        ensures { IsTrue result ↔ (source.ip ≡ self.now.config.config.peer.control) }
+    {
+        source.ip == self.config.peer().control
+    }
+
+    /// A datagram before it is read: first its source address is looked at, and then the answers
+    /// that are held. Nothing changes.
+    pub fn enter(&self, alloc: Global, source: Endpoint, octets: &[u8]) -> Result<Entrance, Memory>
+        ensures { IfOk result (λ entrance. IsEntered source octets.now (station_of self.now)
+            self.now.held.pairs entrance) }
+    {
+        if !self.is_from_peer(source) {
+            return Ok(Entrance::Settled(ControlStep::dropped(DropReason::NotPeer)));
+        }
+        let Some(answer) = self.held.lookup(source, octets) else {
+            return Ok(Entrance::New);
+        };
+        let out = Sent {
+            plane: Plane::Control,
+            from: control_end_of(self.config.own().control),
+            to: source,
+            octets: Vec::from_slice(alloc, answer)?,
+        };
+        Ok(Entrance::Settled(ControlStep::sent(out, Outcome::Repeated)))
+    }
+
+    /// Takes a datagram of the control plane.
+    pub fn receive_control(
+        &mut self,
+        alloc: Global,
+        source: Endpoint,
+        octets: &[u8],
+    ) -> Result<ControlStep, Memory>
+        requires whole { IsWhole (station_of self.old) }
+        ensures taken { IfOk result (λ step.
+            IsTaken source octets.now (station_of self.old) step (station_of self.new)) }
+        ensures err { OnErr result (station_of self.new ≡ station_of self.old) }
+    {
+        match self.enter(alloc, source, octets)? {
+            Entrance::Settled(step) => return Ok(step),
+            Entrance::New => {}
+        }
+        let view = match view(octets) {
+            Ok(view) => view,
+            Err(fault) => return self.take_flaw(alloc, source, &flaw_of(&fault)),
+        };
+        match self.procedure_for(view.kind()) {
+            Some(procedure) => self.take_message(alloc, source, octets, &view, procedure),
+            None => Ok(ControlStep::dropped(DropReason::Unexpected)),
+        }
+    }
+
+    /// Takes a datagram of a plane.
+    pub fn receive<'a>(
+        &mut self,
+        alloc: Global,
+        source: Endpoint,
+        plane: Plane,
+        octets: &'a [u8],
+    ) -> Result<Step<'a>, Memory>
+        requires whole { IsWhole (station_of self.old) }
+        ensures received { IfOk result (λ step.
+            IsReceived plane source octets.now (station_of self.old) step (station_of self.new)) }
+        ensures timing { IfOk result (λ step. KeepsTiming plane step (station_of self.old) (station_of self.new)) }
+        ensures memory { IfErr result (λ _. NeedsMemory plane source octets.now (station_of self.old)) }
+        ensures err { OnErr result (station_of self.new ≡ station_of self.old) }
+    {
+        match plane {
+            Plane::Control => {
+                let step = self.receive_control(alloc, source, octets)?;
+                Ok(Step::from(step))
+            }
+            Plane::User => {
+                let step = self.receive_user(alloc, source, octets)?;
+                Ok(Step::from(step))
+            }
+        }
+    }
+
+    /// The gateway's procedure for messages of a type, where it has one.
+    fn procedure_for(&self, kind: u8) -> Option<Procedure>
+        ensures some { IfSome result (λ p. (procedure_at kind ≡ Some p)
+            × (has self.now.role p ≡ true)) }
+        ensures none { IfNone result (HasNot self.now.role (procedure_at kind)) }
+    {
+        match procedure_of(kind) {
+            Some(procedure) if procedure.is_of(self.role) => Some(procedure),
+            _ => None,
+        }
+    }
+}

@@ -1,0 +1,21 @@
+//! Datagrams that a gateway sends.
+
+use gtp_machine::Plane;
+use gtp_values::{Endpoint, Teid};
+
+/// A datagram that a gateway sends.
+#[derive(Debug, Drop)]
+pub struct Sent {
+    pub plane: Plane,
+    pub from: Endpoint,
+    pub to: Endpoint,
+    pub octets: Vec<u8>,
+}
+
+/// A command that was carried out.
+#[derive(Debug, Drop)]
+pub struct Begun {
+    /// The session or bearer that a request was sent for, by the gateway's own TEID.
+    pub teid: Option<Teid>,
+    pub out: Sent,
+}

@@ -1,0 +1,72 @@
+//! Sessions (TS 29.274 7.2.1, 7.2.2), as the serving gateway begins them.
+
+ghost use Rattle.std.specs.Prelude.{◌≡◌, ◌↔◌, IsTrue, IfOk, OnErr};
+ghost use Rattle.std.specs.FinMap as map;
+ghost use Rattle.gtp_machine.specs.Choice.{IsIdentity, HasSessionRoom};
+ghost use Rattle.gtp_machine.specs.Input.{Create_session};
+ghost use Rattle.gtp_gateway.specs.Begun.{IsDone, IsRefusedWhere, AsksNext};
+ghost use Rattle.gtp_gateway.specs.Parts.{node_of};
+ghost use Rattle.gtp_gateway.specs.Specified.{specification};
+ghost use Rattle.gtp_gateway.specs.Station.{IsWhole, station_of};
+
+use crate::fault::CommandFault;
+use crate::parts::Parts;
+use crate::sent::Begun;
+use crate::wish::Wish;
+use gtp_machine::{Refusal, Role};
+use gtp_tables::Subscriber;
+use gtp_v2::{Ambr, PdnType, Plmn, Qos, Rat, Selection};
+use std::alloc::Global;
+
+/// What a session is to be made with (TS 29.274 7.2.1).
+#[derive(Clone, Copy, Debug, PartialEq, Eq)]
+pub struct SessionSpec {
+    pub subscriber: Subscriber,
+    /// The serving network.
+    pub plmn: Plmn,
+    pub rat: Rat,
+    pub selection: Selection,
+    pub pdn: PdnType,
+    pub ambr: Ambr,
+    pub qos: Qos,
+}
+
+impl Parts {
+    /// Whether one more session may stand.
+    fn has_session_room(&self) -> bool
+        ensures { IsTrue result ↔ HasSessionRoom (node_of self.now) }
+    {
+        !self.sessions.is_full()
+    }
+
+    /// Begins a session, at the serving gateway.
+    pub fn create_session(
+        &mut self,
+        alloc: Global,
+        spec: &SessionSpec,
+    ) -> Result<Begun, CommandFault>
+        requires whole { IsWhole (station_of self.old) }
+        ensures done { IfOk result (λ begun. IsDone (Create_session (specification spec.now))
+            (station_of self.old) begun (station_of self.new)) }
+        ensures next { IfOk result (λ begun.
+            AsksNext (station_of self.old) begun (station_of self.new)) }
+        ensures refused { IsRefusedWhere (Create_session (specification spec.now))
+            (station_of self.old) result }
+        ensures err { OnErr result (station_of self.new ≡ station_of self.old) }
+        // The identity of the default bearer is 5 to 15, by its type.
+        ensures identity { IsIdentity spec.now.subscriber.identity }
+    {
+        prove!(spec.subscriber.identity.number() <= 15);
+        match self.role {
+            Role::Packet => return Err(CommandFault::Refused(Refusal::WrongRole)),
+            Role::Serving => {}
+        }
+        if !self.has_session_room() {
+            return Err(CommandFault::Refused(Refusal::SessionsFull));
+        }
+        let Some(drawn) = self.draw_two() else {
+            return Err(CommandFault::Refused(Refusal::TeidsUsed));
+        };
+        self.ask_for(alloc, &Wish::CreateSession { drawn, spec: *spec })
+    }
+}

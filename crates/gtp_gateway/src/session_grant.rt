@@ -1,0 +1,289 @@
+//! Create Session Requests (TS 29.274 7.2.1), as the packet gateway answers them.
+
+ghost use Rattle.std.specs.Prelude.{◌≡◌, ◌↔◌, IsTrue, IfOk, OnOk, OnErr, Option, Some};
+ghost use Rattle.gtp_values.specs.FiniteMap.{Among};
+ghost use Rattle.gtp_values.specs.declared.counter.Counter.{Counter as AnyCounter};
+ghost use Rattle.gtp_gateway.specs.Change.{changed_by};
+ghost use Rattle.gtp_gateway.specs.Grant.{refused_with, session_of, bearer_of, change_of, grants};
+ghost use Rattle.gtp_gateway.specs.Grant.{JudgesRoom, JudgesSession, CanGrant, IsIpv4};
+ghost use Rattle.gtp_machine.specs.Reading.{control_message};
+ghost use Rattle.gtp_gateway.specs.Own.{IsOwn};
+ghost use Rattle.gtp_gateway.specs.Grant.{IsRefusedSession, IsGrantedSession, TakesSessionRequest};
+ghost use Rattle.gtp_gateway.specs.Hearing.{weighed_by, node_heard};
+ghost use Rattle.gtp_gateway.specs.Parts.{node_of};
+ghost use Rattle.gtp_gateway.specs.Station.{IsWhole, station_of};
+ghost use Rattle.gtp_gateway.specs.Taken.{IsFresh};
+ghost use Rattle.gtp_values.specs.Cause.{is_accepting_value};
+ghost use Rattle.std.specs.Prelude.{false, length, ◌<◌};
+
+use crate::control_step::ControlStep;
+use crate::drawing::TwoDrawn;
+use crate::faulty::Request;
+use crate::hearing::Heard;
+use crate::messages::{
+    fault_cause, own_end, plain_cause, refusal, session_cause, session_response,
+};
+use crate::parts::Parts;
+use crate::session_request::SessionRequest;
+use gtp_machine::DropReason;
+use gtp_tables::{Bearer, Kind, Session, State, Subscriber};
+use gtp_v2::{Message, PdnType};
+use gtp_values::{Apn, Below, Cause, Ebi, Endpoint, Memory};
+use std::alloc::Global;
+
+/// What a Create Session Request comes to.
+#[derive(Clone, Copy, Debug, PartialEq, Eq)]
+pub enum SessionVerdict {
+    /// It is refused with this cause.
+    Refused(Cause),
+    Granted(Grant),
+}
+
+/// A session that is granted: what is drawn and chosen for it.
+#[derive(Clone, Copy, Debug, PartialEq, Eq)]
+pub struct Grant {
+    pub drawn: TwoDrawn,
+    /// The IPv4 address, as a number.
+    pub address: u32,
+    /// The identity of the default bearer.
+    pub identity: Ebi,
+}
+
+/// Refused with a cause that names no element.
+fn refused(cause: u8) -> SessionVerdict
+    ensures { result ≡ refused_with cause }
+{
+    SessionVerdict::Refused(plain_cause(cause))
+}
+
+/// Whether an IPv4 address is asked for, alone or with one of IPv6.
+fn is_ipv4(pdn: PdnType) -> bool
+    ensures { IsTrue result ↔ IsIpv4 pdn.0 }
+{
+    matches!(pdn.0.number(), 1 | 3)
+}
+
+/// The session that is granted, active at once.
+fn granted_session(request: &SessionRequest, grant: &Grant) -> Session
+    ensures { result ≡ session_of request.now grant.now }
+{
+    Session {
+        remote: Some(request.control.teid().0),
+        subscriber: Subscriber {
+            imsi: request.imsi,
+            access_point: request.access_point,
+            identity: grant.identity,
+        },
+        address: Some(grant.address),
+        state: State::Active,
+    }
+}
+
+/// Its default bearer.
+fn granted_bearer(request: &SessionRequest, grant: &Grant) -> Bearer
+    ensures { result ≡ bearer_of request.now grant.now }
+{
+    Bearer {
+        remote: Some(request.default.user.teid().0),
+        session: grant.drawn.control.0,
+        identity: Some(grant.identity),
+        kind: Kind::Default,
+        state: State::Active,
+        ended: false,
+    }
+}
+
+impl Parts {
+    /// Whether the access point is configured.
+    fn serves(&self, access_point: &Apn) -> bool
+        ensures { IsTrue result
+            ↔ Among access_point.now (node_of self.now).config.access_points }
+    {
+        self.config.access_points().contains(access_point)
+    }
+
+    /// Whether there is room for a session with this identity, at a gateway that has heard this
+    /// counter. Nothing changes.
+    fn judge_room(&self, identity: Ebi, heard: Heard) -> SessionVerdict
+        requires whole { IsWhole (station_of self.now) }
+        ensures { JudgesRoom identity heard (node_of self.now) result }
+    {
+        let view = self.view_after(heard);
+        let Some(drawn) = self.draw_two() else {
+            return refused(73);
+        };
+        if view.is_full() {
+            return refused(73);
+        }
+        match view.lowest_free_address(self.config.pool()) {
+            Ok(address) => SessionVerdict::Granted(Grant {
+                drawn,
+                address,
+                identity,
+            }),
+            Err(_) => refused(84),
+        }
+    }
+
+    /// What a Create Session Request comes to, at a gateway that has heard this counter. Nothing
+    /// changes.
+    fn judge_session(&self, request: &SessionRequest, heard: Heard) -> SessionVerdict
+        requires whole { IsWhole (station_of self.now) }
+        ensures { JudgesSession request.now heard (node_of self.now) result }
+    {
+        if !request.default.is_alone {
+            return refused(94);
+        }
+        let Ok(identity) = Ebi::try_new(request.default.identity.number()) else {
+            return SessionVerdict::Refused(fault_cause(69, 73, Below::new(0)));
+        };
+        if !self.serves(&request.access_point) {
+            return refused(78);
+        }
+        if !is_ipv4(request.pdn) {
+            return refused(83);
+        }
+        self.judge_room(identity, heard)
+    }
+
+    /// A session is made with its default bearer, once a counter was heard: `Memory` where an
+    /// allocation was refused, and then nothing has changed.
+    fn make_granted(
+        &mut self,
+        request: &SessionRequest,
+        grant: &Grant,
+        heard: Heard,
+    ) -> Result<(), Memory>
+        requires weighed { (told : Option AnyCounter) × (heard ≡ weighed_by told self.old.peer) }
+        requires can { CanGrant grant.now (node_of self.old) }
+        ensures node { OnOk result (node_of self.new
+            ≡ changed_by (change_of request.now grant.now) (node_heard heard (node_of self.old))) }
+        ensures held { self.new.held ≡ self.old.held }
+        ensures config { self.new.config ≡ self.old.config }
+        ensures role { self.new.role ≡ self.old.role }
+        ensures err { OnErr result (station_of self.new ≡ station_of self.old) }
+    {
+        self.sessions.reserve_one()?;
+        self.bearers
+            .add(grant.drawn.user, granted_bearer(request, grant))?;
+        self.hear(heard);
+        self.sessions
+            .add(grant.drawn.control, granted_session(request, grant));
+        self.draws = grant.drawn.draws;
+        Ok(())
+    }
+
+    /// The answer that grants a session.
+    fn granting(
+        &self,
+        alloc: Global,
+        request: &SessionRequest,
+        grant: &Grant,
+    ) -> Result<Message, Memory>
+        ensures says { IfOk result (λ message. control_message message
+            ≡ grants request.now grant.now (node_of self.now)) }
+        ensures own { IfOk result (λ message. IsOwn message) }
+    {
+        let own = self.config.own();
+        let control = own_end(Below::new(7), grant.drawn.control, own.control);
+        let user = own_end(Below::new(5), grant.drawn.user, own.user);
+        session_response(
+            alloc,
+            request,
+            control,
+            user,
+            grant.address,
+            self.draws.counter(),
+        )
+    }
+
+    /// Refuses a Create Session Request, once its counter was heard.
+    fn refuse_session(
+        &mut self,
+        alloc: Global,
+        source: Endpoint,
+        octets: &[u8],
+        request: &SessionRequest,
+        cause: Cause,
+        heard: Heard,
+    ) -> Result<ControlStep, Memory>
+        requires weighed { (told : Option AnyCounter) × (heard ≡ weighed_by told self.old.peer) }
+        requires refuses { is_accepting_value cause.value ≡ false }
+        requires few { length self.old.held.pairs < 4096 }
+        requires fresh { IsFresh source octets.now (station_of self.old) self.old.held.pairs }
+        ensures refused { IfOk result (λ step. IsRefusedSession source octets.now request.now cause
+            heard (station_of self.old) step (station_of self.new)) }
+        ensures err { OnErr result (station_of self.new ≡ station_of self.old) }
+    {
+        let number = cause.value;
+        let header = request.control.teid();
+        let counter = self.draws.counter();
+        let message = refusal(
+            alloc,
+            Request::CreateSession,
+            header,
+            request.seq,
+            cause,
+            counter,
+        );
+        let ready = self.ready_answer(alloc, octets, &message)?;
+        self.hear(heard);
+        let out = self.give(source, ready);
+        Ok(ControlStep::answered(out, number, false))
+    }
+
+    /// Grants a Create Session Request, once its counter was heard.
+    fn grant_session(
+        &mut self,
+        alloc: Global,
+        source: Endpoint,
+        octets: &[u8],
+        request: &SessionRequest,
+        grant: &Grant,
+        heard: Heard,
+    ) -> Result<ControlStep, Memory>
+        requires weighed { (told : Option AnyCounter) × (heard ≡ weighed_by told self.old.peer) }
+        requires can { CanGrant grant.now (node_of self.old) }
+        requires few { length self.old.held.pairs < 4096 }
+        requires fresh { IsFresh source octets.now (station_of self.old) self.old.held.pairs }
+        ensures granted { IfOk result (λ step. IsGrantedSession source octets.now request.now grant.now
+            heard (station_of self.old) step (station_of self.new)) }
+        ensures err { OnErr result (station_of self.new ≡ station_of self.old) }
+    {
+        let message = self.granting(alloc, request, grant)?;
+        let ready = self.ready_answer(alloc, octets, &message)?;
+        self.make_granted(request, grant, heard)?;
+        let out = self.give(source, ready);
+        Ok(ControlStep::answered(out, session_cause(request.pdn), true))
+    }
+
+    /// Takes a Create Session Request, with the counter that it brought.
+    pub fn take_session_request(
+        &mut self,
+        alloc: Global,
+        source: Endpoint,
+        octets: &[u8],
+        request: &SessionRequest,
+        heard: Heard,
+    ) -> Result<ControlStep, Memory>
+        requires whole { IsWhole (station_of self.old) }
+        requires weighed { (told : Option AnyCounter) × (heard ≡ weighed_by told self.old.peer) }
+        requires fresh { IsFresh source octets.now (station_of self.old) self.old.held.pairs }
+        ensures taken { IfOk result (λ step. TakesSessionRequest source octets.now request.now heard
+            (station_of self.old) step (station_of self.new)) }
+        ensures err { OnErr result (station_of self.new ≡ station_of self.old) }
+    {
+        if self.held.is_full() {
+            self.hear(heard);
+            return Ok(ControlStep::dropped(DropReason::HeldFull));
+        }
+        match self.judge_session(request, heard) {
+            SessionVerdict::Refused(cause) => {
+                self.refuse_session(alloc, source, octets, request, cause, heard)
+            }
+            SessionVerdict::Granted(grant) => {
+                self.grant_session(alloc, source, octets, request, &grant, heard)
+            }
+        }
+    }
+}

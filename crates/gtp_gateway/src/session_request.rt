@@ -1,0 +1,74 @@
+//! Create Session Requests (TS 29.274 7.2.1), as they are read.
+
+ghost use Rattle.std.specs.Prelude.{◌≡◌, ℕ, List};
+ghost use Rattle.gtp_v2.specs.Datagram.{IsMessage};
+ghost use Rattle.gtp_machine.specs.Decoded.{message_of};
+ghost use Rattle.gtp_machine.specs.Message.{Create_session_request};
+ghost use Rattle.gtp_machine.specs.Message as messages;
+ghost use Rattle.gtp_gateway.specs.SessionAsked.{ReadsContext, SaysSession};
+
+use crate::needed::{needed, needed_in, none_is_left};
+use gtp_v2::{DatagramView, EbiValue, PdnType};
+use gtp_values::{Ambr, Apn, Below, FTeid, Imsi, Qos, Seq};
+
+/// What a Create Session Request says of the session that it asks for.
+#[derive(Clone, Copy, Debug, PartialEq, Eq)]
+pub struct SessionRequest {
+    pub seq: Seq,
+    pub imsi: Imsi,
+    /// The serving gateway's end of the control plane.
+    pub control: FTeid,
+    pub access_point: Apn,
+    pub pdn: PdnType,
+    pub ambr: Option<Ambr>,
+    /// The first bearer context.
+    pub default: RequestedDefault,
+}
+
+/// What it says of the default bearer.
+#[derive(Clone, Copy, Debug, PartialEq, Eq)]
+pub struct RequestedDefault {
+    pub identity: Below<16>,
+    pub qos: Qos,
+    /// The serving gateway's end of the user plane.
+    pub user: FTeid,
+    /// No further bearer is asked for.
+    pub is_alone: bool,
+}
+
+/// What the message says of the default bearer.
+fn requested_default(view: &DatagramView<'_>) -> RequestedDefault
+    requires spelled { (octets : List ℕ) × IsMessage octets view.now.message }
+    requires of { view.now.message.kind ≡ 32 }
+    ensures { ReadsContext view.now.message result }
+{
+    let mut contexts = view.contexts();
+    let Some(first) = contexts.next() else {
+        unreachable!()
+    };
+    let EbiValue(identity) = needed_in(&first, 0);
+    RequestedDefault {
+        identity,
+        qos: needed_in(&first, 0),
+        user: needed_in(&first, 2),
+        is_alone: none_is_left(&mut contexts),
+    }
+}
+
+/// What a Create Session Request says.
+pub fn session_request_in(view: &DatagramView<'_>) -> SessionRequest
+    requires spelled { (octets : List ℕ) × IsMessage octets view.now.message }
+    requires of { view.now.message.kind ≡ 32 }
+    ensures { (q : messages.CreateSessionRequest)
+        × (message_of view.now.message ≡ Create_session_request q) × SaysSession result q }
+{
+    SessionRequest {
+        seq: view.seq(),
+        imsi: needed(view, 0),
+        control: needed(view, 0),
+        access_point: needed(view, 0),
+        pdn: needed(view, 0),
+        ambr: view.value(0),
+        default: requested_default(view),
+    }
+}

@@ -1,0 +1,189 @@
+//! Create Session Responses (TS 29.274 7.2.2), as the serving gateway takes them.
+
+ghost use Rattle.std.specs.Prelude.{◌≡◌, ◌↔◌, ℕ, List, Option, Some, IsTrue, IfSome, IfNone, IfOk, OnErr};
+ghost use Rattle.gtp_v2.specs.Datagram.{IsMessage};
+ghost use Rattle.gtp_values.specs.declared.counter.Counter.{Counter as AnyCounter};
+ghost use Rattle.gtp_machine.specs.Node.{Active};
+ghost use Rattle.gtp_gateway.specs.declared.procedure.Procedure.TheVariants.{SessionAnswered};
+ghost use Rattle.gtp_gateway.specs.Hearing.{weighed_by, node_heard};
+ghost use Rattle.gtp_gateway.specs.Parts.{node_of};
+ghost use Rattle.gtp_gateway.specs.Procedure.{procedure_at};
+ghost use Rattle.gtp_gateway.specs.SessionAnswer.{ReadsSession, FitsSessionOf, IsAskedSession, IsDescribed, JudgesSession, TakesSession};
+ghost use Rattle.gtp_gateway.specs.Station.{IsWhole, station_of};
+
+use crate::contexts::{ResponseContext, accepts, ipv4_in, only_context_in, teid_of};
+use crate::control_step::ControlStep;
+use crate::hearing::Heard;
+use crate::parts::Parts;
+use crate::purpose::Purpose;
+use crate::response::{Response, response_in};
+use crate::settle::Verdict;
+use gtp_machine::DropReason;
+use gtp_tables::{Bearer, Session, State, View};
+use gtp_v2::DatagramView;
+use gtp_values::{Below, Memory, Teid};
+
+/// What a Create Session Response says.
+#[derive(Clone, Copy, Debug, PartialEq, Eq)]
+pub struct SessionResponse {
+    pub response: Response,
+    /// The TEID of the packet gateway's F-TEID for the control plane.
+    pub control: Option<u32>,
+    /// The IPv4 address that the session is given, as a number.
+    pub address: Option<u32>,
+    /// The bearer context, where it is the only one.
+    pub context: Option<ResponseContext>,
+}
+
+/// The session that was asked for, with its default bearer.
+#[derive(Clone, Copy, Debug, PartialEq, Eq)]
+pub struct AskedSession {
+    pub session: Teid,
+    pub bearer: Teid,
+}
+
+/// A session that is pending, with what the response gives it.
+#[derive(Clone, Copy, Debug, PartialEq, Eq)]
+pub struct DescribedSession {
+    pub session: Session,
+    pub context: ResponseContext,
+    pub address: u32,
+}
+
+/// What a Create Session Response says.
+pub fn session_response_in(view: &DatagramView<'_>) -> SessionResponse
+    requires spelled { (octets : List ℕ) × IsMessage octets view.now.message }
+    requires of { procedure_at view.now.message.kind ≡ Some SessionAnswered }
+    ensures { ReadsSession view.now.message result }
+{
+    SessionResponse {
+        response: response_in(view),
+        control: teid_of(view.value(1)),
+        address: ipv4_in(view.value(0)),
+        context: only_context_in(view),
+    }
+}
+
+/// The session that a request asks for, where it is a Create Session Request for the session that
+/// the response names. No TEID stands in the header of that request.
+fn fits_session(purpose: &Purpose, response: &Response) -> Option<AskedSession>
+    ensures some { IfSome result (IsAskedSession purpose.now response.now) }
+    ensures none { IfNone result (FitsSessionOf purpose.now response.now → ⊥) }
+{
+    match *purpose {
+        Purpose::CreateSession { session, bearer } if session == response.header => {
+            Some(AskedSession { session, bearer })
+        }
+        _ => None,
+    }
+}
+
+/// Whether it is the identity of the session's default bearer.
+fn is_default(identity: Below<16>, session: &Session) -> bool
+    ensures { IsTrue result ↔ (identity ≡ session.now.subscriber.identity) }
+{
+    identity.number() == session.subscriber.identity.number()
+}
+
+/// What an accepting response describes: one bearer context, of the session's default identity, and
+/// an IPv4 address.
+fn described(view: &View<'_>, session: Teid, answer: &SessionResponse) -> Option<DescribedSession>
+    ensures some { IfSome result (IsDescribed view.now.sessions session.0 answer.now) }
+    ensures none { IfNone result ((d : _)
+        → IsDescribed view.now.sessions session.0 answer.now d → ⊥) }
+{
+    let Some(at) = view.session(session) else {
+        return None;
+    };
+    let Some(context) = answer.context else {
+        return None;
+    };
+    let Some(address) = answer.address else {
+        return None;
+    };
+    if !is_default(context.identity, &at) {
+        return None;
+    }
+    Some(DescribedSession {
+        session: at,
+        context,
+        address,
+    })
+}
+
+/// The session, opened.
+fn opened_session(described: &DescribedSession, control: Option<u32>) -> Session
+    ensures { result ≡ record described.now.session {
+      remote = control;
+      address = Some described.now.address;
+      state = Active;
+    } }
+{
+    Session {
+        remote: control,
+        address: Some(described.address),
+        state: State::Active,
+        ..described.session
+    }
+}
+
+/// Its default bearer, opened.
+fn opened_default(bearer: &Bearer, user: Option<u32>) -> Bearer
+    ensures { result ≡ record bearer.now { remote = user; state = Active } }
+{
+    Bearer {
+        remote: user,
+        state: State::Active,
+        ..*bearer
+    }
+}
+
+impl Parts {
+    /// What a Create Session Response comes to, once its counter was heard. It changes nothing.
+    fn judge_session_response(&self, answer: &SessionResponse, heard: Heard) -> Verdict
+        requires whole { IsWhole (station_of self.now) }
+        ensures { JudgesSession answer.now (node_heard heard (node_of self.now)) result }
+    {
+        let Some(purpose) = self.waiting_after(answer.response.seq, heard) else {
+            return Verdict::Drops(DropReason::NoPending);
+        };
+        let Some(asked) = fits_session(&purpose, &answer.response) else {
+            return Verdict::Drops(DropReason::Mismatch);
+        };
+        if !accepts(&answer.response.cause) {
+            return Verdict::rejects(purpose, answer.response.cause);
+        }
+        let view = self.view_after(heard);
+        let Some(described) = described(&view, asked.session, answer) else {
+            return Verdict::Drops(DropReason::Mismatch);
+        };
+        if !accepts(&described.context.cause) {
+            return Verdict::rejects(purpose, described.context.cause);
+        }
+        let Some(bearer) = view.bearer(asked.bearer) else {
+            unreachable!()
+        };
+        Verdict::OpensSession {
+            session: asked.session,
+            opened: opened_session(&described, answer.control),
+            teid: asked.bearer,
+            bearer: opened_default(&bearer, described.context.user),
+        }
+    }
+
+    /// Takes a Create Session Response: what does not accept removes the pending session.
+    pub fn take_session_response(
+        &mut self,
+        answer: &SessionResponse,
+        heard: Heard,
+    ) -> Result<ControlStep, Memory>
+        requires whole { IsWhole (station_of self.old) }
+        requires weighed { (told : Option AnyCounter) × (heard ≡ weighed_by told self.old.peer) }
+        ensures taken { IfOk result (λ step. TakesSession answer.now heard
+            (station_of self.old) step (station_of self.new)) }
+        ensures err { OnErr result (station_of self.new ≡ station_of self.old) }
+    {
+        let verdict = self.judge_session_response(answer, heard);
+        self.settle(answer.response.seq, heard, verdict)
+    }
+}

@@ -1,0 +1,169 @@
+//! What responses come to that open sessions and bearers (TS 29.274 7.2.2, 7.2.4). It is judged
+//! before anything changes, by what the restart counter of the response leaves.
+
+ghost use Rattle.std.specs.Prelude.{◌≡◌, Option, None, IfSome, IfNone, IfOk, OnOk, OnErr};
+ghost use Rattle.gtp_machine.specs.Choice.{HasPending};
+ghost use Rattle.gtp_values.specs.declared.counter.Counter.{Counter as AnyCounter};
+ghost use Rattle.gtp_gateway.specs.Hearing.{weighed_by, node_heard};
+ghost use Rattle.gtp_gateway.specs.Parts.{node_of};
+ghost use Rattle.gtp_gateway.specs.Settled.{goes_after, IsWaiting, outcome_by, node_by, with_bearer, IsOpenedAt, CanSettle};
+ghost use Rattle.gtp_gateway.specs.Station.{station_of};
+ghost use Rattle.gtp_gateway.specs.Taken.{plain_report};
+
+use crate::control_step::ControlStep;
+use crate::hearing::{Heard, is_of_opened};
+use crate::parts::Parts;
+use crate::purpose::Purpose;
+use gtp_machine::{DropReason, Outcome};
+use gtp_tables::{Bearer, Session, Sessions, View};
+use gtp_values::{Cause, Memory, Seq, Teid};
+
+/// What a response comes to.
+#[derive(Clone, Copy, Debug, PartialEq, Eq)]
+pub enum Verdict {
+    /// It is dropped.
+    Drops(DropReason),
+    /// Its request is finished, and what that was about goes.
+    Finishes {
+        purpose: Purpose,
+        outcome: Outcome,
+    },
+    /// A pending session is opened, and with it its default bearer, which has this TEID.
+    OpensSession {
+        session: Teid,
+        opened: Session,
+        teid: Teid,
+        bearer: Bearer,
+    },
+    /// A pending dedicated bearer is opened.
+    OpensBearer {
+        teid: Teid,
+        bearer: Bearer,
+    },
+}
+
+impl Verdict {
+    ghost use Rattle.std.specs.Prelude.{◌≡◌};
+    ghost use Rattle.gtp_machine.specs.declared.outcome.Outcome.TheVariants.{Rejected};
+    ghost use Rattle.gtp_gateway.specs.declared.settle.Verdict.TheVariants as verdicts;
+    ghost use Rattle.gtp_gateway.specs.Settled.{outcome_by};
+
+    /// The peer refused what was asked for.
+    pub fn rejects(purpose: Purpose, cause: Cause) -> Verdict
+        ensures { result ≡ verdicts.Finishes purpose (Rejected cause.value) }
+    {
+        Verdict::Finishes {
+            purpose,
+            outcome: Outcome::Rejected(cause.value),
+        }
+    }
+
+    /// What is told of it.
+    fn outcome(&self) -> Outcome
+        ensures { result ≡ outcome_by self.now }
+    {
+        match *self {
+            Verdict::Drops(why) => Outcome::Dropped(why),
+            Verdict::Finishes { outcome, .. } => outcome,
+            Verdict::OpensSession { .. } | Verdict::OpensBearer { .. } => Outcome::Opened,
+        }
+    }
+}
+
+/// Whether a request goes as the counter is heard: that is one about a session that was opened, once
+/// the peer has restarted.
+fn goes_after(heard: Heard, sessions: &Sessions, purpose: &Purpose) -> bool
+    ensures { result ≡ goes_after heard sessions.now.table purpose.now }
+{
+    match heard {
+        Heard::Later(_) => is_of_opened(sessions, purpose),
+        Heard::Nothing | Heard::First(_) | Heard::Same(_) | Heard::Earlier(_) => false,
+    }
+}
+
+impl Parts {
+    /// What the request of this number is about, where one waits once the counter was heard.
+    pub fn waiting_after(&self, seq: Seq, heard: Heard) -> Option<Purpose>
+        ensures some { IfSome result (λ purpose.
+            IsWaiting (node_heard heard (node_of self.now)) seq purpose) }
+        ensures none { IfNone result (HasPending (node_heard heard (node_of self.now)) seq → ⊥) }
+    {
+        let Some(purpose) = self.waiting(seq) else {
+            return None;
+        };
+        if goes_after(heard, &self.sessions, &purpose) {
+            return None;
+        }
+        Some(purpose)
+    }
+
+    /// Sessions and bearers as they stand once the counter was heard.
+    pub fn view_after(&self, heard: Heard) -> View<'_>
+        ensures sessions { result.sessions ≡ (node_heard heard (node_of self.now)).sessions }
+        ensures bearers { result.bearers ≡ (node_heard heard (node_of self.now)).bearers }
+    {
+        match heard {
+            Heard::Later(_) => View::after_restart(&self.sessions, &self.bearers),
+            Heard::Nothing | Heard::First(_) | Heard::Same(_) | Heard::Earlier(_) => {
+                View::new(&self.sessions, &self.bearers)
+            }
+        }
+    }
+
+    /// Opens a bearer that has no remote, and hears the counter: `Memory` where an allocation was
+    /// refused, and then nothing has changed.
+    fn open_bearer(&mut self, heard: Heard, teid: Teid, bearer: Bearer) -> Result<(), Memory>
+        requires weighed { (told : Option AnyCounter) × (heard ≡ weighed_by told self.old.peer) }
+        requires can { IsOpenedAt (node_heard heard (node_of self.old)).bearers teid.0 bearer }
+        ensures node { OnOk result (node_of self.new
+            ≡ with_bearer teid bearer (node_heard heard (node_of self.old))) }
+        ensures role { self.new.role ≡ self.old.role }
+        ensures err { OnErr result (station_of self.new ≡ station_of self.old) }
+    {
+        self.bearers.open(teid, bearer)?;
+        self.hear(heard);
+        Ok(())
+    }
+
+    /// Hears the counter of a response, and does what the response comes to: `Memory` where an
+    /// allocation was refused, and then nothing has changed.
+    pub fn settle(
+        &mut self,
+        seq: Seq,
+        heard: Heard,
+        verdict: Verdict,
+    ) -> Result<ControlStep, Memory>
+        requires weighed { (told : Option AnyCounter) × (heard ≡ weighed_by told self.old.peer) }
+        requires can { CanSettle verdict (node_heard heard (node_of self.old)) }
+        ensures step { IfOk result (λ step.
+            step ≡ record { out = None; report = plain_report (outcome_by verdict) }) }
+        ensures node { OnOk result (node_of self.new
+            ≡ node_by verdict seq (node_heard heard (node_of self.old))) }
+        ensures role { self.new.role ≡ self.old.role }
+        ensures err { OnErr result (station_of self.new ≡ station_of self.old) }
+    {
+        let outcome = verdict.outcome();
+        match verdict {
+            Verdict::Drops(_) => self.hear(heard),
+            Verdict::Finishes { purpose, .. } => {
+                self.hear(heard);
+                self.finish(seq, &purpose);
+            }
+            Verdict::OpensSession {
+                session,
+                opened,
+                teid,
+                bearer,
+            } => {
+                self.open_bearer(heard, teid, bearer)?;
+                self.sessions.replace(session, opened);
+                self.finish_number(seq);
+            }
+            Verdict::OpensBearer { teid, bearer } => {
+                self.open_bearer(heard, teid, bearer)?;
+                self.finish_number(seq);
+            }
+        }
+        Ok(ControlStep::quiet(outcome))
+    }
+}

@@ -1,0 +1,118 @@
+//! Messages of the control plane that a gateway takes, by their procedures.
+
+ghost use Rattle.std.specs.Prelude.{◌≡◌, true, Some, ℕ, List, IfOk, OnErr};
+ghost use Rattle.gtp_v2.specs.Datagram.{IsMessage};
+ghost use Rattle.gtp_machine.specs.Decoded.{message_of};
+ghost use Rattle.gtp_gateway.specs.Parts.{arrival_of};
+ghost use Rattle.gtp_gateway.specs.Procedure.{procedure_at, has};
+ghost use Rattle.gtp_gateway.specs.Row.{IsWeighed, IsHeardRow};
+ghost use Rattle.gtp_gateway.specs.Station.{IsWhole, station_of};
+ghost use Rattle.gtp_gateway.specs.Taken.{IsFresh, IsTaken};
+
+use crate::bearer_response::bearer_response_in;
+use crate::control_step::ControlStep;
+use crate::deletion::deletion_request_in;
+use crate::granting::bearer_request_in;
+use crate::hearing::Heard;
+use crate::in_place::counter_in;
+use crate::parts::Parts;
+use crate::procedure::Procedure;
+use crate::response::response_in;
+use crate::session_request::session_request_in;
+use crate::session_response::session_response_in;
+use gtp_machine::DropReason;
+use gtp_v2::DatagramView;
+use gtp_values::{Endpoint, Memory};
+use std::alloc::Global;
+
+impl Parts {
+    /// Takes a message, once its restart counter was weighed and is not of an earlier start.
+    fn take_heard(
+        &mut self,
+        alloc: Global,
+        source: Endpoint,
+        octets: &[u8],
+        view: &DatagramView<'_>,
+        procedure: Procedure,
+        heard: Heard,
+    ) -> Result<ControlStep, Memory>
+        requires whole { IsWhole (station_of self.old) }
+        requires fresh { IsFresh source octets.now (station_of self.old) self.old.held.pairs }
+        requires spelled { IsMessage octets.now view.now.message }
+        requires of { procedure_at view.now.message.kind ≡ Some procedure }
+        requires has { has self.old.role procedure ≡ true }
+        requires weighed { IsWeighed heard (message_of view.now.message) (station_of self.old) }
+        ensures taken { IfOk result (λ step.
+            IsHeardRow (arrival_of source octets.now) (message_of view.now.message) heard
+            (station_of self.old) step (station_of self.new)) }
+        ensures err { OnErr result (station_of self.new ≡ station_of self.old) }
+    {
+        match procedure {
+            Procedure::EchoAsked => self.take_echo_request(alloc, source, view.seq(), heard),
+            Procedure::EchoAnswered => {
+                self.hear(heard);
+                Ok(self.take_echo_response(view.seq()))
+            }
+            Procedure::SessionAsked => {
+                let request = session_request_in(view);
+                self.take_session_request(alloc, source, octets, &request, heard)
+            }
+            Procedure::SessionAnswered => {
+                let answer = session_response_in(view);
+                self.take_session_response(&answer, heard)
+            }
+            Procedure::DeletionAsked => {
+                let request = deletion_request_in(view);
+                self.take_deletion_request(alloc, source, octets, &request)
+            }
+            Procedure::DeletionAnswered => {
+                let response = response_in(view);
+                self.hear(heard);
+                Ok(self.take_deletion_response(&response))
+            }
+            Procedure::BearerAsked => {
+                let request = bearer_request_in(view);
+                self.take_bearer_request(alloc, source, octets, &request)
+            }
+            Procedure::RemovalAsked => {
+                let request = deletion_request_in(view);
+                self.take_removal_request(alloc, source, octets, view, &request)
+            }
+            Procedure::BearerAnswered => {
+                let answer = bearer_response_in(view);
+                self.take_bearer_response(&answer, heard)
+            }
+            Procedure::RemovalAnswered => {
+                let response = response_in(view);
+                self.hear(heard);
+                Ok(self.take_removal_response(&response))
+            }
+        }
+    }
+
+    /// Takes a message of a kind that the gateway takes: first its restart counter is heard.
+    pub fn take_message(
+        &mut self,
+        alloc: Global,
+        source: Endpoint,
+        octets: &[u8],
+        view: &DatagramView<'_>,
+        procedure: Procedure,
+    ) -> Result<ControlStep, Memory>
+        requires whole { IsWhole (station_of self.old) }
+        requires fresh { IsFresh source octets.now (station_of self.old) self.old.held.pairs }
+        requires spelled { IsMessage octets.now view.now.message }
+        requires of { procedure_at view.now.message.kind ≡ Some procedure }
+        requires has { has self.old.role procedure ≡ true }
+        ensures taken { IfOk result (λ step.
+            IsTaken source octets.now (station_of self.old) step (station_of self.new)) }
+        ensures err { OnErr result (station_of self.new ≡ station_of self.old) }
+    {
+        let heard = self.weigh(counter_in(view, procedure));
+        if heard.is_earlier() {
+            return Ok(ControlStep::dropped(DropReason::OldCounter).hearing(heard));
+        }
+        let step = self.take_heard(alloc, source, octets, view, procedure, heard)?;
+        Ok(step.hearing(heard))
+    }
+}

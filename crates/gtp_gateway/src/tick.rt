@@ -1,0 +1,121 @@
+//! Ticks: requests that are sent again or given up, and answers that are forgotten (TS 29.274 7.6).
+
+ghost use Rattle.std.specs.Prelude.{◌≡◌, ◌+◌, ◌≤◌, [], map, filter, length, vec_len, vec_capacity};
+ghost use Rattle.std.specs.Prelude.{IsOk, IfOk, OnOk, OnErr};
+ghost use Rattle.gtp_reliable.specs.Due.{message_of};
+ghost use Rattle.gtp_gateway.specs.Parts.{node_of};
+ghost use Rattle.gtp_gateway.specs.Sent.{datagram_by};
+ghost use Rattle.gtp_gateway.specs.Station.{station_of, timing_of};
+ghost use Rattle.gtp_gateway.specs.Ticked.{datagram_again, GivesUpOne, GivesUpEach};
+ghost use Rattle.gtp_gateway.specs.Ticked.{IsIdle, IsTicked, CountsOn};
+ghost use Rattle.gtp_gateway.specs.UserTaken.{WaitOn};
+
+use crate::ask::control_end_of;
+use crate::parts::Parts;
+use crate::purpose::Purpose;
+use crate::sent::Sent;
+use gtp_machine::Plane;
+use gtp_reliable::{Request, Resend};
+use gtp_values::{Memory, Seq};
+use std::alloc::Global;
+
+/// What a tick does.
+#[derive(Debug, Drop)]
+pub struct Ticked {
+    /// The requests that are sent again, in order of beginning.
+    pub resent: Vec<Sent>,
+    /// The numbers of the requests that are given up, in order of beginning.
+    pub gave_up: Vec<Seq>,
+    /// The requests whose answers are held no more, in order of keeping.
+    pub forgotten: Vec<Request>,
+}
+
+impl Parts {
+    /// A request as it is sent again.
+    fn sent_again(&self, resend: Resend) -> Sent
+        ensures { datagram_by result
+            ≡ datagram_again self.now.config.config (message_of resend) }
+    {
+        Sent {
+            plane: Plane::Control,
+            from: control_end_of(self.config.own().control),
+            to: resend.to,
+            octets: resend.octets,
+        }
+    }
+
+    /// Requests as they are sent again. Takes no memory where there is none.
+    fn send_again(&self, alloc: Global, resends: Vec<Resend>) -> Result<Vec<Sent>, Memory>
+        ensures sent { IfOk result (λ sent. map datagram_by sent.items
+            ≡ map (datagram_again self.now.config.config) (map message_of resends.items)) }
+        ensures quiet { resends.items ≡ [] → IsOk result }
+    {
+        let mut sent = Vec::new(alloc);
+        for resend in resends {
+            sent.push(self.sent_again(resend))?;
+        }
+        Ok(sent)
+    }
+
+    /// The request of this number is given up, if it still waits, and what it was about goes:
+    /// whether it was. Takes no memory.
+    fn give_up(&mut self, seq: Seq) -> bool
+        ensures node { GivesUpOne (node_of self.old) seq result (node_of self.new) }
+        ensures waits { WaitOn (station_of self.old) (station_of self.new) }
+        ensures role { self.new.role ≡ self.old.role }
+    {
+        let Some(purpose) = self.waiting(seq) else {
+            return false;
+        };
+        self.finish(seq, &purpose);
+        true
+    }
+
+    /// Each of these requests in turn that still waits is given up; their numbers are put into a
+    /// list that has the room. Takes no memory.
+    fn give_up_each(&mut self, due: &[(Seq, Purpose)], gave_up: &mut Vec<Seq>)
+        requires empty { gave_up.old.items ≡ [] }
+        requires room { vec_len gave_up.old + length due.now ≤ vec_capacity gave_up.old }
+        ensures each { GivesUpEach (node_of self.old) (map (λ g. g.0) due.now)
+            gave_up.new.items (node_of self.new) }
+        ensures waits { WaitOn (station_of self.old) (station_of self.new) }
+        ensures role { self.new.role ≡ self.old.role }
+    {
+        for entry in due {
+            let seq = entry.0;
+            if self.give_up(seq) && gave_up.push(seq).is_err() {
+                unreachable!()
+            }
+        }
+    }
+
+    /// A tick passes. All that takes memory comes first, and what follows can't fail.
+    pub fn tick(&mut self, alloc: Global) -> Result<Ticked, Memory>
+        ensures ticked { IfOk result (λ ticked.
+            IsTicked (station_of self.old) ticked (station_of self.new)) }
+        ensures counts { OnOk result (CountsOn (station_of self.old) (station_of self.new)) }
+        ensures few { IfOk result (λ ticked. length ticked.resent.items ≤ 256) }
+        ensures few_forgotten { IfOk result (λ ticked. length ticked.forgotten.items ≤ 4096) }
+        ensures quiet { IsIdle (timing_of self.old) → IsOk result }
+        ensures err { OnErr result (station_of self.new ≡ station_of self.old) }
+    {
+        let Ok(due) = self.pending.due() else {
+            return Err(Memory);
+        };
+        let Ok(forgotten) = self.held.due() else {
+            return Err(Memory);
+        };
+        let resent = self.send_again(alloc, due.resend)?;
+        let give_ups = due.gave_up.as_slice();
+        let mut gave_up = Vec::new(alloc);
+        gave_up.try_reserve(give_ups.len())?;
+        self.give_up_each(give_ups, &mut gave_up);
+        self.pending.tick();
+        self.held.tick();
+        Ok(Ticked {
+            resent,
+            gave_up,
+            forgotten,
+        })
+    }
+}

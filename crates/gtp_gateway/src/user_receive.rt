@@ -1,0 +1,204 @@
+//! Datagrams of the user plane, as they come in (TS 29.281).
+
+ghost use Rattle.std.specs.Prelude.{◌≡◌, ◌↔◌, IsTrue, IfOk, IfSome, IfNone, IfErr, OnErr};
+ghost use Rattle.gtp_machine.specs.Input.{User_fault, Extension_needed};
+ghost use Rattle.gtp_machine.specs.Reading.{user_fault, user_body_message};
+ghost use Rattle.gtp_machine.specs.User.{MayCome, PacketCame, EndCame, ErrorCame, UserTaken};
+ghost use Rattle.gtp_gateway.specs.Station.{IsWhole, station_of};
+ghost use Rattle.gtp_gateway.specs.UserTaken.{plain_step, IsTakenBy, IsJudgedBy, IsFaultJudged};
+ghost use Rattle.gtp_gateway.specs.UserTaken.{UserComes, IsUserTaken, IsAnswered};
+
+use crate::parts::Parts;
+use crate::user::is_active;
+use crate::user_reply::Reply;
+use crate::user_step::{Accepted, UserStep};
+use gtp_machine::{DropReason, FaultName, Outcome, Plane, Role};
+use gtp_tables::Bearer;
+use gtp_user::{UserBody, UserFault, decode};
+use gtp_values::{Endpoint, Memory, Teid};
+use std::alloc::Global;
+
+/// What a datagram of the user plane comes to, before anything is sent for it. To judge takes no
+/// memory.
+#[derive(Debug, Drop)]
+pub enum Judged<'a> {
+    /// It was taken, and nothing is sent.
+    Taken(UserStep<'a>),
+    /// This is sent for it, and nothing changes.
+    Replies(Reply),
+}
+
+/// The number of a fault, none of an extension header that is needed and not known, which is told of
+/// (TS 29.281 5.2.1).
+fn fault_number(fault: &UserFault) -> Option<u8>
+    ensures numbered { IfSome result (λ number. user_fault fault.now ≡ User_fault number) }
+    ensures needed { IfNone result (user_fault fault.now ≡ Extension_needed) }
+{
+    match fault {
+        UserFault::Short { .. } => Some(1),
+        UserFault::Version { .. } => Some(2),
+        UserFault::Protocol => Some(3),
+        UserFault::Length { .. } => Some(4),
+        UserFault::ExtensionZero { .. } => Some(5),
+        UserFault::ExtensionPast { .. } => Some(6),
+        UserFault::ExtensionNeeded { .. } => None,
+        UserFault::Missing { .. } => Some(8),
+        UserFault::Element { .. } => Some(9),
+        UserFault::Memory => Some(10),
+        UserFault::TooLong => Some(11),
+    }
+}
+
+/// Whether packets may come on a bearer: an End Marker ends that at the serving gateway.
+fn may_come(role: Role, bearer: &Bearer) -> bool
+    ensures { IsTrue result ↔ MayCome role bearer.now }
+{
+    match role {
+        Role::Serving => !bearer.ended,
+        Role::Packet => true,
+    }
+}
+
+impl Parts {
+    /// Whether a datagram of the user plane comes from the peer's address, whatever the port.
+    fn is_from_user_peer(&self, source: Endpoint) -> bool
+        ensures { IsTrue result ↔ (source.ip ≡ self.now.config.config.peer.user) }
+    {
+        source.ip == self.config.peer().user
+    }
+
+    /// A user's packet (TS 29.281 5.1): for no bearer it is answered with an Error Indication
+    /// (7.3.1).
+    fn judge_packet<'a>(&self, target: Teid, payload: &'a [u8]) -> Judged<'a>
+        requires whole { IsWhole (station_of self.now) }
+        ensures { IsJudgedBy (PacketCame self.now.role target.0 payload.now)
+            (station_of self.now) result (station_of self.now) }
+    {
+        let Some(at) = self.bearers.get(target) else {
+            return Judged::Replies(Reply::ErrorIndication { teid: target });
+        };
+        if !is_active(&at) {
+            return Judged::Taken(UserStep::dropped(DropReason::ContextNotActive));
+        }
+        if !may_come(self.role, &at) {
+            return Judged::Taken(UserStep::dropped(DropReason::AfterEnd));
+        }
+        Judged::Taken(UserStep {
+            out: None,
+            outcome: Outcome::Accepted,
+            accepted: Some(Accepted {
+                bearer: target,
+                payload,
+            }),
+        })
+    }
+
+    /// An End Marker, which the serving gateway takes (TS 29.281 7.3.2).
+    fn take_end_marker(&mut self, target: Teid) -> Outcome
+        ensures { IsTakenBy (EndCame self.old.role target.0)
+            (station_of self.old) (plain_step result) (station_of self.new) }
+    {
+        match self.role {
+            Role::Serving => {}
+            Role::Packet => return Outcome::Dropped(DropReason::Unexpected),
+        }
+        let Some(at) = self.bearers.get(target) else {
+            return Outcome::Dropped(DropReason::Unexpected);
+        };
+        if !is_active(&at) {
+            return Outcome::Dropped(DropReason::ContextNotActive);
+        }
+        let ended = Bearer { ended: true, ..at };
+        self.replace_bearer(target, ended);
+        Outcome::Ended
+    }
+
+    /// An Error Indication (TS 29.281 7.3.1): the peer has no bearer under this TEID.
+    fn take_error_indication(&mut self, remote: Teid) -> Outcome
+        requires whole { IsWhole (station_of self.old) }
+        ensures { IsTakenBy (ErrorCame remote.0)
+            (station_of self.old) (plain_step result) (station_of self.new) }
+    {
+        let Some(_) = self.bearers.first_of_remote(remote) else {
+            return Outcome::Dropped(DropReason::Unexpected);
+        };
+        self.end_remote(remote);
+        Outcome::Broken
+    }
+
+    /// A message of the user plane from the peer, with this sequence number.
+    fn judge_message<'a>(
+        &mut self,
+        source: Endpoint,
+        seq: Option<u16>,
+        body: UserBody<'a>,
+    ) -> Judged<'a>
+        requires whole { IsWhole (station_of self.old) }
+        ensures { IsJudgedBy (UserTaken self.old.role source (user_body_message seq body.entry))
+            (station_of self.old) result (station_of self.new) }
+    {
+        match body {
+            UserBody::Packet { teid, payload } => self.judge_packet(teid, payload),
+            UserBody::EndMarker { teid } => Judged::Taken(UserStep::of(self.take_end_marker(teid))),
+            UserBody::ErrorIndication { teid, .. } => {
+                Judged::Taken(UserStep::of(self.take_error_indication(teid)))
+            }
+            UserBody::EchoRequest => Judged::Replies(Reply::EchoResponse {
+                to: source,
+                number: seq.unwrap_or(0),
+            }),
+            UserBody::EchoResponse | UserBody::Notification { .. } | UserBody::Other { .. } => {
+                Judged::Taken(UserStep::dropped(DropReason::Unexpected))
+            }
+        }
+    }
+
+    /// Takes a datagram of the user plane, but for what is sent for it. Takes no memory.
+    fn judge_user<'a>(&mut self, source: Endpoint, octets: &'a [u8]) -> Judged<'a>
+        requires whole { IsWhole (station_of self.old) }
+        ensures { IsJudgedBy (UserComes source octets.now (station_of self.old))
+            (station_of self.old) result (station_of self.new) }
+    {
+        if !self.is_from_user_peer(source) {
+            return Judged::Taken(UserStep::dropped(DropReason::NotPeer));
+        }
+        match decode(octets) {
+            Ok(message) => self.judge_message(source, message.seq, message.body),
+            Err(fault) => judge_fault(&fault),
+        }
+    }
+
+    /// Takes a datagram of the user plane.
+    pub fn receive_user<'a>(
+        &mut self,
+        alloc: Global,
+        source: Endpoint,
+        octets: &'a [u8],
+    ) -> Result<UserStep<'a>, Memory>
+        requires whole { IsWhole (station_of self.old) }
+        ensures taken { IfOk result (λ step. IsUserTaken source octets.now
+            (station_of self.old) step (station_of self.new)) }
+        // An allocation is for what is sent.
+        ensures memory { IfErr result (λ _.
+            IsAnswered source octets.now (station_of self.old)) }
+        ensures err { OnErr result (station_of self.new ≡ station_of self.old) }
+    {
+        match self.judge_user(source, octets) {
+            Judged::Taken(step) => Ok(step),
+            Judged::Replies(reply) => self.reply_user(alloc, reply),
+        }
+    }
+}
+
+/// A datagram at fault: a needed extension header that is not known is told of (TS 29.281 5.2.1).
+fn judge_fault<'a>(fault: &UserFault) -> Judged<'a>
+    ensures { IsFaultJudged (user_fault fault.now) result }
+{
+    match fault_number(fault) {
+        Some(number) => Judged::Taken(UserStep::dropped(DropReason::Undecodable(FaultName {
+            plane: Plane::User,
+            number,
+        }))),
+        None => Judged::Replies(Reply::Notification),
+    }
+}
