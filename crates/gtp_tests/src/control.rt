@@ -8,7 +8,7 @@ use std::process::Abort;
 use std::test::Fail;
 
 /// Create Session Request, as a serving gateway sends it: examples/datagrams/control/create-session-request.
-const SESSION_REQUEST: &str = concat!(
+pub(crate) const SESSION_REQUEST: &str = concat!(
     "4820008e0000000000000000", // no TEID yet: 0
     "0100080000010121436587f9", // IMSI 001010123456789
     "5200010006", // RAT 6, E-UTRAN
@@ -28,7 +28,7 @@ const SESSION_REQUEST: &str = concat!(
 );
 
 /// Its answer: examples/datagrams/control/create-session-response.
-const SESSION_RESPONSE: &str = concat!(
+pub(crate) const SESSION_RESPONSE: &str = concat!(
     "482100730100000100000000",
     "020002001000", // accepted
     "5700090187010000010a000002", // S5/S8 of the packet gateway, control
@@ -45,7 +45,7 @@ const SESSION_RESPONSE: &str = concat!(
 );
 
 /// Create Bearer Request, as a packet gateway sends it: examples/datagrams/control/create-bearer-request.
-const BEARER_REQUEST: &str = concat!(
+pub(crate) const BEARER_REQUEST: &str = concat!(
     "485f004a0100000100000000",
     "4900010005", // linked to bearer 5
     "5d003900", // bearer context
@@ -58,7 +58,7 @@ const BEARER_REQUEST: &str = concat!(
 );
 
 /// Its answer: examples/datagrams/control/create-bearer-response.
-const BEARER_RESPONSE: &str = concat!(
+pub(crate) const BEARER_RESPONSE: &str = concat!(
     "4860003c0100000100000000",
     "020002001000", // accepted
     "5d002500", // bearer context

@@ -8,6 +8,8 @@ mod control;
 #[cfg(test)]
 mod elements;
 #[cfg(test)]
+mod gateways;
+#[cfg(test)]
 mod reliable;
 #[cfg(test)]
 mod tables;

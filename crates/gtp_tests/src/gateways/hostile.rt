@@ -1,0 +1,239 @@
+//! What a peer may send that the other gateway never does.
+
+use super::{Act, DEDICATED, OPENED, Row, Sends, has, plays};
+use Act::*;
+use Sends::{Nothing, Octets, Shown};
+use gtp_gateway::*;
+use std::test::Fail;
+
+/// An element that its table needs is not there (H6).
+const MISSING: Outcome = Outcome::Dropped(DropReason::Undecodable(FaultName {
+    plane: Plane::Control,
+    number: 6,
+}));
+
+/// Its length is not that of the datagram (H3).
+const CUT: Outcome = Outcome::Dropped(DropReason::Undecodable(FaultName {
+    plane: Plane::Control,
+    number: 3,
+}));
+
+/// A Create Session Request without its access point name.
+const WITHOUT_NAME: &str = concat!(
+    "482000810000000000000000",
+    "0100080000010121436587f9",
+    "5200010006",
+    "5300030000f110",
+    "5700090086010000010a000001",
+    "8000010000",
+    "6300010001",
+    "4f0005000100000000",
+    "48000800000003e8000003e8",
+    "5d002c00",
+    "4900010005",
+    "500016002009",
+    "0000000000000000000000000000000000000000",
+    "5700090284010000020a000001",
+    "0300010001"
+);
+
+#[test]
+fn faulty_requests_at_each_gateway(rt: HostRuntime) -> Result<(), Fail> {
+    let path = plays(
+        &rt,
+        rt.alloc(),
+        &[
+            (
+                Comes(Role::Packet, Plane::Control, WITHOUT_NAME),
+                Outcome::Answered(70),
+                Octets("482100170100000100000000020006004600470000000300010001"),
+            ),
+            (
+                Comes(Role::Serving, Plane::Control, WITHOUT_NAME),
+                MISSING,
+                Nothing,
+            ),
+            (
+                Comes(Role::Serving, Plane::Control, "486300080100000100000500"),
+                Outcome::Answered(103),
+                Shown,
+            ),
+            (
+                Comes(Role::Packet, Plane::Control, "486300080100000100000500"),
+                MISSING,
+                Nothing,
+            ),
+            (
+                Comes(Role::Serving, Plane::Control, "485f00080100000100000500"),
+                Outcome::Answered(70),
+                Shown,
+            ),
+            (
+                Comes(Role::Packet, Plane::Control, "485f00080100000100000500"),
+                MISSING,
+                Nothing,
+            ),
+        ],
+    )?;
+    has(&rt, &path.packet, 0, 0);
+    Ok(())
+}
+
+/// Messages of a kind that the gateway does not take, and datagrams from elsewhere.
+const UNEXPECTED: [Row; 6] = [
+    (
+        Comes(
+            Role::Serving,
+            Plane::Control,
+            "4824000d01000001000001004900010005",
+        ),
+        Outcome::Dropped(DropReason::Unexpected),
+        Nothing,
+    ),
+    (
+        Comes(
+            Role::Packet,
+            Plane::Control,
+            "4863000d01000001000001004900010106",
+        ),
+        Outcome::Dropped(DropReason::Unexpected),
+        Nothing,
+    ),
+    (
+        Comes(Role::Packet, Plane::Control, "482200080100000100000700"),
+        Outcome::Dropped(DropReason::Unexpected),
+        Nothing,
+    ),
+    (
+        Strays(Role::Packet, Plane::Control, "40010009000005000300010002"),
+        Outcome::Dropped(DropReason::NotPeer),
+        Nothing,
+    ),
+    (
+        Strays(Role::Packet, Plane::User, "320100040000000000050000"),
+        Outcome::Dropped(DropReason::NotPeer),
+        Nothing,
+    ),
+    (
+        Comes(Role::Packet, Plane::Control, "400100090000010003000100"),
+        CUT,
+        Nothing,
+    ),
+];
+
+#[test]
+fn kinds_and_sources_that_are_not_taken(rt: HostRuntime) -> Result<(), Fail> {
+    plays(&rt, rt.alloc(), &UNEXPECTED)?;
+    Ok(())
+}
+
+/// Requests about no session, and responses that answer nothing or another session.
+const ELSEWHERE: [Row; 6] = [
+    (
+        Comes(
+            Role::Packet,
+            Plane::Control,
+            "4824000d01000009000005004900010005",
+        ),
+        Outcome::Answered(64),
+        Octets("4825001300000000000005000200020040000300010001"),
+    ),
+    (
+        Comes(
+            Role::Packet,
+            Plane::Control,
+            "4824000d01000001000006004900010006",
+        ),
+        Outcome::Answered(64),
+        Octets("4825001301000001000006000200020040000300010001"),
+    ),
+    (
+        Comes(
+            Role::Serving,
+            Plane::Control,
+            "4825001301000001000009000200020010000300010001",
+        ),
+        Outcome::Dropped(DropReason::NoPending),
+        Nothing,
+    ),
+    (
+        DeleteSession(0x0100_0001),
+        Outcome::Begun(Some(0x0100_0001)),
+        Octets("4824000d01000001000001004900010005"),
+    ),
+    (
+        Comes(
+            Role::Serving,
+            Plane::Control,
+            "4825001301000009000001000200020010000300010001",
+        ),
+        Outcome::Dropped(DropReason::Mismatch),
+        Nothing,
+    ),
+    (
+        Comes(
+            Role::Serving,
+            Plane::Control,
+            "4825001300000000000001000200020040000300010001",
+        ),
+        Outcome::Closed,
+        Nothing,
+    ),
+];
+
+#[test]
+fn sessions_that_are_not_known(rt: HostRuntime) -> Result<(), Fail> {
+    let mut path = plays(&rt, rt.alloc(), &OPENED)?;
+    path.play(&rt, rt.alloc(), &ELSEWHERE)?;
+    has(&rt, &path.serving, 0, 0);
+    has(&rt, &path.packet, 1, 1);
+    Ok(())
+}
+
+/// An identity that is named twice is removed once, and eleven identities are not too many.
+const LISTED: [Row; 3] = [
+    (
+        Comes(
+            Role::Serving,
+            Plane::Control,
+            "48630012010000010000050049000101064900010106",
+        ),
+        Outcome::Answered(17),
+        Octets(
+            "4864003101000001000005000200020011005d000b0049000100060200020010005d000b0049000100060200020040000300010001",
+        ),
+    ),
+    (
+        Comes(
+            Role::Serving,
+            Plane::Control,
+            concat!(
+                "4863003f010000010000060049000101054900010106490001010749000101084900010109",
+                "490001010a490001010b490001010c490001010d490001010e490001010f"
+            ),
+        ),
+        Outcome::Answered(64),
+        Shown,
+    ),
+    (
+        Comes(
+            Role::Serving,
+            Plane::Control,
+            concat!(
+                "48630044010000010000070049000101054900010106490001010749000101084900010109",
+                "490001010a490001010b490001010c490001010d490001010e490001010f490001010f"
+            ),
+        ),
+        Outcome::Answered(94),
+        Octets("486400130100000100000700020002005e000300010001"),
+    ),
+];
+
+#[test]
+fn lists_of_identities(rt: HostRuntime) -> Result<(), Fail> {
+    let mut path = plays(&rt, rt.alloc(), &OPENED)?;
+    path.play(&rt, rt.alloc(), &DEDICATED)?;
+    path.play(&rt, rt.alloc(), &LISTED)?;
+    has(&rt, &path.serving, 1, 1);
+    Ok(())
+}
