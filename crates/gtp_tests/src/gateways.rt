@@ -1,5 +1,5 @@
 //! Both gateways: each datagram that one sends is handed to the other. The rows say what is done, what
-//! it comes to and what is sent for it; they and their octets come from outside.
+//! it comes to and what is sent for it; they, and the octets where a row has them, come from outside.
 
 mod hostile;
 mod restarts;
@@ -49,7 +49,7 @@ pub(crate) enum Act {
 pub(crate) enum Sends {
     Nothing,
     Octets(&'static str),
-    /// A datagram whose octets another row shows.
+    /// Something, whose octets this row does not compare.
     Shown,
 }
 
@@ -386,11 +386,17 @@ pub(crate) fn plays(rt: &impl Abort, alloc: Global, rows: &[Row]) -> Result<Path
 
 /// A gateway has so many sessions and bearers.
 pub(crate) fn has(rt: &impl Abort, gateway: &Gateway, sessions: usize, bearers: usize) {
-    assert!(rt; gateway.sessions().count() == sessions, "sessions");
-    assert!(rt; gateway.bearers().count() == bearers, "bearers");
+    let stand = gateway
+        .sessions()
+        .fold(0usize, |count, _| count.saturating_add(1));
+    assert!(rt; stand == sessions, "sessions: {stand}");
+    let stand = gateway
+        .bearers()
+        .fold(0usize, |count, _| count.saturating_add(1));
+    assert!(rt; stand == bearers, "bearers: {stand}");
 }
 
-/// A session is opened: four rows.
+/// A session is opened.
 pub(crate) const OPENED: [Row; 3] = [
     (
         Act::CreateSession,

@@ -79,8 +79,149 @@ fn faulty_requests_at_each_gateway(rt: HostRuntime) -> Result<(), Fail> {
     Ok(())
 }
 
+/// The sender's F-TEID has no address, and an identity has no value.
+const BAD_VALUES: [Row; 2] = [
+    (
+        Comes(
+            Role::Packet,
+            Plane::Control,
+            concat!(
+                "4820008e0000000000000000",
+                "0100080000010121436587f9",
+                "5200010006",
+                "5300030000f110",
+                "5700090006010000010a000001",
+                "4700090008696e7465726e6574",
+                "8000010000",
+                "6300010001",
+                "4f0005000100000000",
+                "48000800000003e8000003e8",
+                "5d002c00",
+                "4900010005",
+                "500016002009",
+                "0000000000000000000000000000000000000000",
+                "5700090284010000020a000001",
+                "0300010001"
+            ),
+        ),
+        Outcome::Answered(69),
+        Octets("482100170000000000000000020006004500570000000300010001"),
+    ),
+    (
+        Comes(
+            Role::Serving,
+            Plane::Control,
+            "4863000c010000010000050049000001",
+        ),
+        Outcome::Answered(67),
+        Octets("486400170000000000000500020006004300490000010300010001"),
+    ),
+];
+
+#[test]
+fn elements_that_say_nothing(rt: HostRuntime) -> Result<(), Fail> {
+    let path = plays(&rt, rt.alloc(), &BAD_VALUES)?;
+    has(&rt, &path.packet, 0, 0);
+    Ok(())
+}
+
+/// A Create Session Request with a second bearer context.
+const TWO_CONTEXTS_OF_A_SESSION: &str = concat!(
+    "482000be0000000000000000",
+    "0100080000010121436587f9",
+    "5200010006",
+    "5300030000f110",
+    "5700090086010000010a000001",
+    "4700090008696e7465726e6574",
+    "8000010000",
+    "6300010001",
+    "4f0005000100000000",
+    "48000800000003e8000003e8",
+    "5d002c00",
+    "4900010005",
+    "500016002009",
+    "0000000000000000000000000000000000000000",
+    "5700090284010000020a000001",
+    "5d002c00",
+    "4900010005",
+    "500016002009",
+    "0000000000000000000000000000000000000000",
+    "5700090284010000020a000001",
+    "0300010001"
+);
+
+/// A Create Bearer Request with a second bearer context.
+const TWO_CONTEXTS_OF_A_BEARER: &str = concat!(
+    "485f00870100000100000000",
+    "4900010005",
+    "5d003900",
+    "4900010000",
+    "5400010021",
+    "5700090185010000030a000002",
+    "500016002009",
+    "0000000000000000000000000000000000000000",
+    "5e00040001000003",
+    "5d003900",
+    "4900010000",
+    "5400010021",
+    "5700090185010000030a000002",
+    "500016002009",
+    "0000000000000000000000000000000000000000",
+    "5e00040001000003"
+);
+
+/// Both are answered with cause 94.
+const SECOND_CONTEXTS: [Row; 2] = [
+    (
+        Comes(Role::Packet, Plane::Control, TWO_CONTEXTS_OF_A_SESSION),
+        Outcome::Answered(94),
+        Octets("482100130100000100000000020002005e000300010001"),
+    ),
+    (
+        Comes(Role::Serving, Plane::Control, TWO_CONTEXTS_OF_A_BEARER),
+        Outcome::Answered(94),
+        Octets("486000130100000100000000020002005e000300010001"),
+    ),
+];
+
+#[test]
+fn a_second_context_is_refused(rt: HostRuntime) -> Result<(), Fail> {
+    let mut path = plays(&rt, rt.alloc(), &OPENED)?;
+    path.play(&rt, rt.alloc(), &SECOND_CONTEXTS)?;
+    has(&rt, &path.serving, 1, 1);
+    has(&rt, &path.packet, 1, 1);
+    Ok(())
+}
+
+#[test]
+fn a_context_that_was_never_there_is_not_lost(rt: HostRuntime) -> Result<(), Fail> {
+    let path = plays(
+        &rt,
+        rt.alloc(),
+        &[
+            OPENED[0],
+            (
+                Comes(
+                    Role::Serving,
+                    Plane::Control,
+                    "4821001300000000000000000200020040000300010001",
+                ),
+                Outcome::Dropped(DropReason::Mismatch),
+                Nothing,
+            ),
+        ],
+    )?;
+    has(&rt, &path.serving, 1, 1);
+    Ok(())
+}
+
 /// Messages of a kind that the gateway does not take, and datagrams from elsewhere.
-const UNEXPECTED: [Row; 6] = [
+const UNEXPECTED: [Row; 7] = [
+    (
+        Strays(Role::Serving, Plane::Control, "40010009000005000300010002"),
+        Outcome::Dropped(DropReason::NotPeer),
+        Nothing,
+    ),
     (
         Comes(
             Role::Serving,

@@ -140,6 +140,24 @@ fn echoes_and_extension_headers(rt: HostRuntime) -> Result<(), Fail> {
 }
 
 #[test]
+fn a_packet_behind_extension_headers(rt: HostRuntime) -> Result<(), Fail> {
+    let mut path = plays(&rt, rt.alloc(), &OPENED)?;
+    path.play(
+        &rt,
+        rt.alloc(),
+        &[(
+            Comes(
+                Role::Packet,
+                Plane::User,
+                "34ff000f010000020000002001aabb4001086800616263",
+            ),
+            Outcome::Accepted,
+            Nothing,
+        )],
+    )
+}
+
+#[test]
 fn the_longest_packet(rt: HostRuntime) -> Result<(), Fail> {
     let path = plays(&rt, rt.alloc(), &OPENED)?;
     let packet = vec![in rt.alloc(); 0u8; 65_001]?;
