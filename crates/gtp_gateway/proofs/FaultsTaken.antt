@@ -14,6 +14,7 @@ use Rattle.gtp_gateway.specs.declared.faulty.Request.{Request}
 use Rattle.gtp_gateway.specs.declared.faulty.Request.TheVariants.{CreateSession, DeleteSession, CreateBearer, DeleteBearer}
 use Rattle.gtp_gateway.specs.Faulty.{kind_of, is_answered, dropped_for, IsFaultEffect}
 use Rattle.gtp_gateway.specs.Station.{Station}
+use Rattle.gtp_gateway.proofs.SentBack.{none_sent}
 
 module _ (old : Node) (request : Arrival) (f : inputs.FaultyRequest) where
   serving_answers : (kind : Request) → is_answered Serving kind ≡ true → ServingFaulted request f (kind_of kind) old (faulted request f old)
@@ -53,6 +54,6 @@ pub drops_for : (request : Arrival) (reading : inputs.ControlReading) (s : Stati
 drops_for request reading s number takes = record {
   effect = dropped s.node (undecodable Control number);
   takes = takes;
-  tells = record { sent = refl; outcome = refl; heard = refl; restart = refl; made = refl; all = refl };
+  tells = record { sent = none_sent s.node.config; outcome = refl; heard = refl; restart = refl; made = refl; all = refl };
   stays = refl;
 }

@@ -181,7 +181,7 @@ asked_on peer t3 n3 ws each = All-from_recursion (IsAsked peer) _ (asked_each pe
 
 -- ---- what waits on, through one change and then another
 
-filter_twice : (f g : Waiting Purpose → Bool) (ws : List (Waiting Purpose)) → filter g (filter f ws) ≡ filter (λ w. f w && g w) ws
+pub filter_twice : (f g : Waiting Purpose → Bool) (ws : List (Waiting Purpose)) → filter g (filter f ws) ≡ filter (λ w. f w && g w) ws
 filter_twice f g [] = refl
 filter_twice f g (w ∷ ws) = by (f w) (g w) refl (filter_twice f g ws)
   where

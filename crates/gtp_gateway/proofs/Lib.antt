@@ -1,4 +1,5 @@
 pub mod Own
+pub mod SentBack
 pub mod Requests
 pub mod Refusals
 pub mod Columns
@@ -36,3 +37,5 @@ pub mod ContextsRead
 pub mod SessionGrants
 pub mod Answered
 pub mod Receiving
+pub mod GoingOn
+pub mod AcceptedStays

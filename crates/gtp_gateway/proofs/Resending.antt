@@ -1,8 +1,9 @@
 -- Requests that a tick sends again, as the machine's moves.
 use Rattle.std.proofs.Common.{◌≡◌, inl, inr, ℕ, Bool, true, false, cond, List, [], ◌∷◌, ◌++◌, map, Option, Some, None, refl, sym, ◌∙◌, ap, subst, arith}
+use Rattle.std.specs.Prelude.{All}
 use Rattle.std.specs.List.{AllByRecursion, filter_map, cons_option}
 use Rattle.std.proofs.lemmas.Bool.Decides.{nat_tests}
-use Rattle.std.proofs.lemmas.List.Elements.{recursion_from_All}
+use Rattle.std.proofs.lemmas.List.Elements.{recursion_from_All, All-nil, All-cons}
 use Rattle.std.specs.FinMap.{get, find, get-from_entries}
 use Rattle.std.specs.Ordering.{nat_cmp, eq_by_cmp}
 use Rattle.std.specs.Cmp.{nat_cmp_total}
@@ -23,9 +24,11 @@ use Rattle.gtp_machine.specs.Tick.{TickStep, joined}
 use Rattle.gtp_gateway.specs.declared.purpose.Purpose.{Purpose}
 use Rattle.gtp_gateway.specs.declared.purpose.Purpose.TheVariants.{Echo, CreateSession, DeleteSession, ReleaseSession, CreateBearer, DeleteBearer}
 use Rattle.gtp_gateway.specs.Parts.{pending_of, pending_in}
+use Rattle.gtp_gateway.specs.Sent.{ReadsBack, SendingReads}
 use Rattle.gtp_gateway.specs.Spelled.{message_in, is_for, IsAsked, AreAsked}
 use Rattle.gtp_gateway.specs.Ticked.{datagram_again}
 use Rattle.gtp_gateway.proofs.Requests.{not_found}
+use Rattle.gtp_gateway.proofs.Taking.{kept_back}
 
 -- the requests that are sent again
 abbrev pub again_in : ℕ → ℕ → List (Waiting Purpose) → List reliable.Message
@@ -134,7 +137,7 @@ same_datagram config ws m each of =
     let w = of.waiting in
     let asked = asked_there config.peer.control ws w (recursion_from_All (IsAsked config.peer.control) ws each) of.among in
     let plane = on_control w.purpose (message_in w.octets) asked.purpose in
-    let kept : datagram_again config (record { seq = w.seq; to = w.to; octets = w.octets }) ≡ record { plane = Control; from = control_end config.own.control; to = control_end config.peer.control; octets = spelled (message_in w.octets) } = λ i. record { plane = Control; from = control_end config.own.control; to = asked.to i; octets = asked.octets i } in
+    let kept : datagram_again config (record { seq = w.seq; to = w.to; octets = w.octets }) ≡ record { plane = Control; from = control_end config.own.control; to = control_end config.peer.control; octets = spelled (message_in w.octets) } = λ i. record { plane = Control; from = control_end config.own.control; to = asked.to i; octets = asked.octets.is i } in
     let made : datagram_of config (sending_again config (record { seq = w.seq; to = w.to; octets = w.octets })) ≡ record { plane = Control; from = control_end config.own.control; to = control_end config.peer.control; octets = spelled (message_in w.octets) } =
     ap (λ (p : Plane). record { plane = p; from = own_end config p; to = control_end config.peer.control; octets = spelled (message_in w.octets) }) plane in
     ap (datagram_again config) of.is ∙ (kept ∙ (sym made ∙ ap (λ (x : reliable.Message). datagram_of config (sending_again config x)) (sym of.is)))
@@ -150,3 +153,18 @@ resent config t3 n3 ws each = same_each (datagram_again config) (λ m. datagram_
     twice : (ms : List reliable.Message) → map (λ m. datagram_of config (sending_again config m)) ms ≡ map (datagram_of config) (map (sending_again config) ms)
     twice [] = refl
     twice (m ∷ ms) = λ i. datagram_of config (sending_again config m) ∷ twice ms i
+
+-- a request that waits reads back
+asked_back : (peer : Ip) (ws : List (Waiting Purpose)) (m : reliable.Message) → AreAsked peer ws → IsOf ws m → ReadsBack (message_in m.octets)
+asked_back peer ws m each of =
+    let w = of.waiting in
+    let asked = asked_there peer ws w (recursion_from_All (IsAsked peer) ws each) of.among in
+    subst (λ (x : reliable.Message). ReadsBack (message_in x.octets)) (sym of.is) (kept_back w.octets (on_control w.purpose (message_in w.octets) asked.purpose) asked.octets)
+
+all_back : (config : Config) (ms : List reliable.Message) → ((m : reliable.Message) → Among m ms → ReadsBack (message_in m.octets)) → All SendingReads (map (sending_again config) ms)
+all_back config [] each = All-nil SendingReads
+all_back config (m ∷ ms) each = All-cons SendingReads (sending_again config m) (map (sending_again config) ms) (each m (inl refl)) (all_back config ms (λ k among. each k (inr among)))
+
+-- each that is sent again reads back
+pub resent_back : (config : Config) (t3 n3 : ℕ) (ws : List (Waiting Purpose)) → AreAsked config.peer.control ws → All SendingReads (map (sending_again config) (again_in t3 n3 ws))
+resent_back config t3 n3 ws each = all_back config (again_in t3 n3 ws) (λ m among. asked_back config.peer.control ws m each (of_waiting t3 n3 ws m among))

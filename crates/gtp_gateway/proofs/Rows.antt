@@ -1,5 +1,5 @@
 -- What a step that sends nothing comes to, as a row of the machine.
-use Rattle.std.proofs.Common.{◌≡◌, inl, inr, ℕ, Bool, true, false, List, [], ◌∷◌, Option, None, Some, option_map, map, Result, Ok, Err, refl, sym, ◌∙◌, ap, subst}
+use Rattle.std.proofs.Common.{◌≡◌, inl, inr, ℕ, Bool, true, false, List, Option, None, Some, option_map, Result, Ok, Err, refl, sym, ◌∙◌, subst}
 use Rattle.std.specs.Prelude.{IfOk}
 use Rattle.gtp_machine.specs.Node.{Arrival, Node, holding}
 use Rattle.gtp_values.specs.declared.address.Endpoint.{Endpoint}
@@ -21,15 +21,16 @@ use Rattle.gtp_machine.specs.declared.outcome.Outcome.TheVariants.{Dropped, Answ
 use Rattle.gtp_gateway.specs.declared.sent.Sent.{Sent}
 use Rattle.gtp_gateway.specs.declared.control_step.ControlStep.{ControlStep}
 use Rattle.gtp_gateway.specs.Answering.{answering}
-use Rattle.gtp_gateway.specs.Sent.{datagram_by}
+use Rattle.gtp_gateway.specs.Sent.{datagram_by, ReadsBack, AreSent}
 use Rattle.gtp_gateway.specs.Row.{TellsRow, IsRow, IsHeardRow}
 use Rattle.gtp_gateway.specs.Station.{Station}
-use Rattle.gtp_gateway.specs.Taken.{plain_report, Tells, IsTaken}
+use Rattle.gtp_gateway.specs.Taken.{plain_report, datagrams, Tells, IsTaken}
 use Rattle.gtp_gateway.specs.Hearing.{weighed_by, node_heard, IsEarlier, report_heard, effect_heard}
 use Rattle.gtp_gateway.specs.Procedure.{TakesBy, takes_by}
 use Rattle.gtp_gateway.specs.Parts.{arrival_of}
 use Rattle.gtp_gateway.specs.declared.hearing.Heard.{Heard}
 use Rattle.gtp_gateway.specs.declared.hearing.Heard.TheVariants as heards
+use Rattle.gtp_gateway.proofs.SentBack.{none_sent, one_sent}
 use Rattle.gtp_gateway.proofs.Weighing.{told_is, later_is, hears_on, hears_old}
 
 -- what follows of the value, where there is one
@@ -43,7 +44,7 @@ drops Takes request s step why is takes =
     (record {
       effect = dropped s.node why;
       takes = takes;
-      tells = record { sent = refl; outcome = refl; made = refl; heard = refl; learned = refl; untold = refl; unlearned = refl; all = refl };
+      tells = record { sent = none_sent s.node.config; outcome = refl; made = refl; heard = refl; learned = refl; untold = refl; unlearned = refl; all = refl };
       becomes = refl;
       role_stays = refl;
     })
@@ -54,28 +55,28 @@ ends Takes request old new step outcome node is becomes role takes =
     (record {
       effect = record { out = nothing; outcome = outcome; node = node };
       takes = takes;
-      tells = record { sent = refl; outcome = refl; made = refl; heard = refl; learned = refl; untold = refl; unlearned = refl; all = refl };
+      tells = record { sent = none_sent old.node.config; outcome = refl; made = refl; heard = refl; learned = refl; untold = refl; unlearned = refl; all = refl };
       becomes = becomes;
       role_stays = role;
     })
 
 -- an answer that is held, for a request for which a context may have been made
-pub answers_made : (Takes : Node → Effect → Type 0) (request : Arrival) (old new : Station) (step : ControlStep) (sent : Sent) (m : Message) (cause : ℕ) (made : Bool) (node : Node) → step ≡ record { out = Some sent; report = record (plain_report (Answered cause)) { made = made } } → datagram_by sent ≡ datagram_of old.node.config (record { destination = request.source; message = m }) → new.node ≡ holding request m node → new.role ≡ old.role
+pub answers_made : (Takes : Node → Effect → Type 0) (request : Arrival) (old new : Station) (step : ControlStep) (sent : Sent) (m : Message) (cause : ℕ) (made : Bool) (node : Node) → step ≡ record { out = Some sent; report = record (plain_report (Answered cause)) { made = made } } → datagram_by sent ≡ datagram_of old.node.config (record { destination = request.source; message = m }) → ReadsBack m → new.node ≡ holding request m node → new.role ≡ old.role
     → Takes old.node (answering made request m cause node) → IsRow Takes request old.role old.node step new
-answers_made Takes request old new step sent m cause made node is goes becomes role takes =
+answers_made Takes request old new step sent m cause made node is goes back becomes role takes =
     subst (λ (t : ControlStep). IsRow Takes request old.role old.node t new) (sym is)
     (record {
       effect = answering made request m cause node;
       takes = takes;
-      tells = record { sent = λ i. goes i ∷ []; outcome = refl; made = refl; heard = refl; learned = refl; untold = refl; unlearned = refl; all = refl };
+      tells = record { sent = one_sent old.node.config (datagram_by sent) (record { destination = request.source; message = m }) goes back; outcome = refl; made = refl; heard = refl; learned = refl; untold = refl; unlearned = refl; all = refl };
       becomes = becomes;
       role_stays = role;
     })
 
 -- the same, where none was made
-pub answers : (Takes : Node → Effect → Type 0) (request : Arrival) (old new : Station) (step : ControlStep) (sent : Sent) (m : Message) (cause : ℕ) (node : Node) → step ≡ record { out = Some sent; report = plain_report (Answered cause) } → datagram_by sent ≡ datagram_of old.node.config (record { destination = request.source; message = m }) → new.node ≡ holding request m node → new.role ≡ old.role → Takes old.node (answered request m cause node)
+pub answers : (Takes : Node → Effect → Type 0) (request : Arrival) (old new : Station) (step : ControlStep) (sent : Sent) (m : Message) (cause : ℕ) (node : Node) → step ≡ record { out = Some sent; report = plain_report (Answered cause) } → datagram_by sent ≡ datagram_of old.node.config (record { destination = request.source; message = m }) → ReadsBack m → new.node ≡ holding request m node → new.role ≡ old.role → Takes old.node (answered request m cause node)
     → IsRow Takes request old.role old.node step new
-answers Takes request old new step sent m cause node is goes becomes role takes = answers_made Takes request old new step sent m cause false node is goes becomes role takes
+answers Takes request old new step sent m cause node is goes back becomes role takes = answers_made Takes request old new step sent m cause false node is goes back becomes role takes
 
 -- a row of one kind, at a gateway that has heard the counter, as a row of another
 pub as_row : (T U : Node → Effect → Type 0) (request : Arrival) (role there : Role) (old heard : Node) (step : ControlStep) (new : Station) → there ≡ role → heard ≡ old → ((node : Node) (e : Effect) → T node e → U node e) → IsRow T request there heard step new → IsRow U request role old step new
@@ -120,7 +121,7 @@ message_left Packet old request m peer new not = inr (peer, inr (new, inl (not, 
 tells_heard : (config : Config) (request : Arrival) (old : Station) (step : ControlStep) (recovery : Option Counter) (e : Effect) → config ≡ old.node.config → TellsRow config request step e → Tells old request (record step { report = report_heard (weighed_by recovery old.node.known) step.report }) (told recovery old.node.known e)
 tells_heard config request old step None e same tells =
     record {
-      sent = tells.sent ∙ ap (λ (c : Config). map (datagram_of c) e.out.sent) same;
+      sent = subst (λ (c : Config). AreSent c (datagrams step.out) e.out.sent) same tells.sent;
       outcome = tells.outcome;
       heard = sym tells.heard;
       restart = sym tells.learned;
@@ -129,7 +130,7 @@ tells_heard config request old step None e same tells =
     }
 tells_heard config request old step (Some counter) e same tells =
     record {
-      sent = tells.sent ∙ ap (λ (c : Config). map (datagram_of c) e.out.sent) same;
+      sent = subst (λ (c : Config). AreSent c (datagrams step.out) e.out.sent) same tells.sent;
       outcome = tells.outcome;
       heard = told_is old.node.known counter;
       restart = later_is old.node.known counter;
@@ -168,7 +169,7 @@ early_taken source octets old m recovery peer fresh reads takes counter early =
     record {
       effect = effect;
       takes = subst (λ (r : ControlReading). MachineStep old.role old.node (Control_came request r) effect) (sym reads) (message_taken old.role old.node request m effect peer fresh takes heard);
-      tells = tells_heard old.node.config request old (record { out = None; report = plain_report (Dropped OldCounter) }) recovery (dropped old.node OldCounter) refl (record { sent = refl; outcome = refl; made = refl; heard = refl; learned = refl; untold = refl; unlearned = refl; all = refl });
+      tells = tells_heard old.node.config request old (record { out = None; report = plain_report (Dropped OldCounter) }) recovery (dropped old.node OldCounter) refl (record { sent = none_sent old.node.config; outcome = refl; made = refl; heard = refl; learned = refl; untold = refl; unlearned = refl; all = refl });
       becomes = sym (told_node recovery old.node.known (dropped old.node OldCounter));
       role = refl;
     }

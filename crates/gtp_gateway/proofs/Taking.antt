@@ -1,5 +1,5 @@
 -- Steps of either gateway on a datagram of the control plane.
-use Rattle.std.proofs.Common.{inl, inr, ℕ, List, [], ◌∷◌, subst}
+use Rattle.std.proofs.Common.{◌≡◌, inl, inr, ℕ, List, [], ◌∷◌, sym, subst}
 use Rattle.std.specs.List.{AllByRecursion}
 use Rattle.std.proofs.lemmas.List.Elements.{recursion_from_All}
 use Rattle.gtp_values.specs.declared.address.Endpoint.{Endpoint}
@@ -8,11 +8,15 @@ use Rattle.gtp_machine.specs.declared.role.Role.{Role}
 use Rattle.gtp_machine.specs.declared.role.Role.TheVariants.{Serving, Packet}
 use Rattle.gtp_machine.specs.Node.{Arrival, Node}
 use Rattle.gtp_machine.specs.Answer.{ControlStep}
-use Rattle.gtp_machine.specs.Input.{ControlReading, Control_came, Effect}
+use Rattle.gtp_machine.specs.Input.{ControlReading, Control_message, Control_came, Effect}
+use Rattle.gtp_machine.specs.Message.{Plane, Control, plane_of}
 use Rattle.gtp_machine.specs.Packet.{PacketReads}
+use Rattle.gtp_machine.specs.Reading.{ControlReads}
 use Rattle.gtp_machine.specs.Serving.{ServingReads}
+use Rattle.gtp_machine.specs.Spelling.{ReadsAs, spelled}
 use Rattle.gtp_machine.specs.Step.{Step}
-use Rattle.gtp_gateway.specs.Spelled.{AreSpelled, AreAnswered}
+use Rattle.gtp_gateway.specs.Sent.{ReadsBack}
+use Rattle.gtp_gateway.specs.Spelled.{message_in, AreSpelled, AreAnswered}
 
 -- before a datagram is read, both gateways take the same steps
 pub by_role : (role : Role) (old : Node) (request : Arrival) (reading : ControlReading) (e : Effect) → ((Reads : Arrival → Node → Effect → Type 0) → ControlStep Reads request old e) → Step role old (Control_came request reading) e
@@ -23,6 +27,12 @@ answered_there : (ps : List HeldPair) (source : Endpoint) (request answer : List
 answered_there [] source request answer each has = absurd has
 answered_there (p ∷ ps) source request answer each (inl here) = subst AreSpelled here.1 each.0
 answered_there (p ∷ ps) source request answer each (inr there) = answered_there ps source request answer each.1 there
+
+-- the message of octets that are kept reads back
+pub kept_back : (octets : List ℕ) → plane_of (message_in octets) ≡ Control → AreSpelled octets → ReadsBack (message_in octets)
+kept_back octets control kept =
+    subst (λ (p : Plane). ReadsAs p (spelled (message_in octets)) (message_in octets)) (sym control)
+    (subst (λ (o : List ℕ). ControlReads o (Control_message (message_in octets))) kept.is kept.read)
 
 -- an answer that is held is kept as it is spelled
 pub spelled_answer : (ps : List HeldPair) (source : Endpoint) (request answer : List ℕ) → AreAnswered ps → HasAnswer source request answer ps → AreSpelled answer

@@ -6,7 +6,6 @@ use mathlib.Core.Logic.{∥∥₁_elim, ∥∥₁_prop}
 use Rattle.gtp_values.specs.declared.address.Endpoint.{Endpoint}
 use Rattle.gtp_reliable.specs.Waiting.{Waiting}
 use Rattle.gtp_machine.specs.Message.{User}
-use Rattle.gtp_machine.specs.Spelling.{datagram_of}
 use Rattle.gtp_machine.specs.Reading.{user_reading}
 use Rattle.gtp_machine.specs.Sound.{IsSound}
 use Rattle.gtp_machine.specs.User.{UserRead}
@@ -27,8 +26,11 @@ use Rattle.gtp_gateway.specs.declared.user_receive.Judged.{Judged}
 use Rattle.gtp_gateway.specs.declared.user_receive.Judged.TheVariants as judged
 use Rattle.gtp_gateway.specs.Parts.{pending_in}
 use Rattle.gtp_gateway.specs.Replying.{sending_of, outcome_of, replied, IsReplyBy}
+use Rattle.gtp_gateway.specs.Sent.{AreSent}
 use Rattle.gtp_gateway.specs.Station.{Station, IsWhole}
+use Rattle.gtp_gateway.specs.Taken.{datagrams}
 use Rattle.gtp_gateway.specs.UserTaken.{plain_step, AreEntries, WaitOn, IsTakenBy, IsJudgedBy, IsFaultJudged, IsUserTaken}
+use Rattle.gtp_gateway.proofs.SentBack.{none_sent}
 
 -- no bearer stands there
 pub none_there : (node : Node) (t : ℕ) → get node.bearers t ≡ None → HasBearer node t → ⊥
@@ -58,7 +60,7 @@ module _ (Takes : Node → Effect → Type 0) (old : Station) where
       record {
         effect = record { out = nothing; outcome = outcome; node = node };
         takes = takes;
-        tells = record { sent = refl; outcome = refl; accepted = refl; packet = (λ is. absurd (other is), λ some. absurd cc); all = refl };
+        tells = record { sent = none_sent old.node.config; outcome = refl; accepted = refl; packet = (λ is. absurd (other is), λ some. absurd cc); all = refl };
         becomes = becomes;
         role = role;
         same = same;
@@ -79,7 +81,7 @@ module _ (Takes : Node → Effect → Type 0) (old : Station) where
         effect = replied reply old.node;
         takes = takes;
         tells = record {
-          sent = sends.sent ∙ ap (λ (s : Station). datagram_of s.node.config (sending_of reply s.node.config) ∷ []) same;
+          sent = subst (λ (s : Station). AreSent s.node.config (datagrams step.out) (sending_of reply s.node.config ∷ [])) same sends.sent;
           outcome = sends.outcome;
           accepted = subst (λ (o : Option packets.Accepted). AreEntries old.node o []) (sym sends.none) refl;
           packet = (λ is. absurd (not_taken reply (sym sends.outcome ∙ is)), λ some. absurd (none_some step.accepted sends.none some));

@@ -1,5 +1,5 @@
 -- Commands that were carried out, and commands that were refused.
-use Rattle.std.specs.Prelude.{◌≡◌, ◌↔◌, ℕ, [], ◌∷◌, map, Option, option_map, Result, Err}
+use Rattle.std.specs.Prelude.{◌≡◌, ◌↔◌, ℕ, [], ◌∷◌, Option, option_map, Result, Err}
 use Rattle.gtp_reliable.specs.Pending.{IsNextFree}
 use Rattle.gtp_machine.specs.Ordered.{Unless}
 use Rattle.gtp_machine.specs.Choice.{HasPendingRoom}
@@ -8,14 +8,13 @@ use Rattle.gtp_machine.specs.Input.{Command, Mark_end, Send_user, Commanded, Eff
 use Rattle.gtp_machine.specs.declared.outcome.Refusal.{Refusal}
 use Rattle.gtp_machine.specs.declared.outcome.Outcome.{Outcome}
 use Rattle.gtp_machine.specs.declared.outcome.Outcome.TheVariants as outcomes
-use Rattle.gtp_machine.specs.Spelling.{datagram_of}
 use Rattle.gtp_machine.specs.Step.{Step}
 use Rattle.gtp_gateway.specs.declared.fault.CommandFault.{CommandFault}
 use Rattle.gtp_gateway.specs.declared.fault.CommandFault.TheVariants.{Refused}
 use Rattle.gtp_gateway.specs.declared.purpose.Purpose.{Purpose}
 use Rattle.gtp_gateway.specs.declared.sent.Begun.{Begun}
 use Rattle.gtp_gateway.specs.Asking.{after_begun}
-use Rattle.gtp_gateway.specs.Sent.{datagram_by}
+use Rattle.gtp_gateway.specs.Sent.{datagram_by, AreSent}
 use Rattle.gtp_gateway.specs.Station.{Station}
 
 -- what a command comes to: a request is sent, or a packet or an End Marker
@@ -28,7 +27,7 @@ outcome_by command teid = outcomes.Begun teid
 pub record IsDone (command : Command) (old : Station) (begun : Begun) (new : Station) : Type 0 where
   pub effect : Effect
   pub step : Step old.role old.node (Commanded command) effect
-  pub sent : datagram_by begun.out ∷ [] ≡ map (datagram_of old.node.config) effect.out.sent
+  pub sent : AreSent old.node.config (datagram_by begun.out ∷ []) effect.out.sent
   pub outcome : effect.outcome ≡ outcome_by command (option_map (λ t. t.0) begun.teid)
   pub becomes : new.node ≡ effect.node
   pub role : new.role ≡ old.role
@@ -53,7 +52,7 @@ pub record IsAsked (Asks : Effect → Type 0) (old : Station) (begun : Begun) (n
   pub effect : Effect
   pub room : HasPendingRoom old.node
   pub asks : Asks effect
-  pub sent : datagram_by begun.out ∷ [] ≡ map (datagram_of old.node.config) effect.out.sent
+  pub sent : AreSent old.node.config (datagram_by begun.out ∷ []) effect.out.sent
   pub outcome : effect.outcome ≡ outcomes.Begun (option_map (λ t. t.0) begun.teid)
   pub becomes : new.node ≡ effect.node
   pub role : new.role ≡ old.role

@@ -29,7 +29,7 @@ use Rattle.gtp_gateway.specs.Drawing.{AreTwoDrawn}
 use Rattle.gtp_gateway.specs.Hearing.{node_heard}
 use Rattle.gtp_gateway.specs.Parts.{arrival_of}
 use Rattle.gtp_gateway.specs.Row.{IsRow}
-use Rattle.gtp_gateway.specs.Sent.{datagram_by}
+use Rattle.gtp_gateway.specs.Sent.{datagram_by, ReadsBack}
 use Rattle.gtp_gateway.specs.SessionAsked.{SaysSession, granted}
 use Rattle.gtp_gateway.specs.Station.{Station}
 use Rattle.gtp_gateway.specs.Taken.{plain_report}
@@ -99,6 +99,7 @@ pub record IsAnsweredSo (source : Endpoint) (octets : List ℕ) (m : Message) (c
   pub sent : Sent
   pub is : step ≡ record { out = Some sent; report = record (plain_report (Answered cause)) { made = made } }
   pub goes : datagram_by sent ≡ datagram_of old.node.config (record { destination = source; message = m })
+  pub read : ReadsBack m
   pub becomes : new.node ≡ holding (arrival_of source octets) m left
   pub role : new.role ≡ old.role
 

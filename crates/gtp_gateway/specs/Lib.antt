@@ -35,3 +35,4 @@ pub mod Ticked
 pub mod SessionAsked
 pub mod Grant
 pub mod Received
+pub mod GoesOn

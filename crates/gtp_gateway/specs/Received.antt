@@ -1,17 +1,18 @@
 -- A datagram that was received, on either plane.
-use Rattle.std.specs.Prelude.{◌≡◌, ◌≢◌, ℕ, List, map, None, option_map}
+use Rattle.std.specs.Prelude.{◌≡◌, ◌≢◌, ℕ, List, None, option_map}
 use Rattle.gtp_values.specs.declared.address.Endpoint.{Endpoint}
 use Rattle.gtp_machine.specs.Message.{Plane, Control, User}
 use Rattle.gtp_machine.specs.Node.{Arrival, Node}
 use Rattle.gtp_machine.specs.Input.{Input, Control_came, User_came, nothing, Effect}
 use Rattle.gtp_machine.specs.Reading.{control_reading, user_reading}
-use Rattle.gtp_machine.specs.Spelling.{datagram_of}
 use Rattle.gtp_machine.specs.Step.{Step as MachineStep}
 use Rattle.gtp_machine.specs.declared.outcome.Outcome.TheVariants.{Broken}
 use Rattle.gtp_gateway.specs.declared.step.Step.{Step}
 use Rattle.gtp_gateway.specs.declared.control_step.ControlStep.{ControlStep}
 use Rattle.gtp_gateway.specs.declared.user_step.UserStep.{UserStep}
+use Rattle.gtp_gateway.specs.GoesOn.{GoesOn}
 use Rattle.gtp_gateway.specs.Parts.{arrival_of}
+use Rattle.gtp_gateway.specs.Sent.{AreSent}
 use Rattle.gtp_gateway.specs.Station.{Station}
 use Rattle.gtp_gateway.specs.Taken.{datagrams, made_for, plain_report}
 use Rattle.gtp_gateway.specs.UserTaken.{AreEntries, IsAnswered, WaitOn}
@@ -24,7 +25,7 @@ coming User source octets = User_came source (user_reading octets)
 -- the step tells what the effect has: what is sent, the outcome, the counter that was heard, whether it is later than the one that was known, whether a
 -- context was made for the request, and the packet that was accepted; the effect has nothing else to tell
 pub record TellsStep (old : Node) (request : Arrival) (step : Step) (e : Effect) : Type 0 where
-  pub sent : datagrams step.out ≡ map (datagram_of old.config) e.out.sent
+  pub sent : AreSent old.config (datagrams step.out) e.out.sent
   pub outcome : step.report.outcome ≡ e.outcome
   pub heard : option_map (λ c. c.0) step.report.heard ≡ e.out.heard
   pub restart : option_map (λ c. c.0) step.report.restart ≡ e.out.learned
@@ -45,10 +46,11 @@ abbrev pub NeedsMemory : Plane → Endpoint → List ℕ → Station → Type 0
 NeedsMemory Control source octets old = Unit {0}
 NeedsMemory User source octets old = IsAnswered source octets old
 
--- a datagram of the user plane changes what ticks go by only where bearers go that the peer does not know: then the requests that are still pending wait on
-abbrev pub KeepsTiming : Plane → Step → Station → Station → Type 0
-KeepsTiming Control step old new = Unit {0}
-KeepsTiming User step old new = (step.report.outcome ≢ Broken → new.timing ≡ old.timing) × WaitOn old new
+-- what ticks go by, after a datagram: the requests that are still pending wait on; one of the control plane may have been given an answer, which is held from
+-- now on, and one of the user plane changes nothing, but where bearers go that the peer does not know
+abbrev pub KeepsTiming : Plane → Endpoint → List ℕ → Step → Station → Station → Type 0
+KeepsTiming Control source octets step old new = GoesOn source octets old new
+KeepsTiming User source octets step old new = (step.report.outcome ≢ Broken → new.timing ≡ old.timing) × WaitOn old new
 
 -- what a datagram of the control plane comes to, or one of the user plane
 abbrev pub of_control : ControlStep → Step

@@ -6,13 +6,13 @@ use Rattle.gtp_machine.specs.Message.{Error_indication, User_echo_response, Supp
 use Rattle.gtp_machine.specs.Config.{Config, user_end}
 use Rattle.gtp_machine.specs.Node.{Node}
 use Rattle.gtp_machine.specs.Input.{Sending, nothing, Effect}
-use Rattle.gtp_machine.specs.Spelling.{datagram_of}
 use Rattle.gtp_machine.specs.declared.outcome.DropReason.TheVariants.{UnknownContext, UnknownExtension}
 use Rattle.gtp_machine.specs.declared.outcome.Outcome.{Outcome}
 use Rattle.gtp_machine.specs.declared.outcome.Outcome.TheVariants.{Dropped, Echoed}
 use Rattle.gtp_gateway.specs.declared.user_reply.Reply.{Reply}
 use Rattle.gtp_gateway.specs.declared.user_reply.Reply.TheVariants.{ErrorIndication, Notification, EchoResponse}
 use Rattle.gtp_gateway.specs.declared.user_step.UserStep.{UserStep}
+use Rattle.gtp_gateway.specs.Sent.{AreSent}
 use Rattle.gtp_gateway.specs.Taken.{datagrams}
 
 -- a message of the user plane with this sequence number, no N-PDU number and no extension headers
@@ -37,6 +37,6 @@ replied reply old = record { out = record nothing { sent = sending_of reply old.
 
 -- the reply is sent, and nothing else is told
 pub record IsReplyBy (reply : Reply) (config : Config) (step : UserStep) : Type 0 where
-  pub sent : datagrams step.out ≡ datagram_of config (sending_of reply config) ∷ []
+  pub sent : AreSent config (datagrams step.out) (sending_of reply config ∷ [])
   pub outcome : step.outcome ≡ outcome_of reply
   pub none : step.accepted ≡ None

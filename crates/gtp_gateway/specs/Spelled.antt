@@ -7,7 +7,7 @@ use Rattle.gtp_reliable.specs.Held.{HeldPair}
 use Rattle.gtp_machine.specs.Config.{control_end}
 use Rattle.gtp_machine.specs.Message.{Message, Other_control, Echo_request, Create_session_request, Delete_session_request, Create_bearer_request, Delete_bearer_request}
 use Rattle.gtp_machine.specs.Input.{ControlReading, Control_message, Faulty, Control_fault}
-use Rattle.gtp_machine.specs.Reading.{control_reading}
+use Rattle.gtp_machine.specs.Reading.{control_reading, ControlReads}
 use Rattle.gtp_machine.specs.Spelling.{spelled}
 use Rattle.gtp_gateway.specs.declared.purpose.Purpose.{Purpose}
 use Rattle.gtp_gateway.specs.declared.purpose.Purpose.TheVariants.{Echo, CreateSession, DeleteSession, ReleaseSession, CreateBearer, DeleteBearer}
@@ -22,9 +22,10 @@ message_read (Control_fault fault) = Other_control 0
 unfoldable pub message_in : List ℕ → Message
 message_in octets = message_read (control_reading octets)
 
--- the octets are those that a gateway sends for the message that they read as
-abbrev pub AreSpelled : List ℕ → Type 0
-AreSpelled octets = octets ≡ spelled (message_in octets)
+-- the octets read as a message, and are those that a gateway sends for it
+pub record AreSpelled (octets : List ℕ) : Type 0 where
+  pub is : octets ≡ spelled (message_in octets)
+  pub read : ControlReads octets (Control_message (message_in octets))
 
 -- the request is one that is sent for the purpose; a purpose tells whether a TEID stood in the header, and in that of a Create Session Request none did
 abbrev pub is_for : Purpose → Message → Bool

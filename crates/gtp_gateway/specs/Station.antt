@@ -1,5 +1,6 @@
 -- A gateway as contracts see it.
-use Rattle.std.specs.Prelude.{ℕ, List, []}
+use Rattle.std.specs.Prelude.{◌≡◌, ℕ, List, [], map, length}
+use Rattle.gtp_tables.specs.Drawn.{drawn_up_to}
 use Rattle.gtp_reliable.specs.Waiting.{Waiting}
 use Rattle.gtp_reliable.specs.Held.{HeldPair}
 use Rattle.gtp_machine.specs.declared.role.Role.{Role}
@@ -9,7 +10,7 @@ use Rattle.gtp_gateway.specs.declared.config.Timers.{Timers}
 use Rattle.gtp_gateway.specs.declared.purpose.Purpose.{Purpose}
 use Rattle.gtp_gateway.specs.declared.parts.Parts.{Parts}
 use Rattle.gtp_gateway.specs.Settings.{Settings}
-use Rattle.gtp_gateway.specs.Parts.{node_of}
+use Rattle.gtp_gateway.specs.Parts.{pending_in, held_of, node_of}
 
 -- what ticks and sequence numbers go by: the times, the number from which the next free one is sought, the requests that wait, in order of beginning, and
 -- the answers that are held, in order of keeping, each with how long it waits or is held
@@ -34,6 +35,12 @@ station_of g = record { role = g.role; node = node_of g; timing = timing_of g }
 -- a gateway that has just started with this restart counter: its first request has the number 0
 abbrev pub starting : Role → Settings → ℕ → Station
 starting role settings counter = record { role = role; node = fresh_node settings.config counter; timing = record { timers = settings.timers; next = 0; waiting = []; held = [] } }
+
+-- what the node keeps is what ticks and draws go by: the requests that wait, the answers that are held, and as many TEIDs, one after the other, as were drawn
+pub record IsTied (s : Station) : Type 0 where
+  pub pending : s.node.pending ≡ pending_in s.timing.waiting
+  pub held : s.node.held ≡ map held_of s.timing.held
+  pub drawn : s.node.drawn ≡ drawn_up_to s.node.counter (length s.node.drawn)
 
 -- the gateway is sound: what a step needs stands
 abbrev pub IsWhole : Station → Type 0

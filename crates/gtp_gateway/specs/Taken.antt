@@ -1,5 +1,5 @@
 -- Datagrams that were taken.
-use Rattle.std.specs.Prelude.{◌≡◌, ℕ, Bool, true, false, List, [], ◌∷◌, map, Option, Some, None, option_map}
+use Rattle.std.specs.Prelude.{◌≡◌, ℕ, Bool, true, false, List, [], ◌∷◌, Option, Some, None, option_map}
 use Rattle.gtp_values.specs.declared.address.Endpoint.{Endpoint}
 use Rattle.gtp_reliable.specs.Held.{HeldPair, IsHeld}
 use Rattle.gtp_machine.specs.Node.{Arrival}
@@ -7,7 +7,7 @@ use Rattle.gtp_machine.specs.Answer.{IsNew}
 use Rattle.gtp_machine.specs.Input.{Control_came, nothing, Effect}
 use Rattle.gtp_machine.specs.declared.outcome.Outcome.{Outcome}
 use Rattle.gtp_machine.specs.Reading.{control_reading}
-use Rattle.gtp_machine.specs.Spelling.{Datagram, datagram_of}
+use Rattle.gtp_machine.specs.Spelling.{Datagram}
 use Rattle.gtp_machine.specs.Step.{Step as MachineStep}
 use Rattle.gtp_gateway.specs.declared.sent.Sent.{Sent}
 use Rattle.gtp_gateway.specs.declared.step.Report.{Report}
@@ -15,7 +15,7 @@ use Rattle.gtp_gateway.specs.declared.control_step.ControlStep.{ControlStep}
 use Rattle.gtp_gateway.specs.declared.receive.Entrance.{Entrance}
 use Rattle.gtp_gateway.specs.declared.receive.Entrance.TheVariants.{Settled, New}
 use Rattle.gtp_gateway.specs.Parts.{arrival_of}
-use Rattle.gtp_gateway.specs.Sent.{datagram_by}
+use Rattle.gtp_gateway.specs.Sent.{datagram_by, AreSent}
 use Rattle.gtp_gateway.specs.Station.{Station}
 
 -- nothing but an outcome is told
@@ -35,7 +35,7 @@ made_for request false = []
 -- the step tells what the effect has: what is sent, the outcome, the counter that was heard, whether it is later than the one that was known, and whether a
 -- context was made; the effect has nothing else to tell
 pub record Tells (old : Station) (request : Arrival) (step : ControlStep) (e : Effect) : Type 0 where
-  pub sent : datagrams step.out ≡ map (datagram_of old.node.config) e.out.sent
+  pub sent : AreSent old.node.config (datagrams step.out) e.out.sent
   pub outcome : step.report.outcome ≡ e.outcome
   pub heard : option_map (λ c. c.0) step.report.heard ≡ e.out.heard
   pub restart : option_map (λ c. c.0) step.report.restart ≡ e.out.learned

@@ -5,6 +5,7 @@ use Rattle.gtp_reliable.specs.Waiting.{Waiting, Message, after_tick, sent_again,
 use Rattle.gtp_reliable.specs.Held.{HeldPair, Question, forgotten}
 use Rattle.gtp_reliable.specs.Held as held
 use Rattle.gtp_reliable.specs.Forgotten.{question_of}
+use Rattle.gtp_reliable.specs.declared.held.Request.{Request}
 use Rattle.gtp_machine.specs.Choice.{HasPending}
 use Rattle.gtp_machine.specs.Config.{Config, control_end}
 use Rattle.gtp_machine.specs.Input.{Out, nothing}
@@ -12,17 +13,21 @@ use Rattle.gtp_machine.specs.Message.{Control}
 use Rattle.gtp_machine.specs.Node.{Arrival, Node}
 use Rattle.gtp_machine.specs.Ordered.{Unless}
 use Rattle.gtp_machine.specs.Removal.{finished}
-use Rattle.gtp_machine.specs.Spelling.{Datagram, datagram_of}
+use Rattle.gtp_machine.specs.Spelling.{Datagram}
 use Rattle.gtp_machine.specs.Tick.{Due, Ticks}
 use Rattle.gtp_gateway.specs.declared.purpose.Purpose.{Purpose}
 use Rattle.gtp_gateway.specs.declared.tick.Ticked.{Ticked}
 use Rattle.gtp_gateway.specs.Parts.{arrival_of, pending_in}
-use Rattle.gtp_gateway.specs.Sent.{datagram_by}
+use Rattle.gtp_gateway.specs.Sent.{datagram_by, AreSent}
 use Rattle.gtp_gateway.specs.Station.{Timing, Station}
 
 -- the request of an answer that is held, from where it came
 abbrev pub asked_by : Question → Arrival
 asked_by q = arrival_of q.source q.octets
+
+-- requests whose answers are forgotten, each from where it came
+abbrev pub arrivals_of : List Request → List Arrival
+arrivals_of requests = map asked_by (map question_of requests)
 
 -- what is due: requests are sent again or given up in order of beginning, and answers are forgotten in order of keeping
 abbrev pub due_in : Timing → Due
@@ -56,9 +61,9 @@ GivesUpEach old (number ∷ numbers) told new =
 
 -- the tick tells what the machine's moves give: what is sent again, what is given up and what is forgotten; they have nothing else to tell
 pub record TellsTick (config : Config) (ticked : Ticked) (out : Out) : Type 0 where
-  pub sent : map datagram_by ticked.resent.items ≡ map (datagram_of config) out.sent
+  pub sent : AreSent config (map datagram_by ticked.resent.items) out.sent
   pub gave_up : ticked.gave_up.items ≡ out.gave_up
-  pub forgot : map asked_by (map question_of ticked.forgotten.items) ≡ out.forgot
+  pub forgot : arrivals_of ticked.forgotten.items ≡ out.forgot
   pub all : out ≡ record nothing { sent = out.sent; gave_up = out.gave_up; forgot = out.forgot }
 
 -- a tick has passed: the machine's tick, where that is due which the counts of ticks say

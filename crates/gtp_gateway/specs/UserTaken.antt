@@ -1,5 +1,5 @@
 -- Datagrams of the user plane that were taken.
-use Rattle.std.specs.Prelude.{◌≡◌, ◌≢◌, ◌↔◌, ℕ, Bool, List, [], ◌∷◌, map, filter, Option, Some, None, IsSome}
+use Rattle.std.specs.Prelude.{◌≡◌, ◌≢◌, ◌↔◌, ℕ, Bool, List, [], ◌∷◌, filter, Option, Some, None, IsSome}
 use Rattle.gtp_values.specs.declared.address.Endpoint.{Endpoint}
 use Rattle.gtp_reliable.specs.Waiting.{Waiting}
 use Rattle.gtp_machine.specs.Node.{Node}
@@ -9,7 +9,6 @@ use Rattle.gtp_machine.specs.Input.{UserReading, User_fault, Extension_needed, U
 use Rattle.gtp_machine.specs.declared.outcome.Outcome.{Outcome}
 use Rattle.gtp_machine.specs.declared.outcome.Outcome.TheVariants as outcomes
 use Rattle.gtp_machine.specs.Reading.{user_reading}
-use Rattle.gtp_machine.specs.Spelling.{datagram_of}
 use Rattle.gtp_machine.specs.Step.{Step as MachineStep}
 use Rattle.gtp_gateway.specs.declared.purpose.Purpose.{Purpose}
 use Rattle.gtp_gateway.specs.declared.user_step.Accepted.{Accepted}
@@ -19,6 +18,7 @@ use Rattle.gtp_gateway.specs.declared.user_receive.Judged.TheVariants as judged
 use Rattle.gtp_gateway.specs.declared.user_reply.Reply.TheVariants.{Notification}
 use Rattle.gtp_gateway.specs.Parts.{pending_in}
 use Rattle.gtp_gateway.specs.Replying.{replied}
+use Rattle.gtp_gateway.specs.Sent.{AreSent}
 use Rattle.gtp_gateway.specs.Station.{Station}
 use Rattle.gtp_gateway.specs.Taken.{datagrams}
 
@@ -40,7 +40,7 @@ AreEntries node (Some accepted) entries = (entry : Entry) × IsEntryOf node acce
 -- the step tells what the effect has: what is sent, the outcome, and the packet that was accepted, which there is with that outcome alone; the effect has
 -- nothing else to tell
 pub record TellsUser (old : Node) (step : UserStep) (e : Effect) : Type 0 where
-  pub sent : datagrams step.out ≡ map (datagram_of old.config) e.out.sent
+  pub sent : AreSent old.config (datagrams step.out) e.out.sent
   pub outcome : step.outcome ≡ e.outcome
   pub accepted : AreEntries old step.accepted e.out.accepted
   pub packet : (step.outcome ≡ outcomes.Accepted) ↔ IsSome step.accepted

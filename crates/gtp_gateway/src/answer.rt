@@ -1,5 +1,6 @@
 //! Answers to requests, which are held for requests that come again (TS 29.274 7.6).
 
+ghost use Rattle.gtp_gateway.specs.GoesOn.{GoesOn};
 ghost use Rattle.std.specs.Prelude.{◌≡◌, ◌<◌, true, IfOk, OnOk, OnErr, length};
 ghost use Rattle.gtp_reliable.specs.Held.{IsHeld, IsReady};
 ghost use Rattle.gtp_machine.specs.Config.{control_end};
@@ -11,7 +12,7 @@ ghost use Rattle.gtp_gateway.specs.Change.{changed_by, CanChange};
 ghost use Rattle.gtp_gateway.specs.Answering.{after_held};
 ghost use Rattle.gtp_gateway.specs.Own.{IsOwn};
 ghost use Rattle.gtp_gateway.specs.Parts.{arrival_of, node_of};
-ghost use Rattle.gtp_gateway.specs.Sent.{datagram_by};
+ghost use Rattle.gtp_gateway.specs.Sent.{datagram_by, ReadsBack};
 ghost use Rattle.gtp_gateway.specs.Spelled.{message_in, AreSpelled};
 ghost use Rattle.gtp_gateway.specs.Station.{station_of};
 
@@ -39,8 +40,9 @@ impl Parts {
     /// An answer that is not held, as it is sent to where the request came from.
     pub fn reply(&self, alloc: Global, source: Endpoint, message: &Message) -> Result<Sent, Memory>
         requires own { IsOwn message.now }
-        ensures { IfOk result (λ sent. datagram_by sent ≡ datagram_of self.now.config.config
+        ensures sent { IfOk result (λ sent. datagram_by sent ≡ datagram_of self.now.config.config
             (record { destination = source; message = control_message message.now })) }
+        ensures back { IfOk result (λ _. ReadsBack (control_message message.now)) }
     {
         Ok(Sent {
             plane: Plane::Control,
@@ -77,7 +79,9 @@ impl Parts {
         ensures request { IfOk result (λ ready. ready.request.items ≡ request.now) }
         ensures octets { IfOk result (λ ready.
             ready.octets.items ≡ spelled (control_message message.now)) }
+        ensures back { IfOk result (λ _. ReadsBack (control_message message.now)) }
         ensures answer { IfOk result (λ ready. ready.answer.items ≡ ready.octets.items) }
+        ensures kept { IfOk result (λ ready. AreSpelled ready.answer.items) }
         ensures read { IfOk result (λ ready.
             message_in ready.answer.items ≡ control_message message.now) }
         ensures held { OnOk result (self.new.held ≡ record self.old.held { has_room = true }) }
@@ -98,6 +102,7 @@ impl Parts {
 
     /// Gives an answer that is ready to a request for which none is held; from now on this one is.
     /// Takes no memory.
+    #[tactic(auto, using(crate::proofs::GoingOn::on_goes, crate::proofs::GoingOn::same_goes, crate::proofs::GoingOn::given_goes, crate::proofs::GoingOn::then_goes))]
     pub fn give(&mut self, source: Endpoint, ready: ReadyAnswer) -> Sent
         requires ready { IsReady self.old.held }
         requires fresh { IsHeld source ready.request.items self.old.held.pairs → ⊥ }
@@ -113,6 +118,7 @@ impl Parts {
             (message_in ready.answer.items) (node_of self.old) }
         ensures held { self.new.held.pairs
             ≡ after_held source ready.request.items ready.answer.items self.old.held.pairs }
+        ensures goes { GoesOn source ready.request.items (station_of self.old) (station_of self.new) }
         ensures role { self.new.role ≡ self.old.role }
     {
         self.held.keep(source, ready.request, ready.answer);
@@ -126,6 +132,7 @@ impl Parts {
 
     /// Changes sessions and bearers, and answers a request for which no answer is held; from now on
     /// this one is.
+    #[tactic(auto, using(crate::proofs::GoingOn::on_goes, crate::proofs::GoingOn::same_goes, crate::proofs::GoingOn::given_goes, crate::proofs::GoingOn::then_goes))]
     pub fn answer(
         &mut self,
         alloc: Global,
@@ -140,11 +147,13 @@ impl Parts {
         requires fresh { IsHeld source request.now self.old.held.pairs → ⊥ }
         ensures sent { IfOk result (λ sent. datagram_by sent ≡ datagram_of self.old.config.config
             (record { destination = source; message = control_message message.now })) }
+        ensures back { IfOk result (λ _. ReadsBack (control_message message.now)) }
         ensures node { OnOk result (node_of self.new
             ≡ holding (arrival_of source request.now) (control_message message.now)
             (changed_by change (node_of self.old))) }
         ensures held { IfOk result (λ sent. self.new.held.pairs
             ≡ after_held source request.now sent.octets.items self.old.held.pairs) }
+        ensures goes { OnOk result (GoesOn source request.now (station_of self.old) (station_of self.new)) }
         ensures role { self.new.role ≡ self.old.role }
         ensures err { OnErr result (station_of self.new ≡ station_of self.old) }
     {

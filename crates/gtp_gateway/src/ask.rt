@@ -12,7 +12,7 @@ ghost use Rattle.gtp_gateway.specs.Own.{IsOwn};
 ghost use Rattle.gtp_gateway.specs.Parts.{node_of};
 ghost use Rattle.gtp_gateway.specs.Station.{station_of, timing_of};
 ghost use Rattle.gtp_gateway.specs.Asking.{asking, after_begun};
-ghost use Rattle.gtp_gateway.specs.Sent.{datagram_by};
+ghost use Rattle.gtp_gateway.specs.Sent.{datagram_by, ReadsBack};
 ghost use Rattle.gtp_gateway.specs.Spelled.{is_for};
 
 use crate::change::Change;
@@ -80,6 +80,7 @@ impl Parts {
               destination = control_end self.old.config.config.peer.control;
               message = control_message message.now;
             })) }
+        ensures back { IfOk result (λ _. ReadsBack (control_message message.now)) }
         ensures node { OnOk result (node_of self.new
             ≡ asking change seq purpose (control_message message.now) (node_of self.old)) }
         ensures timing { IfOk result (λ sent. timing_of self.new

@@ -6,6 +6,7 @@ ghost use Rattle.std.specs.FinMap as map;
 ghost use Rattle.gtp_gateway.specs.declared.change.Change.TheVariants as changes;
 ghost use Rattle.gtp_gateway.specs.Parts.{node_of};
 ghost use Rattle.gtp_gateway.specs.Station.{station_of};
+ghost use Rattle.gtp_gateway.specs.UserTaken.{WaitOn};
 
 use crate::parts::Parts;
 use gtp_tables::{Bearer, Draws, Session, TablesFault};
@@ -45,11 +46,13 @@ pub enum Change {
 
 impl Parts {
     /// A bearer is made: `Memory` where an allocation was refused, and then nothing has changed.
+    #[tactic(auto, using(crate::proofs::UserRows::all_wait))]
     fn make_bearer(&mut self, draws: Draws, teid: Teid, bearer: Bearer) -> Result<(), Memory>
         requires { CanChange (changes.MakesBearer draws teid bearer) (node_of self.old) }
         ensures node { OnOk result (node_of self.new
             ≡ changed_by (changes.MakesBearer draws teid bearer) (node_of self.old)) }
         ensures pending { self.new.pending ≡ self.old.pending }
+        ensures waits { WaitOn (station_of self.old) (station_of self.new) }
         ensures held { self.new.held ≡ self.old.held }
         ensures config { self.new.config ≡ self.old.config }
         ensures role { self.new.role ≡ self.old.role }
@@ -81,6 +84,7 @@ impl Parts {
 
     /// A session is made with its default bearer: `Memory` where an allocation was refused, and then
     /// nothing has changed.
+    #[tactic(auto, using(crate::proofs::UserRows::all_wait))]
     fn make_session(
         &mut self,
         draws: Draws,
@@ -95,6 +99,7 @@ impl Parts {
             ≡ changed_by (changes.MakesSession draws control session user bearer)
             (node_of self.old)) }
         ensures pending { self.new.pending ≡ self.old.pending }
+        ensures waits { WaitOn (station_of self.old) (station_of self.new) }
         ensures held { self.new.held ≡ self.old.held }
         ensures config { self.new.config ≡ self.old.config }
         ensures role { self.new.role ≡ self.old.role }
@@ -109,12 +114,14 @@ impl Parts {
 
     /// Changes sessions and bearers: `Memory` where an allocation was refused, and then nothing has
     /// changed.
+    #[tactic(auto, using(crate::proofs::UserRows::all_wait))]
     pub fn apply(&mut self, change: Change) -> Result<(), Memory>
         requires { CanChange change (node_of self.old) }
         ensures node { OnOk result (node_of self.new ≡ changed_by change (node_of self.old)) }
         ensures pending { OnOk result (keeps_requests change ≡ true
             → self.new.pending ≡ self.old.pending) }
         ensures next { self.new.pending.next ≡ self.old.pending.next }
+        ensures waits { WaitOn (station_of self.old) (station_of self.new) }
         ensures held { self.new.held ≡ self.old.held }
         ensures config { self.new.config ≡ self.old.config }
         ensures role { self.new.role ≡ self.old.role }

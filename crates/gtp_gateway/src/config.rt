@@ -95,7 +95,7 @@ impl Config {
     }
 
     /// The same once more.
-    pub(crate) fn copy(&self, alloc: Global) -> Result<Config, Memory>
+    pub fn copy(&self, alloc: Global) -> Result<Config, Memory>
         ensures { IfOk result (λ config. config ≡ self.now) }
     {
         let access_points = Vec::from_slice(alloc, self.access_points.as_slice())?;

@@ -1,6 +1,7 @@
 //! Delete Session Requests (TS 29.274 7.2.9.1).
 
-ghost use Rattle.std.specs.Prelude.{◌≡◌, ◌↔◌, IsTrue, IfOk, OnErr, option_map};
+ghost use Rattle.gtp_gateway.specs.GoesOn.{GoesOn};
+ghost use Rattle.std.specs.Prelude.{◌≡◌, ◌↔◌, IsTrue, IfOk, OnOk, OnErr, option_map};
 ghost use Rattle.gtp_v2.specs.Viewed.{in_row, front_value};
 ghost use Rattle.gtp_ie.specs.Value.{Value, OfEbi};
 ghost use Rattle.gtp_machine.specs.Node.{written};
@@ -98,6 +99,7 @@ impl Parts {
     }
 
     /// Takes a Delete Session Request, in any state of the session.
+    #[tactic(auto, using(crate::proofs::GoingOn::on_goes, crate::proofs::GoingOn::same_goes, crate::proofs::GoingOn::given_goes, crate::proofs::GoingOn::then_goes))]
     pub fn take_deletion_request(
         &mut self,
         alloc: Global,
@@ -108,6 +110,7 @@ impl Parts {
         requires fresh { IsFresh source octets.now (station_of self.old) self.old.held.pairs }
         ensures taken { IfOk result (λ step. TakesDeletionRequest source octets.now request.now
             (station_of self.old) step (station_of self.new)) }
+        ensures goes { OnOk result (GoesOn source octets.now (station_of self.old) (station_of self.new)) }
         ensures err { OnErr result (station_of self.new ≡ station_of self.old) }
     {
         if self.held.is_full() {

@@ -1,6 +1,7 @@
 //! Echo Request and Echo Response (TS 29.274 7.1.1, 7.1.2).
 
-ghost use Rattle.std.specs.Prelude.{◌≡◌, Option, IfOk, OnErr};
+ghost use Rattle.gtp_gateway.specs.UserTaken.{WaitOn};
+ghost use Rattle.std.specs.Prelude.{◌≡◌, Option, IfOk, OnOk, OnErr};
 ghost use Rattle.gtp_machine.specs.Input.{Send_echo};
 ghost use Rattle.gtp_gateway.specs.Begun.{IsDone, IsRefusedWhere, AsksNext};
 ghost use Rattle.gtp_gateway.specs.Station.{station_of};
@@ -33,6 +34,7 @@ impl Parts {
     }
 
     /// Takes an Echo Request, which is answered with the same number; the answer is not held.
+    #[tactic(auto, using(crate::proofs::UserRows::all_wait, crate::proofs::Giving::wait_on))]
     pub fn take_echo_request(
         &mut self,
         alloc: Global,
@@ -43,6 +45,7 @@ impl Parts {
         requires weighed { (told : Option AnyCounter) × (heard ≡ weighed_by told self.old.peer) }
         ensures taken { IfOk result (λ step. AnswersEcho source seq heard
             (station_of self.old) step (station_of self.new)) }
+        ensures waits { OnOk result (WaitOn (station_of self.old) (station_of self.new)) }
         ensures err { OnErr result (station_of self.new ≡ station_of self.old) }
     {
         let message = echo_response(seq, self.draws.counter());

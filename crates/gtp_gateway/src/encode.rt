@@ -4,7 +4,8 @@ ghost use Rattle.std.specs.Prelude.{◌≡◌, IfOk};
 ghost use Rattle.gtp_machine.specs.Reading.{control_message};
 ghost use Rattle.gtp_machine.specs.Spelling.{spelled};
 ghost use Rattle.gtp_gateway.specs.Own.{IsOwn};
-ghost use Rattle.gtp_gateway.specs.Spelled.{message_in};
+ghost use Rattle.gtp_gateway.specs.Sent.{ReadsBack};
+ghost use Rattle.gtp_gateway.specs.Spelled.{message_in, AreSpelled};
 
 use gtp_v2::{Message, V2Fault, encode};
 use gtp_values::Memory;
@@ -18,6 +19,8 @@ pub fn encode_own(alloc: Global, message: &Message) -> Result<Vec<u8>, Memory>
         octets.items ≡ spelled (control_message message.now)) }
     ensures read { IfOk result (λ octets.
         message_in octets.items ≡ control_message message.now) }
+    ensures back { IfOk result (λ _. ReadsBack (control_message message.now)) }
+    ensures kept { IfOk result (λ octets. AreSpelled octets.items) }
 {
     match encode(alloc, message) {
         Ok(octets) => Ok(octets),

@@ -1,6 +1,8 @@
 //! Delete Bearer Requests (TS 29.274 7.2.9.2), as the serving gateway takes them.
 
-ghost use Rattle.std.specs.Prelude.{◌≡◌, ◌<◌, ◌≤◌, ◌↔◌, [], map, length, Some, None, IsTrue, IfOk, OnErr};
+ghost use Rattle.gtp_gateway.specs.GoesOn.{GoesOn};
+ghost use Rattle.gtp_gateway.specs.UserTaken.{WaitOn};
+ghost use Rattle.std.specs.Prelude.{◌≡◌, ◌<◌, ◌≤◌, ◌↔◌, [], map, length, Some, None, IsTrue, IfOk, OnOk, OnErr};
 ghost use Rattle.gtp_machine.specs.Element.{cause_of};
 ghost use Rattle.gtp_machine.specs.Message.{Delete_bearer_response};
 ghost use Rattle.gtp_machine.specs.Node as nodes;
@@ -190,6 +192,7 @@ impl Parts {
     }
 
     /// Answers a request without bearer contexts.
+    #[tactic(auto, using(crate::proofs::GoingOn::on_goes, crate::proofs::GoingOn::same_goes, crate::proofs::GoingOn::given_goes, crate::proofs::GoingOn::then_goes))]
     fn answer_removal(
         &mut self,
         alloc: Global,
@@ -203,6 +206,7 @@ impl Parts {
         requires can { CanChange answer.now.change (node_of self.old) }
         ensures taken { IfOk result (λ step. AnswersRemoval source octets.now seq answer.now
             (station_of self.old) step (station_of self.new)) }
+        ensures goes { OnOk result (GoesOn source octets.now (station_of self.old) (station_of self.new)) }
         ensures err { OnErr result (station_of self.new ≡ station_of self.old) }
     {
         let contexts = Vec::new(alloc);
@@ -262,8 +266,10 @@ impl Parts {
     }
 
     /// The bearers go, in turn, with the requests about them. Takes no memory.
+    #[tactic(auto, using(crate::proofs::UserRows::all_wait, crate::proofs::Giving::wait_on))]
     fn end_each(&mut self, named: &[NamedBearer])
         ensures node { node_of self.new ≡ without_each named.now (node_of self.old) }
+        ensures waits { WaitOn (station_of self.old) (station_of self.new) }
         ensures held { self.new.held ≡ self.old.held }
         ensures config { self.new.config ≡ self.old.config }
         ensures role { self.new.role ≡ self.old.role }
@@ -302,6 +308,7 @@ impl Parts {
     }
 
     /// Ends the dedicated bearers with these identities. All that takes memory comes first.
+    #[tactic(auto, using(crate::proofs::GoingOn::on_goes, crate::proofs::GoingOn::same_goes, crate::proofs::GoingOn::given_goes, crate::proofs::GoingOn::then_goes))]
     fn end_named(
         &mut self,
         alloc: Global,
@@ -318,6 +325,7 @@ impl Parts {
         requires short { length identities.now ≤ 11 }
         ensures taken { IfOk result (λ step. EndsNamed source octets.now request.now identities.now
             (station_of self.old) step (station_of self.new)) }
+        ensures goes { OnOk result (GoesOn source octets.now (station_of self.old) (station_of self.new)) }
         ensures err { OnErr result (station_of self.new ≡ station_of self.old) }
     {
         let named = self.name_each(alloc, request.header, identities)?;
@@ -330,6 +338,7 @@ impl Parts {
     }
 
     /// Takes a Delete Bearer Request for the bearers in its list.
+    #[tactic(auto, using(crate::proofs::GoingOn::on_goes, crate::proofs::GoingOn::same_goes, crate::proofs::GoingOn::given_goes, crate::proofs::GoingOn::then_goes))]
     fn end_listed(
         &mut self,
         alloc: Global,
@@ -346,6 +355,7 @@ impl Parts {
         requires kind { view.now.message.kind ≡ 99 }
         ensures taken { IfOk result (λ step. TakesRemovalRequest source octets.now view.now.message
             request.now (station_of self.old) step (station_of self.new)) }
+        ensures goes { OnOk result (GoesOn source octets.now (station_of self.old) (station_of self.new)) }
         ensures err { OnErr result (station_of self.new ≡ station_of self.old) }
     {
         let identities = identities_in(alloc, view)?;
@@ -369,6 +379,7 @@ impl Parts {
     }
 
     /// Takes a Delete Bearer Request.
+    #[tactic(auto, using(crate::proofs::GoingOn::on_goes, crate::proofs::GoingOn::same_goes, crate::proofs::GoingOn::given_goes, crate::proofs::GoingOn::then_goes))]
     pub fn take_removal_request(
         &mut self,
         alloc: Global,
@@ -382,6 +393,7 @@ impl Parts {
         requires kind { view.now.message.kind ≡ 99 }
         ensures taken { IfOk result (λ step. TakesRemovalRequest source octets.now view.now.message
             request.now (station_of self.old) step (station_of self.new)) }
+        ensures goes { OnOk result (GoesOn source octets.now (station_of self.old) (station_of self.new)) }
         ensures err { OnErr result (station_of self.new ≡ station_of self.old) }
     {
         if self.held.is_full() {

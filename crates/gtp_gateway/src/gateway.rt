@@ -1,13 +1,13 @@
 //! One gateway.
 
-ghost use Rattle.std.specs.Prelude.{◌≡◌, ◌≤◌, length, IsOk, IfOk, IfErr, OnOk, OnErr};
+ghost use Rattle.std.specs.Prelude.{◌≡◌, ◌≤◌, length, IsOk, IsSome, IfOk, IfErr, OnOk, OnErr};
 ghost use Rattle.std.specs.FinMap as map;
 ghost use Rattle.gtp_machine.specs.Input.{Create_session, Delete_session, Create_bearer, Delete_bearer, Release_session};
 ghost use Rattle.gtp_machine.specs.Input.{Mark_end, Send_echo, Send_user};
 ghost use Rattle.gtp_gateway.specs.Begun.{IsDone, IsRefusedWhere, AsksNext};
 ghost use Rattle.gtp_gateway.specs.Specified.{specification};
-ghost use Rattle.gtp_gateway.specs.Station.{Station, starting};
-ghost use Rattle.gtp_gateway.specs.Ticked.{IsIdle, IsTicked, CountsOn};
+ghost use Rattle.gtp_gateway.specs.Station.{Station, starting, IsTied};
+ghost use Rattle.gtp_gateway.specs.Ticked.{IsIdle, IsTicked, CountsOn, arrivals_of, due_in};
 ghost use Rattle.gtp_gateway.specs.Received.{IsReceived, KeepsTiming, NeedsMemory};
 
 use crate::config::Config;
@@ -19,6 +19,8 @@ use crate::session::SessionSpec;
 use crate::step::Step;
 use crate::tick::Ticked;
 use gtp_machine::{Plane, Role};
+use gtp_reliable::Request;
+use gtp_tables::{Bearer, Session};
 use gtp_values::{Counter, Ebi, Endpoint, Memory, Qos, Teid, Tft};
 use std::alloc::Global;
 use std::marker::Model;
@@ -64,9 +66,38 @@ impl Gateway {
         })
     }
 
+    /// The session under this TEID of the gateway's own. Takes no memory.
+    pub fn session(&self, session: Teid) -> Option<Session>
+        ensures { result ≡ map.get self.now.node.sessions session.0 }
+    {
+        self.parts.sessions.get(session)
+    }
+
+    /// The bearer under this TEID of the gateway's own. Takes no memory.
+    pub fn bearer(&self, bearer: Teid) -> Option<Bearer>
+        ensures { result ≡ map.get self.now.node.bearers bearer.0 }
+    {
+        self.parts.bearers.get(bearer)
+    }
+
+    /// The requests whose answers the next tick forgets, in order of keeping. Takes no memory where
+    /// there is none.
+    pub fn forgets(&self) -> Result<Vec<Request>, Memory>
+        ensures forgets { IfOk result (λ requests.
+            arrivals_of requests.items ≡ (due_in self.now.timing).forgets) }
+        ensures quiet { IsIdle self.now.timing → IsOk result }
+    {
+        match self.parts.held.due() {
+            Ok(requests) => Ok(requests),
+            Err(_) => Err(Memory),
+        }
+    }
+
     /// The sessions, in order of the gateway's own TEIDs. Takes no memory.
     pub fn sessions(&self) -> SessionList<'_>
-        ensures { result ≡ map.entries self.now.node.sessions }
+        ensures sessions { result ≡ map.entries self.now.node.sessions }
+        // What holds of a gateway at all times.
+        ensures always { IsTied self.now }
     {
         SessionList::of(&self.parts.sessions)
     }
@@ -190,8 +221,11 @@ impl Gateway {
         // It is a step of the machine, and what is sent, told and accepted is what that has.
         ensures received { IfOk result (λ step.
             IsReceived plane source octets.now self.old step self.new) }
-        // What ticks go by, and what an allocation is for, of the user plane.
-        ensures timing { IfOk result (λ step. KeepsTiming plane step self.old self.new) }
+        // What ticks go by after it.
+        ensures timing { IfOk result (λ step. KeepsTiming plane source octets.now step self.old self.new) }
+        // A packet that is accepted changes nothing.
+        ensures packet { IfOk result (λ step. IsSome step.accepted → self.new ≡ self.old) }
+        // On the user plane an allocation is made only to send something.
         ensures memory { IfErr result (λ _. NeedsMemory plane source octets.now self.old) }
         ensures err { OnErr result (self.new ≡ self.old) }
     {

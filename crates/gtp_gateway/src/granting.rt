@@ -1,6 +1,7 @@
 //! Create Bearer Requests (TS 29.274 7.2.3), as the serving gateway takes them.
 
-ghost use Rattle.std.specs.Prelude.{◌≡◌, ◌↔◌, IsTrue, IfOk, IfSome, IfNone, OnErr};
+ghost use Rattle.gtp_gateway.specs.GoesOn.{GoesOn};
+ghost use Rattle.std.specs.Prelude.{◌≡◌, ◌↔◌, IsTrue, IfOk, IfSome, IfNone, OnOk, OnErr};
 ghost use Rattle.gtp_machine.specs.Choice.{HasFreeIdentity, HasDraws};
 ghost use Rattle.gtp_machine.specs.Reading.{control_message};
 ghost use Rattle.gtp_machine.specs.Message as messages;
@@ -238,6 +239,7 @@ impl Parts {
     }
 
     /// Takes a Create Bearer Request.
+    #[tactic(auto, using(crate::proofs::GoingOn::on_goes, crate::proofs::GoingOn::same_goes, crate::proofs::GoingOn::given_goes, crate::proofs::GoingOn::then_goes))]
     pub fn take_bearer_request(
         &mut self,
         alloc: Global,
@@ -249,6 +251,7 @@ impl Parts {
         requires fresh { IsFresh source octets.now (station_of self.old) self.old.held.pairs }
         ensures taken { IfOk result (λ step. TakesBearerRequest source octets.now request.now
             (station_of self.old) step (station_of self.new)) }
+        ensures goes { OnOk result (GoesOn source octets.now (station_of self.old) (station_of self.new)) }
         ensures err { OnErr result (station_of self.new ≡ station_of self.old) }
     {
         if self.held.is_full() {

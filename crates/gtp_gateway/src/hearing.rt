@@ -8,6 +8,8 @@ ghost use Rattle.gtp_tables.specs.Contexts.{is_opened};
 ghost use Rattle.gtp_values.specs.declared.counter.Counter.{Counter as AnyCounter};
 ghost use Rattle.gtp_gateway.specs.Hearing.{goes_with, weighed_by, node_heard};
 ghost use Rattle.gtp_gateway.specs.Parts.{node_of};
+ghost use Rattle.gtp_gateway.specs.Station.{station_of};
+ghost use Rattle.gtp_gateway.specs.UserTaken.{WaitOn};
 
 use crate::parts::Parts;
 use crate::purpose::Purpose;
@@ -99,6 +101,7 @@ impl Parts {
         ensures node { node_of self.new
             ≡ without (λ t. is_opened (map.get self.old.sessions.table t)) (λ t. false)
             (node_of self.old) }
+        ensures waits { WaitOn (station_of self.old) (station_of self.new) }
         ensures room { self.new.sessions.has_room ≡ self.old.sessions.has_room }
         ensures held { self.new.held ≡ self.old.held }
         ensures config { self.new.config ≡ self.old.config }
@@ -116,9 +119,11 @@ impl Parts {
 
     /// Keeps the counter that was heard; after a restart of the peer what was opened goes. Takes no
     /// memory.
+    #[tactic(auto, using(crate::proofs::UserRows::all_wait))]
     pub fn hear(&mut self, heard: Heard)
         requires { (told : Option AnyCounter) × (heard ≡ weighed_by told self.old.peer) }
         ensures node { node_of self.new ≡ node_heard heard (node_of self.old) }
+        ensures waits { WaitOn (station_of self.old) (station_of self.new) }
         ensures room { self.new.sessions.has_room ≡ self.old.sessions.has_room }
         ensures held { self.new.held ≡ self.old.held }
         ensures config { self.new.config ≡ self.old.config }

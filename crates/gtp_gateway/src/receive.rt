@@ -1,6 +1,7 @@
 //! Datagrams of the control plane, as they come in (TS 29.274 7.6, 7.7).
 
-ghost use Rattle.std.specs.Prelude.{◌≡◌, ◌↔◌, IsTrue, Some, true, IfOk, IfErr, IfSome, IfNone, OnErr};
+ghost use Rattle.gtp_gateway.specs.GoesOn.{GoesOn};
+ghost use Rattle.std.specs.Prelude.{◌≡◌, ◌↔◌, IsTrue, Some, true, IfOk, IfErr, IfSome, IfNone, IsSome, OnOk, OnErr};
 ghost use Rattle.gtp_gateway.specs.Procedure.{procedure_at, has, HasNot};
 ghost use Rattle.gtp_gateway.specs.Station.{IsWhole, station_of};
 ghost use Rattle.gtp_gateway.specs.Received.{IsReceived, KeepsTiming, NeedsMemory};
@@ -57,6 +58,7 @@ impl Parts {
     }
 
     /// Takes a datagram of the control plane.
+    #[tactic(auto, using(crate::proofs::GoingOn::on_goes, crate::proofs::GoingOn::same_goes, crate::proofs::GoingOn::given_goes, crate::proofs::GoingOn::then_goes))]
     pub fn receive_control(
         &mut self,
         alloc: Global,
@@ -66,6 +68,7 @@ impl Parts {
         requires whole { IsWhole (station_of self.old) }
         ensures taken { IfOk result (λ step.
             IsTaken source octets.now (station_of self.old) step (station_of self.new)) }
+        ensures goes { OnOk result (GoesOn source octets.now (station_of self.old) (station_of self.new)) }
         ensures err { OnErr result (station_of self.new ≡ station_of self.old) }
     {
         match self.enter(alloc, source, octets)? {
@@ -93,7 +96,9 @@ impl Parts {
         requires whole { IsWhole (station_of self.old) }
         ensures received { IfOk result (λ step.
             IsReceived plane source octets.now (station_of self.old) step (station_of self.new)) }
-        ensures timing { IfOk result (λ step. KeepsTiming plane step (station_of self.old) (station_of self.new)) }
+        ensures timing { IfOk result (λ step. KeepsTiming plane source octets.now step (station_of self.old) (station_of self.new)) }
+        ensures packet { IfOk result (λ step.
+            IsSome step.accepted → station_of self.new ≡ station_of self.old) }
         ensures memory { IfErr result (λ _. NeedsMemory plane source octets.now (station_of self.old)) }
         ensures err { OnErr result (station_of self.new ≡ station_of self.old) }
     {

@@ -6,7 +6,8 @@ ghost use Rattle.gtp_machine.specs.Removal.{without_session, without_bearer, ses
 ghost use Rattle.gtp_reliable.specs.Pending.{SameTimes};
 ghost use Rattle.gtp_tables.specs.Index.{IsAt};
 ghost use Rattle.gtp_gateway.specs.Parts.{node_of};
-ghost use Rattle.gtp_gateway.specs.Station.{timing_of};
+ghost use Rattle.gtp_gateway.specs.Station.{station_of, timing_of};
+ghost use Rattle.gtp_gateway.specs.UserTaken.{WaitOn};
 ghost use Rattle.gtp_gateway.specs.Removal.{goes_with_session, goes_with_bearer};
 
 use crate::parts::Parts;
@@ -22,6 +23,7 @@ impl Parts {
         ensures waiting { self.new.pending.waiting
             ≡ filter (λ w. not (goes_with_session session.0 w.purpose)) self.old.pending.waiting }
         ensures times { SameTimes self.old.pending self.new.pending }
+        ensures waits { WaitOn (station_of self.old) (station_of self.new) }
         ensures held { self.new.held ≡ self.old.held }
         ensures config { self.new.config ≡ self.old.config }
         ensures draws { self.new.draws ≡ self.old.draws }
@@ -47,6 +49,7 @@ impl Parts {
         ensures waiting { self.new.pending.waiting
             ≡ filter (λ w. not (goes_with_bearer bearer.0 w.purpose)) self.old.pending.waiting }
         ensures times { SameTimes self.old.pending self.new.pending }
+        ensures waits { WaitOn (station_of self.old) (station_of self.new) }
         ensures held { self.new.held ≡ self.old.held }
         ensures config { self.new.config ≡ self.old.config }
         ensures draws { self.new.draws ≡ self.old.draws }
@@ -61,6 +64,7 @@ impl Parts {
     }
 
     /// A bearer is put in the place of one with the same remote. Takes no memory.
+    #[tactic(auto, using(crate::proofs::UserRows::all_wait))]
     pub fn replace_bearer(&mut self, teid: Teid, bearer: Bearer)
         requires { IsAt self.old.bearers teid.0 bearer.remote }
         ensures node { node_of self.new ≡ record (node_of self.old) {
@@ -68,6 +72,7 @@ impl Parts {
         } }
         ensures timing { timing_of self.new ≡ timing_of self.old }
         ensures pending { self.new.pending ≡ self.old.pending }
+        ensures waits { WaitOn (station_of self.old) (station_of self.new) }
         ensures held { self.new.held ≡ self.old.held }
         ensures config { self.new.config ≡ self.old.config }
         ensures draws { self.new.draws ≡ self.old.draws }
@@ -77,10 +82,12 @@ impl Parts {
     }
 
     /// A session that stands, and its bearers, are closing. Takes no memory.
+    #[tactic(auto, using(crate::proofs::UserRows::all_wait))]
     pub fn close_session(&mut self, teid: Teid, session: Session)
         requires { IsSome (map.get self.old.sessions.table teid.0) }
         ensures node { node_of self.new ≡ session_closing (node_of self.old) teid.0 session }
         ensures pending { self.new.pending ≡ self.old.pending }
+        ensures waits { WaitOn (station_of self.old) (station_of self.new) }
         ensures held { self.new.held ≡ self.old.held }
         ensures config { self.new.config ≡ self.old.config }
         ensures draws { self.new.draws ≡ self.old.draws }
@@ -103,6 +110,7 @@ impl Parts {
         ensures waiting { self.new.pending.waiting
             ≡ filter (λ w. not (w.seq == seq)) self.old.pending.waiting }
         ensures times { SameTimes self.old.pending self.new.pending }
+        ensures waits { WaitOn (station_of self.old) (station_of self.new) }
         ensures held { self.new.held ≡ self.old.held }
         ensures config { self.new.config ≡ self.old.config }
         ensures draws { self.new.draws ≡ self.old.draws }

@@ -118,8 +118,10 @@ impl Parts {
     }
 
     /// Takes an Echo Response (TS 29.274 7.1.2): its number and kind are enough. Takes no memory.
+    #[tactic(auto, using(crate::proofs::UserRows::all_wait, crate::proofs::Giving::wait_on))]
     pub fn take_echo_response(&mut self, seq: Seq) -> ControlStep
-        ensures { TakesEcho seq (station_of self.old) result (station_of self.new) }
+        ensures taken { TakesEcho seq (station_of self.old) result (station_of self.new) }
+        ensures waits { WaitOn (station_of self.old) (station_of self.new) }
     {
         let Some(purpose) = self.waiting(seq) else {
             return ControlStep::dropped(DropReason::NoPending);
@@ -133,8 +135,10 @@ impl Parts {
 
     /// Takes a Delete Session Response (TS 29.274 7.2.10.1): with any cause the session goes. Takes no
     /// memory.
+    #[tactic(auto, using(crate::proofs::UserRows::all_wait, crate::proofs::Giving::wait_on))]
     pub fn take_deletion_response(&mut self, response: &Response) -> ControlStep
-        ensures { TakesDeletion response.now (station_of self.old) result (station_of self.new) }
+        ensures taken { TakesDeletion response.now (station_of self.old) result (station_of self.new) }
+        ensures waits { WaitOn (station_of self.old) (station_of self.new) }
     {
         let Some(purpose) = self.waiting(response.seq) else {
             return ControlStep::dropped(DropReason::NoPending);
@@ -148,8 +152,10 @@ impl Parts {
 
     /// Takes a Delete Bearer Response (TS 29.274 7.2.10.2): with any cause the session or the bearer
     /// goes. Takes no memory.
+    #[tactic(auto, using(crate::proofs::UserRows::all_wait, crate::proofs::Giving::wait_on))]
     pub fn take_removal_response(&mut self, response: &Response) -> ControlStep
-        ensures { TakesRemoval response.now (station_of self.old) result (station_of self.new) }
+        ensures taken { TakesRemoval response.now (station_of self.old) result (station_of self.new) }
+        ensures waits { WaitOn (station_of self.old) (station_of self.new) }
     {
         let Some(purpose) = self.waiting(response.seq) else {
             return ControlStep::dropped(DropReason::NoPending);

@@ -1,5 +1,6 @@
 //! Create Session Requests (TS 29.274 7.2.1), as the packet gateway answers them.
 
+ghost use Rattle.gtp_gateway.specs.GoesOn.{GoesOn};
 ghost use Rattle.std.specs.Prelude.{◌≡◌, ◌↔◌, IsTrue, IfOk, OnOk, OnErr, Option, Some};
 ghost use Rattle.gtp_values.specs.FiniteMap.{Among};
 ghost use Rattle.gtp_values.specs.declared.counter.Counter.{Counter as AnyCounter};
@@ -12,6 +13,7 @@ ghost use Rattle.gtp_gateway.specs.Grant.{IsRefusedSession, IsGrantedSession, Ta
 ghost use Rattle.gtp_gateway.specs.Hearing.{weighed_by, node_heard};
 ghost use Rattle.gtp_gateway.specs.Parts.{node_of};
 ghost use Rattle.gtp_gateway.specs.Station.{IsWhole, station_of};
+ghost use Rattle.gtp_gateway.specs.UserTaken.{WaitOn};
 ghost use Rattle.gtp_gateway.specs.Taken.{IsFresh};
 ghost use Rattle.gtp_values.specs.Cause.{is_accepting_value};
 ghost use Rattle.std.specs.Prelude.{false, length, ◌<◌};
@@ -148,6 +150,7 @@ impl Parts {
 
     /// A session is made with its default bearer, once a counter was heard: `Memory` where an
     /// allocation was refused, and then nothing has changed.
+    #[tactic(auto, using(crate::proofs::UserRows::all_wait, crate::proofs::Giving::wait_on))]
     fn make_granted(
         &mut self,
         request: &SessionRequest,
@@ -158,6 +161,7 @@ impl Parts {
         requires can { CanGrant grant.now (node_of self.old) }
         ensures node { OnOk result (node_of self.new
             ≡ changed_by (change_of request.now grant.now) (node_heard heard (node_of self.old))) }
+        ensures waits { WaitOn (station_of self.old) (station_of self.new) }
         ensures held { self.new.held ≡ self.old.held }
         ensures config { self.new.config ≡ self.old.config }
         ensures role { self.new.role ≡ self.old.role }
@@ -198,6 +202,7 @@ impl Parts {
     }
 
     /// Refuses a Create Session Request, once its counter was heard.
+    #[tactic(auto, using(crate::proofs::GoingOn::on_goes, crate::proofs::GoingOn::same_goes, crate::proofs::GoingOn::given_goes, crate::proofs::GoingOn::then_goes))]
     fn refuse_session(
         &mut self,
         alloc: Global,
@@ -213,6 +218,7 @@ impl Parts {
         requires fresh { IsFresh source octets.now (station_of self.old) self.old.held.pairs }
         ensures refused { IfOk result (λ step. IsRefusedSession source octets.now request.now cause
             heard (station_of self.old) step (station_of self.new)) }
+        ensures goes { OnOk result (GoesOn source octets.now (station_of self.old) (station_of self.new)) }
         ensures err { OnErr result (station_of self.new ≡ station_of self.old) }
     {
         let number = cause.value;
@@ -233,6 +239,7 @@ impl Parts {
     }
 
     /// Grants a Create Session Request, once its counter was heard.
+    #[tactic(auto, using(crate::proofs::GoingOn::on_goes, crate::proofs::GoingOn::same_goes, crate::proofs::GoingOn::given_goes, crate::proofs::GoingOn::then_goes))]
     fn grant_session(
         &mut self,
         alloc: Global,
@@ -248,6 +255,7 @@ impl Parts {
         requires fresh { IsFresh source octets.now (station_of self.old) self.old.held.pairs }
         ensures granted { IfOk result (λ step. IsGrantedSession source octets.now request.now grant.now
             heard (station_of self.old) step (station_of self.new)) }
+        ensures goes { OnOk result (GoesOn source octets.now (station_of self.old) (station_of self.new)) }
         ensures err { OnErr result (station_of self.new ≡ station_of self.old) }
     {
         let message = self.granting(alloc, request, grant)?;
@@ -258,6 +266,7 @@ impl Parts {
     }
 
     /// Takes a Create Session Request, with the counter that it brought.
+    #[tactic(auto, using(crate::proofs::GoingOn::on_goes, crate::proofs::GoingOn::same_goes, crate::proofs::GoingOn::given_goes, crate::proofs::GoingOn::then_goes))]
     pub fn take_session_request(
         &mut self,
         alloc: Global,
@@ -271,6 +280,7 @@ impl Parts {
         requires fresh { IsFresh source octets.now (station_of self.old) self.old.held.pairs }
         ensures taken { IfOk result (λ step. TakesSessionRequest source octets.now request.now heard
             (station_of self.old) step (station_of self.new)) }
+        ensures goes { OnOk result (GoesOn source octets.now (station_of self.old) (station_of self.new)) }
         ensures err { OnErr result (station_of self.new ≡ station_of self.old) }
     {
         if self.held.is_full() {

@@ -1,6 +1,7 @@
 //! Create Session Responses (TS 29.274 7.2.2), as the serving gateway takes them.
 
-ghost use Rattle.std.specs.Prelude.{◌≡◌, ◌↔◌, ℕ, List, Option, Some, IsTrue, IfSome, IfNone, IfOk, OnErr};
+ghost use Rattle.gtp_gateway.specs.UserTaken.{WaitOn};
+ghost use Rattle.std.specs.Prelude.{◌≡◌, ◌↔◌, ℕ, List, Option, Some, IsTrue, IfSome, IfNone, IfOk, OnOk, OnErr};
 ghost use Rattle.gtp_v2.specs.Datagram.{IsMessage};
 ghost use Rattle.gtp_values.specs.declared.counter.Counter.{Counter as AnyCounter};
 ghost use Rattle.gtp_machine.specs.Node.{Active};
@@ -172,6 +173,7 @@ impl Parts {
     }
 
     /// Takes a Create Session Response: what does not accept removes the pending session.
+    #[tactic(auto, using(crate::proofs::UserRows::all_wait, crate::proofs::Giving::wait_on))]
     pub fn take_session_response(
         &mut self,
         answer: &SessionResponse,
@@ -181,6 +183,7 @@ impl Parts {
         requires weighed { (told : Option AnyCounter) × (heard ≡ weighed_by told self.old.peer) }
         ensures taken { IfOk result (λ step. TakesSession answer.now heard
             (station_of self.old) step (station_of self.new)) }
+        ensures waits { OnOk result (WaitOn (station_of self.old) (station_of self.new)) }
         ensures err { OnErr result (station_of self.new ≡ station_of self.old) }
     {
         let verdict = self.judge_session_response(answer, heard);

@@ -8,6 +8,7 @@ ghost use Rattle.gtp_gateway.specs.Hearing.{weighed_by, node_heard};
 ghost use Rattle.gtp_gateway.specs.Parts.{node_of};
 ghost use Rattle.gtp_gateway.specs.Settled.{goes_after, IsWaiting, outcome_by, node_by, with_bearer, IsOpenedAt, CanSettle};
 ghost use Rattle.gtp_gateway.specs.Station.{station_of};
+ghost use Rattle.gtp_gateway.specs.UserTaken.{WaitOn};
 ghost use Rattle.gtp_gateway.specs.Taken.{plain_report};
 
 use crate::control_step::ControlStep;
@@ -112,11 +113,13 @@ impl Parts {
 
     /// Opens a bearer that has no remote, and hears the counter: `Memory` where an allocation was
     /// refused, and then nothing has changed.
+    #[tactic(auto, using(crate::proofs::UserRows::all_wait, crate::proofs::Giving::wait_on))]
     fn open_bearer(&mut self, heard: Heard, teid: Teid, bearer: Bearer) -> Result<(), Memory>
         requires weighed { (told : Option AnyCounter) × (heard ≡ weighed_by told self.old.peer) }
         requires can { IsOpenedAt (node_heard heard (node_of self.old)).bearers teid.0 bearer }
         ensures node { OnOk result (node_of self.new
             ≡ with_bearer teid bearer (node_heard heard (node_of self.old))) }
+        ensures waits { WaitOn (station_of self.old) (station_of self.new) }
         ensures role { self.new.role ≡ self.old.role }
         ensures err { OnErr result (station_of self.new ≡ station_of self.old) }
     {
@@ -127,6 +130,7 @@ impl Parts {
 
     /// Hears the counter of a response, and does what the response comes to: `Memory` where an
     /// allocation was refused, and then nothing has changed.
+    #[tactic(auto, using(crate::proofs::UserRows::all_wait, crate::proofs::Giving::wait_on))]
     pub fn settle(
         &mut self,
         seq: Seq,
@@ -139,6 +143,7 @@ impl Parts {
             step ≡ record { out = None; report = plain_report (outcome_by verdict) }) }
         ensures node { OnOk result (node_of self.new
             ≡ node_by verdict seq (node_heard heard (node_of self.old))) }
+        ensures waits { WaitOn (station_of self.old) (station_of self.new) }
         ensures role { self.new.role ≡ self.old.role }
         ensures err { OnErr result (station_of self.new ≡ station_of self.old) }
     {

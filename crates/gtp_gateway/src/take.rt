@@ -1,6 +1,7 @@
 //! Messages of the control plane that a gateway takes, by their procedures.
 
-ghost use Rattle.std.specs.Prelude.{◌≡◌, true, Some, ℕ, List, IfOk, OnErr};
+ghost use Rattle.gtp_gateway.specs.GoesOn.{GoesOn};
+ghost use Rattle.std.specs.Prelude.{◌≡◌, true, Some, ℕ, List, IfOk, OnOk, OnErr};
 ghost use Rattle.gtp_v2.specs.Datagram.{IsMessage};
 ghost use Rattle.gtp_machine.specs.Decoded.{message_of};
 ghost use Rattle.gtp_gateway.specs.Parts.{arrival_of};
@@ -27,6 +28,7 @@ use std::alloc::Global;
 
 impl Parts {
     /// Takes a message, once its restart counter was weighed and is not of an earlier start.
+    #[tactic(auto, using(crate::proofs::GoingOn::on_goes, crate::proofs::GoingOn::same_goes, crate::proofs::GoingOn::given_goes, crate::proofs::GoingOn::then_goes, crate::proofs::UserRows::all_wait, crate::proofs::Giving::wait_on))]
     fn take_heard(
         &mut self,
         alloc: Global,
@@ -45,6 +47,7 @@ impl Parts {
         ensures taken { IfOk result (λ step.
             IsHeardRow (arrival_of source octets.now) (message_of view.now.message) heard
             (station_of self.old) step (station_of self.new)) }
+        ensures goes { OnOk result (GoesOn source octets.now (station_of self.old) (station_of self.new)) }
         ensures err { OnErr result (station_of self.new ≡ station_of self.old) }
     {
         match procedure {
@@ -91,6 +94,7 @@ impl Parts {
     }
 
     /// Takes a message of a kind that the gateway takes: first its restart counter is heard.
+    #[tactic(auto, using(crate::proofs::GoingOn::on_goes, crate::proofs::GoingOn::same_goes, crate::proofs::GoingOn::given_goes, crate::proofs::GoingOn::then_goes, crate::proofs::UserRows::all_wait, crate::proofs::Giving::wait_on))]
     pub fn take_message(
         &mut self,
         alloc: Global,
@@ -106,6 +110,7 @@ impl Parts {
         requires has { has self.old.role procedure ≡ true }
         ensures taken { IfOk result (λ step.
             IsTaken source octets.now (station_of self.old) step (station_of self.new)) }
+        ensures goes { OnOk result (GoesOn source octets.now (station_of self.old) (station_of self.new)) }
         ensures err { OnErr result (station_of self.new ≡ station_of self.old) }
     {
         let heard = self.weigh(counter_in(view, procedure));

@@ -9,7 +9,7 @@ ghost use Rattle.gtp_machine.specs.Reading.{user_message};
 ghost use Rattle.gtp_machine.specs.Spelling.{spelled, datagram_of};
 ghost use Rattle.gtp_gateway.specs.Begun.{IsDone, IsRefusedWhere};
 ghost use Rattle.gtp_gateway.specs.Own.{IsUserOwn, plain_message};
-ghost use Rattle.gtp_gateway.specs.Sent.{datagram_by};
+ghost use Rattle.gtp_gateway.specs.Sent.{datagram_by, ReadsBack};
 ghost use Rattle.gtp_gateway.specs.Station.{IsWhole, station_of, timing_of};
 
 use crate::fault::CommandFault;
@@ -48,7 +48,8 @@ pub fn written_teid(teid: Option<u32>) -> Teid
 #[tactic(auto, using(crate::proofs::Own::user_own_spelled))]
 pub fn encode_user_own(alloc: Global, message: &UserMessage) -> Result<Vec<u8>, Memory>
     requires { IsUserOwn message.now }
-    ensures { IfOk result (λ octets. octets.items ≡ spelled (user_message message.now)) }
+    ensures spelled { IfOk result (λ octets. octets.items ≡ spelled (user_message message.now)) }
+    ensures back { IfOk result (λ _. ReadsBack (user_message message.now)) }
 {
     match encode(alloc, message) {
         Ok(octets) => Ok(octets),
@@ -90,11 +91,12 @@ impl Parts {
     /// A datagram of the user plane to the peer, with a message of the gateway's own.
     fn send_plain(&self, alloc: Global, body: UserBody<'_>) -> Result<Sent, Memory>
         requires { IsUserOwn (plain_message body) }
-        ensures { IfOk result (λ sent. datagram_by sent ≡ datagram_of self.now.config.config
+        ensures sent { IfOk result (λ sent. datagram_by sent ≡ datagram_of self.now.config.config
             (record {
               destination = user_end self.now.config.config.peer.user;
               message = user_message (plain_message body.entry);
             })) }
+        ensures back { IfOk result (λ _. ReadsBack (user_message (plain_message body.entry))) }
     {
         let message = plain(body);
         let octets = encode_user_own(alloc, &message)?;

@@ -1,5 +1,6 @@
-//! Both gateways: each datagram that one sends is handed to the other. The rows say what is done, what
-//! it comes to and what is sent for it; they, and the octets where a row has them, come from outside.
+//! Both gateways: each datagram that one sends is handed to the other. A test is a scene. Its rows say
+//! what is done, what it comes to and what is sent for it, and its looks what the gateways show at the
+//! end; they, and the octets where a row has them, come from outside.
 
 mod hostile;
 mod restarts;
@@ -26,12 +27,14 @@ pub(crate) use crate::control::{
 pub(crate) enum Act {
     CreateSession,
     DeleteSession(u32),
-    ReleaseSession(u32),
+    ReleaseSession(Role, u32),
     CreateBearer(u32),
     DeleteBearer(u32, u8),
     EndMarker(u32),
     Echo(Role),
     Send(Role, u32, &'static [u8]),
+    /// A packet of so many zeros is sent.
+    SendZeros(Role, u32, usize),
     /// The datagram that was sent as this one, from 0, is handed to the other gateway.
     Deliver(usize),
     /// These octets are handed to a gateway, from its peer.
@@ -56,12 +59,59 @@ pub(crate) enum Sends {
 /// What is done, what it comes to, and what is sent for it.
 pub(crate) type Row = (Act, Outcome, Sends);
 
+/// What a gateway shows.
+#[derive(Clone, Copy, Debug, PartialEq, Eq)]
+pub(crate) enum Look {
+    /// So many sessions and bearers.
+    Has(usize, usize),
+    /// The TEID of the first session, and the peer's.
+    FirstSession(u32, Option<u32>),
+    /// The address of the first session.
+    Address(Option<u32>),
+    /// The state of the first session.
+    SessionState(State),
+    /// The first bearer.
+    FirstBearer {
+        teid: u32,
+        /// The peer's TEID.
+        remote: Option<u32>,
+        /// The TEID of its session.
+        session: u32,
+        state: State,
+        ended: bool,
+    },
+}
+
+/// What is done with two gateways, and what they show at the end.
+#[derive(Clone, Copy)]
+pub(crate) struct Scene {
+    /// The restart counter of the packet gateway.
+    pub counter: u8,
+    /// How many addresses it has, from 10.1.0.1 on.
+    pub addresses: u32,
+    /// What is done, in order.
+    pub rows: &'static [&'static [Row]],
+    /// What the serving gateway shows at the end.
+    pub serving: &'static [Look],
+    /// What the packet gateway shows at the end.
+    pub packet: &'static [Look],
+}
+
+/// Two gateways with the counter 1 and ten addresses, with which nothing is done.
+pub(crate) const IDLE: Scene = Scene {
+    counter: 1,
+    addresses: 10,
+    rows: &[],
+    serving: &[],
+    packet: &[],
+};
+
 /// Two gateways, and what they sent.
 #[derive(Drop)]
-pub(crate) struct Path {
-    pub serving: Gateway,
-    pub packet: Gateway,
-    pub sent: Vec<(Role, Sent)>,
+struct Path {
+    serving: Gateway,
+    packet: Gateway,
+    sent: Vec<(Role, Sent)>,
     pool: Pool,
 }
 
@@ -100,7 +150,7 @@ fn started(alloc: Global, role: Role, pool: Pool, counter: u8) -> Result<Gateway
 
 /// Two gateways that have just started, the packet gateway with this counter and so many addresses
 /// from 10.1.0.1 on.
-pub(crate) fn new_path(alloc: Global, counter: u8, addresses: u32) -> Result<Path, Fail> {
+fn new_path(alloc: Global, counter: u8, addresses: u32) -> Result<Path, Fail> {
     let pool = Pool::try_new(0x0a01_0001, addresses)?;
     Ok(Path {
         serving: started(alloc, Role::Serving, pool, 1)?,
@@ -131,7 +181,7 @@ fn qos() -> Qos {
 }
 
 /// The session that is asked for.
-pub(crate) fn specification() -> Result<SessionSpec, Fail> {
+fn specification() -> Result<SessionSpec, Fail> {
     Ok(SessionSpec {
         subscriber: Subscriber {
             imsi: Imsi::from_text("001010123456789")?,
@@ -192,7 +242,7 @@ fn refused(fault: CommandFault) -> Result<Told, Fail> {
 
 impl Path {
     /// One of the gateways.
-    pub fn gateway(&mut self, role: Role) -> &mut Gateway {
+    fn gateway(&mut self, role: Role) -> &mut Gateway {
         match role {
             Role::Serving => &mut self.serving,
             Role::Packet => &mut self.packet,
@@ -245,13 +295,28 @@ impl Path {
         Ok(resent)
     }
 
+    /// A packet of zeros is sent.
+    fn send_zeros(
+        &mut self,
+        alloc: Global,
+        role: Role,
+        bearer: u32,
+        count: usize,
+    ) -> Result<Told, Fail> {
+        let packet = vec![in alloc; 0u8; count]?;
+        gone(
+            self.gateway(role)
+                .send_user(alloc, Teid(bearer), packet.as_slice()),
+        )
+    }
+
     /// A command of a gateway.
     fn command(&mut self, alloc: Global, act: Act) -> Result<Told, Fail> {
         match act {
             Act::CreateSession => begun(self.serving.create_session(alloc, &specification()?)),
             Act::DeleteSession(session) => begun(self.serving.delete_session(alloc, Teid(session))),
-            Act::ReleaseSession(session) => begun(
-                self.packet.release_session(alloc, Teid(session)),
+            Act::ReleaseSession(role, session) => begun(
+                self.gateway(role).release_session(alloc, Teid(session)),
             ),
             Act::CreateBearer(session) => {
                 let tft = Tft::try_new(&[0x21])?;
@@ -269,6 +334,7 @@ impl Path {
             Act::Send(role, bearer, payload) => gone(
                 self.gateway(role).send_user(alloc, Teid(bearer), payload),
             ),
+            Act::SendZeros(role, bearer, count) => self.send_zeros(alloc, role, bearer, count),
             _ => Err("no command".into()),
         }
     }
@@ -303,11 +369,7 @@ impl Path {
                 Ok(true)
             }
             Act::Restarts(role, counter) => {
-                let gateway = started(alloc, role, self.pool, counter)?;
-                match role {
-                    Role::Serving => self.serving = gateway,
-                    Role::Packet => self.packet = gateway,
-                }
+                *self.gateway(role) = started(alloc, role, self.pool, counter)?;
                 Ok(true)
             }
             _ => Ok(false),
@@ -334,10 +396,20 @@ impl Path {
     }
 
     /// Rows in order.
-    pub fn play(&mut self, rt: &impl Abort, alloc: Global, rows: &[Row]) -> Result<(), Fail> {
+    fn rows(&mut self, rt: &impl Abort, alloc: Global, rows: &[Row]) -> Result<(), Fail> {
         for row in rows {
             self.row(rt, alloc, row)?;
         }
+        Ok(())
+    }
+
+    /// The rows of a scene, and then what the gateways show.
+    fn play(&mut self, rt: &impl Abort, alloc: Global, scene: &Scene) -> Result<(), Fail> {
+        for rows in scene.rows {
+            self.rows(rt, alloc, rows)?;
+        }
+        shows(rt, &self.serving, scene.serving);
+        shows(rt, &self.packet, scene.packet);
         Ok(())
     }
 }
@@ -377,51 +449,129 @@ fn is_sent(rt: &impl Abort, alloc: Global, row: &Row, sent: &Option<Sent>) -> Re
     }
 }
 
-/// The rows on two gateways with ten addresses.
-pub(crate) fn plays(rt: &impl Abort, alloc: Global, rows: &[Row]) -> Result<Path, Fail> {
-    let mut path = new_path(alloc, 1, 10)?;
-    path.play(rt, alloc, rows)?;
-    Ok(path)
+/// The first session of a gateway, in order of TEIDs.
+fn first_session(gateway: &Gateway) -> Option<(Teid, Session)> {
+    gateway.sessions().next()
 }
 
-/// A gateway has so many sessions and bearers.
-pub(crate) fn has(rt: &impl Abort, gateway: &Gateway, sessions: usize, bearers: usize) {
-    let stand = gateway
-        .sessions()
-        .fold(0usize, |count, _| count.saturating_add(1));
-    assert!(rt; stand == sessions, "sessions: {stand}");
-    let stand = gateway
-        .bearers()
-        .fold(0usize, |count, _| count.saturating_add(1));
-    assert!(rt; stand == bearers, "bearers: {stand}");
+/// The first bearer of a gateway, in order of TEIDs.
+fn first_bearer(gateway: &Gateway) -> Option<(Teid, Bearer)> {
+    gateway.bearers().next()
 }
+
+/// A session is found by its TEID.
+fn finds_session(gateway: &Gateway, at: &(Teid, Session)) -> bool {
+    gateway.session(at.0) == Some(at.1)
+}
+
+/// A bearer is found by its TEID.
+fn finds_bearer(gateway: &Gateway, at: &(Teid, Bearer)) -> bool {
+    gateway.bearer(at.0) == Some(at.1)
+}
+
+/// The first session of a gateway, which is also found by its TEID.
+fn session_of(rt: &impl Abort, gateway: &Gateway) -> (Teid, Session) {
+    let first = first_session(gateway).expect(rt, "a session");
+    assert!(rt; finds_session(gateway, &first));
+    first
+}
+
+/// The first bearer of a gateway, which is also found by its TEID.
+fn bearer_of(rt: &impl Abort, gateway: &Gateway) -> (Teid, Bearer) {
+    let first = first_bearer(gateway).expect(rt, "a bearer");
+    assert!(rt; finds_bearer(gateway, &first));
+    first
+}
+
+/// How many sessions a gateway has.
+fn session_count(gateway: &Gateway) -> usize {
+    gateway
+        .sessions()
+        .fold(0usize, |count, _| count.saturating_add(1))
+}
+
+/// How many bearers a gateway has.
+fn bearer_count(gateway: &Gateway) -> usize {
+    gateway
+        .bearers()
+        .fold(0usize, |count, _| count.saturating_add(1))
+}
+
+/// What a gateway shows where a look is at the same.
+fn seen(rt: &impl Abort, gateway: &Gateway, look: &Look) -> Look {
+    match look {
+        Look::Has(_, _) => Look::Has(session_count(gateway), bearer_count(gateway)),
+        Look::FirstSession(_, _) => {
+            let (teid, session) = session_of(rt, gateway);
+            Look::FirstSession(teid.0, session.remote)
+        }
+        Look::Address(_) => Look::Address(session_of(rt, gateway).1.address),
+        Look::SessionState(_) => Look::SessionState(session_of(rt, gateway).1.state),
+        Look::FirstBearer { .. } => {
+            let (teid, bearer) = bearer_of(rt, gateway);
+            Look::FirstBearer {
+                teid: teid.0,
+                remote: bearer.remote,
+                session: bearer.session,
+                state: bearer.state,
+                ended: bearer.ended,
+            }
+        }
+    }
+}
+
+/// A gateway shows all this.
+fn shows(rt: &impl Abort, gateway: &Gateway, looks: &[Look]) {
+    for look in looks {
+        let seen = seen(rt, gateway, look);
+        assert!(rt; seen == *look, "{seen:?} in place of {look:?}");
+    }
+}
+
+/// A scene is played.
+pub(crate) fn plays(rt: &impl Abort, alloc: Global, scene: &Scene) -> Result<(), Fail> {
+    let mut path = new_path(alloc, scene.counter, scene.addresses)?;
+    path.play(rt, alloc, scene)
+}
+
+/// A session is asked for.
+pub(crate) const SESSION_ASKED: Row = (
+    Act::CreateSession,
+    Outcome::Begun(Some(0x0100_0001)),
+    Sends::Octets(SESSION_REQUEST),
+);
+
+/// The request for it is answered.
+pub(crate) const SESSION_ANSWERED: Row = (
+    Act::Deliver(0),
+    Outcome::Answered(16),
+    Sends::Octets(SESSION_RESPONSE),
+);
 
 /// A session is opened.
 pub(crate) const OPENED: [Row; 3] = [
-    (
-        Act::CreateSession,
-        Outcome::Begun(Some(0x0100_0001)),
-        Sends::Octets(SESSION_REQUEST),
-    ),
-    (
-        Act::Deliver(0),
-        Outcome::Answered(16),
-        Sends::Octets(SESSION_RESPONSE),
-    ),
+    SESSION_ASKED,
+    SESSION_ANSWERED,
     (Act::Deliver(1), Outcome::Opened, Sends::Nothing),
 ];
 
-/// And a dedicated bearer.
+/// A dedicated bearer of it is asked for.
+pub(crate) const BEARER_ASKED: Row = (
+    Act::CreateBearer(0x0100_0001),
+    Outcome::Begun(Some(0x0100_0003)),
+    Sends::Octets(BEARER_REQUEST),
+);
+
+/// The request for the bearer is answered.
+pub(crate) const BEARER_ANSWERED: Row = (
+    Act::Deliver(2),
+    Outcome::Answered(16),
+    Sends::Octets(BEARER_RESPONSE),
+);
+
+/// A dedicated bearer of the session is opened.
 pub(crate) const DEDICATED: [Row; 3] = [
-    (
-        Act::CreateBearer(0x0100_0001),
-        Outcome::Begun(Some(0x0100_0003)),
-        Sends::Octets(BEARER_REQUEST),
-    ),
-    (
-        Act::Deliver(2),
-        Outcome::Answered(16),
-        Sends::Octets(BEARER_RESPONSE),
-    ),
+    BEARER_ASKED,
+    BEARER_ANSWERED,
     (Act::Deliver(3), Outcome::Opened, Sends::Nothing),
 ];

@@ -1,7 +1,8 @@
 //! What a peer may send that the other gateway never does.
 
-use super::{Act, DEDICATED, OPENED, Row, Sends, has, plays};
+use super::{Act, DEDICATED, IDLE, Look, OPENED, SESSION_ASKED, Scene, Sends, plays};
 use Act::*;
+use Look::Has;
 use Sends::{Nothing, Octets, Shown};
 use gtp_gateway::*;
 use std::test::Fail;
@@ -37,92 +38,95 @@ const WITHOUT_NAME: &str = concat!(
     "0300010001"
 );
 
+/// The same faulty requests at each gateway.
+const FAULTY: Scene = Scene {
+    rows: &[&[
+        (
+            Comes(Role::Packet, Plane::Control, WITHOUT_NAME),
+            Outcome::Answered(70),
+            Octets("482100170100000100000000020006004600470000000300010001"),
+        ),
+        (
+            Comes(Role::Serving, Plane::Control, WITHOUT_NAME),
+            MISSING,
+            Nothing,
+        ),
+        (
+            Comes(Role::Serving, Plane::Control, "486300080100000100000500"),
+            Outcome::Answered(103),
+            Shown,
+        ),
+        (
+            Comes(Role::Packet, Plane::Control, "486300080100000100000500"),
+            MISSING,
+            Nothing,
+        ),
+        (
+            Comes(Role::Serving, Plane::Control, "485f00080100000100000500"),
+            Outcome::Answered(70),
+            Shown,
+        ),
+        (
+            Comes(Role::Packet, Plane::Control, "485f00080100000100000500"),
+            MISSING,
+            Nothing,
+        ),
+    ]],
+    packet: &[Has(0, 0)],
+    ..IDLE
+};
+
 #[test]
 fn faulty_requests_at_each_gateway(rt: HostRuntime) -> Result<(), Fail> {
-    let path = plays(
-        &rt,
-        rt.alloc(),
-        &[
-            (
-                Comes(Role::Packet, Plane::Control, WITHOUT_NAME),
-                Outcome::Answered(70),
-                Octets("482100170100000100000000020006004600470000000300010001"),
-            ),
-            (
-                Comes(Role::Serving, Plane::Control, WITHOUT_NAME),
-                MISSING,
-                Nothing,
-            ),
-            (
-                Comes(Role::Serving, Plane::Control, "486300080100000100000500"),
-                Outcome::Answered(103),
-                Shown,
-            ),
-            (
-                Comes(Role::Packet, Plane::Control, "486300080100000100000500"),
-                MISSING,
-                Nothing,
-            ),
-            (
-                Comes(Role::Serving, Plane::Control, "485f00080100000100000500"),
-                Outcome::Answered(70),
-                Shown,
-            ),
-            (
-                Comes(Role::Packet, Plane::Control, "485f00080100000100000500"),
-                MISSING,
-                Nothing,
-            ),
-        ],
-    )?;
-    has(&rt, &path.packet, 0, 0);
-    Ok(())
+    plays(&rt, rt.alloc(), &FAULTY)
 }
 
 /// The sender's F-TEID has no address, and an identity has no value.
-const BAD_VALUES: [Row; 2] = [
-    (
-        Comes(
-            Role::Packet,
-            Plane::Control,
-            concat!(
-                "4820008e0000000000000000",
-                "0100080000010121436587f9",
-                "5200010006",
-                "5300030000f110",
-                "5700090006010000010a000001",
-                "4700090008696e7465726e6574",
-                "8000010000",
-                "6300010001",
-                "4f0005000100000000",
-                "48000800000003e8000003e8",
-                "5d002c00",
-                "4900010005",
-                "500016002009",
-                "0000000000000000000000000000000000000000",
-                "5700090284010000020a000001",
-                "0300010001"
+const BAD_VALUES: Scene = Scene {
+    rows: &[&[
+        (
+            Comes(
+                Role::Packet,
+                Plane::Control,
+                concat!(
+                    "4820008e0000000000000000",
+                    "0100080000010121436587f9",
+                    "5200010006",
+                    "5300030000f110",
+                    "5700090006010000010a000001",
+                    "4700090008696e7465726e6574",
+                    "8000010000",
+                    "6300010001",
+                    "4f0005000100000000",
+                    "48000800000003e8000003e8",
+                    "5d002c00",
+                    "4900010005",
+                    "500016002009",
+                    "0000000000000000000000000000000000000000",
+                    "5700090284010000020a000001",
+                    "0300010001"
+                ),
             ),
+            Outcome::Answered(69),
+            Octets("482100170000000000000000020006004500570000000300010001"),
         ),
-        Outcome::Answered(69),
-        Octets("482100170000000000000000020006004500570000000300010001"),
-    ),
-    (
-        Comes(
-            Role::Serving,
-            Plane::Control,
-            "4863000c010000010000050049000001",
+        (
+            Comes(
+                Role::Serving,
+                Plane::Control,
+                "4863000c010000010000050049000001",
+            ),
+            Outcome::Answered(67),
+            Octets("486400170000000000000500020006004300490000010300010001"),
         ),
-        Outcome::Answered(67),
-        Octets("486400170000000000000500020006004300490000010300010001"),
-    ),
-];
+    ]],
+    packet: &[Has(0, 0)],
+    ..IDLE
+};
 
 #[test]
 fn elements_that_say_nothing(rt: HostRuntime) -> Result<(), Fail> {
-    let path = plays(&rt, rt.alloc(), &BAD_VALUES)?;
-    has(&rt, &path.packet, 0, 0);
-    Ok(())
+    plays(&rt, rt.alloc(), &BAD_VALUES)
 }
 
 /// A Create Session Request with a second bearer context.
@@ -171,210 +175,225 @@ const TWO_CONTEXTS_OF_A_BEARER: &str = concat!(
 );
 
 /// Both are answered with cause 94.
-const SECOND_CONTEXTS: [Row; 2] = [
-    (
-        Comes(Role::Packet, Plane::Control, TWO_CONTEXTS_OF_A_SESSION),
-        Outcome::Answered(94),
-        Octets("482100130100000100000000020002005e000300010001"),
-    ),
-    (
-        Comes(Role::Serving, Plane::Control, TWO_CONTEXTS_OF_A_BEARER),
-        Outcome::Answered(94),
-        Octets("486000130100000100000000020002005e000300010001"),
-    ),
-];
+const SECOND_CONTEXTS: Scene = Scene {
+    rows: &[
+        &OPENED,
+        &[
+            (
+                Comes(Role::Packet, Plane::Control, TWO_CONTEXTS_OF_A_SESSION),
+                Outcome::Answered(94),
+                Octets("482100130100000100000000020002005e000300010001"),
+            ),
+            (
+                Comes(Role::Serving, Plane::Control, TWO_CONTEXTS_OF_A_BEARER),
+                Outcome::Answered(94),
+                Octets("486000130100000100000000020002005e000300010001"),
+            ),
+        ],
+    ],
+    serving: &[Has(1, 1)],
+    packet: &[Has(1, 1)],
+    ..IDLE
+};
 
 #[test]
 fn a_second_context_is_refused(rt: HostRuntime) -> Result<(), Fail> {
-    let mut path = plays(&rt, rt.alloc(), &OPENED)?;
-    path.play(&rt, rt.alloc(), &SECOND_CONTEXTS)?;
-    has(&rt, &path.serving, 1, 1);
-    has(&rt, &path.packet, 1, 1);
-    Ok(())
+    plays(&rt, rt.alloc(), &SECOND_CONTEXTS)
 }
+
+/// A session is asked for, and the answer says that it is not known.
+const NEVER_THERE: Scene = Scene {
+    rows: &[&[
+        SESSION_ASKED,
+        (
+            Comes(
+                Role::Serving,
+                Plane::Control,
+                "4821001300000000000000000200020040000300010001",
+            ),
+            Outcome::Dropped(DropReason::Mismatch),
+            Nothing,
+        ),
+    ]],
+    serving: &[Has(1, 1)],
+    ..IDLE
+};
 
 #[test]
 fn a_context_that_was_never_there_is_not_lost(rt: HostRuntime) -> Result<(), Fail> {
-    let path = plays(
-        &rt,
-        rt.alloc(),
+    plays(&rt, rt.alloc(), &NEVER_THERE)
+}
+
+/// Messages of a kind that the gateway does not take, and datagrams from elsewhere.
+const UNEXPECTED: Scene = Scene {
+    rows: &[&[
+        (
+            Strays(Role::Serving, Plane::Control, "40010009000005000300010002"),
+            Outcome::Dropped(DropReason::NotPeer),
+            Nothing,
+        ),
+        (
+            Comes(
+                Role::Serving,
+                Plane::Control,
+                "4824000d01000001000001004900010005",
+            ),
+            Outcome::Dropped(DropReason::Unexpected),
+            Nothing,
+        ),
+        (
+            Comes(
+                Role::Packet,
+                Plane::Control,
+                "4863000d01000001000001004900010106",
+            ),
+            Outcome::Dropped(DropReason::Unexpected),
+            Nothing,
+        ),
+        (
+            Comes(Role::Packet, Plane::Control, "482200080100000100000700"),
+            Outcome::Dropped(DropReason::Unexpected),
+            Nothing,
+        ),
+        (
+            Strays(Role::Packet, Plane::Control, "40010009000005000300010002"),
+            Outcome::Dropped(DropReason::NotPeer),
+            Nothing,
+        ),
+        (
+            Strays(Role::Packet, Plane::User, "320100040000000000050000"),
+            Outcome::Dropped(DropReason::NotPeer),
+            Nothing,
+        ),
+        (
+            Comes(Role::Packet, Plane::Control, "400100090000010003000100"),
+            CUT,
+            Nothing,
+        ),
+    ]],
+    ..IDLE
+};
+
+#[test]
+fn kinds_and_sources_that_are_not_taken(rt: HostRuntime) -> Result<(), Fail> {
+    plays(&rt, rt.alloc(), &UNEXPECTED)
+}
+
+/// Requests about no session, and responses that answer nothing or another session.
+const ELSEWHERE: Scene = Scene {
+    rows: &[
+        &OPENED,
         &[
-            OPENED[0],
+            (
+                Comes(
+                    Role::Packet,
+                    Plane::Control,
+                    "4824000d01000009000005004900010005",
+                ),
+                Outcome::Answered(64),
+                Octets("4825001300000000000005000200020040000300010001"),
+            ),
+            (
+                Comes(
+                    Role::Packet,
+                    Plane::Control,
+                    "4824000d01000001000006004900010006",
+                ),
+                Outcome::Answered(64),
+                Octets("4825001301000001000006000200020040000300010001"),
+            ),
             (
                 Comes(
                     Role::Serving,
                     Plane::Control,
-                    "4821001300000000000000000200020040000300010001",
+                    "4825001301000001000009000200020010000300010001",
+                ),
+                Outcome::Dropped(DropReason::NoPending),
+                Nothing,
+            ),
+            (
+                DeleteSession(0x0100_0001),
+                Outcome::Begun(Some(0x0100_0001)),
+                Octets("4824000d01000001000001004900010005"),
+            ),
+            (
+                Comes(
+                    Role::Serving,
+                    Plane::Control,
+                    "4825001301000009000001000200020010000300010001",
                 ),
                 Outcome::Dropped(DropReason::Mismatch),
                 Nothing,
             ),
+            (
+                Comes(
+                    Role::Serving,
+                    Plane::Control,
+                    "4825001300000000000001000200020040000300010001",
+                ),
+                Outcome::Closed,
+                Nothing,
+            ),
         ],
-    )?;
-    has(&rt, &path.serving, 1, 1);
-    Ok(())
-}
-
-/// Messages of a kind that the gateway does not take, and datagrams from elsewhere.
-const UNEXPECTED: [Row; 7] = [
-    (
-        Strays(Role::Serving, Plane::Control, "40010009000005000300010002"),
-        Outcome::Dropped(DropReason::NotPeer),
-        Nothing,
-    ),
-    (
-        Comes(
-            Role::Serving,
-            Plane::Control,
-            "4824000d01000001000001004900010005",
-        ),
-        Outcome::Dropped(DropReason::Unexpected),
-        Nothing,
-    ),
-    (
-        Comes(
-            Role::Packet,
-            Plane::Control,
-            "4863000d01000001000001004900010106",
-        ),
-        Outcome::Dropped(DropReason::Unexpected),
-        Nothing,
-    ),
-    (
-        Comes(Role::Packet, Plane::Control, "482200080100000100000700"),
-        Outcome::Dropped(DropReason::Unexpected),
-        Nothing,
-    ),
-    (
-        Strays(Role::Packet, Plane::Control, "40010009000005000300010002"),
-        Outcome::Dropped(DropReason::NotPeer),
-        Nothing,
-    ),
-    (
-        Strays(Role::Packet, Plane::User, "320100040000000000050000"),
-        Outcome::Dropped(DropReason::NotPeer),
-        Nothing,
-    ),
-    (
-        Comes(Role::Packet, Plane::Control, "400100090000010003000100"),
-        CUT,
-        Nothing,
-    ),
-];
-
-#[test]
-fn kinds_and_sources_that_are_not_taken(rt: HostRuntime) -> Result<(), Fail> {
-    plays(&rt, rt.alloc(), &UNEXPECTED)?;
-    Ok(())
-}
-
-/// Requests about no session, and responses that answer nothing or another session.
-const ELSEWHERE: [Row; 6] = [
-    (
-        Comes(
-            Role::Packet,
-            Plane::Control,
-            "4824000d01000009000005004900010005",
-        ),
-        Outcome::Answered(64),
-        Octets("4825001300000000000005000200020040000300010001"),
-    ),
-    (
-        Comes(
-            Role::Packet,
-            Plane::Control,
-            "4824000d01000001000006004900010006",
-        ),
-        Outcome::Answered(64),
-        Octets("4825001301000001000006000200020040000300010001"),
-    ),
-    (
-        Comes(
-            Role::Serving,
-            Plane::Control,
-            "4825001301000001000009000200020010000300010001",
-        ),
-        Outcome::Dropped(DropReason::NoPending),
-        Nothing,
-    ),
-    (
-        DeleteSession(0x0100_0001),
-        Outcome::Begun(Some(0x0100_0001)),
-        Octets("4824000d01000001000001004900010005"),
-    ),
-    (
-        Comes(
-            Role::Serving,
-            Plane::Control,
-            "4825001301000009000001000200020010000300010001",
-        ),
-        Outcome::Dropped(DropReason::Mismatch),
-        Nothing,
-    ),
-    (
-        Comes(
-            Role::Serving,
-            Plane::Control,
-            "4825001300000000000001000200020040000300010001",
-        ),
-        Outcome::Closed,
-        Nothing,
-    ),
-];
+    ],
+    serving: &[Has(0, 0)],
+    packet: &[Has(1, 1)],
+    ..IDLE
+};
 
 #[test]
 fn sessions_that_are_not_known(rt: HostRuntime) -> Result<(), Fail> {
-    let mut path = plays(&rt, rt.alloc(), &OPENED)?;
-    path.play(&rt, rt.alloc(), &ELSEWHERE)?;
-    has(&rt, &path.serving, 0, 0);
-    has(&rt, &path.packet, 1, 1);
-    Ok(())
+    plays(&rt, rt.alloc(), &ELSEWHERE)
 }
 
 /// An identity that is named twice is removed once, and eleven identities are not too many.
-const LISTED: [Row; 3] = [
-    (
-        Comes(
-            Role::Serving,
-            Plane::Control,
-            "48630012010000010000050049000101064900010106",
-        ),
-        Outcome::Answered(17),
-        Octets(
-            "4864003101000001000005000200020011005d000b0049000100060200020010005d000b0049000100060200020040000300010001",
-        ),
-    ),
-    (
-        Comes(
-            Role::Serving,
-            Plane::Control,
-            concat!(
-                "4863003f010000010000060049000101054900010106490001010749000101084900010109",
-                "490001010a490001010b490001010c490001010d490001010e490001010f"
+const LISTED: Scene = Scene {
+    rows: &[
+        &OPENED,
+        &DEDICATED,
+        &[
+            (
+                Comes(
+                    Role::Serving,
+                    Plane::Control,
+                    "48630012010000010000050049000101064900010106",
+                ),
+                Outcome::Answered(17),
+                Octets(
+                    "4864003101000001000005000200020011005d000b0049000100060200020010005d000b0049000100060200020040000300010001",
+                ),
             ),
-        ),
-        Outcome::Answered(64),
-        Shown,
-    ),
-    (
-        Comes(
-            Role::Serving,
-            Plane::Control,
-            concat!(
-                "48630044010000010000070049000101054900010106490001010749000101084900010109",
-                "490001010a490001010b490001010c490001010d490001010e490001010f490001010f"
+            (
+                Comes(
+                    Role::Serving,
+                    Plane::Control,
+                    concat!(
+                        "4863003f010000010000060049000101054900010106490001010749000101084900010109",
+                        "490001010a490001010b490001010c490001010d490001010e490001010f"
+                    ),
+                ),
+                Outcome::Answered(64),
+                Shown,
             ),
-        ),
-        Outcome::Answered(94),
-        Octets("486400130100000100000700020002005e000300010001"),
-    ),
-];
+            (
+                Comes(
+                    Role::Serving,
+                    Plane::Control,
+                    concat!(
+                        "48630044010000010000070049000101054900010106490001010749000101084900010109",
+                        "490001010a490001010b490001010c490001010d490001010e490001010f490001010f"
+                    ),
+                ),
+                Outcome::Answered(94),
+                Octets("486400130100000100000700020002005e000300010001"),
+            ),
+        ],
+    ],
+    serving: &[Has(1, 1)],
+    ..IDLE
+};
 
 #[test]
 fn lists_of_identities(rt: HostRuntime) -> Result<(), Fail> {
-    let mut path = plays(&rt, rt.alloc(), &OPENED)?;
-    path.play(&rt, rt.alloc(), &DEDICATED)?;
-    path.play(&rt, rt.alloc(), &LISTED)?;
-    has(&rt, &path.serving, 1, 1);
-    Ok(())
+    plays(&rt, rt.alloc(), &LISTED)
 }

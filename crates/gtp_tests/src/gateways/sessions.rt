@@ -1,174 +1,193 @@
 //! Sessions and dedicated bearers, from their making to their end.
 
-use super::{Act, DEDICATED, OPENED, Path, Row, SESSION_REQUEST, Sends, has, new_path, plays};
+use super::{
+    Act, BEARER_ANSWERED, BEARER_ASKED, DEDICATED, IDLE, Look, OPENED, Row, SESSION_ANSWERED,
+    SESSION_ASKED, SESSION_REQUEST, SESSION_RESPONSE, Scene, Sends, plays,
+};
 use Act::*;
+use Look::{Address, FirstBearer, FirstSession, Has, SessionState};
 use Sends::{Nothing, Octets, Shown};
 use gtp_gateway::*;
 use gtp_tables::State;
-use gtp_values::Teid;
-use std::process::Abort;
 use std::test::Fail;
 
-/// The one session and the one bearer of both gateways, after the session was opened.
-fn is_opened(rt: &impl Abort, gateway: &Gateway, address: Option<u32>) -> Result<(), Fail> {
-    has(rt, gateway, 1, 1);
-    let Some((teid, session)) = gateway.sessions().next() else {
-        return Err("no session".into());
-    };
-    assert!(rt; teid == Teid(0x0100_0001) && session.remote == Some(0x0100_0001));
-    assert!(rt; session.address == address && session.state == State::Active);
-    let Some((teid, bearer)) = gateway.bearers().next() else {
-        return Err("no bearer".into());
-    };
-    assert!(rt; teid == Teid(0x0100_0002) && bearer.remote == Some(0x0100_0002));
-    assert!(rt; bearer.session == 0x0100_0001 && bearer.state == State::Active && !bearer.ended);
-    Ok(())
-}
-
-/// Packets each way, and the end of the session.
-const PACKETS_AND_END: [Row; 7] = [
-    (
-        Send(Role::Serving, 0x0100_0002, b"abc"),
-        Outcome::GoneOut,
-        Octets("30ff000301000002616263"),
-    ),
-    (Deliver(2), Outcome::Accepted, Nothing),
-    (
-        Send(Role::Packet, 0x0100_0002, b"def"),
-        Outcome::GoneOut,
-        Octets("30ff000301000002646566"),
-    ),
-    (Deliver(3), Outcome::Accepted, Nothing),
-    (
-        DeleteSession(0x0100_0001),
-        Outcome::Begun(Some(0x0100_0001)),
-        Octets("4824000d01000001000001004900010005"),
-    ),
-    (
-        Deliver(4),
-        Outcome::Answered(16),
-        Octets("4825001301000001000001000200020010000300010001"),
-    ),
-    (Deliver(5), Outcome::Closed, Nothing),
+/// The one session and the one bearer of a gateway, after the session was opened.
+const ONE_SESSION: [Look; 5] = [
+    Has(1, 1),
+    FirstSession(0x0100_0001, Some(0x0100_0001)),
+    Address(Some(0x0a01_0001)),
+    SessionState(State::Active),
+    FirstBearer {
+        teid: 0x0100_0002,
+        remote: Some(0x0100_0002),
+        session: 0x0100_0001,
+        state: State::Active,
+        ended: false,
+    },
 ];
+
+/// A session is opened.
+const OPENING: Scene = Scene {
+    rows: &[&OPENED],
+    serving: &ONE_SESSION,
+    packet: &ONE_SESSION,
+    ..IDLE
+};
 
 #[test]
 fn a_session_opens(rt: HostRuntime) -> Result<(), Fail> {
-    let path = plays(&rt, rt.alloc(), &OPENED)?;
-    is_opened(&rt, &path.serving, Some(0x0a01_0001))?;
-    is_opened(&rt, &path.packet, Some(0x0a01_0001))
+    plays(&rt, rt.alloc(), &OPENING)
 }
+
+/// Packets each way, and the end of the session.
+const PACKETS_AND_END: Scene = Scene {
+    rows: &[
+        &OPENED,
+        &[
+            (
+                Send(Role::Serving, 0x0100_0002, b"abc"),
+                Outcome::GoneOut,
+                Octets("30ff000301000002616263"),
+            ),
+            (Deliver(2), Outcome::Accepted, Nothing),
+            (
+                Send(Role::Packet, 0x0100_0002, b"def"),
+                Outcome::GoneOut,
+                Octets("30ff000301000002646566"),
+            ),
+            (Deliver(3), Outcome::Accepted, Nothing),
+            (
+                DeleteSession(0x0100_0001),
+                Outcome::Begun(Some(0x0100_0001)),
+                Octets("4824000d01000001000001004900010005"),
+            ),
+            (
+                Deliver(4),
+                Outcome::Answered(16),
+                Octets("4825001301000001000001000200020010000300010001"),
+            ),
+            (Deliver(5), Outcome::Closed, Nothing),
+        ],
+    ],
+    serving: &[Has(0, 0)],
+    packet: &[Has(0, 0)],
+    ..IDLE
+};
 
 #[test]
 fn a_session_carries_packets_and_ends(rt: HostRuntime) -> Result<(), Fail> {
-    let mut path = plays(&rt, rt.alloc(), &OPENED)?;
-    path.play(&rt, rt.alloc(), &PACKETS_AND_END)?;
-    has(&rt, &path.serving, 0, 0);
-    has(&rt, &path.packet, 0, 0);
-    Ok(())
+    plays(&rt, rt.alloc(), &PACKETS_AND_END)
 }
+
+/// The request comes three times, and its answer twice.
+const ANSWERED_AGAIN: Scene = Scene {
+    rows: &[&[
+        SESSION_ASKED,
+        SESSION_ANSWERED,
+        (Deliver(0), Outcome::Repeated, Octets(SESSION_RESPONSE)),
+        (Deliver(0), Outcome::Repeated, Octets(SESSION_RESPONSE)),
+        (Deliver(1), Outcome::Opened, Nothing),
+        (Deliver(2), Outcome::Dropped(DropReason::NoPending), Nothing),
+    ]],
+    packet: &[Has(1, 1)],
+    ..IDLE
+};
 
 #[test]
 fn a_request_that_comes_again_is_answered_again(rt: HostRuntime) -> Result<(), Fail> {
-    let path = plays(
-        &rt,
-        rt.alloc(),
-        &[
-            OPENED[0],
-            OPENED[1],
-            (Deliver(0), Outcome::Repeated, OPENED[1].2),
-            (Deliver(0), Outcome::Repeated, OPENED[1].2),
-            (Deliver(1), Outcome::Opened, Nothing),
-            (Deliver(2), Outcome::Dropped(DropReason::NoPending), Nothing),
-        ],
-    )?;
-    has(&rt, &path.packet, 1, 1);
-    Ok(())
+    plays(&rt, rt.alloc(), &ANSWERED_AGAIN)
 }
+
+/// The request is sent again three times, and its answer comes too late.
+const GIVEN_UP: Scene = Scene {
+    rows: &[&[
+        SESSION_ASKED,
+        SESSION_ANSWERED,
+        (Ticks(Role::Serving, 2, 0), Outcome::Moved, Nothing),
+        (Ticks(Role::Serving, 1, 1), Outcome::Moved, Nothing),
+        (Ticks(Role::Serving, 8, 2), Outcome::Moved, Nothing),
+        (Ticks(Role::Serving, 1, 0), Outcome::Moved, Nothing),
+        (Deliver(1), Outcome::Dropped(DropReason::NoPending), Nothing),
+    ]],
+    serving: &[Has(0, 0)],
+    ..IDLE
+};
 
 #[test]
 fn a_request_without_an_answer_is_given_up(rt: HostRuntime) -> Result<(), Fail> {
-    let path = plays(
-        &rt,
-        rt.alloc(),
-        &[
-            OPENED[0],
-            OPENED[1],
-            (Ticks(Role::Serving, 2, 0), Outcome::Moved, Nothing),
-            (Ticks(Role::Serving, 1, 1), Outcome::Moved, Nothing),
-            (Ticks(Role::Serving, 8, 2), Outcome::Moved, Nothing),
-            (Ticks(Role::Serving, 1, 0), Outcome::Moved, Nothing),
-            (Deliver(1), Outcome::Dropped(DropReason::NoPending), Nothing),
-        ],
-    )?;
-    has(&rt, &path.serving, 0, 0);
-    Ok(())
+    plays(&rt, rt.alloc(), &GIVEN_UP)
 }
 
 /// After 60 ticks the answer is held no more, and the request makes another bearer.
-const FORGOTTEN: [Row; 4] = [
-    (Ticks(Role::Serving, 60, 0), Outcome::Moved, Nothing),
-    (
-        Deliver(2),
-        Outcome::Answered(16),
-        Octets(concat!(
-            "4860003c0100000100000000",
-            "020002001000",
-            "5d002500",
-            "4900010007", // the next identity
-            "020002001000",
-            "5700090284010000040a000001", // the next TEID
-            "5700090385010000030a000002",
-            "0300010001"
-        )),
-    ),
-    (
-        Send(Role::Serving, 0x0100_0004, b"x"),
-        Outcome::GoneOut,
-        Shown,
-    ),
-    (Deliver(5), Outcome::Accepted, Nothing),
-];
+const FORGOTTEN: Scene = Scene {
+    rows: &[
+        &OPENED,
+        &DEDICATED,
+        &[
+            (Ticks(Role::Serving, 60, 0), Outcome::Moved, Nothing),
+            (
+                Deliver(2),
+                Outcome::Answered(16),
+                Octets(concat!(
+                    "4860003c0100000100000000",
+                    "020002001000",
+                    "5d002500",
+                    "4900010007", // the next identity
+                    "020002001000",
+                    "5700090284010000040a000001", // the next TEID
+                    "5700090385010000030a000002",
+                    "0300010001"
+                )),
+            ),
+            (
+                Send(Role::Serving, 0x0100_0004, b"x"),
+                Outcome::GoneOut,
+                Shown,
+            ),
+            (Deliver(5), Outcome::Accepted, Nothing),
+        ],
+    ],
+    serving: &[Has(1, 3)],
+    packet: &[Has(1, 2)],
+    ..IDLE
+};
 
 #[test]
 fn a_forgotten_request_makes_another_bearer(rt: HostRuntime) -> Result<(), Fail> {
-    let mut path = plays(&rt, rt.alloc(), &OPENED)?;
-    path.play(&rt, rt.alloc(), &DEDICATED)?;
-    path.play(&rt, rt.alloc(), &FORGOTTEN)?;
-    has(&rt, &path.serving, 1, 3);
-    has(&rt, &path.packet, 1, 2);
-    Ok(())
+    plays(&rt, rt.alloc(), &FORGOTTEN)
 }
 
-/// Ten dedicated bearers are made; the session has then all identities.
-fn uses_all_identities(
-    rt: &impl Abort,
-    alloc: std::alloc::Global,
-    path: &mut Path,
-) -> Result<(), Fail> {
-    for k in 0..10u32 {
-        let teid = 0x0100_0003u32.saturating_add(k);
-        let number = 2usize.saturating_add(k as usize).saturating_add(k as usize);
-        path.play(
-            rt,
-            alloc,
-            &[
-                (CreateBearer(0x0100_0001), Outcome::Begun(Some(teid)), Shown),
-                (Deliver(number), Outcome::Answered(16), Shown),
-                (Deliver(number.saturating_add(1)), Outcome::Opened, Nothing),
-            ],
-        )?;
-    }
-    Ok(())
+/// The rows that open bearers, each by its TEID, the number of its request among the datagrams that
+/// were sent, and that of the answer.
+macro_rules! bearers {
+    ($(($teid:literal, $request:literal, $answer:literal)),*) => {
+        [$(
+            (CreateBearer(0x0100_0001), Outcome::Begun(Some($teid)), Shown),
+            (Deliver($request), Outcome::Answered(16), Shown),
+            (Deliver($answer), Outcome::Opened, Nothing),
+        )*]
+    };
 }
 
-#[test]
-fn an_eleventh_bearer_has_no_identity(rt: HostRuntime) -> Result<(), Fail> {
-    let mut path = plays(&rt, rt.alloc(), &OPENED)?;
-    uses_all_identities(&rt, rt.alloc(), &mut path)?;
-    path.play(
-        &rt,
-        rt.alloc(),
+/// Ten dedicated bearers are made. The session has then all identities.
+const ALL_IDENTITIES: [Row; 30] = bearers![
+    (0x0100_0003, 2, 3),
+    (0x0100_0004, 4, 5),
+    (0x0100_0005, 6, 7),
+    (0x0100_0006, 8, 9),
+    (0x0100_0007, 10, 11),
+    (0x0100_0008, 12, 13),
+    (0x0100_0009, 14, 15),
+    (0x0100_000a, 16, 17),
+    (0x0100_000b, 18, 19),
+    (0x0100_000c, 20, 21)
+];
+
+/// All identities are used, and one more bearer is refused.
+const ONE_MORE: Scene = Scene {
+    rows: &[
+        &OPENED,
+        &ALL_IDENTITIES,
         &[
             (
                 CreateBearer(0x0100_0001),
@@ -178,129 +197,151 @@ fn an_eleventh_bearer_has_no_identity(rt: HostRuntime) -> Result<(), Fail> {
             (Deliver(22), Outcome::Answered(73), Shown),
             (Deliver(23), Outcome::Rejected(73), Nothing),
         ],
-    )?;
-    has(&rt, &path.serving, 1, 11);
-    has(&rt, &path.packet, 1, 11);
-    Ok(())
-}
+    ],
+    serving: &[Has(1, 11)],
+    packet: &[Has(1, 11)],
+    ..IDLE
+};
 
 #[test]
-fn a_second_session_has_no_address(rt: HostRuntime) -> Result<(), Fail> {
-    let mut path = new_path(rt.alloc(), 1, 1)?;
-    path.play(&rt, rt.alloc(), &OPENED)?;
-    path.play(
-        &rt,
-        rt.alloc(),
+fn an_eleventh_bearer_has_no_identity(rt: HostRuntime) -> Result<(), Fail> {
+    plays(&rt, rt.alloc(), &ONE_MORE)
+}
+
+/// A second session is refused.
+const SECOND: Scene = Scene {
+    addresses: 1,
+    rows: &[
+        &OPENED,
         &[
             (CreateSession, Outcome::Begun(Some(0x0100_0003)), Shown),
             (Deliver(2), Outcome::Answered(84), Shown),
             (Deliver(3), Outcome::Rejected(84), Nothing),
         ],
-    )?;
-    has(&rt, &path.packet, 1, 1);
-    Ok(())
+    ],
+    packet: &[Has(1, 1)],
+    ..IDLE
+};
+
+#[test]
+fn a_second_session_has_no_address(rt: HostRuntime) -> Result<(), Fail> {
+    plays(&rt, rt.alloc(), &SECOND)
 }
 
 /// A bearer is deleted by the packet gateway.
-const DELETED: [Row; 3] = [
-    (
-        DeleteBearer(0x0100_0001, 6),
-        Outcome::Begun(Some(0x0100_0003)),
-        Octets("4863000d01000001000001004900010106"),
-    ),
-    (
-        Deliver(4),
-        Outcome::Answered(16),
-        Octets("4864002201000001000001000200020010005d000b0049000100060200020010000300010001"),
-    ),
-    (Deliver(5), Outcome::Closed, Nothing),
-];
+const DELETED: Scene = Scene {
+    rows: &[
+        &OPENED,
+        &DEDICATED,
+        &[
+            (
+                DeleteBearer(0x0100_0001, 6),
+                Outcome::Begun(Some(0x0100_0003)),
+                Octets("4863000d01000001000001004900010106"),
+            ),
+            (
+                Deliver(4),
+                Outcome::Answered(16),
+                Octets(
+                    "4864002201000001000001000200020010005d000b0049000100060200020010000300010001",
+                ),
+            ),
+            (Deliver(5), Outcome::Closed, Nothing),
+        ],
+    ],
+    serving: &[Has(1, 1)],
+    packet: &[Has(1, 1)],
+    ..IDLE
+};
 
 #[test]
 fn a_dedicated_bearer_is_deleted(rt: HostRuntime) -> Result<(), Fail> {
-    let mut path = plays(&rt, rt.alloc(), &OPENED)?;
-    path.play(&rt, rt.alloc(), &DEDICATED)?;
-    path.play(&rt, rt.alloc(), &DELETED)?;
-    has(&rt, &path.serving, 1, 1);
-    has(&rt, &path.packet, 1, 1);
-    Ok(())
+    plays(&rt, rt.alloc(), &DELETED)
 }
 
-#[test]
-fn a_bearer_does_not_open_in_a_closing_session(rt: HostRuntime) -> Result<(), Fail> {
-    let mut path = plays(&rt, rt.alloc(), &OPENED)?;
-    path.play(
-        &rt,
-        rt.alloc(),
+/// The session is released before its bearer is opened.
+const CLASHING: Scene = Scene {
+    rows: &[
+        &OPENED,
         &[
-            DEDICATED[0],
-            DEDICATED[1],
+            BEARER_ASKED,
+            BEARER_ANSWERED,
             (
-                ReleaseSession(0x0100_0001),
+                ReleaseSession(Role::Packet, 0x0100_0001),
                 Outcome::Begun(Some(0x0100_0001)),
                 Shown,
             ),
             (Deliver(3), Outcome::Clash, Nothing),
         ],
-    )?;
-    let Some((_, session)) = path.packet.sessions().next() else {
-        return Err("no session".into());
-    };
-    assert!(rt; session.state == State::Closing);
-    Ok(())
+    ],
+    packet: &[SessionState(State::Closing)],
+    ..IDLE
+};
+
+#[test]
+fn a_bearer_does_not_open_in_a_closing_session(rt: HostRuntime) -> Result<(), Fail> {
+    plays(&rt, rt.alloc(), &CLASHING)
 }
 
 /// Two identities are named, and one of them is a bearer's.
-const NAMED: [Row; 1] = [(
-    Comes(
-        Role::Serving,
-        Plane::Control,
-        "48630012010000010000050049000101064900010109",
-    ),
-    Outcome::Answered(17),
-    Octets(
-        "4864003101000001000005000200020011005d000b0049000100060200020010005d000b0049000100090200020040000300010001",
-    ),
-)];
+const NAMED: Scene = Scene {
+    rows: &[
+        &OPENED,
+        &DEDICATED,
+        &[(
+            Comes(
+                Role::Serving,
+                Plane::Control,
+                "48630012010000010000050049000101064900010109",
+            ),
+            Outcome::Answered(17),
+            Octets(
+                "4864003101000001000005000200020011005d000b0049000100060200020010005d000b0049000100090200020040000300010001",
+            ),
+        )],
+    ],
+    serving: &[Has(1, 1)],
+    ..IDLE
+};
 
 #[test]
 fn bearers_are_removed_in_part(rt: HostRuntime) -> Result<(), Fail> {
-    let mut path = plays(&rt, rt.alloc(), &OPENED)?;
-    path.play(&rt, rt.alloc(), &DEDICATED)?;
-    path.play(&rt, rt.alloc(), &NAMED)?;
-    has(&rt, &path.serving, 1, 1);
-    Ok(())
+    plays(&rt, rt.alloc(), &NAMED)
 }
+
+/// Commands about no session, about one that is pending, and at the wrong gateway.
+const REFUSED: Scene = Scene {
+    rows: &[&[
+        (
+            DeleteSession(0x0100_0009),
+            Outcome::Refused(Refusal::NoSuchContext),
+            Nothing,
+        ),
+        (
+            ReleaseSession(Role::Packet, 0x0100_0009),
+            Outcome::Refused(Refusal::NoSuchContext),
+            Nothing,
+        ),
+        (
+            CreateSession,
+            Outcome::Begun(Some(0x0100_0001)),
+            Octets(SESSION_REQUEST),
+        ),
+        (
+            DeleteSession(0x0100_0001),
+            Outcome::Refused(Refusal::NotActive),
+            Nothing,
+        ),
+        (
+            ReleaseSession(Role::Serving, 0x0100_0001),
+            Outcome::Refused(Refusal::WrongRole),
+            Nothing,
+        ),
+    ]],
+    ..IDLE
+};
 
 #[test]
 fn commands_are_refused(rt: HostRuntime) -> Result<(), Fail> {
-    let mut path = plays(
-        &rt,
-        rt.alloc(),
-        &[
-            (
-                DeleteSession(0x0100_0009),
-                Outcome::Refused(Refusal::NoSuchContext),
-                Nothing,
-            ),
-            (
-                ReleaseSession(0x0100_0009),
-                Outcome::Refused(Refusal::NoSuchContext),
-                Nothing,
-            ),
-            (
-                CreateSession,
-                Outcome::Begun(Some(0x0100_0001)),
-                Octets(SESSION_REQUEST),
-            ),
-            (
-                DeleteSession(0x0100_0001),
-                Outcome::Refused(Refusal::NotActive),
-                Nothing,
-            ),
-        ],
-    )?;
-    let result = path.serving.release_session(rt.alloc(), Teid(0x0100_0001));
-    assert!(rt; matches!(result, Err(CommandFault::Refused(Refusal::WrongRole))));
-    Ok(())
+    plays(&rt, rt.alloc(), &REFUSED)
 }

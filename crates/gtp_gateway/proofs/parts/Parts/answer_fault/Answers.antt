@@ -1,4 +1,4 @@
-use Rattle.std.proofs.Common.{◌≡◌, Some, [], ◌∷◌, refl, sym, ◌∙◌, ap, subst}
+use Rattle.std.proofs.Common.{◌≡◌, Some, refl, sym, ◌∙◌, ap, subst}
 use Rattle.gtp_values.specs.declared.address.Endpoint.{Endpoint}
 use Rattle.gtp_machine.specs.Answer.{faulted, refusing, faulty_header, defect_cause}
 use Rattle.gtp_machine.specs.Element.{cause_at}
@@ -10,9 +10,11 @@ use Rattle.gtp_machine.specs.declared.outcome.Outcome.TheVariants.{Answered}
 use Rattle.gtp_gateway.specs.declared.control_step.ControlStep.{ControlStep}
 use Rattle.gtp_gateway.specs.Faulty.{kind_of, defect_of, fault_of, IsFaultEffect}
 use Rattle.gtp_gateway.specs.Parts.{node_of}
+use Rattle.gtp_gateway.specs.Sent.{ReadsBack}
 use Rattle.gtp_gateway.specs.Station.{station_of}
 use Rattle.gtp_gateway.specs.Taken.{plain_report}
 use Rattle.gtp_gateway.proofs.FaultsTaken.{fault_answered}
+use Rattle.gtp_gateway.proofs.SentBack.{one_sent}
 use Rattle.gtp_gateway.proofs.parts.Parts.answer_fault.Goals as goal
 
 pub returns : goal.returns
@@ -24,12 +26,12 @@ returns c = λ request from peer new.
     let cause = defect_cause (defect_of f.defect) in
     let m : Message = refusing (kind_of f.kind) (faulty_header node (kind_of f.kind) fault) f.seq (cause_at cause f.element f.instance) node.counter in
     let said : control_message c.refusal-message.result ≡ m = c.refusal-message.ensures.says ∙ (λ i. refusing (kind_of f.kind) (c.faulty_header-header.ensures i) f.seq ((c.fault_cause-cause.ensures ∙ ap (λ n. cause_at n f.element f.instance) c.cause.ensures) i) (c.counter-counter.ensures i)) in
-    let sent = c.in_ok-out.ensures ∙ (λ i. datagram_of node.config (record { destination = sym from i; message = said i })) in
+    let sent = c.in_ok-out.ensures.sent ∙ (λ i. datagram_of node.config (record { destination = sym from i; message = said i })) in
     let shown : c.sent.result ≡ record { out = Some c.in_ok-out.out; report = plain_report (Answered cause) } = c.sent.ensures ∙ ap (λ n. record { out = Some c.in_ok-out.out; report = plain_report (Answered n) }) c.cause-2.ensures in
     subst (λ (s : ControlStep). IsFaultEffect request (Faulty fault) old s) (sym shown)
     (record {
       effect = faulted request fault node;
       takes = fault_answered node request fault old.role f.kind refl c.requires (ap (λ (e : Endpoint). e.ip) from ∙ peer) new;
-      tells = record { sent = λ i. sent i ∷ []; outcome = refl; heard = refl; restart = refl; made = refl; all = refl };
+      tells = record { sent = one_sent node.config _ _ sent (subst ReadsBack said c.in_ok-out.ensures.back); outcome = refl; heard = refl; restart = refl; made = refl; all = refl };
       stays = refl;
     })

@@ -19,5 +19,5 @@ returns-clause-taken c = λ d same.
     let message : Message = control_message c.removal_response-message.result in
     let said : message ≡ Delete_bearer_response (record { header = a.header.0; number = d.number; cause = cause_of a.cause; linked = a.linked; contexts = []; recovery = Some node.counter }) =
     c.removal_response-message.ensures.says ∙ (λ i. Delete_bearer_response (record { header = a.header.0; number = sym same i; cause = cause_of a.cause; linked = a.linked; contexts = map removed_bearer (c.new-contexts.ensures.items i); recovery = Some (c.counter-counter.ensures i) })) in
-    answers (λ n e. e ≡ removal_effect request d a n) request (station_of old) (station_of c.answer.new.self) c.sent.result c.in_ok-out.out message a.cause (changed_by a.change node) c.sent.ensures c.in_ok-out.ensures.sent c.in_ok-out.ensures.node c.in_ok-out.ensures.role
+    answers (λ n e. e ≡ removal_effect request d a n) request (station_of old) (station_of c.answer.new.self) c.sent.result c.in_ok-out.out message a.cause (changed_by a.change node) c.sent.ensures c.in_ok-out.ensures.sent c.in_ok-out.ensures.back c.in_ok-out.ensures.node c.in_ok-out.ensures.role
     (λ i. answered request (said i) a.cause (changed_by a.change node))

@@ -1,4 +1,4 @@
-use Rattle.std.proofs.Common.{rules, ◌≡◌, ◌<◌, false, List, length, [], ◌∷◌, refl, sym, ◌∙◌, ap, subst}
+use Rattle.std.proofs.Common.{rules, ◌≡◌, ◌<◌, false, List, length, refl, sym, ◌∙◌, ap, subst}
 use Rattle.gtp_reliable.specs.Waiting.{Waiting}
 use Rattle.gtp_reliable.specs.Pending.{is_pending}
 use Rattle.gtp_machine.specs.Config.{control_end}
@@ -11,11 +11,13 @@ use Rattle.gtp_gateway.specs.declared.purpose.Purpose.{Purpose}
 use Rattle.gtp_gateway.specs.Asking.{about, asking}
 use Rattle.gtp_gateway.specs.Change.{changed_by}
 use Rattle.gtp_gateway.specs.Parts.{node_of}
+use Rattle.gtp_gateway.specs.Sent.{ReadsBack}
 use Rattle.gtp_gateway.specs.Spelled.{is_for}
 use Rattle.gtp_gateway.specs.Station.{Station, station_of}
 use Rattle.gtp_gateway.specs.Wish.{request_of, purpose_of, change_of, teid_of, AsksFor}
 use Rattle.gtp_gateway.proofs.Refusals.{has_room, last_refused}
 use Rattle.gtp_gateway.proofs.Requests.{none_pending, small_number}
+use Rattle.gtp_gateway.proofs.SentBack.{one_sent}
 use Rattle.gtp_gateway.proofs.Wishes.{meant, wish_goes_on}
 use Rattle.gtp_gateway.proofs.parts.Parts.ask_for.Goals as goal
 
@@ -63,7 +65,7 @@ returns-clause-done c =
       effect = asks node seq (about (purpose_of wish) request) (teid_of wish) (changed_by (change_of wish) node);
       room = has_room node ws c.in_ok-seq.ensures.distinct refl few;
       asks = record { number = seq; number_free = record { unused = none_pending ws seq free; small = small_number _ _ seq c.in_ok-seq.ensures.prepared.number }; gives = refl };
-      sent = (λ i. c.in_ok-out.ensures.sent i ∷ []) ∙ (λ i. datagram_of (config i) (record { destination = control_end (config i).peer.control; message = says i }) ∷ []);
+      sent = one_sent node.config _ _ (c.in_ok-out.ensures.sent ∙ (λ i. datagram_of (config i) (record { destination = control_end (config i).peer.control; message = says i }))) (subst ReadsBack says c.in_ok-out.ensures.back);
       outcome = ap (λ t. outcomes.Begun t) (sym c.teid.ensures);
       becomes = c.in_ok-out.ensures.node ∙ (λ i. asking (c.change.ensures i) seq (c.purpose.ensures i) (says i) (same i).node);
       role = c.in_ok-out.ensures.role ∙ ap (λ (s : Station). s.role) same;

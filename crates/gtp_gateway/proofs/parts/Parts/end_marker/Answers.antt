@@ -1,4 +1,4 @@
-use Rattle.std.proofs.Common.{◌≡◌, ◌↔◌, Some, inr, [], ◌∷◌, refl, sym, ◌∙◌, subst}
+use Rattle.std.proofs.Common.{◌≡◌, ◌↔◌, ℕ, Some, inr, refl, sym, ◌∙◌, subst}
 use Rattle.std.specs.FinMap.{get, insert}
 use Rattle.gtp_machine.specs.Config.{user_end}
 use Rattle.gtp_machine.specs.Command.{EndMarked}
@@ -11,8 +11,10 @@ use Rattle.gtp_machine.specs.declared.role.Role.{Role}
 use Rattle.gtp_machine.specs.declared.outcome.Refusal.TheVariants.{NoSuchContext, NotActive, BearerEnded}
 use Rattle.gtp_machine.specs.declared.outcome.Outcome.TheVariants.{GoneOut}
 use Rattle.gtp_gateway.specs.Parts.{node_of}
+use Rattle.gtp_gateway.specs.Sent.{ReadsBack}
 use Rattle.gtp_gateway.proofs.Columns.{Told, yes, no, ends_on, stops, goes, goes_bearer}
 use Rattle.gtp_gateway.proofs.Own.{marker_short}
+use Rattle.gtp_gateway.proofs.SentBack.{one_sent}
 use Rattle.gtp_gateway.proofs.parts.Parts.end_marker.Goals as goal
 
 pub returns-then-not-is_active-clause-refused : goal.returns-then-not-is_active-clause-refused
@@ -45,7 +47,8 @@ returns-clause-done c =
     record {
       effect = effect;
       step = subst (λ (role : Role). EndMarked role bearer node effect) (sym c.in-Packet.is) (inr (record { bearer = at; stands = stands }, inr (yes c.is_active.ensures c.if-not-is_active.false, inr (c.if-at.false, refl))));
-      sent = (λ i. c.in_ok-out.ensures i ∷ []) ∙ (λ i. datagram_of node.config (record { destination = user_end node.config.peer.user; message = End_marker (c.written_teid-teid.ensures i) }) ∷ []);
+      sent = one_sent node.config _ _ (c.in_ok-out.ensures.sent ∙ (λ i. datagram_of node.config (record { destination = user_end node.config.peer.user; message = End_marker (c.written_teid-teid.ensures i) })))
+          (subst (λ (t : ℕ). ReadsBack (End_marker t)) c.written_teid-teid.ensures c.in_ok-out.ensures.back);
       outcome = refl;
       becomes = c.replace_bearer.ensures.node;
       role = c.replace_bearer.ensures.role;

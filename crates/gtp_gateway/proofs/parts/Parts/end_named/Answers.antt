@@ -9,9 +9,13 @@ use Rattle.gtp_machine.specs.Serving.{RemovalJudged, removal_cause}
 use Rattle.gtp_machine.specs.Spelling.{spelled}
 use Rattle.gtp_gateway.specs.declared.ending.NamedBearer.{NamedBearer}
 use Rattle.gtp_gateway.specs.Ending.{NamesEach, identity_named, number_in, removed_by, without_each}
+use Rattle.gtp_gateway.specs.GoesOn.{GoesOn}
 use Rattle.gtp_gateway.specs.Parts.{arrival_of}
+use Rattle.gtp_gateway.specs.Sent.{ReadsBack}
 use Rattle.gtp_gateway.specs.Station.{Station, station_of}
+use Rattle.gtp_gateway.specs.UserTaken.{WaitOn}
 use Rattle.gtp_gateway.proofs.Endings.{ends_judged}
+use Rattle.gtp_gateway.proofs.GoingOn.{then_goes}
 use Rattle.gtp_gateway.proofs.Rows.{answers}
 use Rattle.gtp_gateway.proofs.parts.Parts.end_named.Goals as goal
 
@@ -33,7 +37,16 @@ returns-clause-taken c = λ d says listed.
     let left = c.end_each.ensures.node ∙ ap (λ (s : Station). without_each ns s.node) c.ready_answer.ensures.same in
     answers (RemovalJudged request d) request old (station_of c.give.new.self) c.sent.result c.give.result m c.cause_of_all.result (without_each ns old.node) c.sent.ensures
     (c.give.ensures.sent ∙ (λ i. record { plane = Control; from = control_end (config i).own.control; to = c.args.source; octets = (ready.octets ∙ ap spelled said) i }))
+    (subst ReadsBack said ready.back)
     (c.give.ensures.node ∙ (λ i. holding (arrival_of c.args.source (ready.request i)) ((ready.read ∙ said) i) (left i)))
     (c.give.ensures.role ∙ (c.end_each.ensures.role ∙ ap (λ (s : Station). s.role) c.ready_answer.ensures.same))
     (subst (λ (cause : ℕ). RemovalJudged request d old.node (answered request m cause (without_each ns old.node))) (sym c.cause_of_all.ensures)
     (ends_judged request r d old.node header ids ns says listed c.requires.asked c.requires.short same names))
+
+pub returns-clause-goes : goal.returns-clause-goes
+returns-clause-goes c =
+    let old = station_of c.args.self.now in
+    let left = station_of c.end_each.new.self in
+    let new = station_of c.give.new.self in
+    let waits = subst (λ (s : Station). WaitOn s left) c.ready_answer.ensures.same c.end_each.ensures.waits in
+    then_goes c.args.source c.args.octets.now old left new waits (subst (λ (r : List ℕ). GoesOn c.args.source r left new) c.in_ok-ready.ensures.request c.give.ensures.goes)

@@ -1,4 +1,4 @@
-use Rattle.std.proofs.Common.{◌≡◌, inl, inr, [], ◌∷◌, refl, sym, ◌∙◌, ap, subst}
+use Rattle.std.proofs.Common.{◌≡◌, inl, inr, refl, sym, ◌∙◌, ap, subst}
 use Rattle.gtp_reliable.specs.Held.{HasAnswer}
 use Rattle.gtp_machine.specs.Config.{control_end, own_end}
 use Rattle.gtp_machine.specs.Message.{Control, plane_of}
@@ -10,13 +10,15 @@ use Rattle.gtp_machine.specs.declared.outcome.Outcome.TheVariants.{Repeated}
 use Rattle.gtp_gateway.specs.declared.sent.Sent.{Sent}
 use Rattle.gtp_gateway.specs.declared.control_step.ControlStep.{ControlStep}
 use Rattle.gtp_gateway.specs.Parts.{arrival_of}
-use Rattle.gtp_gateway.specs.Sent.{datagram_by}
+use Rattle.gtp_gateway.specs.Sent.{datagram_by, ReadsBack}
+use Rattle.gtp_gateway.specs.Spelled.{AreSpelled}
 use Rattle.gtp_gateway.specs.Station.{station_of}
 use Rattle.gtp_gateway.specs.Taken.{IsTaken}
 use Rattle.gtp_gateway.proofs.Answers.{repeats, none_held}
 use Rattle.gtp_gateway.proofs.Columns.{yes, no}
 use Rattle.gtp_gateway.proofs.Readings.{control_kept}
-use Rattle.gtp_gateway.proofs.Taking.{by_role, spelled_answer}
+use Rattle.gtp_gateway.proofs.SentBack.{none_sent, one_sent}
+use Rattle.gtp_gateway.proofs.Taking.{by_role, kept_back, spelled_answer}
 use Rattle.gtp_gateway.proofs.parts.Parts.enter.Goals as goal
 
 pub returns-then-not-is_from_peer : goal.returns-then-not-is_from_peer
@@ -28,7 +30,7 @@ returns-then-not-is_from_peer c =
     (record {
       effect = dropped old.node NotPeer;
       takes = by_role old.role old.node (arrival_of source octets) (control_reading octets) (dropped old.node NotPeer) (λ Reads. inl (no c.is_from_peer.ensures c.if-not-is_from_peer.true, refl));
-      tells = record { sent = refl; outcome = refl; heard = refl; restart = refl; made = refl; all = refl };
+      tells = record { sent = none_sent old.node.config; outcome = refl; heard = refl; restart = refl; made = refl; all = refl };
       becomes = refl;
       role = refl;
     })
@@ -53,7 +55,8 @@ returns c =
     let m = pair.pair.answer in
     let plane : Control ≡ plane_of m = sym (ap plane_of pair.answer ∙ control_kept answer) in
     let from : c.control_end_of.result ≡ own_end config Control = c.control_end_of.ensures ∙ ap control_end c.own.ensures.control in
-    let sends : c.in_ok-from_slice.field-0.items ≡ spelled m = c.in_ok-from_slice.ensures.items ∙ (spelled_answer pairs source octets answer c.args.self.now.answered has ∙ ap spelled (sym pair.answer)) in
+    let kept : AreSpelled answer = spelled_answer pairs source octets answer c.args.self.now.answered has in
+    let sends : c.in_ok-from_slice.field-0.items ≡ spelled m = c.in_ok-from_slice.ensures.items ∙ (kept.is ∙ ap spelled (sym pair.answer)) in
     let out : Sent = record { plane = Control; from = c.control_end_of.result; to = source; octets = c.in_ok-from_slice.field-0 } in
     let sent : datagram_by out ≡ datagram_of config (record { destination = source; message = m }) =
     ◌∙◌ {A = Datagram} (λ i. record { plane = Control; from = from i; to = source; octets = sends i }) (λ i. record { plane = plane i; from = own_end config (plane i); to = source; octets = spelled m }) in
@@ -61,7 +64,7 @@ returns c =
     (record {
       effect = record { out = says source m; outcome = Repeated; node = old.node };
       takes = by_role old.role old.node (arrival_of source octets) (control_reading octets) (record { out = says source m; outcome = Repeated; node = old.node }) (λ Reads. inr (yes c.is_from_peer.ensures c.if-not-is_from_peer.false, inl (record { held = pair.pair; stands = pair.stands; same = pair.same; gives = refl })));
-      tells = record { sent = λ i. sent i ∷ []; outcome = refl; heard = refl; restart = refl; made = refl; all = refl };
+      tells = record { sent = one_sent config _ _ sent (subst ReadsBack (sym pair.answer) (kept_back answer (control_kept answer) kept)); outcome = refl; heard = refl; restart = refl; made = refl; all = refl };
       becomes = refl;
       role = refl;
     })

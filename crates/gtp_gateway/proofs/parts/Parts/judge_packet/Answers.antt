@@ -9,6 +9,7 @@ use Rattle.gtp_gateway.specs.declared.user_step.UserStep.{UserStep}
 use Rattle.gtp_gateway.specs.Station.{station_of}
 use Rattle.gtp_gateway.specs.UserTaken.{IsTakenBy}
 use Rattle.gtp_gateway.proofs.Columns.{yes, no, session_stands}
+use Rattle.gtp_gateway.proofs.SentBack.{none_sent}
 use Rattle.gtp_gateway.proofs.UserRows.{all_wait, drops}
 use Rattle.gtp_gateway.proofs.parts.Parts.judge_packet.Goals as goal
 
@@ -41,7 +42,7 @@ returns c =
     record {
       effect = record { out = record nothing { accepted = entry ∷ [] }; outcome = Accepted; node = old.node };
       takes = inr (at, inr (yes c.is_active.ensures c.if-not-is_active.false, inr (yes c.may_come.ensures c.if-not-may_come.false, record { of = of; gives = refl })));
-      tells = record { sent = refl; outcome = refl; accepted = (entry, record { at = at; of = of; is = refl }, refl); packet = (λ is. refl, λ some. refl); all = refl };
+      tells = record { sent = none_sent old.node.config; outcome = refl; accepted = (entry, record { at = at; of = of; is = refl }, refl); packet = (λ is. refl, λ some. refl); all = refl };
       becomes = refl;
       role = refl;
       same = λ _. refl;

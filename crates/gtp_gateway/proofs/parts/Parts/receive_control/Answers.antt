@@ -13,6 +13,7 @@ use Rattle.gtp_gateway.specs.Taken.{IsEntered, IsTaken}
 use Rattle.gtp_gateway.proofs.Left.{reads_message, fault_received}
 use Rattle.gtp_gateway.proofs.Procedures.{not_taken}
 use Rattle.gtp_gateway.proofs.Rows.{if_ok, message_left}
+use Rattle.gtp_gateway.proofs.SentBack.{none_sent}
 use Rattle.gtp_gateway.proofs.parts.Parts.receive_control.Goals as goal
 
 pub flaw_of-requires : goal.flaw_of-requires
@@ -37,7 +38,7 @@ returns-in-None-clause-taken c =
     (record {
       effect = effect;
       takes = subst (λ (r : ControlReading). MachineStep old.role old.node (Control_came (arrival_of source octets) r) effect) (reads_message octets m c.in-Ok.ensures.found) (message_left old.role old.node (arrival_of source octets) (message_of m) fresh.peer fresh.new (λ taken. let both : true ≡ false = sym taken ∙ none in cc));
-      tells = record { sent = refl; outcome = refl; heard = refl; restart = refl; made = refl; all = refl };
+      tells = record { sent = none_sent old.node.config; outcome = refl; heard = refl; restart = refl; made = refl; all = refl };
       becomes = refl;
       role = refl;
     })

@@ -1,4 +1,4 @@
-use Rattle.std.proofs.Common.{◌≡◌, ◌∙◌, ap}
+use Rattle.std.proofs.Common.{◌≡◌, ◌∙◌, ap, subst, List, ℕ}
 use Rattle.gtp_machine.specs.Answer.{refusing}
 use Rattle.gtp_machine.specs.Config.{control_end}
 use Rattle.gtp_machine.specs.Input.{Of_create_session}
@@ -6,8 +6,12 @@ use Rattle.gtp_machine.specs.Message.{Message, Control}
 use Rattle.gtp_machine.specs.Node.{holding}
 use Rattle.gtp_machine.specs.Reading.{control_message}
 use Rattle.gtp_machine.specs.Spelling.{spelled}
+use Rattle.gtp_gateway.specs.GoesOn.{GoesOn}
+use Rattle.gtp_gateway.specs.UserTaken.{WaitOn}
+use Rattle.gtp_gateway.proofs.GoingOn.{then_goes}
 use Rattle.gtp_gateway.specs.Hearing.{node_heard}
 use Rattle.gtp_gateway.specs.Parts.{arrival_of}
+use Rattle.gtp_gateway.specs.Sent.{ReadsBack}
 use Rattle.gtp_gateway.specs.Settings.{Settings}
 use Rattle.gtp_gateway.specs.Station.{Station, station_of}
 use Rattle.gtp_gateway.proofs.parts.Parts.refuse_session.Goals as goal
@@ -24,7 +28,15 @@ returns-clause-refused c =
       sent = c.give-out.result;
       is = c.answered.ensures;
       goes = c.give-out.ensures.sent ∙ (λ i. record { plane = Control; from = control_end (config i).own.control; to = c.args.source; octets = (ready.octets ∙ ap spelled said) i });
+      read = subst ReadsBack said ready.back;
       becomes = c.give-out.ensures.node
           ∙ (λ i. holding (arrival_of c.args.source (ready.request i)) ((ready.read ∙ said) i) ((c.hear.ensures.node ∙ ap (λ (s : Station). node_heard c.args.heard s.node) same) i));
       role = c.give-out.ensures.role ∙ c.hear.ensures.role ∙ ap (λ (s : Station). s.role) same;
     }
+
+pub returns-clause-goes : goal.returns-clause-goes
+returns-clause-goes c =
+    let old = station_of c.args.self.now in
+    let new = station_of c.give-out.new.self in
+    let waits = subst (λ (s : Station). WaitOn s (station_of c.hear.new.self)) c.ready_answer.ensures.same c.hear.ensures.waits in
+    then_goes c.args.source c.args.octets.now old (station_of c.hear.new.self) new waits (subst (λ (r : List ℕ). GoesOn c.args.source r (station_of c.hear.new.self) new) c.in_ok-ready.ensures.request c.give-out.ensures.goes)

@@ -1,4 +1,4 @@
-use Rattle.std.proofs.Common.{◌≡◌, ◌≤◌, Some, length, inr, [], ◌∷◌, refl, sym, ◌∙◌, arith}
+use Rattle.std.proofs.Common.{◌≡◌, ◌≤◌, ℕ, Some, length, inr, [], ◌∷◌, refl, sym, ◌∙◌, subst, arith}
 use Rattle.std.specs.FinMap.{get}
 use Rattle.gtp_machine.specs.Config.{user_end}
 use Rattle.gtp_machine.specs.Message.{Packet_data}
@@ -9,9 +9,11 @@ use Rattle.gtp_machine.specs.Spelling.{datagram_of}
 use Rattle.gtp_machine.specs.declared.outcome.Refusal.TheVariants.{NoSuchContext, NotActive, BearerEnded, PacketTooLong}
 use Rattle.gtp_machine.specs.declared.outcome.Outcome.TheVariants.{GoneOut}
 use Rattle.gtp_gateway.specs.Parts.{node_of}
+use Rattle.gtp_gateway.specs.Sent.{ReadsBack}
 use Rattle.gtp_gateway.specs.Station.{station_of}
 use Rattle.gtp_gateway.proofs.Columns.{yes, no, sends_on, stops, goes, goes_bearer, session_stands}
 use Rattle.gtp_gateway.proofs.Own.{packet_short}
+use Rattle.gtp_gateway.proofs.SentBack.{one_sent}
 use Rattle.gtp_gateway.proofs.parts.Parts.send_user.Goals as goal
 
 pub returns-then-not-is_active-clause-refused : goal.returns-then-not-is_active-clause-refused
@@ -50,7 +52,8 @@ returns-clause-done c =
     record {
       effect = record { out = record (says (user_end node.config.peer.user) (Packet_data (written at.remote) payload)) { handed = entry_for (written at.remote) payload of.session.subscriber at.identity ∷ [] }; outcome = GoneOut; node = node };
       step = inr (record { bearer = at; stands = stands }, inr (yes c.is_active.ensures c.if-not-is_active.false, inr (yes c.may_go.ensures c.if-not-may_go.false, inr (few, record { of = of; gives = refl }))));
-      sent = (λ i. c.in_ok-out.ensures i ∷ []) ∙ (λ i. datagram_of node.config (record { destination = user_end node.config.peer.user; message = Packet_data (c.written_teid-teid.ensures i) payload }) ∷ []);
+      sent = one_sent node.config _ _ (c.in_ok-out.ensures.sent ∙ (λ i. datagram_of node.config (record { destination = user_end node.config.peer.user; message = Packet_data (c.written_teid-teid.ensures i) payload })))
+          (subst (λ (t : ℕ). ReadsBack (Packet_data t payload)) c.written_teid-teid.ensures c.in_ok-out.ensures.back);
       outcome = refl;
       becomes = refl;
       role = refl;

@@ -27,7 +27,7 @@ returns-clause-taken c = λ d says.
     let v = c.judge_deletion-verdict.result in
     let m : Message = Delete_session_response (record { header = v.header.0; number = d.number; cause = cause_of v.cause; recovery = Some node.counter }) in
     let said : control_message c.deletion_response-message.result ≡ m = c.deletion_response-message.ensures.says ∙ (λ i. Delete_session_response (record { header = v.header.0; number = sym says.number i; cause = cause_of v.cause; recovery = Some (c.counter.ensures i) })) in
-    answers (DeletionAsked request d) request (station_of old) (station_of c.answer.new.self) c.sent.result c.in_ok-out.out (control_message c.deletion_response-message.result) v.cause (changed_by v.change node) c.sent.ensures c.in_ok-out.ensures.sent c.in_ok-out.ensures.node c.in_ok-out.ensures.role
+    answers (DeletionAsked request d) request (station_of old) (station_of c.answer.new.self) c.sent.result c.in_ok-out.out (control_message c.deletion_response-message.result) v.cause (changed_by v.change node) c.sent.ensures c.in_ok-out.ensures.sent c.in_ok-out.ensures.back c.in_ok-out.ensures.node c.in_ok-out.ensures.role
     (inr (
       record { few = held_few old.held.pairs (no c.is_full.ensures.full c.if-is_full.false) },
       subst (λ (k : Message). DeletionJudged request d node (answered request k v.cause (changed_by v.change node))) (sym said) (c.judge_deletion-verdict.ensures.judged request d says),

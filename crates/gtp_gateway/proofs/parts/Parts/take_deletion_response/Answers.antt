@@ -11,13 +11,13 @@ use Rattle.gtp_gateway.proofs.Pendings.{waits, waits_at, none_waits_at, deletion
 use Rattle.gtp_gateway.proofs.Rows.{drops, ends}
 use Rattle.gtp_gateway.proofs.parts.Parts.take_deletion_response.Goals as goal
 
-pub returns-in_default : goal.returns-in_default
-returns-in_default c = λ request d at number of.
+pub returns-in_default-clause-taken : goal.returns-in_default-clause-taken
+returns-in_default-clause-taken c = λ request d at number of.
     let old = c.args.self.now in
     drops (DeletionAnswered d) request (station_of old) c.dropped.result NoPending c.dropped.ensures (inl (λ here. none_waits_at old.pending.waiting c.args.response.now.seq d.number here.pending number (sym c.waiting.ensures ∙ c.in_default.is) here.waits, refl))
 
-pub returns-then-not-fits_deletion : goal.returns-then-not-fits_deletion
-returns-then-not-fits_deletion c = λ request d at number of.
+pub returns-then-not-fits_deletion-clause-taken : goal.returns-then-not-fits_deletion-clause-taken
+returns-then-not-fits_deletion-clause-taken c = λ request d at number of.
     let old = c.args.self.now in
     let purpose = c.in-Some.purpose in
     let w = waits old.config.config.peer.control old.pending.waiting c.args.response.now.seq purpose old.asked (sym c.waiting.ensures ∙ c.in-Some.is) in
@@ -27,8 +27,8 @@ returns-then-not-fits_deletion c = λ request d at number of.
       inl (λ fits. no c.fits_deletion.ensures c.if-not-fits_deletion.true (deletion_here purpose w.message c.args.response.now d w.meant at of fits), refl),
     ))
 
-pub returns : goal.returns
-returns c = λ request d at number of.
+pub returns-clause-taken : goal.returns-clause-taken
+returns-clause-taken c = λ request d at number of.
     let old = c.args.self.now in
     let purpose = c.in-Some.purpose in
     let w = waits old.config.config.peer.control old.pending.waiting c.args.response.now.seq purpose old.asked (sym c.waiting.ensures ∙ c.in-Some.is) in

@@ -11,13 +11,13 @@ use Rattle.gtp_gateway.proofs.Pendings.{waits, waits_at, none_waits_at, echo_her
 use Rattle.gtp_gateway.proofs.Rows.{drops, ends}
 use Rattle.gtp_gateway.proofs.parts.Parts.take_echo_response.Goals as goal
 
-pub returns-in_default : goal.returns-in_default
-returns-in_default c = λ request d number.
+pub returns-in_default-clause-taken : goal.returns-in_default-clause-taken
+returns-in_default-clause-taken c = λ request d number.
     let old = c.args.self.now in
     drops (EchoAnswered d) request (station_of old) c.dropped.result NoPending c.dropped.ensures (inl (λ here. none_waits_at old.pending.waiting c.args.seq d.number here.pending number (sym c.waiting.ensures ∙ c.in_default.is) here.waits, refl))
 
-pub returns-then-not-fits_echo : goal.returns-then-not-fits_echo
-returns-then-not-fits_echo c = λ request d number.
+pub returns-then-not-fits_echo-clause-taken : goal.returns-then-not-fits_echo-clause-taken
+returns-then-not-fits_echo-clause-taken c = λ request d number.
     let old = c.args.self.now in
     let purpose = c.in-Some.purpose in
     let w = waits old.config.config.peer.control old.pending.waiting c.args.seq purpose old.asked (sym c.waiting.ensures ∙ c.in-Some.is) in
@@ -27,8 +27,8 @@ returns-then-not-fits_echo c = λ request d number.
       inl (λ fits. no c.fits_echo.ensures c.if-not-fits_echo.true (echo_here purpose w.message w.meant fits), refl),
     ))
 
-pub returns : goal.returns
-returns c = λ request d number.
+pub returns-clause-taken : goal.returns-clause-taken
+returns-clause-taken c = λ request d number.
     let old = c.args.self.now in
     let purpose = c.in-Some.purpose in
     let w = waits old.config.config.peer.control old.pending.waiting c.args.seq purpose old.asked (sym c.waiting.ensures ∙ c.in-Some.is) in

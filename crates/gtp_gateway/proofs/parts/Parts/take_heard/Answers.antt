@@ -13,6 +13,8 @@ use Rattle.gtp_gateway.specs.Procedure.{has, TakesBy}
 use Rattle.gtp_gateway.specs.Station.{station_of}
 use Rattle.gtp_gateway.proofs.ByProcedure.{unheard, deletion_request_is, takes_deletion_request, echo_request_is, takes_echo_request, echo_response_is, takes_echo_response, deletion_response_is, takes_deletion_response, removal_response_is, removal_cause, takes_removal_response, takes_session_request}
 use Rattle.gtp_gateway.proofs.Endings.{delete_bearer_is, takes_removal_request}
+use Rattle.gtp_gateway.proofs.Giving.{wait_on}
+use Rattle.gtp_gateway.proofs.GoingOn.{on_goes}
 use Rattle.gtp_gateway.proofs.InPlace.{type_is}
 use Rattle.gtp_gateway.proofs.Grants.{has_context, create_bearer_is, takes_bearer_request}
 use Rattle.gtp_gateway.proofs.BearerAnswers.{takes_bearer_response}
@@ -40,7 +42,7 @@ returns-in-EchoAnswered-clause-taken c =
     let heard = station_of c.hear.new.self in
     as_row (EchoAnswered says.response) (TakesBy old.role request (message_of m)) request old.role heard.role (node_heard c.args.heard old.node) heard.node _ (station_of c.take_echo_response.new.self) c.hear.ensures.role c.hear.ensures.node
     (takes_echo_response old.role request says.response (message_of m) says.is)
-    (c.take_echo_response.ensures request says.response (says.number ∙ sym c.seq-in-EchoAnswered.ensures))
+    (c.take_echo_response.ensures.taken request says.response (says.number ∙ sym c.seq-in-EchoAnswered.ensures))
 
 pub take_echo_request-requires : goal.take_echo_request-requires
 take_echo_request-requires c = record { weighed = (c.requires.weighed.0, c.requires.weighed.2) }
@@ -69,7 +71,7 @@ returns-in-DeletionAnswered-clause-taken c =
     let heard = station_of c.hear-in-DeletionAnswered.new.self in
     as_row (DeletionAnswered says.response) (TakesBy old.role request (message_of m)) request old.role heard.role (node_heard c.args.heard old.node) heard.node _ (station_of c.take_deletion_response.new.self) c.hear-in-DeletionAnswered.ensures.role c.hear-in-DeletionAnswered.ensures.node
     (takes_deletion_response old.role request says.response (message_of m) (subst (λ (p : Procedure). has old.role p ≡ true) c.in-DeletionAnswered.is c.requires.has) says.is)
-    (c.take_deletion_response.ensures request says.response (says.header ∙ sym r.ensures.header) (says.number ∙ sym r.ensures.seq) says.cause)
+    (c.take_deletion_response.ensures.taken request says.response (says.header ∙ sym r.ensures.header) (says.number ∙ sym r.ensures.seq) says.cause)
 
 pub returns-in-RemovalAnswered-clause-taken : goal.returns-in-RemovalAnswered-clause-taken
 returns-in-RemovalAnswered-clause-taken c =
@@ -81,7 +83,7 @@ returns-in-RemovalAnswered-clause-taken c =
     let heard = station_of c.hear-in-RemovalAnswered.new.self in
     as_row (RemovalAnswered says.response) (TakesBy old.role request (message_of m)) request old.role heard.role (node_heard c.args.heard old.node) heard.node _ (station_of c.take_removal_response.new.self) c.hear-in-RemovalAnswered.ensures.role c.hear-in-RemovalAnswered.ensures.node
     (takes_removal_response old.role request says.response (message_of m) (subst (λ (p : Procedure). has old.role p ≡ true) c.in-RemovalAnswered.is c.requires.has) says.is)
-    (c.take_removal_response.ensures request says.response (says.header ∙ sym r.ensures.header) (says.number ∙ sym r.ensures.seq) says.cause)
+    (c.take_removal_response.ensures.taken request says.response (says.header ∙ sym r.ensures.header) (says.number ∙ sym r.ensures.seq) says.cause)
 
 pub session_request_in-request-requires-clause-of : goal.session_request_in-request-requires-clause-of
 session_request_in-request-requires-clause-of c = type_is c.args.view.now.message.kind procedures.SessionAsked (c.requires.of ∙ ap (λ (p : Procedure). Some p) c.in-SessionAsked.is)
@@ -152,3 +154,18 @@ returns-in-BearerAnswered-clause-taken c =
     (takes_bearer_response old.role request reads.response (message_of m) (subst (λ (p : Procedure). has old.role p ≡ true) c.in-BearerAnswered.is c.requires.has) reads.is)
     (taken request reads.response reads.says))
     c.take_bearer_response.ensures.taken
+
+pub returns-in-EchoAnswered-clause-goes : goal.returns-in-EchoAnswered-clause-goes
+returns-in-EchoAnswered-clause-goes c =
+    let heard = station_of c.hear.new.self in
+    on_goes c.args.source c.args.octets.now (station_of c.args.self.now) (station_of c.take_echo_response.new.self) (wait_on (station_of c.args.self.now) heard (station_of c.take_echo_response.new.self) c.hear.ensures.waits c.take_echo_response.ensures.waits)
+
+pub returns-in-DeletionAnswered-clause-goes : goal.returns-in-DeletionAnswered-clause-goes
+returns-in-DeletionAnswered-clause-goes c =
+    let heard = station_of c.hear-in-DeletionAnswered.new.self in
+    on_goes c.args.source c.args.octets.now (station_of c.args.self.now) (station_of c.take_deletion_response.new.self) (wait_on (station_of c.args.self.now) heard (station_of c.take_deletion_response.new.self) c.hear-in-DeletionAnswered.ensures.waits c.take_deletion_response.ensures.waits)
+
+pub returns-in-RemovalAnswered-clause-goes : goal.returns-in-RemovalAnswered-clause-goes
+returns-in-RemovalAnswered-clause-goes c =
+    let heard = station_of c.hear-in-RemovalAnswered.new.self in
+    on_goes c.args.source c.args.octets.now (station_of c.args.self.now) (station_of c.take_removal_response.new.self) (wait_on (station_of c.args.self.now) heard (station_of c.take_removal_response.new.self) c.hear-in-RemovalAnswered.ensures.waits c.take_removal_response.ensures.waits)

@@ -1,16 +1,17 @@
 use Rattle.std.proofs.Common.{ℕ, List, map, length, refl, sym, ◌∙◌, ap, subst, append-nil, arith}
+use Rattle.std.specs.Prelude.{All}
 use Rattle.gtp_reliable.specs.Due.{message_of}
 use Rattle.gtp_reliable.specs.Forgotten.{question_of}
 use Rattle.gtp_machine.specs.Spelling.{datagram_of}
 use Rattle.gtp_gateway.specs.declared.purpose.Purpose.{Purpose}
 use Rattle.gtp_gateway.specs.Parts.{node_of, pending_in, held_of}
-use Rattle.gtp_gateway.specs.Sent.{datagram_by}
+use Rattle.gtp_gateway.specs.Sent.{datagram_by, SendingReads}
 use Rattle.gtp_gateway.specs.Spelled.{AreAsked, AreAnswered}
 use Rattle.gtp_gateway.specs.Station.{station_of}
 use Rattle.gtp_gateway.specs.Ticked.{asked_by, datagram_again, GivesUpEach}
 use Rattle.gtp_gateway.proofs.Forgetting.{answered_left}
 use Rattle.gtp_gateway.proofs.Giving.{asked_on}
-use Rattle.gtp_gateway.proofs.Resending.{resent}
+use Rattle.gtp_gateway.proofs.Resending.{resent, resent_back}
 use Rattle.gtp_gateway.proofs.Ticking.{given_by, ticks, few_by, few_sent, none_resent, none_given_up}
 use Rattle.gtp_gateway.proofs.parts.Parts.tick.Goals as goal
 
@@ -26,7 +27,10 @@ returns-clause-ticked c =
       ticks = ticks (station_of old) (station_of mid) told refl refl c.in-Ok.ensures.always.distinct c.in-Ok-due.ensures.always.apart c.give_up_each.ensures.waits each _
           (λ i. record (node_of mid) { pending = pending_in (c.tick.ensures.waiting i); held = map held_of (c.tick-2.ensures.pairs i) });
       tells = record {
-        sent = c.in_ok-resent.ensures.sent ∙ (ap (map (datagram_again config)) c.in-Ok.ensures.resend ∙ (resent config old.pending.t3 old.pending.n3 old.pending.waiting old.asked ∙ ap (map (datagram_of config)) (sym (append-nil _))));
+        sent = record {
+          octets = c.in_ok-resent.ensures.sent ∙ (ap (map (datagram_again config)) c.in-Ok.ensures.resend ∙ (resent config old.pending.t3 old.pending.n3 old.pending.waiting old.asked ∙ ap (map (datagram_of config)) (sym (append-nil _))));
+          read = subst (All SendingReads) (sym (append-nil _)) (resent_back config old.pending.t3 old.pending.n3 old.pending.waiting old.asked);
+        };
         gave_up = sym (append-nil told);
         forgot = ap (map asked_by) c.in-Ok-due.ensures.list;
         all = refl;

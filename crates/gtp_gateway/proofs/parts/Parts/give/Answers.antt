@@ -1,0 +1,23 @@
+use Rattle.std.proofs.Common.{refl}
+use Rattle.std.proofs.lemmas.List.Elements.{All-same, All-push}
+use Rattle.gtp_reliable.specs.Held.{HeldPair, just_kept}
+use Rattle.gtp_gateway.specs.Spelled.{AreSpelled}
+use Rattle.gtp_gateway.specs.Station.{station_of, timing_of}
+use Rattle.gtp_gateway.proofs.GoingOn.{given_goes}
+use Rattle.gtp_gateway.proofs.parts.Parts.give.Goals as goal
+
+pub returns-clause-goes : goal.returns-clause-goes
+returns-clause-goes c =
+    let old = c.args.self.now in
+    let ready = c.args.ready in
+    given_goes c.args.source ready.request.items (station_of old) _ ready.answer.items
+    (λ i. record (timing_of old) { timers = record (timing_of old).timers { hold = c.keep.ensures.hold i }; held = c.keep.ensures.pairs i }) refl
+
+abbrev IsKept : HeldPair → Type 0
+IsKept p = AreSpelled p.answer
+
+pub invariant_of-self-clause-answered : goal.invariant_of-self-clause-answered
+invariant_of-self-clause-answered c =
+    let old = c.args.self.now in
+    let ready = c.args.ready in
+    All-same IsKept _ _ c.keep.ensures.pairs (All-push IsKept old.held.pairs (just_kept c.args.source ready.request.items ready.answer.items) old.answered c.requires.spelled)
