@@ -139,12 +139,17 @@ fn addresses_of(role: Role) -> Addresses {
     }
 }
 
-/// A gateway that starts with this restart counter.
-fn started(alloc: Global, role: Role, pool: Pool, counter: u8) -> Result<Gateway, Fail> {
+/// How a gateway is set up, with these addresses for sessions.
+pub(crate) fn set_up(alloc: Global, role: Role, pool: Pool) -> Result<Config, Fail> {
     let names = Vec::from_slice(alloc, &[Apn::from_text("internet")?])?;
     let own = addresses_of(role);
     let peer = addresses_of(peer_of(role));
-    let config = Config::try_new(own, peer, names, pool, Timers::default())?;
+    Ok(Config::try_new(own, peer, names, pool, Timers::default())?)
+}
+
+/// A gateway that starts with this restart counter.
+fn started(alloc: Global, role: Role, pool: Pool, counter: u8) -> Result<Gateway, Fail> {
+    let config = set_up(alloc, role, pool)?;
     Ok(Gateway::start(alloc, role, &config, Counter(counter))?)
 }
 
@@ -169,7 +174,7 @@ fn no_rates() -> Rates {
 }
 
 /// The quality of service that is asked for.
-fn qos() -> Qos {
+pub(crate) fn qos() -> Qos {
     Qos {
         pci: false,
         pl: Below::new(8),
@@ -181,7 +186,7 @@ fn qos() -> Qos {
 }
 
 /// The session that is asked for.
-fn specification() -> Result<SessionSpec, Fail> {
+pub(crate) fn specification() -> Result<SessionSpec, Fail> {
     Ok(SessionSpec {
         subscriber: Subscriber {
             imsi: Imsi::from_text("001010123456789")?,
@@ -484,14 +489,14 @@ fn bearer_of(rt: &impl Abort, gateway: &Gateway) -> (Teid, Bearer) {
 }
 
 /// How many sessions a gateway has.
-fn session_count(gateway: &Gateway) -> usize {
+pub(crate) fn session_count(gateway: &Gateway) -> usize {
     gateway
         .sessions()
         .fold(0usize, |count, _| count.saturating_add(1))
 }
 
 /// How many bearers a gateway has.
-fn bearer_count(gateway: &Gateway) -> usize {
+pub(crate) fn bearer_count(gateway: &Gateway) -> usize {
     gateway
         .bearers()
         .fold(0usize, |count, _| count.saturating_add(1))

@@ -1,6 +1,6 @@
-//! Tests of values, of both codecs, of tables and of reliable delivery: vectors from outside, printed
-//! texts, plain lists beside indexes, and calls that allocate where there is
-//! memory. What their contracts say is not tested again.
+//! Tests of values, of both codecs, of tables, of reliable delivery, of gateways and of the world:
+//! vectors from outside, printed texts, plain lists beside indexes, and calls that allocate where there
+//! is memory. What their contracts say is not tested again.
 #![tactic(auto)]
 
 #[cfg(test)]
@@ -17,3 +17,5 @@ mod tables;
 mod user;
 #[cfg(test)]
 mod values;
+#[cfg(test)]
+mod worlds;

@@ -1,0 +1,15 @@
+pub mod Lists
+pub mod Logs
+pub mod Quiet
+pub mod Forgets
+pub mod Cuts
+pub mod Configs
+pub mod Standing
+pub mod Going
+pub mod Telling
+pub mod Sidewise
+pub mod Safe
+pub mod Begin
+pub mod Finding
+pub mod Late
+pub mod Running

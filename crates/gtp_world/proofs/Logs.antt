@@ -1,0 +1,45 @@
+-- One more in a log.
+use Rattle.std.proofs.Common.{◌≡◌, ℕ, suc, ◌<◌, Bool, true, false, List, [], ◌∷◌, ◌++◌, map, take, length, Option, Some, None, option_to_list, refl, ◌∙◌, ap, get_or}
+use Rattle.std.proofs.lemmas.List.{map-append}
+use Rattle.std.proofs.Math.Seq.{take-suc}
+use Rattle.gtp_world.specs.Kept.{Told, told_by, entry_by, counted, late_among}
+use Rattle.gtp_reliable.specs.Forgotten.{question_of}
+use Rattle.gtp_reliable.specs.declared.held.Request.{Request}
+use Rattle.gtp_gateway.specs.Ticked.{asked_by, arrivals_of}
+use Rattle.gtp_world.specs.Sides.{entries}
+use Rattle.gtp_world.specs.declared.log.Entry.{Entry}
+use Rattle.gtp_world.specs.declared.log.Note.{Note}
+
+-- it does not matter which of two is counted first
+either_first : (a b : Bool) (n : ℕ) → counted a (counted b n) ≡ counted b (counted a n)
+either_first true true n = refl
+either_first true false n = refl
+either_first false true n = refl
+either_first false false n = refl
+
+pub late_last : (notes : List Note) (note : Note) → late_among (notes ++ note ∷ []) ≡ counted note.late (late_among notes)
+late_last [] note = refl
+late_last (n ∷ notes) note = ap (λ k. counted n.late k) (late_last notes note) ∙ either_first n.late note.late (late_among notes)
+
+-- one more of the notes that are counted
+pub late_so_far : (notes : List Note) (i : ℕ) (note : Note) → i < length notes → get_or notes i note ≡ note → late_among (take (suc i) notes) ≡ counted note.late (late_among (take i notes))
+late_so_far notes i note within is =
+    ap late_among (take-suc notes i note within ∙ ap (λ n. take i notes ++ (n ∷ [])) is)
+    ∙ late_last (take i notes) note
+
+pub note_kept : (notes new : List Note) (note : Note) → new ≡ notes ++ note ∷ [] → map told_by new ≡ map told_by notes ++ (told_by note ∷ [])
+note_kept notes new note is = ap (map told_by) is ∙ map-append told_by notes (note ∷ [])
+
+pub late_kept : (notes new : List Note) (note : Note) → new ≡ notes ++ note ∷ [] → late_among new ≡ counted note.late (late_among notes)
+late_kept notes new note is = ap late_among is ∙ late_last notes note
+
+pub entry_kept : (old new : List Entry) (entry : Option Entry) → new ≡ old ++ option_to_list entry → map entry_by new ≡ map entry_by old ++ entries entry
+entry_kept old new None is = ap (map entry_by) is ∙ map-append entry_by old []
+entry_kept old new (Some e) is = ap (map entry_by) is ∙ map-append entry_by old (e ∷ [])
+
+pub arrivals_kept : (a b : List Request) → arrivals_of (a ++ b) ≡ arrivals_of a ++ arrivals_of b
+arrivals_kept a b = ap (map asked_by) (map-append question_of a b) ∙ map-append asked_by (map question_of a) (map question_of b)
+
+-- the outcomes that are told, with one more
+pub told_last : (old new : List Told) (last : Told) → new ≡ old ++ last ∷ [] → map (λ (t : Told). t.outcome) new ≡ map (λ (t : Told). t.outcome) old ++ (last.outcome ∷ [])
+told_last old new last is = ap (map (λ (t : Told). t.outcome)) is ∙ map-append (λ (t : Told). t.outcome) old (last ∷ [])

@@ -1,0 +1,93 @@
+-- What comes of an input or a tick at one of both gateways, for all that is kept.
+use Rattle.std.proofs.Common.{◌≡◌, Bool, false, [], ◌∷◌, ◌++◌, length, refl, sym, ◌∙◌, ap, subst, append-nil}
+use Rattle.std.proofs.lemmas.List.{length-map}
+use Rattle.gtp_machine.specs.Input.{Input, Out}
+use Rattle.gtp_machine.specs.declared.role.Role.{Role}
+use Rattle.gtp_machine.specs.declared.role.Role.TheVariants.{Serving, Packet}
+use Rattle.gtp_machine.specs.World.{Came_to, Ticked, signed}
+use Rattle.gtp_gateway.specs.Sent.{datagram_by}
+use Rattle.gtp_gateway.specs.declared.tick.Ticked.{Ticked as Tick}
+use Rattle.gtp_world.specs.Kept.{Half, Log, Kept, half_in, with_half, counted, half_of, log_of, kept_of}
+use Rattle.gtp_world.specs.Recorded.{log_of_came, log_of_tick}
+use Rattle.gtp_world.specs.Sides.{IsInput, IsTick}
+use Rattle.gtp_world.specs.Stepped.{Takes, TicksBy, log_after, sent_at}
+use Rattle.gtp_world.specs.declared.records.Records.{Records}
+use Rattle.gtp_world.specs.declared.side.Came.{Came}
+use Rattle.gtp_world.specs.declared.side.Side.{Side}
+use Rattle.gtp_world.specs.declared.sides.Sides.{Sides}
+
+-- the log, after what came of an input
+came_log : (log : Log) (role : Role) (input : Input) (old : Half) (came : Came) (new : Half) (late : Bool) (t : IsInput role input old came new) → log_of_came log role came late ≡ log_after log role t.effect.out (sent_at old t.effect.out) (Came_to t.effect.outcome) late
+came_log log role input old came new late t =
+    let out = t.effect.out in
+    λ i. record {
+      datagrams = log.datagrams ++ signed role (t.tells.sent i);
+      handed = log.handed ++ t.tells.handed i;
+      accepted = log.accepted ++ t.tells.accepted i;
+      late = counted late log.late;
+      notes = log.notes ++ (record { outcome = Came_to (t.tells.outcome i); learned = t.tells.learned i; sent = length (t.tells.sent i); gave_up = sym t.tells.gave_up i; forgot = sym t.tells.forgot i } ∷ []);
+    }
+
+pub takes_by : (v : Kept) (role : Role) (input : Input) (came : Came) (half : Half) (log : Log) (late : Bool) (new : Kept) → IsInput role input (half_in v role) came half → log ≡ log_of_came v.log role came late → new ≡ record (with_half v role half) { log = log } → Takes v role input late new
+takes_by v role input came half log late new t is becomes =
+    let logs = is ∙ came_log v.log role input (half_in v role) came half late t in
+    record {
+      effect = t.effect;
+      step = t.step;
+      readable = t.readable;
+      station = half.station;
+      node = t.node;
+      role_stays = t.role_stays;
+      becomes = becomes ∙ (λ i. record (with_half v role (t.becomes i)) { log = logs i });
+    }
+
+-- the log, after a tick
+tick_log : (log : Log) (role : Role) (old : Half) (ticked : Tick) (new : Half) (t : IsTick old ticked new) → log_of_tick log role ticked ≡ log_after log role t.out (sent_at old t.out) Ticked false
+tick_log log role old ticked new t =
+    let handed = sym (append-nil log.handed) ∙ ap (λ (o : Out). log.handed ++ signed role o.handed) (sym t.all) in
+    let accepted = sym (append-nil log.accepted) ∙ ap (λ (o : Out). log.accepted ++ signed role o.accepted) (sym t.all) in
+    let learned = ap (λ (o : Out). o.learned) (sym t.all) in
+    let sent = sym (length-map ticked.resent.items datagram_by) ∙ ap length t.sent in
+    λ i. record {
+      datagrams = log.datagrams ++ signed role (t.sent i);
+      handed = handed i;
+      accepted = accepted i;
+      late = log.late;
+      notes = log.notes ++ (record { outcome = Ticked; learned = learned i; sent = sent i; gave_up = t.gave_up i; forgot = t.forgot i } ∷ []);
+    }
+
+pub ticks_by : (v : Kept) (role : Role) (ticked : Tick) (half : Half) (log : Log) (new : Kept) → IsTick (half_in v role) ticked half → log ≡ log_of_tick v.log role ticked → new ≡ record (with_half v role half) { log = log } → TicksBy v role new
+ticks_by v role ticked half log new t is becomes =
+    let logs = is ∙ tick_log v.log role (half_in v role) ticked half t in
+    record {
+      out = t.out;
+      station = half.station;
+      ticks = t.ticks;
+      readable = t.readable;
+      role_stays = t.role_stays;
+      becomes = becomes ∙ (λ i. record (with_half v role (t.becomes i)) { log = logs i });
+    }
+
+-- One gateway of both took what came to it, and stands as this; the other is as before, and there is room in the log.
+pub record IsAt (old : Sides) (role : Role) (before after : Half) (mid : Sides) : Type 0 where
+  pub was : before ≡ half_in (kept_of old) role
+  pub sides : (settled : Records) → kept_of (record mid { records = settled }) ≡ record (with_half (kept_of old) role after) { log = log_of settled }
+  pub log : log_of mid.records ≡ log_of old.records
+
+pub at_serving : (old mid : Sides) (role : Role) (side : Side) (room : Records) → role ≡ Serving → mid ≡ record { serving = side; packet = old.packet; records = room } → log_of room ≡ log_of old.records → IsAt old role (half_of old.serving) (half_of side) mid
+at_serving old mid role side room is stands same =
+    subst (λ r. IsAt old r (half_of old.serving) (half_of side) mid) (sym is)
+    (record { was = refl; sides = λ settled. ap (λ (m : Sides). kept_of (record m { records = settled })) stands; log = ap (λ (m : Sides). log_of m.records) stands ∙ same })
+
+pub at_packet : (old mid : Sides) (role : Role) (side : Side) (room : Records) → role ≡ Packet → mid ≡ record { serving = old.serving; packet = side; records = room } → log_of room ≡ log_of old.records → IsAt old role (half_of old.packet) (half_of side) mid
+at_packet old mid role side room is stands same =
+    subst (λ r. IsAt old r (half_of old.packet) (half_of side) mid) (sym is)
+    (record { was = refl; sides = λ settled. ap (λ (m : Sides). kept_of (record m { records = settled })) stands; log = ap (λ (m : Sides). log_of m.records) stands ∙ same })
+
+pub takes_at : (old mid : Sides) (role : Role) (input : Input) (before after : Half) (came : Came) (settled : Records) (late : Bool) → IsAt old role before after mid → IsInput role input before came after → log_of settled ≡ log_of_came (log_of mid.records) role came late → Takes (kept_of old) role input late (kept_of (record mid { records = settled }))
+takes_at old mid role input before after came settled late at t logs =
+    takes_by (kept_of old) role input came after (log_of settled) late _ (subst (λ h. IsInput role input h came after) at.was t) (logs ∙ ap (λ l. log_of_came l role came late) at.log) (at.sides settled)
+
+pub ticks_at : (old mid : Sides) (role : Role) (before after : Half) (ticked : Tick) (settled : Records) → IsAt old role before after mid → IsTick before ticked after → log_of settled ≡ log_of_tick (log_of mid.records) role ticked → TicksBy (kept_of old) role (kept_of (record mid { records = settled }))
+ticks_at old mid role before after ticked settled at t logs =
+    ticks_by (kept_of old) role ticked after (log_of settled) _ (subst (λ h. IsTick h ticked after) at.was t) (logs ∙ ap (λ l. log_of_tick l role ticked) at.log) (at.sides settled)

@@ -1,0 +1,142 @@
+-- What is kept stands for the machine's world after a step, as it did before.
+use Rattle.std.proofs.Common.{◌≡◌, ℕ, ◌+◌, ◌%◌, Bool, true, false, List, [], ◌∷◌, ◌++◌, map, Option, Some, None, option_to_list, refl, sym, ◌∙◌, ap, append-nil}
+use Rattle.gtp_machine.specs.Config.{Config}
+use Rattle.gtp_machine.specs.declared.role.Role.{Role}
+use Rattle.gtp_machine.specs.declared.role.Role.TheVariants.{Serving, Packet}
+use Rattle.gtp_machine.specs.Node.{Arrival, Node, fresh_node}
+use Rattle.gtp_machine.specs.Input.{Out, Effect, nothing, messages}
+use Rattle.gtp_machine.specs.Spelling.{Datagram, datagram_of}
+use Rattle.gtp_machine.specs.Step.{Done}
+use Rattle.gtp_machine.specs.World as machine
+use Rattle.gtp_machine.specs.World.{By, World, Side, EventOutcome, Restarted, Note, note_of, quiet_note, noted, moved, stepped, with_heard, logged, with_steps, with_side, late_once, side_of, restarted, next_counter, signed}
+use Rattle.gtp_gateway.specs.Station.{Station}
+use Rattle.gtp_world.specs.Kept.{oldest_first, Half, Told, Kept, half_in, with_half}
+use Rattle.gtp_world.specs.Runs.{Setup, config_in, AreFor, told_in, HalfStands, StandsFor}
+use Rattle.gtp_world.specs.Stepped.{half_after, told_of, log_with, kept_after, sent_at, AreReadable, passed_over, counter_after, half_restarted}
+use Rattle.gtp_world.proofs.Lists.{oldest_append, as_many, for_append, sent_for}
+
+-- the half of a role
+pub half_stands : (setup : Setup) (v : Kept) (w : World) → StandsFor setup v w → (role : Role) → HalfStands (config_in setup role) role (half_in v role) (side_of w role)
+half_stands setup v w stands Serving = stands.serving
+half_stands setup v w stands Packet = stands.packet
+
+heard_after : (heard : Option ℕ) (half side : List ℕ) → half ≡ oldest_first side → half ++ option_to_list heard ≡ oldest_first (with_heard heard side)
+heard_after None half side is = append-nil half ∙ is
+heard_after (Some counter) half side is = ap (λ k. k ++ (counter ∷ [])) is
+
+half_stepped : (config : Config) (role : Role) (half : Half) (side : Side) (station : Station) (e : Effect) → HalfStands config role half side → station.node ≡ e.node → station.role ≡ half.station.role → HalfStands config role (half_after half station e.out) (stepped side e)
+half_stepped config role half side station e stands node stays = record {
+  set_up = stands.set_up;
+  role = stays ∙ stands.role;
+  node = node;
+  first = stands.first;
+  restarts = stands.restarts;
+  seen = heard_after e.out.heard half.seen side.seen stands.seen;
+  forgotten = ap (λ k. k ++ e.out.forgot) stands.forgotten;
+  made = ap (λ k. k ++ oldest_first e.out.made) stands.made ∙ sym (oldest_append e.out.made side.made);
+}
+
+counted_so : (config : Config) (role : Role) (half : Half) (side : Side) → HalfStands config role half side → counter_after half ≡ next_counter side
+counted_so config role half side stands = ap (λ n. (n + (half.restarts + 1)) % 256) stands.first ∙ ap (λ n. (side.first + (n + 1)) % 256) stands.restarts
+
+half_begins : (config : Config) (role : Role) (half : Half) (side : Side) → HalfStands config role half side → side.node.config ≡ config → HalfStands config role (half_restarted role half) (restarted side)
+half_begins config role half side stands same = record {
+  set_up = stands.set_up;
+  role = refl;
+  node = λ i. fresh_node ((stands.set_up ∙ sym same) i) (counted_so config role half side stands i);
+  first = stands.first;
+  restarts = ap (λ n. n + 1) stands.restarts;
+  seen = refl;
+  forgotten = refl;
+  made = refl;
+}
+
+-- the world where this delivery was late, or not
+abbrev pub lates : Bool → World → Role → Arrival → World
+lates false w role a = w
+lates true w role a = late_once w role a
+
+-- the world after a step, with what is told of it
+abbrev pub world_after : World → Role → Effect → EventOutcome → List Done → World
+world_after w role e outcome steps = logged (noted (moved w role e) (note_of outcome e.out)) role steps
+
+told_so : (outcome : EventOutcome) (out : Out) (config : Config) → told_of outcome out (map (datagram_of config) out.sent) ≡ told_in (note_of outcome out)
+told_so outcome out config = λ i. record { outcome = outcome; learned = out.learned; sent = as_many (datagram_of config) out.sent i; gave_up = out.gave_up; forgot = out.forgot }
+
+notes_after : (notes : List Told) (before : List Note) (told : Told) (note : Note) → notes ≡ oldest_first (map told_in before) → told ≡ told_in note → notes ++ (told ∷ []) ≡ oldest_first (map told_in (note ∷ before))
+notes_after notes before told note is same = λ i. is i ++ (same i ∷ [])
+
+datagrams_after : (setup : Setup) (role : Role) (config : Config) (datagrams : List (By Datagram)) (history : List machine.Sent) (out : Out) → config ≡ config_in setup role → AreFor setup datagrams history → AreReadable out → AreFor setup (datagrams ++ signed role (map (datagram_of config) out.sent)) (history ++ signed role (messages out.sent))
+datagrams_after setup role config datagrams history out same are read = for_append setup datagrams history _ _ are (sent_for setup role config out.sent same read)
+
+-- after a step of a gateway
+pub after_step : (setup : Setup) (v : Kept) (w : World) (role : Role) (station : Station) (e : Effect) (outcome : EventOutcome) (late : Bool) (a : Arrival) (steps : List Done) → (side_of w role).node.config ≡ config_in setup role → StandsFor setup v w → AreReadable e.out → station.node ≡ e.node → station.role ≡ (half_in v role).station.role → StandsFor setup (kept_after v role station e.out (sent_at (half_in v role) e.out) outcome late) (world_after (lates late w role a) role e outcome steps)
+after_step setup v w Serving station e outcome false a steps same stands read node stays = record {
+  serving = half_stepped setup.serving.config Serving v.serving w.serving station e stands.serving node stays;
+  packet = stands.packet;
+  datagrams = datagrams_after setup Serving v.serving.station.node.config v.log.datagrams w.history e.out (ap (λ (n : Node). n.config) stands.serving.node ∙ same) stands.datagrams read;
+  handed = ap (λ k. k ++ signed Serving e.out.handed) stands.handed;
+  accepted = ap (λ k. k ++ signed Serving e.out.accepted) stands.accepted;
+  late = stands.late;
+  notes = notes_after v.log.notes w.notes _ (note_of outcome e.out) stands.notes (told_so outcome e.out v.serving.station.node.config);
+}
+after_step setup v w Serving station e outcome true a steps same stands read node stays = record {
+  serving = half_stepped setup.serving.config Serving v.serving (side_of (late_once w Serving a) Serving) station e (record { set_up = stands.serving.set_up; role = stands.serving.role; node = stands.serving.node; first = stands.serving.first; restarts = stands.serving.restarts; seen = stands.serving.seen; forgotten = stands.serving.forgotten; made = stands.serving.made }) node stays;
+  packet = stands.packet;
+  datagrams = datagrams_after setup Serving v.serving.station.node.config v.log.datagrams w.history e.out (ap (λ (n : Node). n.config) stands.serving.node ∙ same) stands.datagrams read;
+  handed = ap (λ k. k ++ signed Serving e.out.handed) stands.handed;
+  accepted = ap (λ k. k ++ signed Serving e.out.accepted) stands.accepted;
+  late = ap (λ n. 1 + n) stands.late;
+  notes = notes_after v.log.notes w.notes _ (note_of outcome e.out) stands.notes (told_so outcome e.out v.serving.station.node.config);
+}
+after_step setup v w Packet station e outcome false a steps same stands read node stays = record {
+  serving = stands.serving;
+  packet = half_stepped setup.packet.config Packet v.packet w.packet station e stands.packet node stays;
+  datagrams = datagrams_after setup Packet v.packet.station.node.config v.log.datagrams w.history e.out (ap (λ (n : Node). n.config) stands.packet.node ∙ same) stands.datagrams read;
+  handed = ap (λ k. k ++ signed Packet e.out.handed) stands.handed;
+  accepted = ap (λ k. k ++ signed Packet e.out.accepted) stands.accepted;
+  late = stands.late;
+  notes = notes_after v.log.notes w.notes _ (note_of outcome e.out) stands.notes (told_so outcome e.out v.packet.station.node.config);
+}
+after_step setup v w Packet station e outcome true a steps same stands read node stays = record {
+  serving = stands.serving;
+  packet = half_stepped setup.packet.config Packet v.packet (side_of (late_once w Packet a) Packet) station e (record { set_up = stands.packet.set_up; role = stands.packet.role; node = stands.packet.node; first = stands.packet.first; restarts = stands.packet.restarts; seen = stands.packet.seen; forgotten = stands.packet.forgotten; made = stands.packet.made }) node stays;
+  datagrams = datagrams_after setup Packet v.packet.station.node.config v.log.datagrams w.history e.out (ap (λ (n : Node). n.config) stands.packet.node ∙ same) stands.datagrams read;
+  handed = ap (λ k. k ++ signed Packet e.out.handed) stands.handed;
+  accepted = ap (λ k. k ++ signed Packet e.out.accepted) stands.accepted;
+  late = ap (λ n. 1 + n) stands.late;
+  notes = notes_after v.log.notes w.notes _ (note_of outcome e.out) stands.notes (told_so outcome e.out v.packet.station.node.config);
+}
+
+-- an event that is passed over
+pub after_none : (setup : Setup) (v : Kept) (w : World) (outcome : EventOutcome) → StandsFor setup v w → StandsFor setup (passed_over v outcome) (noted w (quiet_note outcome))
+after_none setup v w outcome stands = record {
+  serving = stands.serving;
+  packet = stands.packet;
+  datagrams = stands.datagrams;
+  handed = stands.handed;
+  accepted = stands.accepted;
+  late = stands.late;
+  notes = notes_after v.log.notes w.notes _ (quiet_note outcome) stands.notes refl;
+}
+
+-- a restart
+pub after_restart : (setup : Setup) (v : Kept) (w : World) (role : Role) → (side_of w role).node.config ≡ config_in setup role → StandsFor setup v w → StandsFor setup (record (with_half v role (half_restarted role (half_in v role))) { log = log_with v.log (Restarted (counter_after (half_in v role))) }) (with_steps (noted (with_side w role (restarted (side_of w role))) (quiet_note (Restarted (next_counter (side_of w role))))) role [])
+after_restart setup v w Serving same stands = record {
+  serving = half_begins setup.serving.config Serving v.serving w.serving stands.serving same;
+  packet = stands.packet;
+  datagrams = stands.datagrams;
+  handed = stands.handed;
+  accepted = stands.accepted;
+  late = stands.late;
+  notes = notes_after v.log.notes w.notes _ (quiet_note (Restarted (next_counter w.serving))) stands.notes (ap (λ n. told_of (Restarted n) nothing []) (counted_so setup.serving.config Serving v.serving w.serving stands.serving));
+}
+after_restart setup v w Packet same stands = record {
+  serving = stands.serving;
+  packet = half_begins setup.packet.config Packet v.packet w.packet stands.packet same;
+  datagrams = stands.datagrams;
+  handed = stands.handed;
+  accepted = stands.accepted;
+  late = stands.late;
+  notes = notes_after v.log.notes w.notes _ (quiet_note (Restarted (next_counter w.packet))) stands.notes (ap (λ n. told_of (Restarted n) nothing []) (counted_so setup.packet.config Packet v.packet w.packet stands.packet));
+}

@@ -1,0 +1,141 @@
+-- What a command or a datagram comes to at a gateway, as it is kept.
+use Rattle.std.proofs.Common.{◌≡◌, inl, inr, ℕ, Bool, true, false, List, [], ◌∷◌, ◌++◌, map, Option, Some, None, option_map, option_to_list, refl, sym, ◌∙◌, ap, subst, append-nil}
+use Rattle.std.specs.Prelude.{IsSome}
+use Rattle.std.proofs.lemmas.List.{map-append}
+use Rattle.gtp_values.specs.declared.counter.Counter.{Counter}
+use Rattle.gtp_values.specs.declared.address.Endpoint.{Endpoint}
+use Rattle.gtp_values.specs.declared.identifiers.Teid.{Teid}
+use Rattle.gtp_machine.specs.declared.role.Role.{Role}
+use Rattle.gtp_machine.specs.Command.{CommandStep}
+use Rattle.gtp_machine.specs.Input.{Command, Create_session, Delete_session, Create_bearer, Delete_bearer, Release_session, Mark_end, Send_echo, Send_user, Commanded, Effect, Entry, Out, nothing, refused}
+use Rattle.gtp_machine.specs.Message.{Plane}
+use Rattle.gtp_machine.specs.Node.{Arrival, Node}
+use Rattle.gtp_machine.specs.World.{signed}
+use Rattle.gtp_machine.specs.declared.outcome.Outcome.TheVariants.{Refused, GoneOut}
+use Rattle.gtp_machine.specs.declared.outcome.Refusal.{Refusal}
+use Rattle.gtp_gateway.specs.Begun.{IsDone, outcome_by}
+use Rattle.gtp_gateway.specs.Parts.{arrival_of}
+use Rattle.gtp_gateway.specs.Received.{IsReceived, coming}
+use Rattle.gtp_gateway.specs.Station.{Station}
+use Rattle.gtp_gateway.specs.Taken.{made_for}
+use Rattle.gtp_gateway.specs.UserTaken.{AreEntries}
+use Rattle.gtp_gateway.specs.declared.sent.Begun.{Begun}
+use Rattle.gtp_gateway.specs.declared.step.Step.{Step}
+use Rattle.gtp_gateway.specs.declared.user_step.Accepted.{Accepted}
+use Rattle.gtp_gateway.proofs.SentBack.{none_sent}
+use Rattle.gtp_world.specs.Kept.{oldest_first, Half}
+use Rattle.gtp_world.specs.Sides.{entries, IsHanded, IsAccepted, IsInput}
+use Rattle.gtp_world.specs.declared.log.Entry.{Entry as LoggedEntry}
+use Rattle.gtp_world.specs.declared.side.Came.{Came}
+use Rattle.gtp_world.proofs.Quiet.{IsQuiet, Handing, handing, plainly}
+
+none_handed : (role : Role) (entry : Option LoggedEntry) (e : Effect) → entry ≡ None → IsQuiet e → entries entry ≡ signed role e.out.handed
+none_handed role entry e none quiet = ap entries none ∙ ap (λ (o : Out). signed role o.handed) (sym quiet)
+
+-- the entry that is kept is that of the packet which the command hands in
+told : (node role : Role) (command : Command) (old : Node) (teid : Option ℕ) (entry : Option LoggedEntry) (e : Effect) → Handing role old command e → e.outcome ≡ outcome_by command teid → IsHanded node old command entry → entries entry ≡ signed node e.out.handed
+told node role (Create_session spec) old teid entry e quiet outcome none = none_handed node entry e none quiet
+told node role (Delete_session session) old teid entry e quiet outcome none = none_handed node entry e none quiet
+told node role (Create_bearer session tft qos) old teid entry e quiet outcome none = none_handed node entry e none quiet
+told node role (Delete_bearer session identity) old teid entry e quiet outcome none = none_handed node entry e none quiet
+told node role (Release_session session) old teid entry e quiet outcome none = none_handed node entry e none quiet
+told node role (Mark_end bearer) old teid entry e quiet outcome none = none_handed node entry e none quiet
+told node role Send_echo old teid entry e quiet outcome none = none_handed node entry e none quiet
+told node role (Send_user bearer payload) old teid entry e (inl refusal) outcome is = let apart : Refused refusal.why ≡ GoneOut = ap (λ (k : Effect). k.outcome) (sym refusal.is) ∙ outcome in absurd (cc apart)
+told node role (Send_user bearer payload) old teid entry e (inr hands) outcome is = is hands.at hands.sends.of ∙ ap (λ (k : Effect). signed node k.out.handed) (sym hands.sends.gives)
+
+-- nothing was heard, forgotten or made
+as_before : (old : Half) (station : Station) (out : Out) → out.heard ≡ None → out.forgot ≡ [] → out.made ≡ [] → record old { station = station } ≡ record old { station = station; seen = old.seen ++ option_to_list out.heard; forgotten = old.forgotten ++ out.forgot; made = old.made ++ oldest_first out.made }
+as_before old station out heard forgot made =
+    let seen = sym (append-nil old.seen) ∙ ap (λ h. old.seen ++ option_to_list h) (sym heard) in
+    let forgotten = sym (append-nil old.forgotten) ∙ ap (λ l. old.forgotten ++ l) (sym forgot) in
+    let makes = sym (append-nil old.made) ∙ ap (λ l. old.made ++ oldest_first l) (sym made) in
+    λ i. record old { station = station; seen = seen i; forgotten = forgotten i; made = makes i }
+
+-- what a command that was carried out came to
+abbrev pub came_of_begun : Command → Begun → Option LoggedEntry → Came
+came_of_begun command begun handed = record { outcome = outcome_by command (option_map (λ (t : Teid). t.0) begun.teid); restart = None; out = Some begun.out; handed = handed; accepted = None }
+
+pub done : (node : Role) (command : Command) (old : Half) (begun : Begun) (station : Station) (handed : Option LoggedEntry) → IsDone command old.station begun station → IsHanded node old.station.node command handed → IsInput node (Commanded command) old (came_of_begun command begun handed) (record old { station = station })
+done node command old begun station handed d is =
+    let plain = plainly old.station.role command old.station.node d.effect d.step in
+    record {
+      effect = d.effect;
+      step = d.step;
+      readable = d.sent.read;
+      node = d.becomes;
+      role_stays = d.role;
+      becomes = as_before old station d.effect.out (ap (λ (o : Out). o.heard) plain) (ap (λ (o : Out). o.forgot) plain) (ap (λ (o : Out). o.made) plain);
+      tells = record {
+        sent = d.sent.octets;
+        outcome = sym d.outcome;
+        learned = sym (ap (λ (o : Out). o.learned) plain);
+        handed = told node old.station.role command old.station.node (option_map (λ (t : Teid). t.0) begun.teid) handed d.effect (handing old.station.role command old.station.node d.effect d.step) d.outcome is;
+        accepted = ap (λ (o : Out). signed node o.accepted) (sym plain);
+        gave_up = ap (λ (o : Out). o.gave_up) plain;
+        forgot = ap (λ (o : Out). o.forgot) plain;
+      };
+    }
+
+-- what a command that was refused came to
+abbrev pub came_of_refused : Refusal → Came
+came_of_refused why = record { outcome = Refused why; restart = None; out = None; handed = None; accepted = None }
+
+pub turned_down : (node : Role) (command : Command) (old : Half) (why : Refusal) → CommandStep old.station.role command old.station.node (refused old.station.node why) → IsInput node (Commanded command) old (came_of_refused why) old
+turned_down node command old why step =
+    record {
+      effect = refused old.station.node why;
+      step = step;
+      readable = (none_sent old.station.node.config).read;
+      node = refl;
+      role_stays = refl;
+      becomes = as_before old old.station nothing refl refl refl;
+      tells = record { sent = refl; outcome = refl; learned = refl; handed = refl; accepted = refl; gave_up = refl; forgot = refl };
+    }
+
+-- a packet that was accepted left the node as it was, so its entry is read from what is there now
+entries_now : (old new : Node) (accepted : Option Accepted) (list : List Entry) → (IsSome accepted → new ≡ old) → AreEntries old accepted list → AreEntries new accepted list
+entries_now old new None list same are = are
+entries_now old new (Some a) list same are = subst (λ n. AreEntries n (Some a) list) (sym (same refl)) are
+
+one_made : (request : Arrival) (made : Bool) → oldest_first (made_for request made) ≡ made_for request made
+one_made request true = refl
+one_made request false = refl
+
+pub heard_kept : (seen : List Counter) (heard : Option Counter) → map (λ (c : Counter). c.0) (seen ++ option_to_list heard) ≡ map (λ (c : Counter). c.0) seen ++ option_to_list (option_map (λ (c : Counter). c.0) heard)
+heard_kept seen None = map-append (λ (c : Counter). c.0) seen []
+heard_kept seen (Some c) = map-append (λ (k : Counter). k.0) seen (c ∷ [])
+
+-- what a datagram came to
+abbrev pub came_of_step : Step → Option LoggedEntry → Came
+came_of_step step accepted = record { outcome = step.report.outcome; restart = step.report.restart; out = step.out; handed = None; accepted = accepted }
+
+-- a gateway, after a datagram of which this was told
+abbrev pub half_told : Half → Station → Step → Arrival → Half
+half_told old station step request = record old { station = station; seen = old.seen ++ option_to_list (option_map (λ (c : Counter). c.0) step.report.heard); made = old.made ++ made_for request step.report.made }
+
+pub taken : (node : Role) (plane : Plane) (source : Endpoint) (octets : List ℕ) (old : Half) (step : Step) (station : Station) (entry : Option LoggedEntry) → IsReceived plane source octets old.station step station → (IsSome step.accepted → station ≡ old.station) → IsAccepted node station.node step.accepted entry → IsInput node (coming plane source octets) old (came_of_step step entry) (half_told old station step (arrival_of source octets))
+taken node plane source octets old step station entry r stays is =
+    let request = arrival_of source octets in
+    let out = r.effect.out in
+    let forgot = ap (λ (o : Out). o.forgot) r.tells.all in
+    let seen = ap (λ h. old.seen ++ option_to_list h) r.tells.heard in
+    let forgotten = sym (append-nil old.forgotten) ∙ ap (λ l. old.forgotten ++ l) (sym forgot) in
+    let made = ap (λ l. old.made ++ l) (sym (one_made request step.report.made) ∙ ap oldest_first r.tells.made) in
+    record {
+      effect = r.effect;
+      step = r.takes;
+      readable = r.tells.sent.read;
+      node = r.becomes;
+      role_stays = r.role;
+      becomes = λ i. record old { station = station; seen = seen i; forgotten = forgotten i; made = made i };
+      tells = record {
+        sent = r.tells.sent.octets;
+        outcome = r.tells.outcome;
+        learned = r.tells.restart;
+        handed = ap (λ (o : Out). signed node o.handed) (sym r.tells.all);
+        accepted = is out.accepted (entries_now old.station.node station.node step.accepted out.accepted (λ some. ap (λ (s : Station). s.node) (stays some)) r.tells.accepted);
+        gave_up = ap (λ (o : Out). o.gave_up) r.tells.all;
+        forgot = forgot;
+      };
+    }

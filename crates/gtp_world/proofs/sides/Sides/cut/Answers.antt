@@ -1,0 +1,49 @@
+use Rattle.std.proofs.Common.{◌≡◌, ◌<◌, inl, inr, ℕ, length, sym, ◌∙◌, ap, subst, refl, arith}
+use Rattle.std.proofs.lemmas.Option.{slice_get_read}
+use Rattle.gtp_machine.specs.World.{Cut}
+use Rattle.gtp_world.specs.Kept.{Kept, Log, kept_of, log_of}
+use Rattle.gtp_world.specs.Stepped.{Comes}
+use Rattle.gtp_world.proofs.Finding.{there, octets_at, so_on_ok}
+use Rattle.gtp_world.proofs.sides.Sides.cut.Goals as goal
+
+pub returns-then-count-length-clause-comes : goal.returns-then-count-length-clause-comes
+returns-then-count-length-clause-comes c =
+    let old = c.args.self.now in
+    let room = c.make_room.new.self in
+    let v : Kept = record (kept_of old) { log = log_of room } in
+    let same : v ≡ kept_of old = ap (λ (l : Log). record (kept_of old) { log = l }) c.in_ok-make_room.ensures.same in
+    let is = c.in-Some.ensures.some in
+    let i = c.in-Some.index in
+    let datagrams = room.datagrams.items in
+    let within = subst (λ n. n < length datagrams) (sym is.0) is.1 in
+    let d = c.index.result.now in
+    let found = there datagrams i within in
+    let at = slice_get_read datagrams _ i d refl within c.index.ensures in
+    let long = c.len-length.ensures ∙ d.sent.octets.ok.0 ∙ sym (octets_at datagrams i d found at) in
+    let past : c.args.count < length found.sent.what.octets → ⊥ = λ short. omega (arith, c.if-count-length.true, long, short) in
+    let new : Kept = record (kept_of old) { log = log_of c.pass_over-then-count-length.new.self } in
+    subst (λ (n : ℕ). Comes (kept_of old) (Cut n c.args.count) new) is.0
+    (subst (λ (k : Kept). Comes k (Cut i c.args.count) new) same
+    (inr (found, inl (past, ap (λ (l : Log). record (kept_of old) { log = l }) c.pass_over-then-count-length.ensures.log))))
+
+pub returns-clause-comes : goal.returns-clause-comes
+returns-clause-comes c =
+    let old = c.args.self.now in
+    let room = c.make_room.new.self in
+    let v : Kept = record (kept_of old) { log = log_of room } in
+    let same : v ≡ kept_of old = ap (λ (l : Log). record (kept_of old) { log = l }) c.in_ok-make_room.ensures.same in
+    let is = c.in-Some.ensures.some in
+    let i = c.in-Some.index in
+    let datagrams = room.datagrams.items in
+    let within = subst (λ n. n < length datagrams) (sym is.0) is.1 in
+    let d = c.index.result.now in
+    let found = there datagrams i within in
+    let at = slice_get_read datagrams _ i d refl within c.index.ensures in
+    let long = c.len-length.ensures ∙ d.sent.octets.ok.0 ∙ sym (octets_at datagrams i d found at) in
+    let short : c.args.count < length found.sent.what.octets = omega (arith, c.if-count-length.false, long) in
+    let new = kept_of c.bring.new.self in
+    so_on_ok c.bring.result _ _ (λ takes.
+    subst (λ (n : ℕ). Comes (kept_of old) (Cut n c.args.count) new) is.0
+    (subst (λ (k : Kept). Comes k (Cut i c.args.count) new) same
+    (inr (found, inr (short, takes found)))))
+    c.bring.ensures.takes

@@ -1,0 +1,110 @@
+-- Runs of the machine, and what they leave.
+use Rattle.std.specs.Prelude.{◌≡◌, ◌<◌, ℕ, List, [], ◌∷◌, ◌++◌, map, length, take}
+use Rattle.gtp_machine.specs.Config.{Config, own_end}
+use Rattle.gtp_machine.specs.Message.{plane_of}
+use Rattle.gtp_machine.specs.declared.role.Role.{Role}
+use Rattle.gtp_machine.specs.declared.role.Role.TheVariants.{Serving, Packet}
+use Rattle.gtp_machine.specs.Spelling.{Datagram, spelled}
+use Rattle.gtp_machine.specs.World as machine
+use Rattle.gtp_machine.specs.World.{By, Sent, Side, World, Event, Run, start}
+use Rattle.gtp_machine.specs.Laws.{SessionsAgree, BearersAgree, EachOwed, NoneOver}
+use Rattle.gtp_world.specs.Kept.{oldest_first, Half, Told, Kept}
+use Rattle.gtp_gateway.specs.Sent.{ReadsBack}
+use Rattle.gtp_gateway.specs.Settings.{Settings}
+use Rattle.gtp_world.specs.Recorded.{empty_log}
+use Rattle.gtp_world.specs.Stepped.{half_begun}
+use Rattle.gtp_world.specs.declared.run.RunFault.{RunFault}
+use Rattle.gtp_world.specs.declared.run.RunFault.TheVariants.{Start, At}
+
+-- both gateways as they are set up, and the counters that they begin with
+pub record Setup : Type 0 where
+  pub serving : Settings
+  pub packet : Settings
+  pub serving_counter : ℕ
+  pub packet_counter : ℕ
+
+abbrev pub config_in : Setup → Role → Config
+config_in setup Serving = setup.serving.config
+config_in setup Packet = setup.packet.config
+
+-- each gateway has the other's addresses for its peer
+pub record AreFacing (serving packet : Settings) : Type 0 where
+  pub control : serving.config.own.control ≡ packet.config.peer.control
+  pub user : serving.config.own.user ≡ packet.config.peer.user
+  pub control_back : packet.config.own.control ≡ serving.config.peer.control
+  pub user_back : packet.config.own.user ≡ serving.config.peer.user
+
+-- both gateways, just started
+abbrev pub begun : Setup → Kept
+begun setup = record { serving = half_begun Serving setup.serving setup.serving_counter; packet = half_begun Packet setup.packet setup.packet_counter; log = empty_log }
+
+-- the datagram is the one that its gateway sends for the message, whoever it goes to; and it reads as the message
+pub record IsFor (setup : Setup) (d : By Datagram) (sent : Sent) : Type 0 where
+  pub role : d.role ≡ sent.role
+  pub plane : d.what.plane ≡ plane_of sent.what
+  pub from : d.what.from ≡ own_end (config_in setup sent.role) (plane_of sent.what)
+  pub octets : d.what.octets ≡ spelled sent.what
+  pub reads : ReadsBack sent.what
+
+-- the datagrams are those for the messages, one by one
+abbrev pub AreFor : Setup → List (By Datagram) → List Sent → Type 0
+AreFor setup [] [] = Unit {0}
+AreFor setup (d ∷ datagrams) (sent ∷ history) = IsFor setup d sent × AreFor setup datagrams history
+AreFor setup datagrams history = ⊥
+
+-- what is told of an event, by the machine's note of it
+abbrev pub told_in : machine.Note → Told
+told_in n = record { outcome = n.outcome; learned = n.learned; sent = length n.sent; gave_up = n.gave_up; forgot = n.forgot }
+
+-- what is kept of a gateway is what the machine's world has of it
+pub record HalfStands (config : Config) (which : Role) (half : Half) (side : Side) : Type 0 where
+  pub set_up : half.settings.config ≡ config
+  pub role : half.station.role ≡ which
+  pub node : half.station.node ≡ side.node
+  pub first : half.first ≡ side.first
+  pub restarts : half.restarts ≡ side.restarts
+  pub seen : half.seen ≡ oldest_first side.seen
+  pub forgotten : half.forgotten ≡ side.forgotten
+  pub made : half.made ≡ oldest_first side.made
+
+-- What is kept stands for a world of the machine: its gateways, and all that they have sent, as octets; its logs and its notes.
+pub record StandsFor (setup : Setup) (v : Kept) (w : World) : Type 0 where
+  pub serving : HalfStands setup.serving.config Serving v.serving w.serving
+  pub packet : HalfStands setup.packet.config Packet v.packet w.packet
+  pub datagrams : AreFor setup v.log.datagrams w.history
+  pub handed : v.log.handed ≡ w.handed
+  pub accepted : v.log.accepted ≡ w.accepted
+  pub late : v.log.late ≡ w.late
+  pub notes : v.log.notes ≡ oldest_first (map told_in w.notes)
+
+-- It is what a run of these events leaves, from two gateways that have just started.
+pub record IsRunOf (setup : Setup) (events : List Event) (v : Kept) : Type 0 where
+  pub world : World
+  pub run : Run (start setup.serving.config setup.packet.config setup.serving_counter setup.packet_counter) events world
+  pub stands : StandsFor setup v world
+
+-- a gateway of the machine's world, by what is kept of it
+abbrev pub side_by : Half → Side
+side_by h = record { node = h.station.node; first = h.first; restarts = h.restarts; seen = h.seen; forgotten = h.forgotten; came_late = []; made = h.made }
+
+-- a world of the machine, by what is kept of both gateways and of their packets alone
+abbrev pub pictured : Kept → World
+pictured v = record { serving = side_by v.serving; packet = side_by v.packet; history = []; handed = v.log.handed; accepted = v.log.accepted; late = v.log.late; notes = []; serving_steps = []; packet_steps = [] }
+
+-- Tunnel safety. Contexts that name each other agree on subscriber, access point, bearer identity and address; where no delivery was late, each packet that
+-- was accepted was handed in at the other gateway, octet for octet, for that subscriber, access point and bearer; and no session outlives a restart of the
+-- peer that its gateway has heard of.
+pub record IsSafe (v : Kept) : Type 0 where
+  pub sessions : SessionsAgree (pictured v)
+  pub bearers : BearersAgree (pictured v)
+  pub owed : EachOwed (pictured v)
+  pub none_over : NoneOver (pictured v)
+
+-- A run that was left at the one is left at the other after one event more.
+abbrev pub GoesOn : Kept → Event → Kept → Type 0
+GoesOn old event new = (setup : Setup) (events : List Event) → IsRunOf setup events old → IsRunOf setup (events ++ event ∷ []) new
+
+-- Where memory ran out in a run of these events, it is a run of those before the one that could not happen, and safe.
+abbrev pub IsCutShort : Setup → List Event → RunFault → Type 0
+IsCutShort setup events Start = Unit {0}
+IsCutShort setup events (At count world) = (count < length events) × IsRunOf setup (take count events) world × IsSafe world

@@ -1,0 +1,74 @@
+-- What an input or a tick leaves of one gateway.
+use Rattle.std.specs.Prelude.{◌≡◌, ℕ, List, [], ◌∷◌, map, Option, Some, None, option_map, option_to_list}
+use Rattle.gtp_values.specs.declared.identifiers.Teid.{Teid}
+use Rattle.gtp_machine.specs.Choice.{HasSession, HasBearer}
+use Rattle.gtp_machine.specs.Input.{Command, Send_user, Input, Entry, entry_for, Out, Effect, nothing}
+use Rattle.gtp_machine.specs.declared.role.Role.{Role}
+use Rattle.gtp_machine.specs.Node.{Node, written}
+use Rattle.gtp_machine.specs.Step.{Step}
+use Rattle.gtp_machine.specs.Tick.{Ticks}
+use Rattle.gtp_machine.specs.World.{By, signed}
+use Rattle.gtp_gateway.specs.Sent.{datagram_by}
+use Rattle.gtp_gateway.specs.Taken.{datagrams}
+use Rattle.gtp_gateway.specs.Ticked.{due_in, arrivals_of}
+use Rattle.gtp_gateway.specs.declared.tick.Ticked.{Ticked}
+use Rattle.gtp_gateway.specs.declared.user_step.Accepted.{Accepted}
+use Rattle.gtp_gateway.specs.UserTaken.{AreEntries}
+use Rattle.gtp_world.specs.Kept.{Half, entry_by}
+use Rattle.gtp_world.specs.Stepped.{half_after, sent_at, AreReadable}
+use Rattle.gtp_world.specs.declared.log.Entry.{Entry as LoggedEntry}
+use Rattle.gtp_world.specs.declared.side.Came.{Came}
+
+-- the entry that is logged, if there is one
+abbrev pub entries : Option LoggedEntry → List (By Entry)
+entries entry = option_to_list (option_map entry_by entry)
+
+-- what came of an input tells what its effect has
+pub record TellsCame (role : Role) (old : Half) (came : Came) (e : Effect) : Type 0 where
+  pub sent : datagrams came.out ≡ sent_at old e.out
+  pub outcome : came.outcome ≡ e.outcome
+  pub learned : option_map (λ c. c.0) came.restart ≡ e.out.learned
+  pub handed : entries came.handed ≡ signed role e.out.handed
+  pub accepted : entries came.accepted ≡ signed role e.out.accepted
+  pub gave_up : e.out.gave_up ≡ []
+  pub forgot : e.out.forgot ≡ []
+
+-- The gateway took an input.
+pub record IsInput (role : Role) (input : Input) (old : Half) (came : Came) (new : Half) : Type 0 where
+  pub effect : Effect
+  pub step : Step old.station.role old.station.node input effect
+  pub readable : AreReadable effect.out
+  pub node : new.station.node ≡ effect.node
+  pub role_stays : new.station.role ≡ old.station.role
+  pub becomes : new ≡ half_after old new.station effect.out
+  pub tells : TellsCame role old came effect
+
+-- The gateway ticked.
+pub record IsTick (old : Half) (ticked : Ticked) (new : Half) : Type 0 where
+  pub out : Out
+  pub ticks : Ticks old.station.node (due_in old.station.timing) out new.station.node
+  pub readable : AreReadable out
+  pub role_stays : new.station.role ≡ old.station.role
+  pub becomes : new ≡ half_after old new.station out
+  pub sent : map datagram_by ticked.resent.items ≡ sent_at old out
+  pub gave_up : ticked.gave_up.items ≡ out.gave_up
+  pub forgot : arrivals_of ticked.forgotten.items ≡ out.forgot
+  pub all : out ≡ record nothing { sent = out.sent; gave_up = out.gave_up; forgot = out.forgot }
+
+-- the TEID that a packet names: this one, or else the bearer's remote
+abbrev pub named_or : Option Teid → Option ℕ → ℕ
+named_or None remote = written remote
+named_or (Some teid) remote = teid.0
+
+-- the entry of a packet on a bearer, where that and its session stand
+abbrev pub IsEntryAt : Role → Node → ℕ → Option Teid → List ℕ → Option LoggedEntry → Type 0
+IsEntryAt role node bearer names payload entry = (at : HasBearer node bearer) (of : HasSession node at.bearer.session) → entries entry ≡ record { role = role; what = entry_for (named_or names at.bearer.remote) payload of.session.subscriber at.bearer.identity } ∷ []
+
+-- the entry of a packet that is handed in, where its bearer and that bearer's session stand; no other command has one
+abbrev pub IsHanded : Role → Node → Command → Option LoggedEntry → Type 0
+IsHanded role node (Send_user bearer payload) entry = IsEntryAt role node bearer None payload entry
+IsHanded role node command entry = entry ≡ None
+
+-- the entry of a packet that was accepted, if one was
+abbrev pub IsAccepted : Role → Node → Option Accepted → Option LoggedEntry → Type 0
+IsAccepted role node accepted entry = (list : List Entry) → AreEntries node accepted list → entries entry ≡ signed role list

@@ -1,0 +1,114 @@
+-- What an event leaves.
+use Rattle.std.specs.Prelude.{◌≡◌, ℕ, ◌+◌, ◌%◌, ◌<◌, Bool, true, false, List, [], ◌∷◌, ◌++◌, map, length, take, All, slice_get, Some, option_to_list}
+use Rattle.gtp_values.specs.FiniteMap.{Among}
+use Rattle.gtp_machine.specs.Input.{Input, Commanded, Out, Effect, nothing}
+use Rattle.gtp_machine.specs.Message.{Control}
+use Rattle.gtp_machine.specs.declared.role.Role.{Role}
+use Rattle.gtp_machine.specs.Ordered.{Unless}
+use Rattle.gtp_machine.specs.Spelling.{Datagram, datagram_of}
+use Rattle.gtp_machine.specs.Step.{Step}
+use Rattle.gtp_machine.specs.Tick.{Ticks}
+use Rattle.gtp_machine.specs.World.{By, EventOutcome, Came_to, Ticked, Restarted, No_such_datagram, Restarts_used, Cut_too_long, Event, Does, Tick, Deliver, Cut, Restart, other, signed}
+use Rattle.gtp_gateway.specs.Parts.{arrival_of}
+use Rattle.gtp_gateway.specs.Received.{coming}
+use Rattle.gtp_gateway.specs.Sent.{SendingReads}
+use Rattle.gtp_gateway.specs.Settings.{Settings}
+use Rattle.gtp_gateway.specs.Station.{Station, starting}
+use Rattle.gtp_gateway.specs.Ticked.{due_in}
+use Rattle.gtp_world.specs.Kept.{oldest_first, Half, Told, Log, Kept, half_in, with_half, counted}
+
+-- what is kept of a gateway, after a step that tells this
+abbrev pub half_after : Half → Station → Out → Half
+half_after h station out = record h { station = station; seen = h.seen ++ option_to_list out.heard; forgotten = h.forgotten ++ out.forgot; made = h.made ++ oldest_first out.made }
+
+-- what is told of an event that sends these datagrams
+abbrev pub told_of : EventOutcome → Out → List Datagram → Told
+told_of outcome out datagrams = record { outcome = outcome; learned = out.learned; sent = length datagrams; gave_up = out.gave_up; forgot = out.forgot }
+
+-- the log, after a step of that gateway
+abbrev pub log_after : Log → Role → Out → List Datagram → EventOutcome → Bool → Log
+log_after log role out datagrams outcome late =
+    record {
+      datagrams = log.datagrams ++ signed role datagrams;
+      handed = log.handed ++ signed role out.handed;
+      accepted = log.accepted ++ signed role out.accepted;
+      late = counted late log.late;
+      notes = log.notes ++ (told_of outcome out datagrams ∷ []);
+    }
+
+-- all that is kept, after a step of that gateway
+abbrev pub kept_after : Kept → Role → Station → Out → List Datagram → EventOutcome → Bool → Kept
+kept_after v role station out datagrams outcome late = record (with_half v role (half_after (half_in v role) station out)) { log = log_after v.log role out datagrams outcome late }
+
+-- what a gateway sends at this step, as it is sent
+abbrev pub sent_at : Half → Out → List Datagram
+sent_at half out = map (datagram_of half.station.node.config) out.sent
+
+-- each message that is sent reads as itself
+abbrev pub AreReadable : Out → Type 0
+AreReadable out = All SendingReads out.sent
+
+-- A gateway takes an input, by the rules of the machine.
+pub record Takes (old : Kept) (role : Role) (input : Input) (late : Bool) (new : Kept) : Type 0 where
+  pub effect : Effect
+  pub step : Step (half_in old role).station.role (half_in old role).station.node input effect
+  pub readable : AreReadable effect.out
+  pub station : Station
+  pub node : station.node ≡ effect.node
+  pub role_stays : station.role ≡ (half_in old role).station.role
+  pub becomes : new ≡ kept_after old role station effect.out (sent_at (half_in old role) effect.out) (Came_to effect.outcome) late
+
+-- A gateway ticks: what is due by its counts of ticks is done.
+pub record TicksBy (old : Kept) (role : Role) (new : Kept) : Type 0 where
+  pub out : Out
+  pub station : Station
+  pub ticks : Ticks (half_in old role).station.node (due_in (half_in old role).station.timing) out station.node
+  pub readable : AreReadable out
+  pub role_stays : station.role ≡ (half_in old role).station.role
+  pub becomes : new ≡ kept_after old role station out (sent_at (half_in old role) out) Ticked false
+
+-- the log, where this is told, and nothing else
+abbrev pub log_with : Log → EventOutcome → Log
+log_with log outcome = record log { notes = log.notes ++ (told_of outcome nothing [] ∷ []) }
+
+-- nothing changes, and that is told
+abbrev pub passed_over : Kept → EventOutcome → Kept
+passed_over v outcome = record v { log = log_with v.log outcome }
+
+-- the datagram with this number
+pub record IsThere (datagrams : List (By Datagram)) (number : ℕ) : Type 0 where
+  pub sent : By Datagram
+  pub is : slice_get datagrams number ≡ Some sent
+
+-- the delivery is late: of a request whose answer the gateway has given up
+abbrev pub IsLate : Half → Datagram → Type 0
+IsLate half d = (d.plane ≡ Control) × Among (arrival_of d.from d.octets) half.forgotten
+
+-- the counter of the next start
+abbrev pub counter_after : Half → ℕ
+counter_after h = (h.first + (h.restarts + 1)) % 256
+
+-- a gateway that has just started for the first time
+abbrev pub half_begun : Role → Settings → ℕ → Half
+half_begun role settings counter = record { settings = settings; station = starting role settings counter; first = counter; restarts = 0; seen = []; forgotten = []; made = [] }
+
+-- the same gateway, started afresh
+abbrev pub half_restarted : Role → Half → Half
+half_restarted role h = record h { station = starting role h.settings (counter_after h); restarts = h.restarts + 1; seen = []; forgotten = []; made = [] }
+
+-- What comes of an event.
+abbrev pub Comes : Kept → Event → Kept → Type 0
+Comes old (Does role command) new = Takes old role (Commanded command) false new
+Comes old (Tick role) new = TicksBy old role new
+Comes old (Deliver number) new =
+    Unless (IsThere old.log.datagrams number) (new ≡ passed_over old No_such_datagram) (λ found.
+    Unless (IsLate (half_in old (other found.sent.role)) found.sent.what)
+    (Takes old (other found.sent.role) (coming found.sent.what.plane found.sent.what.from found.sent.what.octets) false new)
+    (λ late. Takes old (other found.sent.role) (coming found.sent.what.plane found.sent.what.from found.sent.what.octets) true new))
+Comes old (Cut number count) new =
+    Unless (IsThere old.log.datagrams number) (new ≡ passed_over old No_such_datagram) (λ found.
+    Unless (count < length found.sent.what.octets) (new ≡ passed_over old Cut_too_long) (λ short.
+    Takes old (other found.sent.role) (coming found.sent.what.plane found.sent.what.from (take count found.sent.what.octets)) false new))
+Comes old (Restart role) new =
+    Unless ((half_in old role).restarts < 127) (new ≡ passed_over old Restarts_used) (λ few.
+    new ≡ record (with_half old role (half_restarted role (half_in old role))) { log = log_with old.log (Restarted (counter_after (half_in old role))) })

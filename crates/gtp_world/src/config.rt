@@ -1,0 +1,86 @@
+//! What both gateways of a world are set up with.
+
+ghost use Rattle.std.specs.Prelude.{◌≡◌, ◌↔◌, IsOk, IfOk, IfErr};
+ghost use Rattle.gtp_values.specs.declared.fault.ValueFault.TheVariants.{OutOfRange};
+ghost use Rattle.gtp_world.specs.Runs.{AreFacing};
+
+use gtp_gateway::{Config, Counter, ValueFault};
+use std::marker::Model;
+
+/// Both gateways as they are set up, and the restart counters with which they begin.
+#[derive(Debug, Drop)]
+pub struct WorldConfig {
+    serving: Config,
+    packet: Config,
+    serving_counter: Counter,
+    packet_counter: Counter,
+}
+
+impl Model for WorldConfig {
+    ghost use Rattle.std.specs.Prelude.{◌<◌};
+    ghost use Rattle.gtp_world.specs.Runs.{Setup};
+
+    ghost Value = { Setup };
+
+    ghost view = { λ c. record { serving = c.serving; packet = c.packet; serving_counter = c.serving_counter.0; packet_counter = c.packet_counter.0 } };
+
+    ghost invariant = { λ c. (c.serving_counter.0 < 256) × (c.packet_counter.0 < 256) };
+}
+
+impl WorldConfig {
+    /// Both gateways, the serving one first: `OutOfRange` unless the own addresses of each are the
+    /// peer addresses of the other.
+    pub fn try_new(
+        serving: Config,
+        packet: Config,
+        counters: [Counter; 2],
+    ) -> Result<WorldConfig, ValueFault>
+        ensures ok { IsOk result ↔ AreFacing serving packet }
+        ensures serving { IfOk result (λ c. c.serving ≡ serving) }
+        ensures packet { IfOk result (λ c. c.packet ≡ packet) }
+        ensures fault { IfErr result (λ f. f ≡ OutOfRange) }
+    {
+        let from_serving = serving.own();
+        let from_packet = packet.own();
+        let to_packet = serving.peer();
+        let to_serving = packet.peer();
+        if from_serving != to_serving || from_packet != to_packet {
+            return Err(ValueFault::OutOfRange);
+        }
+        let [serving_counter, packet_counter] = counters;
+        Ok(WorldConfig {
+            serving,
+            packet,
+            serving_counter,
+            packet_counter,
+        })
+    }
+
+    /// How the serving gateway is set up.
+    pub fn serving(&self) -> &Config
+        ensures { result.now ≡ self.now.serving }
+    {
+        &self.serving
+    }
+
+    /// How the packet gateway is set up.
+    pub fn packet(&self) -> &Config
+        ensures { result.now ≡ self.now.packet }
+    {
+        &self.packet
+    }
+
+    /// The counter with which the serving gateway begins.
+    pub fn serving_counter(&self) -> Counter
+        ensures value { result.0 ≡ self.now.serving_counter }
+    {
+        self.serving_counter
+    }
+
+    /// The counter with which the packet gateway begins.
+    pub fn packet_counter(&self) -> Counter
+        ensures value { result.0 ≡ self.now.packet_counter }
+    {
+        self.packet_counter
+    }
+}

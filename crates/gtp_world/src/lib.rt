@@ -1,0 +1,19 @@
+//! Both gateways of the S5/S8 interface, and every datagram that they have ever sent.
+#![tactic(auto)]
+
+mod command;
+mod config;
+mod event;
+mod log;
+mod records;
+mod room;
+mod run;
+mod side;
+mod sides;
+mod world;
+
+pub use config::WorldConfig;
+pub use event::{Event, EventOutcome};
+pub use log::{Datagram, Entry, Note};
+pub use run::RunFault;
+pub use world::World;

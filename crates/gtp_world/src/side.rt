@@ -1,0 +1,296 @@
+//! One gateway of a world, and what is kept of it.
+
+ghost use Rattle.std.specs.Prelude.{◌≡◌, ◌↔◌, ◌⊎◌, ◌+◌, ◌<◌, ◌≤◌, ◌++◌, [], ◌∷◌, Some, None, true, length};
+ghost use Rattle.std.specs.Prelude.{option_map, option_to_list, vec_len, vec_capacity};
+ghost use Rattle.std.specs.Prelude.{IsTrue, IsSome, IfOk, IfErr, IfSome, IfNone, OnOk, OnErr};
+ghost use Rattle.gtp_values.specs.FiniteMap.{Among};
+ghost use Rattle.gtp_machine.specs.Input.{Commanded};
+ghost use Rattle.gtp_gateway.specs.Parts.{arrival_of};
+ghost use Rattle.gtp_gateway.specs.Received.{coming};
+ghost use Rattle.gtp_gateway.specs.Sent.{datagram_by};
+ghost use Rattle.gtp_gateway.specs.Taken.{made_for};
+ghost use Rattle.gtp_reliable.specs.Forgotten.{question_of};
+ghost use Rattle.gtp_gateway.specs.Ticked.{asked_by, arrivals_of};
+ghost use Rattle.gtp_world.specs.Commands.{command_of, is_command};
+ghost use Rattle.gtp_world.specs.Kept.{half_of};
+ghost use Rattle.gtp_world.specs.Sides.{IsInput, IsTick, IsEntryAt, IsHanded, IsAccepted};
+ghost use Rattle.gtp_world.specs.Stepped.{IsLate, counter_after, half_begun, half_restarted};
+
+use crate::command::{outcome_of, tell};
+use crate::event::Event;
+use crate::log::Entry;
+use crate::room::{keep, keep_all};
+use gtp_gateway::{
+    Accepted, Begun, CommandFault, Config, Counter, Endpoint, Gateway, Memory, Outcome, Plane,
+    Refusal, Request, Role, Sent, Teid, Ticked,
+};
+use std::alloc::Global;
+
+/// A gateway, and what is kept of it since it started.
+#[derive(Drop)]
+pub struct Side {
+    pub config: Config,
+    pub gateway: Gateway,
+    /// The restart counter that it began with.
+    pub first: Counter,
+    /// How often it was restarted.
+    pub restarts: u8,
+    /// The counters that it heard.
+    pub seen: Vec<Counter>,
+    /// The requests whose answers it has given up.
+    pub forgotten: Vec<Request>,
+    /// The create requests for which it made a context.
+    pub made: Vec<Request>,
+}
+
+/// What a command or a datagram came to at a gateway.
+#[derive(Debug, Drop)]
+pub struct Came {
+    pub outcome: Outcome,
+    pub restart: Option<Counter>,
+    pub out: Option<Sent>,
+    pub handed: Option<Entry>,
+    pub accepted: Option<Entry>,
+}
+
+/// Whether a request is this one.
+fn is_from(request: &Request, source: Endpoint, octets: &[u8]) -> bool
+    ensures { IsTrue result
+        ↔ arrival_of source octets.now ≡ asked_by (question_of request.now) }
+{
+    request.source == source && request.octets.as_slice() == octets
+}
+
+impl Side {
+    /// A gateway that starts, and began with this counter.
+    pub fn start(alloc: Global, role: Role, config: &Config, first: Counter) -> Result<Side, Memory>
+        ensures { IfOk result (λ side. half_of side ≡ half_begun role config.now first.0) }
+    {
+        Ok(Side {
+            config: config.copy(alloc)?,
+            gateway: Gateway::start(alloc, role, config, first)?,
+            first,
+            restarts: 0,
+            seen: Vec::new(alloc),
+            forgotten: Vec::new(alloc),
+            made: Vec::new(alloc),
+        })
+    }
+
+    /// The entry of a packet on a bearer, if that and its session stand, under the TEID that the
+    /// packet names.
+    fn entry(
+        &self,
+        node: Role,
+        bearer: Teid,
+        names: Option<Teid>,
+        payload: Vec<u8>,
+    ) -> Option<Entry>
+        ensures { IsEntryAt node self.now.gateway.node bearer.0 names payload.items result }
+    {
+        let at = self.gateway.bearer(bearer)?;
+        let of = self.gateway.session(Teid(at.session))?;
+        Some(Entry {
+            node,
+            teid: names.unwrap_or(Teid(at.remote.unwrap_or(0))),
+            payload,
+            imsi: of.subscriber.imsi,
+            apn: of.subscriber.access_point,
+            ebi: at.identity,
+        })
+    }
+
+    /// The entry of a packet that a command hands in.
+    fn handing(&self, alloc: Global, node: Role, event: &Event) -> Result<Option<Entry>, Memory>
+        ensures { IfOk result (λ entry.
+            IsHanded node self.now.gateway.node (command_of event.now) entry) }
+    {
+        let Event::SendUser {
+            bearer,
+            payload,
+            ..
+        } = event
+        else {
+            return Ok(None);
+        };
+        let payload = Vec::from_slice(alloc, payload.as_slice())?;
+        Ok(self.entry(node, *bearer, None, payload))
+    }
+
+    /// The entry of a packet that was accepted.
+    fn accepting(
+        &self,
+        alloc: Global,
+        node: Role,
+        accepted: Option<Accepted<'_>>,
+    ) -> Result<Option<Entry>, Memory>
+        ensures accepted { IfOk result (λ entry.
+            IsAccepted node self.now.gateway.node accepted.entry entry) }
+        ensures memory { IfErr result (λ _. IsSome accepted.entry) }
+    {
+        let Some(accepted) = accepted else {
+            return Ok(None);
+        };
+        let payload = Vec::from_slice(alloc, accepted.payload)?;
+        Ok(self.entry(node, accepted.bearer, Some(accepted.bearer), payload))
+    }
+
+    /// Carries a command out, or refuses it.
+    pub fn does(&mut self, alloc: Global, node: Role, event: &Event) -> Result<Came, Memory>
+        requires command { is_command event.now ≡ true }
+        ensures done { IfOk result (λ came. IsInput node (Commanded (command_of event.now))
+            (half_of self.old) came (half_of self.new)) }
+        ensures err { OnErr result (half_of self.new ≡ half_of self.old) }
+    {
+        let handed = self.handing(alloc, node, event)?;
+        match tell(&mut self.gateway, alloc, event) {
+            Ok(begun) => {
+                let outcome = outcome_of(event, begun.teid);
+                Ok(Came::begun(begun, outcome, handed))
+            }
+            Err(CommandFault::Refused(why)) => Ok(Came::refused(why)),
+            Err(CommandFault::Memory) => Err(Memory),
+        }
+    }
+
+    /// The counter that was heard, if one was, is kept.
+    fn hear(&mut self, heard: Option<Counter>)
+        requires { vec_len self.old.seen < vec_capacity self.old.seen }
+        ensures seen { self.new.seen.items ≡ self.old.seen.items ++ option_to_list heard }
+        ensures rest { self.new ≡ record self.old { seen = self.new.seen } }
+    {
+        if let Some(counter) = heard {
+            keep(&mut self.seen, counter);
+        }
+    }
+
+    /// The request is kept, where a context was made for it.
+    fn make(&mut self, made: bool, request: Request)
+        requires { vec_len self.old.made < vec_capacity self.old.made }
+        ensures made { arrivals_of self.new.made.items ≡ arrivals_of self.old.made.items
+            ++ made_for (arrival_of request.source request.octets.items) made }
+        ensures rest { self.new ≡ record self.old { made = self.new.made } }
+    {
+        if made {
+            keep(&mut self.made, request);
+        }
+    }
+
+    /// Takes a datagram.
+    pub fn takes(
+        &mut self,
+        alloc: Global,
+        node: Role,
+        source: Endpoint,
+        plane: Plane,
+        octets: &[u8],
+    ) -> Result<Came, Memory>
+        ensures taken { IfOk result (λ came. IsInput node (coming plane source octets.now)
+            (half_of self.old) came (half_of self.new)) }
+        ensures err { OnErr result (half_of self.new ≡ half_of self.old) }
+    {
+        self.seen.try_reserve(1)?;
+        self.made.try_reserve(1)?;
+        let request = Request {
+            source,
+            octets: Vec::from_slice(alloc, octets)?,
+        };
+        let step = self.gateway.receive(alloc, source, plane, octets)?;
+        let accepted = self.accepting(alloc, node, step.accepted)?;
+        self.hear(step.report.heard);
+        self.make(step.report.made, request);
+        Ok(Came {
+            outcome: step.report.outcome,
+            restart: step.report.restart,
+            out: step.out,
+            handed: None,
+            accepted,
+        })
+    }
+
+    /// Whether a datagram is a request whose answer the gateway has given up.
+    pub fn is_late(&self, sent: &Sent) -> bool
+        ensures { IsTrue result ↔ IsLate (half_of self.now) (datagram_by sent.now) }
+    {
+        matches!(sent.plane, Plane::Control)
+            && self.has_forgotten(sent.from, sent.octets.as_slice())
+    }
+
+    /// Whether the gateway has given up the answer to this request.
+    fn has_forgotten(&self, source: Endpoint, octets: &[u8]) -> bool
+        ensures { IsTrue result
+            ↔ Among (arrival_of source octets.now) (arrivals_of self.now.forgotten.items) }
+    {
+        for request in self.forgotten.as_slice() {
+            if is_from(request, source, octets) {
+                return true;
+            }
+        }
+        false
+    }
+
+    /// A tick passes.
+    pub fn ticks(&mut self, alloc: Global) -> Result<Ticked, Memory>
+        ensures ticked { IfOk result (λ ticked. IsTick (half_of self.old) ticked (half_of self.new)) }
+        ensures few { IfOk result (λ ticked. length ticked.resent.items ≤ 256) }
+        ensures err { OnErr result (half_of self.new ≡ half_of self.old) }
+    {
+        let forgotten = self.gateway.forgets()?;
+        self.forgotten.try_reserve(forgotten.len())?;
+        let ticked = self.gateway.tick(alloc)?;
+        keep_all(&mut self.forgotten, forgotten);
+        Ok(ticked)
+    }
+
+    /// The counter of the next start.
+    fn next_counter(&self) -> Counter
+        ensures { result.0 ≡ counter_after (half_of self.now) }
+    {
+        let number = (u32::from(self.first.0) + u32::from(self.restarts) + 1) % 256;
+        Counter(number as u8)
+    }
+
+    /// Starts afresh with the next counter.
+    pub fn restart(&mut self, alloc: Global, node: Role) -> Result<Counter, Memory>
+        requires { self.old.restarts < 127 }
+        ensures counter { IfOk result (λ counter. counter.0 ≡ counter_after (half_of self.old)) }
+        ensures restarted { OnOk result (half_of self.new ≡ half_restarted node (half_of self.old)) }
+        ensures err { OnErr result (half_of self.new ≡ half_of self.old) }
+    {
+        let counter = self.next_counter();
+        self.gateway = Gateway::start(alloc, node, &self.config, counter)?;
+        self.restarts += 1;
+        self.seen.clear();
+        self.forgotten.clear();
+        self.made.clear();
+        Ok(counter)
+    }
+}
+
+impl Came {
+    /// A command was carried out.
+    fn begun(begun: Begun, outcome: Outcome, handed: Option<Entry>) -> Came
+        ensures { result ≡ record { outcome = outcome; restart = None; out = Some begun.out; handed = handed; accepted = None } }
+    {
+        Came {
+            outcome,
+            restart: None,
+            out: Some(begun.out),
+            handed,
+            accepted: None,
+        }
+    }
+
+    /// A command was refused.
+    fn refused(why: Refusal) -> Came
+        ensures { result ≡ record { outcome = Outcome.Refused why; restart = None; out = None; handed = None; accepted = None } }
+    {
+        Came {
+            outcome: Outcome::Refused(why),
+            restart: None,
+            out: None,
+            handed: None,
+            accepted: None,
+        }
+    }
+}

@@ -1,0 +1,228 @@
+//! Both gateways, and what is kept of what they did.
+
+ghost use Rattle.std.specs.Prelude.{◌≡◌, ◌↔◌, ◌<◌, ◌≤◌, ◌++◌, [], ◌∷◌, true, false, length, take, IsTrue, IfOk, IfSome, IfNone, OnOk, OnErr};
+ghost use Rattle.gtp_machine.specs.Input.{Commanded};
+ghost use Rattle.gtp_machine.specs.World.{other, Restart, Tick, Deliver, Cut};
+ghost use Rattle.gtp_gateway.specs.Received.{coming};
+ghost use Rattle.gtp_world.specs.Commands.{command_of, is_command};
+ghost use Rattle.gtp_world.specs.Events.{event_of};
+ghost use Rattle.gtp_world.specs.Kept.{kept_of, half_in, outcome_of, outcomes_in};
+ghost use Rattle.gtp_world.specs.Recorded.{HasRoom};
+ghost use Rattle.gtp_world.specs.Runs.{begun};
+ghost use Rattle.gtp_world.specs.Stepped.{Comes, Takes, TicksBy, IsThere, IsLate};
+
+use crate::config::WorldConfig;
+use crate::event::{Event, EventOutcome};
+use crate::records::Records;
+use crate::side::Side;
+use gtp_gateway::{Memory, Role};
+use std::alloc::Global;
+
+/// Both gateways, and what is kept of what they did.
+#[derive(Drop)]
+pub struct Sides {
+    pub serving: Side,
+    pub packet: Side,
+    pub records: Records,
+}
+
+/// The most datagrams that a tick sends.
+const MOST_RESENT: usize = 256;
+
+/// The other gateway.
+fn other_than(node: Role) -> Role
+    ensures { result ≡ other node }
+{
+    match node {
+        Role::Serving => Role::Packet,
+        Role::Packet => Role::Serving,
+    }
+}
+
+impl Sides {
+    /// Both gateways, just started, which have sent nothing.
+    pub fn start(alloc: Global, config: &WorldConfig) -> Result<Sides, Memory>
+        ensures begun { IfOk result (λ sides. kept_of sides ≡ begun config.now) }
+        ensures serving { OnOk result (config.now.serving_counter < 256) }
+        ensures packet { OnOk result (config.now.packet_counter < 256) }
+    {
+        Ok(Sides {
+            serving: Side::start(
+                alloc,
+                Role::Serving,
+                config.serving(),
+                config.serving_counter(),
+            )?,
+            packet: Side::start(
+                alloc,
+                Role::Packet,
+                config.packet(),
+                config.packet_counter(),
+            )?,
+            records: Records::new(alloc),
+        })
+    }
+
+    /// A gateway carries a command out, or refuses it.
+    fn does(&mut self, alloc: Global, node: Role, event: &Event) -> Result<EventOutcome, Memory>
+        requires command { is_command event.now ≡ true }
+        ensures takes { OnOk result (Takes (kept_of self.old) node
+            (Commanded (command_of event.now)) false (kept_of self.new)) }
+        ensures outcome { IfOk result (λ outcome. outcomes_in (kept_of self.new).log
+            ≡ outcomes_in (kept_of self.old).log ++ outcome_of outcome ∷ []) }
+        ensures err { OnErr result (kept_of self.new ≡ kept_of self.old) }
+    {
+        self.records.make_room(1)?;
+        let came = match node {
+            Role::Serving => self.serving.does(alloc, node, event)?,
+            Role::Packet => self.packet.does(alloc, node, event)?,
+        };
+        Ok(self.records.settle(alloc, node, came, false))
+    }
+
+    /// The first octets of the datagram at an index come to the gateway that did not send it.
+    fn bring(
+        &mut self,
+        alloc: Global,
+        index: usize,
+        count: usize,
+        late: bool,
+    ) -> Result<EventOutcome, Memory>
+        requires room { HasRoom 1 self.old.records }
+        requires there { index < length self.old.records.datagrams.items }
+        ensures takes { OnOk result ((found : IsThere (kept_of self.old).log.datagrams index)
+            → Takes (kept_of self.old) (other found.sent.role)
+            (coming found.sent.what.plane found.sent.what.from (take count found.sent.what.octets))
+            late (kept_of self.new)) }
+        ensures outcome { IfOk result (λ outcome. outcomes_in (kept_of self.new).log
+            ≡ outcomes_in (kept_of self.old).log ++ outcome_of outcome ∷ []) }
+        ensures err { OnErr result (kept_of self.new ≡ kept_of self.old) }
+    {
+        let datagram = &self.records.datagrams[index];
+        let node = other_than(datagram.node);
+        let sent = &datagram.sent;
+        let octets = match sent.octets.as_slice().get(..count) {
+            Some(front) => front,
+            None => sent.octets.as_slice(),
+        };
+        let came = match node {
+            Role::Serving => self
+                .serving
+                .takes(alloc, node, sent.from, sent.plane, octets)?,
+            Role::Packet => self
+                .packet
+                .takes(alloc, node, sent.from, sent.plane, octets)?,
+        };
+        Ok(self.records.settle(alloc, node, came, late))
+    }
+
+    /// Whether the delivery of the datagram at an index is late.
+    fn is_late(&self, index: usize) -> bool
+        requires { index < length self.now.records.datagrams.items }
+        ensures { (found : IsThere (kept_of self.now).log.datagrams index)
+            → IsTrue result ↔ IsLate (half_in (kept_of self.now) (other found.sent.role)) found.sent.what }
+    {
+        let datagram = &self.records.datagrams[index];
+        match datagram.node {
+            Role::Serving => self.packet.is_late(&datagram.sent),
+            Role::Packet => self.serving.is_late(&datagram.sent),
+        }
+    }
+
+    /// A datagram comes to the gateway that did not send it.
+    fn deliver(&mut self, alloc: Global, number: u64) -> Result<EventOutcome, Memory>
+        ensures comes { OnOk result (Comes (kept_of self.old) (Deliver number) (kept_of self.new)) }
+        ensures outcome { IfOk result (λ outcome. outcomes_in (kept_of self.new).log
+            ≡ outcomes_in (kept_of self.old).log ++ outcome_of outcome ∷ []) }
+        ensures err { OnErr result (kept_of self.new ≡ kept_of self.old) }
+    {
+        self.records.make_room(1)?;
+        let Some(index) = self.records.find(number) else {
+            return Ok(self.records.pass_over(alloc, EventOutcome::NoSuchDatagram));
+        };
+        let count = self.records.datagrams[index].sent.octets.len();
+        let late = self.is_late(index);
+        self.bring(alloc, index, count, late)
+    }
+
+    /// The first octets of a datagram come to the gateway that did not send it.
+    fn cut(&mut self, alloc: Global, number: u64, count: u64) -> Result<EventOutcome, Memory>
+        ensures comes { OnOk result (Comes (kept_of self.old) (Cut number count) (kept_of self.new)) }
+        ensures outcome { IfOk result (λ outcome. outcomes_in (kept_of self.new).log
+            ≡ outcomes_in (kept_of self.old).log ++ outcome_of outcome ∷ []) }
+        ensures err { OnErr result (kept_of self.new ≡ kept_of self.old) }
+    {
+        self.records.make_room(1)?;
+        let Some(index) = self.records.find(number) else {
+            return Ok(self.records.pass_over(alloc, EventOutcome::NoSuchDatagram));
+        };
+        let length = self.records.datagrams[index].sent.octets.len();
+        if count >= length as u64 {
+            return Ok(self.records.pass_over(alloc, EventOutcome::CutTooLong));
+        }
+        self.bring(alloc, index, count as usize, false)
+    }
+
+    /// A tick passes at a gateway.
+    fn tick(&mut self, alloc: Global, node: Role) -> Result<EventOutcome, Memory>
+        ensures ticks { OnOk result (TicksBy (kept_of self.old) node (kept_of self.new)) }
+        ensures outcome { IfOk result (λ outcome. outcomes_in (kept_of self.new).log
+            ≡ outcomes_in (kept_of self.old).log ++ outcome_of outcome ∷ []) }
+        ensures err { OnErr result (kept_of self.new ≡ kept_of self.old) }
+    {
+        self.records.make_room(MOST_RESENT)?;
+        let ticked = match node {
+            Role::Serving => self.serving.ticks(alloc)?,
+            Role::Packet => self.packet.ticks(alloc)?,
+        };
+        Ok(self.records.settle_tick(node, ticked))
+    }
+
+    /// A gateway starts afresh, unless it was restarted 127 times.
+    fn restart(&mut self, alloc: Global, node: Role) -> Result<EventOutcome, Memory>
+        ensures comes { OnOk result (Comes (kept_of self.old) (Restart node) (kept_of self.new)) }
+        ensures outcome { IfOk result (λ outcome. outcomes_in (kept_of self.new).log
+            ≡ outcomes_in (kept_of self.old).log ++ outcome_of outcome ∷ []) }
+        ensures err { OnErr result (kept_of self.new ≡ kept_of self.old) }
+    {
+        self.records.make_room(1)?;
+        let restarts = match node {
+            Role::Serving => self.serving.restarts,
+            Role::Packet => self.packet.restarts,
+        };
+        if restarts >= 127 {
+            return Ok(self.records.pass_over(alloc, EventOutcome::RestartsUsed));
+        }
+        let counter = match node {
+            Role::Serving => self.serving.restart(alloc, node)?,
+            Role::Packet => self.packet.restart(alloc, node)?,
+        };
+        Ok(
+            self.records
+                .pass_over(alloc, EventOutcome::Restarted(counter)),
+        )
+    }
+
+    /// An event happens.
+    pub fn step(&mut self, alloc: Global, event: &Event) -> Result<EventOutcome, Memory>
+        ensures comes { OnOk result (Comes (kept_of self.old) (event_of event.now) (kept_of self.new)) }
+        ensures outcome { IfOk result (λ outcome. outcomes_in (kept_of self.new).log
+            ≡ outcomes_in (kept_of self.old).log ++ outcome_of outcome ∷ []) }
+        ensures err { OnErr result (kept_of self.new ≡ kept_of self.old) }
+    {
+        match event {
+            Event::CreateSession(_) | Event::DeleteSession(_) => {
+                self.does(alloc, Role::Serving, event)
+            }
+            Event::CreateBearer { .. }
+            | Event::DeleteBearer { .. }
+            | Event::ReleaseSession(_)
+            | Event::EndMarker(_) => self.does(alloc, Role::Packet, event),
+            Event::Echo(node) | Event::SendUser { node, .. } => self.does(alloc, *node, event),
+            Event::Tick(node) => self.tick(alloc, *node),
+            Event::Deliver(number) => self.deliver(alloc, *number),
+            Event::Cut { datagram, length } => self.cut(alloc, *datagram, *length),
+            Event::Restart(node) => self.restart(alloc, *node),
+        }
+    }
+}
