@@ -39,3 +39,6 @@ pub mod Answered
 pub mod Receiving
 pub mod GoingOn
 pub mod AcceptedStays
+pub mod Needing
+pub mod Choosings
+pub mod Counted

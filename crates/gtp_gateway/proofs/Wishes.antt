@@ -1,5 +1,5 @@
 -- Commands that ask the peer for something, by their last rule.
-use Rattle.std.proofs.Common.{◌≡◌, ◌↔◌, inl, inr, ℕ, Bool, true, false, refl, ◌∙◌, arith}
+use Rattle.std.proofs.Common.{◌≡◌, ◌↔◌, inl, inr, ℕ, Bool, true, false, Some, refl, ◌∙◌, arith}
 use Rattle.std.specs.Prelude.{◌==◌, ◌&&◌, not}
 use Rattle.std.proofs.lemmas.Bool.Decides.{nat_tests}
 use Rattle.std.specs.Bool.{beq}
@@ -10,6 +10,7 @@ use Rattle.gtp_machine.specs.declared.outcome.Refusal.{Refusal}
 use Rattle.gtp_gateway.specs.declared.wish.Wish.{Wish}
 use Rattle.gtp_gateway.specs.declared.wish.Wish.TheVariants.{Echo, CreateSession, DeleteSession, ReleaseSession, CreateBearer, DeleteBearer}
 use Rattle.gtp_gateway.specs.Asking.{about}
+use Rattle.gtp_gateway.specs.Begun.{request_number}
 use Rattle.gtp_gateway.specs.Change.{changed_by}
 use Rattle.gtp_gateway.specs.Spelled.{is_for}
 use Rattle.gtp_gateway.specs.Wish.{request_of, purpose_of, change_of, teid_of, AsksFor}
@@ -30,6 +31,15 @@ meant (DeleteSession teid session) number old = itself _
 meant (ReleaseSession teid session) number old = itself _
 meant (CreateBearer drawn session of tft qos) number old = (λ i. (self_equal drawn.teid.0 i) && beq (not (written of.remote == 0)) (not (written of.remote == 0))) ∙ itself _
 meant (DeleteBearer teid bearer session of identity) number old = itself _
+
+-- the request has the number
+pub numbered : (wish : Wish) (number : ℕ) (old : Node) → request_number (request_of wish number old) ≡ Some number
+numbered Echo number old = refl
+numbered (CreateSession drawn spec) number old = refl
+numbered (DeleteSession teid session) number old = refl
+numbered (ReleaseSession teid session) number old = refl
+numbered (CreateBearer drawn session of tft qos) number old = refl
+numbered (DeleteBearer teid bearer session of identity) number old = refl
 
 -- what asks is not refused
 pub wish_goes_on : (wish : Wish) (old : Node) (why : Refusal) → AsksFor wish old (refused old why) → ⊥

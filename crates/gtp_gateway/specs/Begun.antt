@@ -1,5 +1,5 @@
 -- Commands that were carried out, and commands that were refused.
-use Rattle.std.specs.Prelude.{◌≡◌, ◌↔◌, ℕ, [], ◌∷◌, Option, option_map, Result, Err}
+use Rattle.std.specs.Prelude.{◌≡◌, ◌↔◌, ℕ, [], ◌∷◌, Option, Some, None, option_map, Result, Err}
 use Rattle.gtp_reliable.specs.Pending.{IsNextFree}
 use Rattle.gtp_machine.specs.Ordered.{Unless}
 use Rattle.gtp_machine.specs.Choice.{HasPendingRoom}
@@ -8,6 +8,7 @@ use Rattle.gtp_machine.specs.Input.{Command, Mark_end, Send_user, Commanded, Eff
 use Rattle.gtp_machine.specs.declared.outcome.Refusal.{Refusal}
 use Rattle.gtp_machine.specs.declared.outcome.Outcome.{Outcome}
 use Rattle.gtp_machine.specs.declared.outcome.Outcome.TheVariants as outcomes
+use Rattle.gtp_machine.specs.Message.{Message, Echo_request, Create_session_request, Delete_session_request, Create_bearer_request, Delete_bearer_request}
 use Rattle.gtp_machine.specs.Step.{Step}
 use Rattle.gtp_gateway.specs.declared.fault.CommandFault.{CommandFault}
 use Rattle.gtp_gateway.specs.declared.fault.CommandFault.TheVariants.{Refused}
@@ -15,6 +16,7 @@ use Rattle.gtp_gateway.specs.declared.purpose.Purpose.{Purpose}
 use Rattle.gtp_gateway.specs.declared.sent.Begun.{Begun}
 use Rattle.gtp_gateway.specs.Asking.{after_begun}
 use Rattle.gtp_gateway.specs.Sent.{datagram_by, AreSent}
+use Rattle.gtp_gateway.specs.Spelled.{message_in}
 use Rattle.gtp_gateway.specs.Station.{Station}
 
 -- what a command comes to: a request is sent, or a packet or an End Marker
@@ -32,10 +34,20 @@ pub record IsDone (command : Command) (old : Station) (begun : Begun) (new : Sta
   pub becomes : new.node ≡ effect.node
   pub role : new.role ≡ old.role
 
--- the request that was sent has the next free number, and waits from now on
+-- the sequence number of a request
+abbrev pub request_number : Message → Option ℕ
+request_number (Echo_request q) = Some q.number
+request_number (Create_session_request q) = Some q.number
+request_number (Delete_session_request d) = Some d.number
+request_number (Create_bearer_request r) = Some r.number
+request_number (Delete_bearer_request d) = Some d.number
+request_number m = None
+
+-- the request that was sent has the next free number, as its octets read, and waits from now on under that
 pub record AsksNext (old : Station) (begun : Begun) (new : Station) : Type 0 where
   pub number : ℕ
   pub free : IsNextFree old.timing.next old.timing.waiting number
+  pub sent : request_number (message_in begun.out.octets.items) ≡ Some number
   pub purpose : Purpose
   pub timing : new.timing ≡ after_begun number purpose begun.out.to begun.out.octets.items old.timing
 

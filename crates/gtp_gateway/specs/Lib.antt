@@ -36,3 +36,5 @@ pub mod SessionAsked
 pub mod Grant
 pub mod Received
 pub mod GoesOn
+pub mod Needing
+pub mod Choosing

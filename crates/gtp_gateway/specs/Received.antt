@@ -11,6 +11,7 @@ use Rattle.gtp_gateway.specs.declared.step.Step.{Step}
 use Rattle.gtp_gateway.specs.declared.control_step.ControlStep.{ControlStep}
 use Rattle.gtp_gateway.specs.declared.user_step.UserStep.{UserStep}
 use Rattle.gtp_gateway.specs.GoesOn.{GoesOn}
+use Rattle.gtp_gateway.specs.Needing.{ControlSendsOrOpens}
 use Rattle.gtp_gateway.specs.Parts.{arrival_of}
 use Rattle.gtp_gateway.specs.Sent.{AreSent}
 use Rattle.gtp_gateway.specs.Station.{Station}
@@ -41,9 +42,9 @@ pub record IsReceived (plane : Plane) (source : Endpoint) (octets : List ℕ) (o
   pub becomes : new.node ≡ effect.node
   pub role : new.role ≡ old.role
 
--- where no memory could be had for a datagram of the user plane, something was to be sent for it
+-- where no memory could be had for a datagram, something was to be sent for it, or on the control plane a context was to be opened
 abbrev pub NeedsMemory : Plane → Endpoint → List ℕ → Station → Type 0
-NeedsMemory Control source octets old = Unit {0}
+NeedsMemory Control source octets old = ControlSendsOrOpens source octets old
 NeedsMemory User source octets old = IsAnswered source octets old
 
 -- what ticks go by, after a datagram: the requests that are still pending wait on; one of the control plane may have been given an answer, which is held from

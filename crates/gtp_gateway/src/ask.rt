@@ -13,7 +13,7 @@ ghost use Rattle.gtp_gateway.specs.Parts.{node_of};
 ghost use Rattle.gtp_gateway.specs.Station.{station_of, timing_of};
 ghost use Rattle.gtp_gateway.specs.Asking.{asking, after_begun};
 ghost use Rattle.gtp_gateway.specs.Sent.{datagram_by, ReadsBack};
-ghost use Rattle.gtp_gateway.specs.Spelled.{is_for};
+ghost use Rattle.gtp_gateway.specs.Spelled.{is_for, message_in};
 
 use crate::change::Change;
 use crate::encode::encode_own;
@@ -81,6 +81,8 @@ impl Parts {
               message = control_message message.now;
             })) }
         ensures back { IfOk result (λ _. ReadsBack (control_message message.now)) }
+        ensures read { IfOk result (λ sent.
+            message_in sent.octets.items ≡ control_message message.now) }
         ensures node { OnOk result (node_of self.new
             ≡ asking change seq purpose (control_message message.now) (node_of self.old)) }
         ensures timing { IfOk result (λ sent. timing_of self.new

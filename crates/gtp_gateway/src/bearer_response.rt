@@ -1,13 +1,16 @@
 //! Create Bearer Responses (TS 29.274 7.2.4), as the packet gateway takes them.
 
 ghost use Rattle.gtp_gateway.specs.UserTaken.{WaitOn};
-ghost use Rattle.std.specs.Prelude.{◌≡◌, ◌↔◌, ℕ, List, Option, Some, IsTrue, IfSome, IfNone, IfOk, OnOk, OnErr};
+ghost use Rattle.std.specs.Prelude.{◌≡◌, ◌↔◌, false, ℕ, List, Option, Some, IsTrue, IfSome, IfNone, IfOk, OnOk, OnErr};
 ghost use Rattle.gtp_v2.specs.Datagram.{IsMessage};
 ghost use Rattle.gtp_values.specs.declared.counter.Counter.{Counter as AnyCounter};
+ghost use Rattle.gtp_machine.specs.Message as messages;
 ghost use Rattle.gtp_machine.specs.Node.{Active, Closing};
-ghost use Rattle.gtp_gateway.specs.declared.procedure.Procedure.TheVariants.{BearerAnswered};
-ghost use Rattle.gtp_gateway.specs.BearerAnswer.{ReadsBearer, FitsBearerOf, IsAskedBearer, CanOpenIn, JudgesBearer, TakesBearer};
+ghost use Rattle.gtp_machine.specs.Packet.{BearerAnswered};
+ghost use Rattle.gtp_gateway.specs.declared.procedure.Procedure.TheVariants as procedures;
+ghost use Rattle.gtp_gateway.specs.BearerAnswer.{ReadsBearer, FitsBearerOf, IsAskedBearer, CanOpenIn, SaysBearer, JudgesBearer, TakesBearer};
 ghost use Rattle.gtp_gateway.specs.Hearing.{weighed_by, node_heard};
+ghost use Rattle.gtp_gateway.specs.Needing.{AlwaysSendsOrOpens};
 ghost use Rattle.gtp_gateway.specs.Parts.{node_of};
 ghost use Rattle.gtp_gateway.specs.Procedure.{procedure_at};
 ghost use Rattle.gtp_gateway.specs.Station.{IsWhole, station_of};
@@ -42,7 +45,7 @@ pub struct AskedBearer {
 /// What a Create Bearer Response says.
 pub fn bearer_response_in(view: &DatagramView<'_>) -> BearerResponse
     requires spelled { (octets : List ℕ) × IsMessage octets view.now.message }
-    requires of { procedure_at view.now.message.kind ≡ Some BearerAnswered }
+    requires of { procedure_at view.now.message.kind ≡ Some procedures.BearerAnswered }
     ensures { ReadsBearer view.now.message result }
 {
     BearerResponse {
@@ -172,6 +175,9 @@ impl Parts {
         ensures taken { IfOk result (λ step. TakesBearer answer.now heard
             (station_of self.old) step (station_of self.new)) }
         ensures waits { OnOk result (WaitOn (station_of self.old) (station_of self.new)) }
+        ensures unmade { IfOk result (λ step. step.report.made ≡ false) }
+        ensures memory { OnErr result ((x : messages.CreateBearerResponse) → SaysBearer answer.now x
+            → AlwaysSendsOrOpens (BearerAnswered x) (node_heard heard (node_of self.old))) }
         ensures err { OnErr result (station_of self.new ≡ station_of self.old) }
     {
         let verdict = self.judge_bearer_response(answer, heard);

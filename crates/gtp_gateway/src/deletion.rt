@@ -1,12 +1,14 @@
 //! Delete Session Requests (TS 29.274 7.2.9.1).
 
 ghost use Rattle.gtp_gateway.specs.GoesOn.{GoesOn};
-ghost use Rattle.std.specs.Prelude.{◌≡◌, ◌↔◌, IsTrue, IfOk, OnOk, OnErr, option_map};
+ghost use Rattle.std.specs.Prelude.{◌≡◌, ◌↔◌, false, IsTrue, IfOk, OnOk, OnErr, option_map};
 ghost use Rattle.gtp_v2.specs.Viewed.{in_row, front_value};
 ghost use Rattle.gtp_ie.specs.Value.{Value, OfEbi};
-ghost use Rattle.gtp_machine.specs.Node.{written};
-ghost use Rattle.gtp_machine.specs.Packet.{IsLinkedTo};
+ghost use Rattle.gtp_machine.specs.Message as messages;
+ghost use Rattle.gtp_machine.specs.Node.{Arrival, written};
+ghost use Rattle.gtp_machine.specs.Packet.{IsLinkedTo, DeletionAsked};
 ghost use Rattle.gtp_gateway.specs.Asked.{ReadsDeletion, JudgesDeletion, TakesDeletionRequest};
+ghost use Rattle.gtp_gateway.specs.Needing.{AlwaysSendsOrOpens};
 ghost use Rattle.gtp_gateway.specs.Parts.{node_of};
 ghost use Rattle.gtp_gateway.specs.Station.{station_of};
 ghost use Rattle.gtp_gateway.specs.Taken.{IsFresh};
@@ -111,6 +113,9 @@ impl Parts {
         ensures taken { IfOk result (λ step. TakesDeletionRequest source octets.now request.now
             (station_of self.old) step (station_of self.new)) }
         ensures goes { OnOk result (GoesOn source octets.now (station_of self.old) (station_of self.new)) }
+        ensures unmade { IfOk result (λ step. step.report.made ≡ false) }
+        ensures memory { OnErr result ((arrival : Arrival) (d : messages.DeleteSessionRequest)
+            → AlwaysSendsOrOpens (DeletionAsked arrival d) (node_of self.old)) }
         ensures err { OnErr result (station_of self.new ≡ station_of self.old) }
     {
         if self.held.is_full() {

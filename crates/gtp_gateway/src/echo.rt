@@ -1,7 +1,7 @@
 //! Echo Request and Echo Response (TS 29.274 7.1.1, 7.1.2).
 
 ghost use Rattle.gtp_gateway.specs.UserTaken.{WaitOn};
-ghost use Rattle.std.specs.Prelude.{◌≡◌, Option, IfOk, OnOk, OnErr};
+ghost use Rattle.std.specs.Prelude.{◌≡◌, false, Option, IfOk, OnOk, OnErr};
 ghost use Rattle.gtp_machine.specs.Input.{Send_echo};
 ghost use Rattle.gtp_gateway.specs.Begun.{IsDone, IsRefusedWhere, AsksNext};
 ghost use Rattle.gtp_gateway.specs.Station.{station_of};
@@ -46,6 +46,7 @@ impl Parts {
         ensures taken { IfOk result (λ step. AnswersEcho source seq heard
             (station_of self.old) step (station_of self.new)) }
         ensures waits { OnOk result (WaitOn (station_of self.old) (station_of self.new)) }
+        ensures unmade { IfOk result (λ step. step.report.made ≡ false) }
         ensures err { OnErr result (station_of self.new ≡ station_of self.old) }
     {
         let message = echo_response(seq, self.draws.counter());

@@ -2,18 +2,24 @@
 
 ghost use Rattle.gtp_gateway.specs.GoesOn.{GoesOn};
 ghost use Rattle.gtp_gateway.specs.UserTaken.{WaitOn};
-ghost use Rattle.std.specs.Prelude.{◌≡◌, ◌<◌, ◌≤◌, ◌↔◌, [], map, length, Some, None, IsTrue, IfOk, OnOk, OnErr};
+ghost use Rattle.std.specs.Prelude.{◌≡◌, ◌<◌, ◌≤◌, ◌↔◌, [], map, length, false, Some, None, IsTrue, IfOk, OnOk, OnErr};
+ghost use Rattle.gtp_ie.specs.Element.{all_of};
+ghost use Rattle.gtp_v2.specs.Datagram.{IsMessage};
+ghost use Rattle.gtp_v2.specs.Viewed.{Carries};
 ghost use Rattle.gtp_machine.specs.Element.{cause_of};
 ghost use Rattle.gtp_machine.specs.Message.{Delete_bearer_response};
 ghost use Rattle.gtp_machine.specs.Node as nodes;
 ghost use Rattle.gtp_machine.specs.Reading.{control_message};
-ghost use Rattle.gtp_machine.specs.Serving.{removal_cause};
+ghost use Rattle.gtp_machine.specs.Message as messages;
+ghost use Rattle.gtp_machine.specs.Node.{Arrival};
+ghost use Rattle.gtp_machine.specs.Serving.{removal_cause, RemovalAsked};
 ghost use Rattle.std.specs.List.{list_all, list_any};
 ghost use Rattle.gtp_gateway.specs.Ending.{ReadsIdentities, goes_for, is_found, was_named, NamesOne, NamesEach};
 ghost use Rattle.gtp_gateway.specs.Ending.{number_in, identity_named, removed_by, context_by};
 ghost use Rattle.gtp_gateway.specs.Ending.{without_each, IsForBearers, JudgesRemoval};
-ghost use Rattle.gtp_gateway.specs.Ending.{AnswersRemoval, EndsNamed, TakesRemovalRequest};
+ghost use Rattle.gtp_gateway.specs.Ending.{SaysRemoval, AnswersRemoval, EndsNamed, TakesRemovalRequest};
 ghost use Rattle.gtp_gateway.specs.Change.{CanChange};
+ghost use Rattle.gtp_gateway.specs.Needing.{AlwaysSendsOrOpens};
 ghost use Rattle.gtp_gateway.specs.Own.{IsOwn};
 ghost use Rattle.gtp_gateway.specs.Parts.{node_of};
 ghost use Rattle.gtp_gateway.specs.Station.{IsWhole, station_of};
@@ -27,6 +33,7 @@ use crate::granting::is_default;
 use crate::messages::plain_cause;
 use crate::parts::Parts;
 use crate::user::written_teid;
+use gtp_ie::IeValue;
 use gtp_machine::{DropReason, Outcome};
 use gtp_tables::{Session, State};
 use gtp_v2::{Body, DatagramView, EbiValue, Message, RemovalResponseContext};
@@ -77,6 +84,21 @@ fn identities_in(alloc: Global, view: &DatagramView<'_>) -> Result<Vec<EbiValue>
         Body::DeleteBearerRequest(request) => Ok(request.ebis.into_vec()),
         _ => unreachable!(),
     }
+}
+
+/// Whether the list of a Delete Bearer Request has more identities than bearers have, by its
+/// elements.
+fn has_too_many(view: &DatagramView<'_>) -> bool
+    ensures { IsTrue result ↔ (11 < length (all_of 73 1 view.now.elements)) }
+{
+    let mut count = 0;
+    for _ in view.elements().all(EbiValue::KIND, 1) {
+        if count == MOST_IDENTITIES {
+            return true;
+        }
+        count += 1;
+    }
+    false
 }
 
 /// Whether a session is pending.
@@ -207,6 +229,7 @@ impl Parts {
         ensures taken { IfOk result (λ step. AnswersRemoval source octets.now seq answer.now
             (station_of self.old) step (station_of self.new)) }
         ensures goes { OnOk result (GoesOn source octets.now (station_of self.old) (station_of self.new)) }
+        ensures unmade { IfOk result (λ step. step.report.made ≡ false) }
         ensures err { OnErr result (station_of self.new ≡ station_of self.old) }
     {
         let contexts = Vec::new(alloc);
@@ -326,6 +349,7 @@ impl Parts {
         ensures taken { IfOk result (λ step. EndsNamed source octets.now request.now identities.now
             (station_of self.old) step (station_of self.new)) }
         ensures goes { OnOk result (GoesOn source octets.now (station_of self.old) (station_of self.new)) }
+        ensures unmade { IfOk result (λ step. step.report.made ≡ false) }
         ensures err { OnErr result (station_of self.new ≡ station_of self.old) }
     {
         let named = self.name_each(alloc, request.header, identities)?;
@@ -337,7 +361,8 @@ impl Parts {
         Ok(ControlStep::sent(self.give(source, ready), outcome))
     }
 
-    /// Takes a Delete Bearer Request for the bearers in its list.
+    /// Takes a Delete Bearer Request for the bearers in its list, which is counted before memory is
+    /// taken for it.
     #[tactic(auto, using(crate::proofs::GoingOn::on_goes, crate::proofs::GoingOn::same_goes, crate::proofs::GoingOn::given_goes, crate::proofs::GoingOn::then_goes))]
     fn end_listed(
         &mut self,
@@ -352,14 +377,15 @@ impl Parts {
         requires fresh { IsFresh source octets.now (station_of self.old) self.old.held.pairs }
         requires few { length self.old.held.pairs < 4096 }
         requires asked { IsForBearers request.now header.0 (node_of self.old) }
+        requires spelled { IsMessage octets.now view.now.message × Carries octets.now view.now }
         requires kind { view.now.message.kind ≡ 99 }
         ensures taken { IfOk result (λ step. TakesRemovalRequest source octets.now view.now.message
             request.now (station_of self.old) step (station_of self.new)) }
         ensures goes { OnOk result (GoesOn source octets.now (station_of self.old) (station_of self.new)) }
+        ensures unmade { IfOk result (λ step. step.report.made ≡ false) }
         ensures err { OnErr result (station_of self.new ≡ station_of self.old) }
     {
-        let identities = identities_in(alloc, view)?;
-        if identities.len() > MOST_IDENTITIES {
+        if has_too_many(view) {
             let answer = RemovalAnswer {
                 header,
                 cause: 94,
@@ -368,6 +394,7 @@ impl Parts {
             };
             return self.answer_removal(alloc, source, octets, request.seq, &answer);
         }
+        let identities = identities_in(alloc, view)?;
         self.end_named(
             alloc,
             source,
@@ -390,10 +417,14 @@ impl Parts {
     ) -> Result<ControlStep, Memory>
         requires whole { IsWhole (station_of self.old) }
         requires fresh { IsFresh source octets.now (station_of self.old) self.old.held.pairs }
+        requires spelled { IsMessage octets.now view.now.message × Carries octets.now view.now }
         requires kind { view.now.message.kind ≡ 99 }
         ensures taken { IfOk result (λ step. TakesRemovalRequest source octets.now view.now.message
             request.now (station_of self.old) step (station_of self.new)) }
         ensures goes { OnOk result (GoesOn source octets.now (station_of self.old) (station_of self.new)) }
+        ensures unmade { IfOk result (λ step. step.report.made ≡ false) }
+        ensures memory { OnErr result ((arrival : Arrival) (d : messages.DeleteBearerRequest)
+            → SaysRemoval request.now d → AlwaysSendsOrOpens (RemovalAsked arrival d) (node_of self.old)) }
         ensures err { OnErr result (station_of self.new ≡ station_of self.old) }
     {
         if self.held.is_full() {

@@ -1,6 +1,6 @@
 //! Datagrams of the control plane that are at fault (TS 29.274 7.7).
 
-ghost use Rattle.std.specs.Prelude.{◌≡◌, ◌<◌, true, IfOk, option_map};
+ghost use Rattle.std.specs.Prelude.{◌≡◌, ◌<◌, true, false, IfOk, OnErr, option_map};
 ghost use Rattle.gtp_v2.specs.Instances.{ElementInstanceIsSmall, InstanceIsSmall};
 ghost use Rattle.gtp_machine.specs.Answer.{fault_number, defect_cause, opened_remote, faulty_header};
 ghost use Rattle.gtp_machine.specs.Reading.{control_fault, request_kind, missing_in, defect_in, element_fault};
@@ -9,6 +9,7 @@ ghost use Rattle.gtp_gateway.specs.Faulty.{kind_of, defect_of, fault_of, reading
 ghost use Rattle.gtp_gateway.specs.Parts.{node_of};
 ghost use Rattle.gtp_gateway.specs.Station.{station_of};
 ghost use Rattle.gtp_gateway.specs.Faulty.{IsFaultTaken};
+ghost use Rattle.gtp_gateway.specs.Needing.{FaultSendsOrOpens};
 ghost use Rattle.gtp_gateway.specs.declared.faulty.Flaw.TheVariants as flaws;
 
 use crate::control_step::ControlStep;
@@ -233,8 +234,9 @@ impl Parts {
         faulty: &FaultyRequest,
     ) -> Result<ControlStep, Memory>
         requires { is_answered self.now.role faulty.now.kind ≡ true }
-        ensures { IfOk result (λ step. IsFaultTaken source (reading_of (flaws.Faulty faulty.now))
+        ensures taken { IfOk result (λ step. IsFaultTaken source (reading_of (flaws.Faulty faulty.now))
             (station_of self.now) step) }
+        ensures unmade { IfOk result (λ step. step.report.made ≡ false) }
     {
         let cause = fault_cause(faulty.defect.cause(), faulty.element, faulty.instance);
         let header = self.faulty_header(faulty);
@@ -252,8 +254,10 @@ impl Parts {
         source: Endpoint,
         flaw: &Flaw,
     ) -> Result<ControlStep, Memory>
-        ensures { IfOk result (λ step.
+        ensures taken { IfOk result (λ step.
             IsFaultTaken source (reading_of flaw.now) (station_of self.now) step) }
+        ensures unmade { IfOk result (λ step. step.report.made ≡ false) }
+        ensures memory { OnErr result (FaultSendsOrOpens source (reading_of flaw.now) (station_of self.now)) }
     {
         match flaw {
             Flaw::Plain(number) => Ok(undecodable(*number)),

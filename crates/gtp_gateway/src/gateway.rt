@@ -5,6 +5,7 @@ ghost use Rattle.std.specs.FinMap as map;
 ghost use Rattle.gtp_machine.specs.Input.{Create_session, Delete_session, Create_bearer, Delete_bearer, Release_session};
 ghost use Rattle.gtp_machine.specs.Input.{Mark_end, Send_echo, Send_user};
 ghost use Rattle.gtp_gateway.specs.Begun.{IsDone, IsRefusedWhere, AsksNext};
+ghost use Rattle.gtp_gateway.specs.Choosing.{ChoosesLowest};
 ghost use Rattle.gtp_gateway.specs.Specified.{specification};
 ghost use Rattle.gtp_gateway.specs.Station.{Station, starting, IsTied};
 ghost use Rattle.gtp_gateway.specs.Ticked.{IsIdle, IsTicked, CountsOn, arrivals_of, due_in};
@@ -223,9 +224,11 @@ impl Gateway {
             IsReceived plane source octets.now self.old step self.new) }
         // What ticks go by after it.
         ensures timing { IfOk result (λ step. KeepsTiming plane source octets.now step self.old self.new) }
+        // Of the addresses and identities that are free it takes the lowest.
+        ensures choices { IfOk result (λ step. ChoosesLowest step.report.made self.old.role self.old.node self.new.node) }
         // A packet that is accepted changes nothing.
         ensures packet { IfOk result (λ step. IsSome step.accepted → self.new ≡ self.old) }
-        // On the user plane an allocation is made only to send something.
+        // An allocation is made only to send something, or on the control plane to open a context.
         ensures memory { IfErr result (λ _. NeedsMemory plane source octets.now self.old) }
         ensures err { OnErr result (self.new ≡ self.old) }
     {

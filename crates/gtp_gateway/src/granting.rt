@@ -1,13 +1,17 @@
 //! Create Bearer Requests (TS 29.274 7.2.3), as the serving gateway takes them.
 
 ghost use Rattle.gtp_gateway.specs.GoesOn.{GoesOn};
-ghost use Rattle.std.specs.Prelude.{◌≡◌, ◌↔◌, IsTrue, IfOk, IfSome, IfNone, OnOk, OnErr};
+ghost use Rattle.std.specs.Prelude.{◌≡◌, ◌↔◌, true, IsTrue, IfOk, IfSome, IfNone, OnOk, OnErr};
 ghost use Rattle.gtp_machine.specs.Choice.{HasFreeIdentity, HasDraws};
 ghost use Rattle.gtp_machine.specs.Reading.{control_message};
 ghost use Rattle.gtp_machine.specs.Message as messages;
+ghost use Rattle.gtp_gateway.specs.Choosing.{MakesLowestBearer};
 ghost use Rattle.gtp_gateway.specs.Granting.{HasBearerContext, ReadsBearer, SaysBearer, IsGrant, IsChosen};
 ghost use Rattle.gtp_gateway.specs.Granting.{granted_to, bearer_answer, cause_in, is_granted, change_for};
 ghost use Rattle.gtp_gateway.specs.Granting.{JudgesBearer, TakesBearerRequest};
+ghost use Rattle.gtp_machine.specs.Node.{Arrival};
+ghost use Rattle.gtp_machine.specs.Serving.{BearerAsked};
+ghost use Rattle.gtp_gateway.specs.Needing.{AlwaysSendsOrOpens};
 ghost use Rattle.gtp_gateway.specs.Own.{IsOwn};
 ghost use Rattle.gtp_gateway.specs.Parts.{node_of};
 ghost use Rattle.gtp_gateway.specs.Station.{IsWhole, station_of};
@@ -252,6 +256,10 @@ impl Parts {
         ensures taken { IfOk result (λ step. TakesBearerRequest source octets.now request.now
             (station_of self.old) step (station_of self.new)) }
         ensures goes { OnOk result (GoesOn source octets.now (station_of self.old) (station_of self.new)) }
+        ensures choices { IfOk result (λ step.
+            step.report.made ≡ true → MakesLowestBearer (node_of self.old) (node_of self.new)) }
+        ensures memory { OnErr result ((arrival : Arrival) (q : messages.CreateBearerRequest)
+            → SaysBearer request.now q → AlwaysSendsOrOpens (BearerAsked arrival q) (node_of self.old)) }
         ensures err { OnErr result (station_of self.new ≡ station_of self.old) }
     {
         if self.held.is_full() {

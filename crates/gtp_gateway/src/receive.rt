@@ -2,6 +2,9 @@
 
 ghost use Rattle.gtp_gateway.specs.GoesOn.{GoesOn};
 ghost use Rattle.std.specs.Prelude.{◌≡◌, ◌↔◌, IsTrue, Some, true, IfOk, IfErr, IfSome, IfNone, IsSome, OnOk, OnErr};
+ghost use Rattle.gtp_gateway.specs.Choosing.{ChoosesLowest, MadeNothing};
+ghost use Rattle.gtp_gateway.specs.Needing.{ControlSendsOrOpens};
+ghost use Rattle.gtp_gateway.specs.Parts.{node_of};
 ghost use Rattle.gtp_gateway.specs.Procedure.{procedure_at, has, HasNot};
 ghost use Rattle.gtp_gateway.specs.Station.{IsWhole, station_of};
 ghost use Rattle.gtp_gateway.specs.Received.{IsReceived, KeepsTiming, NeedsMemory};
@@ -39,8 +42,11 @@ impl Parts {
     /// A datagram before it is read: first its source address is looked at, and then the answers
     /// that are held. Nothing changes.
     pub fn enter(&self, alloc: Global, source: Endpoint, octets: &[u8]) -> Result<Entrance, Memory>
-        ensures { IfOk result (λ entrance. IsEntered source octets.now (station_of self.now)
+        ensures entered { IfOk result (λ entrance. IsEntered source octets.now (station_of self.now)
             self.now.held.pairs entrance) }
+        // An allocation is for the answer that is sent again.
+        ensures memory { OnErr result (ControlSendsOrOpens source octets.now (station_of self.now)) }
+        ensures unmade { IfOk result MadeNothing }
     {
         if !self.is_from_peer(source) {
             return Ok(Entrance::Settled(ControlStep::dropped(DropReason::NotPeer)));
@@ -69,6 +75,9 @@ impl Parts {
         ensures taken { IfOk result (λ step.
             IsTaken source octets.now (station_of self.old) step (station_of self.new)) }
         ensures goes { OnOk result (GoesOn source octets.now (station_of self.old) (station_of self.new)) }
+        ensures choices { IfOk result (λ step. ChoosesLowest step.report.made self.old.role
+            (node_of self.old) (node_of self.new)) }
+        ensures memory { OnErr result (ControlSendsOrOpens source octets.now (station_of self.old)) }
         ensures err { OnErr result (station_of self.new ≡ station_of self.old) }
     {
         match self.enter(alloc, source, octets)? {
@@ -97,6 +106,8 @@ impl Parts {
         ensures received { IfOk result (λ step.
             IsReceived plane source octets.now (station_of self.old) step (station_of self.new)) }
         ensures timing { IfOk result (λ step. KeepsTiming plane source octets.now step (station_of self.old) (station_of self.new)) }
+        ensures choices { IfOk result (λ step. ChoosesLowest step.report.made self.old.role
+            (node_of self.old) (node_of self.new)) }
         ensures packet { IfOk result (λ step.
             IsSome step.accepted → station_of self.new ≡ station_of self.old) }
         ensures memory { IfErr result (λ _. NeedsMemory plane source octets.now (station_of self.old)) }

@@ -1,6 +1,6 @@
 //! Responses that a gateway gets (TS 29.274 7.6): each fits a request that waits, or is dropped.
 
-ghost use Rattle.std.specs.Prelude.{◌≡◌, ◌↔◌, ◌∷◌, [], IsTrue, Some, true, ℕ, List};
+ghost use Rattle.std.specs.Prelude.{◌≡◌, ◌↔◌, ◌∷◌, [], IsTrue, Some, true, false, ℕ, List};
 ghost use Rattle.gtp_ie.specs.Value.{Value, OfCause};
 ghost use Rattle.gtp_v2.specs.Viewed.{in_row};
 ghost use Rattle.gtp_reliable.specs.Pending.{purpose_of, SameTimes};
@@ -122,6 +122,7 @@ impl Parts {
     pub fn take_echo_response(&mut self, seq: Seq) -> ControlStep
         ensures taken { TakesEcho seq (station_of self.old) result (station_of self.new) }
         ensures waits { WaitOn (station_of self.old) (station_of self.new) }
+        ensures unmade { result.report.made ≡ false }
     {
         let Some(purpose) = self.waiting(seq) else {
             return ControlStep::dropped(DropReason::NoPending);
@@ -139,6 +140,7 @@ impl Parts {
     pub fn take_deletion_response(&mut self, response: &Response) -> ControlStep
         ensures taken { TakesDeletion response.now (station_of self.old) result (station_of self.new) }
         ensures waits { WaitOn (station_of self.old) (station_of self.new) }
+        ensures unmade { result.report.made ≡ false }
     {
         let Some(purpose) = self.waiting(response.seq) else {
             return ControlStep::dropped(DropReason::NoPending);
@@ -156,6 +158,7 @@ impl Parts {
     pub fn take_removal_response(&mut self, response: &Response) -> ControlStep
         ensures taken { TakesRemoval response.now (station_of self.old) result (station_of self.new) }
         ensures waits { WaitOn (station_of self.old) (station_of self.new) }
+        ensures unmade { result.report.made ≡ false }
     {
         let Some(purpose) = self.waiting(response.seq) else {
             return ControlStep::dropped(DropReason::NoPending);

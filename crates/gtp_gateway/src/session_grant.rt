@@ -5,18 +5,23 @@ ghost use Rattle.std.specs.Prelude.{◌≡◌, ◌↔◌, IsTrue, IfOk, OnOk, On
 ghost use Rattle.gtp_values.specs.FiniteMap.{Among};
 ghost use Rattle.gtp_values.specs.declared.counter.Counter.{Counter as AnyCounter};
 ghost use Rattle.gtp_gateway.specs.Change.{changed_by};
+ghost use Rattle.gtp_gateway.specs.Choosing.{MakesLowestSession};
 ghost use Rattle.gtp_gateway.specs.Grant.{refused_with, session_of, bearer_of, change_of, grants};
 ghost use Rattle.gtp_gateway.specs.Grant.{JudgesRoom, JudgesSession, CanGrant, IsIpv4};
+ghost use Rattle.gtp_machine.specs.Message as messages;
+ghost use Rattle.gtp_machine.specs.Node.{Arrival};
+ghost use Rattle.gtp_machine.specs.Packet.{SessionAsked};
 ghost use Rattle.gtp_machine.specs.Reading.{control_message};
 ghost use Rattle.gtp_gateway.specs.Own.{IsOwn};
 ghost use Rattle.gtp_gateway.specs.Grant.{IsRefusedSession, IsGrantedSession, TakesSessionRequest};
 ghost use Rattle.gtp_gateway.specs.Hearing.{weighed_by, node_heard};
+ghost use Rattle.gtp_gateway.specs.Needing.{AlwaysSendsOrOpens};
 ghost use Rattle.gtp_gateway.specs.Parts.{node_of};
 ghost use Rattle.gtp_gateway.specs.Station.{IsWhole, station_of};
 ghost use Rattle.gtp_gateway.specs.UserTaken.{WaitOn};
 ghost use Rattle.gtp_gateway.specs.Taken.{IsFresh};
 ghost use Rattle.gtp_values.specs.Cause.{is_accepting_value};
-ghost use Rattle.std.specs.Prelude.{false, length, ◌<◌};
+ghost use Rattle.std.specs.Prelude.{false, true, length, ◌<◌};
 
 use crate::control_step::ControlStep;
 use crate::drawing::TwoDrawn;
@@ -281,6 +286,10 @@ impl Parts {
         ensures taken { IfOk result (λ step. TakesSessionRequest source octets.now request.now heard
             (station_of self.old) step (station_of self.new)) }
         ensures goes { OnOk result (GoesOn source octets.now (station_of self.old) (station_of self.new)) }
+        ensures choices { IfOk result (λ step.
+            step.report.made ≡ true → MakesLowestSession (node_of self.old) (node_of self.new)) }
+        ensures memory { OnErr result ((arrival : Arrival) (q : messages.CreateSessionRequest)
+            → AlwaysSendsOrOpens (SessionAsked arrival q) (node_heard heard (node_of self.old))) }
         ensures err { OnErr result (station_of self.new ≡ station_of self.old) }
     {
         if self.held.is_full() {

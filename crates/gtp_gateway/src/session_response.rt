@@ -1,15 +1,18 @@
 //! Create Session Responses (TS 29.274 7.2.2), as the serving gateway takes them.
 
 ghost use Rattle.gtp_gateway.specs.UserTaken.{WaitOn};
-ghost use Rattle.std.specs.Prelude.{◌≡◌, ◌↔◌, ℕ, List, Option, Some, IsTrue, IfSome, IfNone, IfOk, OnOk, OnErr};
+ghost use Rattle.std.specs.Prelude.{◌≡◌, ◌↔◌, false, ℕ, List, Option, Some, IsTrue, IfSome, IfNone, IfOk, OnOk, OnErr};
 ghost use Rattle.gtp_v2.specs.Datagram.{IsMessage};
 ghost use Rattle.gtp_values.specs.declared.counter.Counter.{Counter as AnyCounter};
+ghost use Rattle.gtp_machine.specs.Message as messages;
 ghost use Rattle.gtp_machine.specs.Node.{Active};
-ghost use Rattle.gtp_gateway.specs.declared.procedure.Procedure.TheVariants.{SessionAnswered};
+ghost use Rattle.gtp_machine.specs.Serving.{SessionAnswered};
+ghost use Rattle.gtp_gateway.specs.declared.procedure.Procedure.TheVariants as procedures;
 ghost use Rattle.gtp_gateway.specs.Hearing.{weighed_by, node_heard};
+ghost use Rattle.gtp_gateway.specs.Needing.{AlwaysSendsOrOpens};
 ghost use Rattle.gtp_gateway.specs.Parts.{node_of};
 ghost use Rattle.gtp_gateway.specs.Procedure.{procedure_at};
-ghost use Rattle.gtp_gateway.specs.SessionAnswer.{ReadsSession, FitsSessionOf, IsAskedSession, IsDescribed, JudgesSession, TakesSession};
+ghost use Rattle.gtp_gateway.specs.SessionAnswer.{ReadsSession, FitsSessionOf, IsAskedSession, IsDescribed, SaysSession, JudgesSession, TakesSession};
 ghost use Rattle.gtp_gateway.specs.Station.{IsWhole, station_of};
 
 use crate::contexts::{ResponseContext, accepts, ipv4_in, only_context_in, teid_of};
@@ -54,7 +57,7 @@ pub struct DescribedSession {
 /// What a Create Session Response says.
 pub fn session_response_in(view: &DatagramView<'_>) -> SessionResponse
     requires spelled { (octets : List ℕ) × IsMessage octets view.now.message }
-    requires of { procedure_at view.now.message.kind ≡ Some SessionAnswered }
+    requires of { procedure_at view.now.message.kind ≡ Some procedures.SessionAnswered }
     ensures { ReadsSession view.now.message result }
 {
     SessionResponse {
@@ -184,6 +187,9 @@ impl Parts {
         ensures taken { IfOk result (λ step. TakesSession answer.now heard
             (station_of self.old) step (station_of self.new)) }
         ensures waits { OnOk result (WaitOn (station_of self.old) (station_of self.new)) }
+        ensures unmade { IfOk result (λ step. step.report.made ≡ false) }
+        ensures memory { OnErr result ((a : messages.CreateSessionResponse) → SaysSession answer.now a
+            → AlwaysSendsOrOpens (SessionAnswered a) (node_heard heard (node_of self.old))) }
         ensures err { OnErr result (station_of self.new ≡ station_of self.old) }
     {
         let verdict = self.judge_session_response(answer, heard);

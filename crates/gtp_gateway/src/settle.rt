@@ -3,6 +3,7 @@
 
 ghost use Rattle.std.specs.Prelude.{◌≡◌, Option, None, IfSome, IfNone, IfOk, OnOk, OnErr};
 ghost use Rattle.gtp_machine.specs.Choice.{HasPending};
+ghost use Rattle.gtp_machine.specs.declared.outcome.Outcome.TheVariants.{Opened};
 ghost use Rattle.gtp_values.specs.declared.counter.Counter.{Counter as AnyCounter};
 ghost use Rattle.gtp_gateway.specs.Hearing.{weighed_by, node_heard};
 ghost use Rattle.gtp_gateway.specs.Parts.{node_of};
@@ -143,6 +144,8 @@ impl Parts {
             step ≡ record { out = None; report = plain_report (outcome_by verdict) }) }
         ensures node { OnOk result (node_of self.new
             ≡ node_by verdict seq (node_heard heard (node_of self.old))) }
+        // An allocation is for what is opened.
+        ensures memory { OnErr result (outcome_by verdict ≡ Opened) }
         ensures waits { WaitOn (station_of self.old) (station_of self.new) }
         ensures role { self.new.role ≡ self.old.role }
         ensures err { OnErr result (station_of self.new ≡ station_of self.old) }

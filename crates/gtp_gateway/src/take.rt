@@ -3,9 +3,13 @@
 ghost use Rattle.gtp_gateway.specs.GoesOn.{GoesOn};
 ghost use Rattle.std.specs.Prelude.{◌≡◌, true, Some, ℕ, List, IfOk, OnOk, OnErr};
 ghost use Rattle.gtp_v2.specs.Datagram.{IsMessage};
+ghost use Rattle.gtp_v2.specs.Viewed.{Carries};
 ghost use Rattle.gtp_machine.specs.Decoded.{message_of};
-ghost use Rattle.gtp_gateway.specs.Parts.{arrival_of};
-ghost use Rattle.gtp_gateway.specs.Procedure.{procedure_at, has};
+ghost use Rattle.gtp_gateway.specs.Choosing.{ChoosesLowest};
+ghost use Rattle.gtp_gateway.specs.Hearing.{node_heard};
+ghost use Rattle.gtp_gateway.specs.Needing.{AlwaysSendsOrOpens, ControlSendsOrOpens};
+ghost use Rattle.gtp_gateway.specs.Parts.{arrival_of, node_of};
+ghost use Rattle.gtp_gateway.specs.Procedure.{procedure_at, has, TakesBy};
 ghost use Rattle.gtp_gateway.specs.Row.{IsWeighed, IsHeardRow};
 ghost use Rattle.gtp_gateway.specs.Station.{IsWhole, station_of};
 ghost use Rattle.gtp_gateway.specs.Taken.{IsFresh, IsTaken};
@@ -41,6 +45,7 @@ impl Parts {
         requires whole { IsWhole (station_of self.old) }
         requires fresh { IsFresh source octets.now (station_of self.old) self.old.held.pairs }
         requires spelled { IsMessage octets.now view.now.message }
+        requires carries { Carries octets.now view.now }
         requires of { procedure_at view.now.message.kind ≡ Some procedure }
         requires has { has self.old.role procedure ≡ true }
         requires weighed { IsWeighed heard (message_of view.now.message) (station_of self.old) }
@@ -48,6 +53,11 @@ impl Parts {
             IsHeardRow (arrival_of source octets.now) (message_of view.now.message) heard
             (station_of self.old) step (station_of self.new)) }
         ensures goes { OnOk result (GoesOn source octets.now (station_of self.old) (station_of self.new)) }
+        ensures choices { IfOk result (λ step. ChoosesLowest step.report.made self.old.role
+            (node_of self.old) (node_of self.new)) }
+        ensures memory { OnErr result (AlwaysSendsOrOpens
+            (TakesBy self.old.role (arrival_of source octets.now) (message_of view.now.message))
+            (node_heard heard (node_of self.old))) }
         ensures err { OnErr result (station_of self.new ≡ station_of self.old) }
     {
         match procedure {
@@ -106,11 +116,15 @@ impl Parts {
         requires whole { IsWhole (station_of self.old) }
         requires fresh { IsFresh source octets.now (station_of self.old) self.old.held.pairs }
         requires spelled { IsMessage octets.now view.now.message }
+        requires carries { Carries octets.now view.now }
         requires of { procedure_at view.now.message.kind ≡ Some procedure }
         requires has { has self.old.role procedure ≡ true }
         ensures taken { IfOk result (λ step.
             IsTaken source octets.now (station_of self.old) step (station_of self.new)) }
         ensures goes { OnOk result (GoesOn source octets.now (station_of self.old) (station_of self.new)) }
+        ensures choices { IfOk result (λ step. ChoosesLowest step.report.made self.old.role
+            (node_of self.old) (node_of self.new)) }
+        ensures memory { OnErr result (ControlSendsOrOpens source octets.now (station_of self.old)) }
         ensures err { OnErr result (station_of self.new ≡ station_of self.old) }
     {
         let heard = self.weigh(counter_in(view, procedure));

@@ -1,15 +1,13 @@
 -- The exchange that makes a session (TS 29.274, 7.2.1 and 7.2.2), on a path that brings each datagram at once.
-use Rattle.std.specs.Prelude.{◌≡◌, ◌⊎◌, ℕ, ◌+◌, ◌<◌, ◌≤◌, List, ◌∷◌, Some, length}
+use Rattle.std.specs.Prelude.{◌≡◌, ◌⊎◌, ℕ, ◌+◌, ◌≤◌, List, ◌∷◌, Some, length}
 use Rattle.std.specs.FinMap.{get}
 use Rattle.gtp_values.specs.FiniteMap.{Among}
 use Rattle.gtp_machine.specs.Config.{Config}
-use Rattle.gtp_machine.specs.Message.{CreateSessionRequest, Message, Create_session_request, Create_session_response}
+use Rattle.gtp_machine.specs.Message.{Message, plane_of}
 use Rattle.gtp_machine.specs.Node.{Role, Serving, Packet, Session, Bearer, Default}
 use Rattle.gtp_machine.specs.Input.{Specification, Create_session, Send_user, Begun, Answered, Opened, Accepted}
-use Rattle.gtp_machine.specs.Choice.{IsFree, IsFreeNumber, HasDraws, HasFreeAddress, IsIdentity, HasSessionRoom, HasPendingRoom, HasHeldRoom}
-use Rattle.gtp_machine.specs.Command.{session_request}
-use Rattle.gtp_machine.specs.Packet.{session_response}
-use Rattle.gtp_machine.specs.Spelling.{IsSendable}
+use Rattle.gtp_machine.specs.Choice.{HasDraws, HasFreeAddress, IsIdentity, HasSessionRoom, HasPendingRoom, HasHeldRoom}
+use Rattle.gtp_machine.specs.Spelling.{ReadsAs, spelled}
 use Rattle.gtp_machine.specs.World.{World, Event, Does, Deliver, Happens, Run, EventOutcome, Came_to, Note, HasSent, start}
 use Rattle.gtp_machine.specs.Laws.{MutualSessions, MutualBearers}
 
@@ -18,16 +16,12 @@ pub record IsOnePath (serving packet : Config) : Type 0 where
   pub there : serving.peer ≡ packet.own
   pub back : packet.peer ≡ serving.own
 
--- what was sent up to now can be sent, and so can the request for the specification and its answer, whichever free TEIDs and number and whichever address of
--- the pool they have
-pub record AllSendable (w : World) (spec : Specification) : Type 0 where
-  pub each : (role : Role) (m : Message) → HasSent w.history role m → IsSendable m
-  pub request : (control user number : ℕ) → IsFree w.serving.node control → IsFree w.serving.node user → IsFreeNumber w.serving.node number → IsSendable (Create_session_request (session_request w.serving.node spec control user number))
-  pub answer : (q : CreateSessionRequest) (control user place : ℕ) → IsFree w.packet.node control → IsFree w.packet.node user → place < w.packet.node.config.pool_count → IsSendable (Create_session_request q) → IsSendable (Create_session_response (session_response w.packet.node q control user (w.packet.node.config.pool_start + place)))
+-- each message that was sent reads as itself
+abbrev pub AllRead : World → Type 0
+AllRead w = (role : Role) (m : Message) → HasSent w.history role m → ReadsAs (plane_of m) (spelled m) m
 
 -- nothing stands in the way of a session for this specification
 pub record CanExchange (w : World) (spec : Specification) : Type 0 where
-  pub path : IsOnePath w.serving.node.config w.packet.node.config
   pub identity : IsIdentity spec.subscriber.identity
   pub configured : Among spec.subscriber.access_point w.packet.node.config.access_points
   pub pdn : (spec.pdn ≡ 1) ⊎ (spec.pdn ≡ 3)
@@ -38,7 +32,6 @@ pub record CanExchange (w : World) (spec : Specification) : Type 0 where
   pub pending_room : HasPendingRoom w.serving.node
   pub held_room : HasHeldRoom w.packet.node
   pub address : HasFreeAddress w.packet.node
-  pub sendable : AllSendable w spec
 
 -- the latest event came to this
 pub record CameTo (w : World) (outcome : EventOutcome) : Type 0 where
@@ -91,8 +84,9 @@ pub record Exchanged (spec : Specification) (w begun answered opened : World) : 
   pub both_versions : spec.pdn ≡ 3 → cause ≡ 18
   pub third : CameTo opened (Came_to Opened)
 
--- In each run, where nothing stands in the way: the command, the delivery of its request and the delivery of its answer make the session.
+-- In each run, where nothing stands in the way and each message that is sent reads as itself: the command, the delivery of its request and the delivery of its
+-- answer make the session.
 abbrev pub FairExchange : Type 0
 FairExchange =
-    (serving packet : Config) (serving_counter packet_counter : ℕ) (events : List Event) (w begun answered opened : World) (spec : Specification) → Run (start serving packet serving_counter packet_counter) events w → CanExchange w spec →
-    Happens w (Does Serving (Create_session spec)) begun → Happens begun (Deliver (length w.history)) answered → Happens answered (Deliver (1 + length w.history)) opened → Exchanged spec w begun answered opened
+    (serving packet : Config) (serving_counter packet_counter : ℕ) (events : List Event) (w begun answered opened : World) (spec : Specification) → Run (start serving packet serving_counter packet_counter) events w → IsOnePath w.serving.node.config w.packet.node.config → CanExchange w spec →
+    Happens w (Does Serving (Create_session spec)) begun → Happens begun (Deliver (length w.history)) answered → Happens answered (Deliver (1 + length w.history)) opened → AllRead answered → Exchanged spec w begun answered opened

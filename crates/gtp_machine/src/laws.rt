@@ -205,8 +205,8 @@ pub fn readings()
 
 /// An exchange on a path that brings each datagram at once.
 pub fn fair_exchange()
-    // Where nothing stands in the way, the command for a session, the delivery of its request and
-    // the delivery of its answer make it at both gateways, as it was asked for, and its default
-    // bearer carries packets in both directions.
+    // Where nothing stands in the way, and each message that is sent reads as itself, the command
+    // for a session, the delivery of its request and the delivery of its answer make it at both
+    // gateways, as it was asked for, and its default bearer carries packets in both directions.
     ensures { FairExchange }
 {}

@@ -6,7 +6,7 @@ mod stories;
 use crate::gateways::{Sends, bearer_count, qos, session_count, set_up, specification};
 use gtp_gateway::*;
 use gtp_values::{Counter, Ebi, Teid, Tft};
-use gtp_world::{Datagram, Event, EventOutcome, Note, World, WorldConfig};
+use gtp_world::{Datagram, Event, EventOutcome, Mutual, Note, World, WorldConfig};
 use std::alloc::Global;
 use std::process::Abort;
 use std::test::Fail;
@@ -55,8 +55,14 @@ pub(crate) struct Story<'a> {
     pub told: &'a [Told],
     /// How many sessions and bearers each gateway has at the end, the serving one first.
     pub has: [(usize, usize); 2],
-    /// How many packets were handed in, and how many accepted.
-    pub packets: [usize; 2],
+    /// The contexts that name each other at the end. They agree.
+    pub mutual: &'a [Mutual],
+    /// How many packets were handed in.
+    pub handed_in: usize,
+    /// Which packets that were accepted are owed.
+    pub owed: &'a [bool],
+    /// How many contexts were made for datagrams, by their numbers.
+    pub made: &'a [(u64, usize)],
     /// How many deliveries were late.
     pub late: usize,
 }
@@ -68,7 +74,10 @@ pub(crate) const QUIET: Story<'static> = Story {
     rows: &[],
     told: &[],
     has: [(0, 0), (0, 0)],
-    packets: [0, 0],
+    mutual: &[],
+    handed_in: 0,
+    owed: &[],
+    made: &[],
     late: 0,
 };
 
@@ -214,10 +223,38 @@ fn ends(rt: &impl Abort, world: &World, story: &Story<'_>) -> Result<(), Fail> {
         counted(world.gateway(Role::Packet)) == packet,
         "at the packet gateway"
     );
-    let [handed_in, accepted] = story.packets;
-    assert!(rt; world.handed_in().len() == handed_in && world.accepted().len() == accepted);
+    assert!(rt; world.handed_in().len() == story.handed_in);
     assert!(rt; world.late() == story.late, "late: {}", world.late());
+    are_mutual(rt, world, story.mutual);
+    are_owed(rt, world, story.owed);
+    are_made(rt, world, story.made);
     Ok(())
+}
+
+/// These contexts name each other, in this order, and agree.
+fn are_mutual(rt: &impl Abort, world: &World, mutual: &[Mutual]) {
+    let mut listed = world.mutual();
+    for (at, pair) in mutual.iter().enumerate() {
+        assert!(rt; listed.next() == Some(*pair), "mutual at {at}");
+        assert!(rt; world.agree(at) == Some(true), "agree at {at}");
+    }
+    assert!(rt; listed.next().is_none() && world.agree(mutual.len()).is_none());
+}
+
+/// These accepted packets are owed, and these are not.
+fn are_owed(rt: &impl Abort, world: &World, owed: &[bool]) {
+    for (at, owed) in owed.iter().enumerate() {
+        assert!(rt; world.owed(at) == Some(*owed), "owed at {at}");
+    }
+    assert!(rt; world.owed(owed.len()).is_none());
+}
+
+/// So many contexts were made for these datagrams.
+fn are_made(rt: &impl Abort, world: &World, made: &[(u64, usize)]) {
+    for (number, count) in made {
+        assert!(rt; world.made(*number) == Some(*count), "made for {number}");
+    }
+    assert!(rt; world.made(world.datagrams().len() as u64).is_none());
 }
 
 /// The story, from its start to its end.

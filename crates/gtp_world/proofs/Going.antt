@@ -8,16 +8,18 @@ use Rattle.gtp_machine.specs.declared.role.Role.{Role}
 use Rattle.gtp_machine.specs.declared.role.Role.TheVariants.{Serving, Packet}
 use Rattle.gtp_machine.specs.Node.{Arrival}
 use Rattle.gtp_machine.specs.Spelling.{Datagram, spelled}
+use Rattle.gtp_machine.specs.declared.outcome.Outcome.{Outcome}
 use Rattle.gtp_machine.specs.Step.{Step, Done, tick_steps}
 use Rattle.gtp_machine.specs.Tick.{Ticks, ticked}
-use Rattle.gtp_machine.specs.World.{By, Sent, World, Side, EventOutcome, Restarted, Event, Does, Tick, Deliver, Cut, Restart, Happens, Moves, Stands, Came_to, Ticked, No_such_datagram, Cut_too_long, Restarts_used, quiet_note, noted, with_side, with_steps, restarted, next_counter, other, side_of, arrival, delivered_on, IsLateOn, late_once}
+use Rattle.gtp_machine.specs.World.{By, Sent, World, Side, EventOutcome, Restarted, Event, Does, Tick, Deliver, Cut, Restart, Happens, Moves, Stands, Came_to, Ticked, No_such_datagram, Cut_too_long, Restarts_used, quiet_note, noted, with_side, with_steps, restarted, next_counter, other, side_of, arrival, delivered_on, IsLateOn, late_once, Run, start}
 use Rattle.gtp_machine.proofs.Worlds.Runs.{Run-push}
 use Rattle.gtp_gateway.specs.Parts.{arrival_of}
 use Rattle.gtp_gateway.specs.Received.{coming}
+use Rattle.gtp_gateway.specs.Station.{Station}
 use Rattle.gtp_gateway.specs.Ticked.{due_in}
 use Rattle.gtp_world.specs.Kept.{Kept, half_in}
 use Rattle.gtp_world.specs.Runs.{Setup, config_in, IsFor, StandsFor, IsRunOf}
-use Rattle.gtp_world.specs.Stepped.{Takes, TicksBy, IsThere, IsLate, Comes, passed_over}
+use Rattle.gtp_world.specs.Stepped.{Takes, KeepsOn, AsksFor, Brings, TicksBy, IsThere, IsLate, Comes, passed_over}
 use Rattle.gtp_world.proofs.Lists.{Found, find, back}
 use Rattle.gtp_world.proofs.Cuts.{comes, comes_cut}
 use Rattle.gtp_world.proofs.Configs.{set_up}
@@ -46,8 +48,8 @@ module _ (setup : Setup) (v : Kept) (w : World) (stands : StandsFor setup v w) (
   no_request : Role → Arrival
   no_request role = record { source = own_end (side_of w role).node.config Control; octets = [] }
 
-  takes_on : (role : Role) (input there : Input) (new : Kept) → input ≡ there → Takes v role input false new → Moved setup w role there new
-  takes_on role input there new is t =
+  takes_on : (role : Role) (input there : Input) (Timed : List Datagram → Outcome → Station → Station → Type 0) (new : Kept) → input ≡ there → Takes v role input Timed false new → Moved setup w role there new
+  takes_on role input there Timed new is t =
       let steps : List Done = record { before = (side_of w role).node; input = there; effect = t.effect } ∷ [] in
       let next = world_after w role t.effect (Came_to t.effect.outcome) steps in
       record {
@@ -60,8 +62,8 @@ module _ (setup : Setup) (v : Kept) (w : World) (stands : StandsFor setup v w) (
   late_node Serving a = refl
   late_node Packet a = refl
 
-  takes_late : (role : Role) (a : Arrival) (input there : Input) (new : Kept) → input ≡ there → Takes v role input true new → (world : World) × Moves (late_once w role a) role there world × StandsFor setup new world
-  takes_late role a input there new is t =
+  takes_late : (role : Role) (a : Arrival) (input there : Input) (Timed : List Datagram → Outcome → Station → Station → Type 0) (new : Kept) → input ≡ there → Takes v role input Timed true new → (world : World) × Moves (late_once w role a) role there world × StandsFor setup new world
+  takes_late role a input there Timed new is t =
       let steps : List Done = record { before = (side_of (late_once w role a) role).node; input = there; effect = t.effect } ∷ [] in
       let next = world_after (late_once w role a) role t.effect (Came_to t.effect.outcome) steps in (
         next,
@@ -69,8 +71,8 @@ module _ (setup : Setup) (v : Kept) (w : World) (stands : StandsFor setup v w) (
         subst (λ k. StandsFor setup k next) (sym t.becomes) (after_step setup v w role t.station t.effect (Came_to t.effect.outcome) true a steps (same role) stands t.readable t.node t.role_stays),
       )
 
-  does_on : (role : Role) (input : Input) (new : Kept) → Takes v role input false new → Moved setup w role input new
-  does_on role input new t = takes_on role input input new refl t
+  does_on : (role : Role) (input : Input) (new : Kept) → Takes v role input AsksFor false new → Moved setup w role input new
+  does_on role input new t = takes_on role input input AsksFor new refl t
 
   ticks_on : (role : Role) (new : Kept) → TicksBy v role new → GoesOn setup w (Tick role) new
   ticks_on role new t =
@@ -134,24 +136,27 @@ module _ (setup : Setup) (v : Kept) (w : World) (stands : StandsFor setup v w) (
     abbrev there : Stands w.history number
     there = record { sent = f.sent; is = f.is }
 
-    on_time : (IsLate (half_in v (other found.sent.role)) found.sent.what → ⊥) → Takes v (other found.sent.role) (coming found.sent.what.plane found.sent.what.from found.sent.what.octets) false new → GoesOn setup w (Deliver number) new
+    on_time : (IsLate (half_in v (other found.sent.role)) found.sent.what → ⊥) → Brings v found.sent found.sent.what.octets false new → GoesOn setup w (Deliver number) new
     on_time timely t =
-        let m = takes_on receiver _ _ new comes_so (subst (λ r. Takes v r (coming found.sent.what.plane found.sent.what.from found.sent.what.octets) false new) to_other t) in
+        let keeps = KeepsOn found.sent.what.plane found.sent.what.from found.sent.what.octets in
+        let m = takes_on receiver _ _ keeps new comes_so (subst (λ r. Takes v r (coming found.sent.what.plane found.sent.what.from found.sent.what.octets) keeps false new) to_other t) in
         record { world = m.world; happens = inr (there, inl ((λ late. timely (late_here late)), m.moves)); stands = m.stands }
 
-    too_late : IsLate (half_in v (other found.sent.role)) found.sent.what → Takes v (other found.sent.role) (coming found.sent.what.plane found.sent.what.from found.sent.what.octets) true new → GoesOn setup w (Deliver number) new
+    too_late : IsLate (half_in v (other found.sent.role)) found.sent.what → Brings v found.sent found.sent.what.octets true new → GoesOn setup w (Deliver number) new
     too_late late t =
-        let m = takes_late receiver (arrival (config_of f.sent.role).own f.sent.what) _ _ new comes_so (subst (λ r. Takes v r (coming found.sent.what.plane found.sent.what.from found.sent.what.octets) true new) to_other t) in
+        let keeps = KeepsOn found.sent.what.plane found.sent.what.from found.sent.what.octets in
+        let m = takes_late receiver (arrival (config_of f.sent.role).own f.sent.what) _ _ keeps new comes_so (subst (λ r. Takes v r (coming found.sent.what.plane found.sent.what.from found.sent.what.octets) keeps true new) to_other t) in
         record { world = m.0; happens = inr (there, inr (late_there late, m.1)); stands = m.2 }
 
     as_long : length found.sent.what.octets ≡ length (spelled f.sent.what)
     as_long = ap length f.for.octets
 
-    cut_short : (count : ℕ) → count < length found.sent.what.octets → Takes v (other found.sent.role) (coming found.sent.what.plane found.sent.what.from (take count found.sent.what.octets)) false new → GoesOn setup w (Cut number count) new
+    cut_short : (count : ℕ) → count < length found.sent.what.octets → Brings v found.sent (take count found.sent.what.octets) false new → GoesOn setup w (Cut number count) new
     cut_short count short t =
+        let keeps = KeepsOn found.sent.what.plane found.sent.what.from (take count found.sent.what.octets) in
         let fewer : count < length (spelled f.sent.what) = subst (λ n. count < n) as_long short in
         let so = ap (λ (d : Datagram). coming d.plane d.from (take count d.octets)) datagram_is ∙ comes_cut (config_of f.sent.role) f.sent.what count f.for.reads fewer in
-        let m = takes_on receiver _ _ new so (subst (λ r. Takes v r (coming found.sent.what.plane found.sent.what.from (take count found.sent.what.octets)) false new) to_other t) in
+        let m = takes_on receiver _ _ keeps new so (subst (λ r. Takes v r (coming found.sent.what.plane found.sent.what.from (take count found.sent.what.octets)) keeps false new) to_other t) in
         record { world = m.world; happens = inr (there, inr (fewer, m.moves)); stands = m.stands }
 
     cut_long : (count : ℕ) → (count < length found.sent.what.octets → ⊥) → count < length (spelled f.sent.what) → ⊥
@@ -183,8 +188,19 @@ module _ (setup : Setup) (v : Kept) (w : World) (stands : StandsFor setup v w) (
       let next = with_steps (noted (with_side w role (restarted (side_of w role))) (quiet_note (Restarted (next_counter (side_of w role))))) role [] in
       record { world = next; happens = inr (subst (λ n. n < 127) (few_there role) few, refl); stands = subst (λ k. StandsFor setup k next) (sym is) (after_restart setup v w role (same role) stands) }
 
--- A run goes on by one event.
+-- A run goes on by one event: so does the machine's world.
+pub record Goes (setup : Setup) (events : List Event) (old : World) (event : Event) (new : Kept) : Type 0 where
+  pub world : World
+  pub happens : Happens old event world
+  pub run : Run (start setup.serving.config setup.packet.config setup.serving_counter setup.packet_counter) (events ++ event ∷ []) world
+  pub stands : StandsFor setup new world
+
+pub goes : (setup : Setup) (events : List Event) (v : Kept) (r : IsRunOf setup events v) (event : Event) (new : Kept) → Comes v event new → Goes setup events r.world event new
+goes setup events v r event new comes =
+    let g = goes_on setup v r.world r.stands (set_up setup events r.world r.run) event new comes in
+    record { world = g.world; happens = g.happens; run = Run-push _ events r.world event g.world r.run g.happens; stands = g.stands }
+
 pub run_on : (setup : Setup) (events : List Event) (v : Kept) → IsRunOf setup events v → (event : Event) (new : Kept) → Comes v event new → IsRunOf setup (events ++ event ∷ []) new
 run_on setup events v r event new comes =
-    let g = goes_on setup v r.world r.stands (set_up setup events r.world r.run) event new comes in
-    record { world = g.world; run = Run-push _ events r.world event g.world r.run g.happens; stands = g.stands }
+    let g = goes setup events v r event new comes in
+    record { world = g.world; run = g.run; stands = g.stands }

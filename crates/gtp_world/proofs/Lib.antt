@@ -11,5 +11,11 @@ pub mod Sidewise
 pub mod Safe
 pub mod Begin
 pub mod Finding
+pub mod Counts
+pub mod Owed
+pub mod Naming
+pub mod Exchanging
+pub mod Timely
+pub mod Reached
 pub mod Late
 pub mod Running

@@ -8,14 +8,17 @@ use Rattle.gtp_values.specs.declared.identifiers.Teid.{Teid}
 use Rattle.gtp_machine.specs.declared.role.Role.{Role}
 use Rattle.gtp_machine.specs.Command.{CommandStep}
 use Rattle.gtp_machine.specs.Input.{Command, Create_session, Delete_session, Create_bearer, Delete_bearer, Release_session, Mark_end, Send_echo, Send_user, Commanded, Effect, Entry, Out, nothing, refused}
-use Rattle.gtp_machine.specs.Message.{Plane}
+use Rattle.gtp_machine.specs.Message.{Plane, Control, User}
 use Rattle.gtp_machine.specs.Node.{Arrival, Node}
+use Rattle.gtp_machine.specs.Spelling.{Datagram}
 use Rattle.gtp_machine.specs.World.{signed}
-use Rattle.gtp_machine.specs.declared.outcome.Outcome.TheVariants.{Refused, GoneOut}
+use Rattle.gtp_machine.specs.declared.outcome.Outcome.{Outcome}
+use Rattle.gtp_machine.specs.declared.outcome.Outcome.TheVariants.{Begun as Asked, Refused, GoneOut}
 use Rattle.gtp_machine.specs.declared.outcome.Refusal.{Refusal}
-use Rattle.gtp_gateway.specs.Begun.{IsDone, outcome_by}
+use Rattle.gtp_gateway.specs.Begun.{IsDone, AsksNext, outcome_by}
 use Rattle.gtp_gateway.specs.Parts.{arrival_of}
-use Rattle.gtp_gateway.specs.Received.{IsReceived, coming}
+use Rattle.gtp_gateway.specs.Received.{IsReceived, KeepsTiming, coming}
+use Rattle.gtp_gateway.specs.Sent.{datagram_by}
 use Rattle.gtp_gateway.specs.Station.{Station}
 use Rattle.gtp_gateway.specs.Taken.{made_for}
 use Rattle.gtp_gateway.specs.UserTaken.{AreEntries}
@@ -23,8 +26,10 @@ use Rattle.gtp_gateway.specs.declared.sent.Begun.{Begun}
 use Rattle.gtp_gateway.specs.declared.step.Step.{Step}
 use Rattle.gtp_gateway.specs.declared.user_step.Accepted.{Accepted}
 use Rattle.gtp_gateway.proofs.SentBack.{none_sent}
+use Rattle.gtp_world.specs.Commands.{IsTimed}
 use Rattle.gtp_world.specs.Kept.{oldest_first, Half}
 use Rattle.gtp_world.specs.Sides.{entries, IsHanded, IsAccepted, IsInput}
+use Rattle.gtp_world.specs.Stepped.{AsksFor, KeepsOn, sent_at}
 use Rattle.gtp_world.specs.declared.log.Entry.{Entry as LoggedEntry}
 use Rattle.gtp_world.specs.declared.side.Came.{Came}
 use Rattle.gtp_world.proofs.Quiet.{IsQuiet, Handing, handing, plainly}
@@ -52,12 +57,38 @@ as_before old station out heard forgot made =
     let makes = sym (append-nil old.made) ∙ ap (λ l. old.made ++ oldest_first l) (sym made) in
     λ i. record old { station = station; seen = seen i; forgotten = forgotten i; made = makes i }
 
+-- a request was begun, and waits
+asked : (old new : Station) (begun : Begun) (teid : Option ℕ) (sent : List Datagram) (outcome : Outcome) → outcome ≡ Asked teid → (datagram_by begun.out ∷ []) ≡ sent → AsksNext old begun new → AsksFor sent outcome old new
+asked old new begun teid sent outcome is out next =
+    record {
+      asks = λ other same. (datagram_by begun.out, sym out, record { number = next.number; free = next.free; purpose = next.purpose; timing = next.timing });
+      none = λ never. absurd (never teid is);
+    }
+
+-- none was
+unasked : (old new : Station) (sent : List Datagram) (outcome : Outcome) → ((teid : Option ℕ) → outcome ≡ Asked teid → ⊥) → new.timing ≡ old.timing → AsksFor sent outcome old new
+unasked old new sent outcome never same = record { asks = λ teid is. absurd (never teid is); none = λ other. same }
+
+gone_out : (outcome : Outcome) → outcome ≡ GoneOut → (teid : Option ℕ) → outcome ≡ Asked teid → ⊥
+gone_out outcome is teid asks = let apart : GoneOut ≡ Asked teid = sym is ∙ asks in cc apart
+
+-- what ticks go by, after a command
+asks_for : (command : Command) (old new : Station) (begun : Begun) (teid : Option ℕ) (sent : List Datagram) (outcome : Outcome) → outcome ≡ outcome_by command teid → (datagram_by begun.out ∷ []) ≡ sent → IsTimed command old begun new → AsksFor sent outcome old new
+asks_for (Create_session spec) old new begun teid sent outcome is out next = asked old new begun teid sent outcome is out next
+asks_for (Delete_session session) old new begun teid sent outcome is out next = asked old new begun teid sent outcome is out next
+asks_for (Create_bearer session tft qos) old new begun teid sent outcome is out next = asked old new begun teid sent outcome is out next
+asks_for (Delete_bearer session identity) old new begun teid sent outcome is out next = asked old new begun teid sent outcome is out next
+asks_for (Release_session session) old new begun teid sent outcome is out next = asked old new begun teid sent outcome is out next
+asks_for Send_echo old new begun teid sent outcome is out next = asked old new begun teid sent outcome is out next
+asks_for (Mark_end bearer) old new begun teid sent outcome is out same = unasked old new sent outcome (gone_out outcome is) same
+asks_for (Send_user bearer payload) old new begun teid sent outcome is out same = unasked old new sent outcome (gone_out outcome is) same
+
 -- what a command that was carried out came to
 abbrev pub came_of_begun : Command → Begun → Option LoggedEntry → Came
 came_of_begun command begun handed = record { outcome = outcome_by command (option_map (λ (t : Teid). t.0) begun.teid); restart = None; out = Some begun.out; handed = handed; accepted = None }
 
-pub done : (node : Role) (command : Command) (old : Half) (begun : Begun) (station : Station) (handed : Option LoggedEntry) → IsDone command old.station begun station → IsHanded node old.station.node command handed → IsInput node (Commanded command) old (came_of_begun command begun handed) (record old { station = station })
-done node command old begun station handed d is =
+pub done : (node : Role) (command : Command) (old : Half) (begun : Begun) (station : Station) (handed : Option LoggedEntry) → IsDone command old.station begun station → IsTimed command old.station begun station → IsHanded node old.station.node command handed → IsInput node (Commanded command) AsksFor old (came_of_begun command begun handed) (record old { station = station })
+done node command old begun station handed d times is =
     let plain = plainly old.station.role command old.station.node d.effect d.step in
     record {
       effect = d.effect;
@@ -65,6 +96,7 @@ done node command old begun station handed d is =
       readable = d.sent.read;
       node = d.becomes;
       role_stays = d.role;
+      timed = asks_for command old.station station begun (option_map (λ (t : Teid). t.0) begun.teid) (sent_at old d.effect.out) d.effect.outcome d.outcome d.sent.octets times;
       becomes = as_before old station d.effect.out (ap (λ (o : Out). o.heard) plain) (ap (λ (o : Out). o.forgot) plain) (ap (λ (o : Out). o.made) plain);
       tells = record {
         sent = d.sent.octets;
@@ -81,7 +113,7 @@ done node command old begun station handed d is =
 abbrev pub came_of_refused : Refusal → Came
 came_of_refused why = record { outcome = Refused why; restart = None; out = None; handed = None; accepted = None }
 
-pub turned_down : (node : Role) (command : Command) (old : Half) (why : Refusal) → CommandStep old.station.role command old.station.node (refused old.station.node why) → IsInput node (Commanded command) old (came_of_refused why) old
+pub turned_down : (node : Role) (command : Command) (old : Half) (why : Refusal) → CommandStep old.station.role command old.station.node (refused old.station.node why) → IsInput node (Commanded command) AsksFor old (came_of_refused why) old
 turned_down node command old why step =
     record {
       effect = refused old.station.node why;
@@ -89,6 +121,7 @@ turned_down node command old why step =
       readable = (none_sent old.station.node.config).read;
       node = refl;
       role_stays = refl;
+      timed = unasked old.station old.station [] (Refused why) (λ teid is. cc is) refl;
       becomes = as_before old old.station nothing refl refl refl;
       tells = record { sent = refl; outcome = refl; learned = refl; handed = refl; accepted = refl; gave_up = refl; forgot = refl };
     }
@@ -106,6 +139,11 @@ pub heard_kept : (seen : List Counter) (heard : Option Counter) → map (λ (c :
 heard_kept seen None = map-append (λ (c : Counter). c.0) seen []
 heard_kept seen (Some c) = map-append (λ (k : Counter). k.0) seen (c ∷ [])
 
+-- what ticks go by, after a datagram
+keeps_on : (plane : Plane) (source : Endpoint) (octets : List ℕ) (sent : List Datagram) (outcome : Outcome) (step : Step) (old new : Station) → step.report.outcome ≡ outcome → KeepsTiming plane source octets step old new → KeepsOn plane source octets sent outcome old new
+keeps_on Control source octets sent outcome step old new is keeps = keeps
+keeps_on User source octets sent outcome step old new is keeps = (λ apart. keeps.0 (λ broken. apart (sym is ∙ broken)), keeps.1)
+
 -- what a datagram came to
 abbrev pub came_of_step : Step → Option LoggedEntry → Came
 came_of_step step accepted = record { outcome = step.report.outcome; restart = step.report.restart; out = step.out; handed = None; accepted = accepted }
@@ -114,8 +152,8 @@ came_of_step step accepted = record { outcome = step.report.outcome; restart = s
 abbrev pub half_told : Half → Station → Step → Arrival → Half
 half_told old station step request = record old { station = station; seen = old.seen ++ option_to_list (option_map (λ (c : Counter). c.0) step.report.heard); made = old.made ++ made_for request step.report.made }
 
-pub taken : (node : Role) (plane : Plane) (source : Endpoint) (octets : List ℕ) (old : Half) (step : Step) (station : Station) (entry : Option LoggedEntry) → IsReceived plane source octets old.station step station → (IsSome step.accepted → station ≡ old.station) → IsAccepted node station.node step.accepted entry → IsInput node (coming plane source octets) old (came_of_step step entry) (half_told old station step (arrival_of source octets))
-taken node plane source octets old step station entry r stays is =
+pub taken : (node : Role) (plane : Plane) (source : Endpoint) (octets : List ℕ) (old : Half) (step : Step) (station : Station) (entry : Option LoggedEntry) → IsReceived plane source octets old.station step station → KeepsTiming plane source octets step old.station station → (IsSome step.accepted → station ≡ old.station) → IsAccepted node station.node step.accepted entry → IsInput node (coming plane source octets) (KeepsOn plane source octets) old (came_of_step step entry) (half_told old station step (arrival_of source octets))
+taken node plane source octets old step station entry r keeps stays is =
     let request = arrival_of source octets in
     let out = r.effect.out in
     let forgot = ap (λ (o : Out). o.forgot) r.tells.all in
@@ -128,6 +166,7 @@ taken node plane source octets old step station entry r stays is =
       readable = r.tells.sent.read;
       node = r.becomes;
       role_stays = r.role;
+      timed = keeps_on plane source octets (sent_at old r.effect.out) r.effect.outcome step old.station station r.tells.outcome keeps;
       becomes = λ i. record old { station = station; seen = seen i; forgotten = forgotten i; made = made i };
       tells = record {
         sent = r.tells.sent.octets;

@@ -5,3 +5,7 @@ pub mod Sides
 pub mod Recorded
 pub mod Events
 pub mod Runs
+pub mod Ends
+pub mod Views
+pub mod Naming
+pub mod Exchange

@@ -12,9 +12,7 @@ use Rattle.gtp_world.specs.Kept.{oldest_first, Half, Told, Kept}
 use Rattle.gtp_gateway.specs.Sent.{ReadsBack}
 use Rattle.gtp_gateway.specs.Settings.{Settings}
 use Rattle.gtp_world.specs.Recorded.{empty_log}
-use Rattle.gtp_world.specs.Stepped.{half_begun}
-use Rattle.gtp_world.specs.declared.run.RunFault.{RunFault}
-use Rattle.gtp_world.specs.declared.run.RunFault.TheVariants.{Start, At}
+use Rattle.gtp_world.specs.Stepped.{half_begun, Follows}
 
 -- both gateways as they are set up, and the counters that they begin with
 pub record Setup : Type 0 where
@@ -83,6 +81,13 @@ pub record IsRunOf (setup : Setup) (events : List Event) (v : Kept) : Type 0 whe
   pub run : Run (start setup.serving.config setup.packet.config setup.serving_counter setup.packet_counter) events world
   pub stands : StandsFor setup v world
 
+-- some run of gateways that face each other leaves it
+pub record IsReached (v : Kept) : Type 0 where
+  pub setup : Setup
+  pub facing : AreFacing setup.serving setup.packet
+  pub events : List Event
+  pub run : IsRunOf setup events v
+
 -- a gateway of the machine's world, by what is kept of it
 abbrev pub side_by : Half → Side
 side_by h = record { node = h.station.node; first = h.first; restarts = h.restarts; seen = h.seen; forgotten = h.forgotten; came_late = []; made = h.made }
@@ -100,11 +105,12 @@ pub record IsSafe (v : Kept) : Type 0 where
   pub owed : EachOwed (pictured v)
   pub none_over : NoneOver (pictured v)
 
--- A run that was left at the one is left at the other after one event more.
-abbrev pub GoesOn : Kept → Event → Kept → Type 0
-GoesOn old event new = (setup : Setup) (events : List Event) → IsRunOf setup events old → IsRunOf setup (events ++ event ∷ []) new
+-- A run that was left at the one is left at the other after these events more.
+abbrev pub RunsOn : Kept → List Event → Kept → Type 0
+RunsOn old more new = (setup : Setup) (events : List Event) → IsRunOf setup events old → IsRunOf setup (events ++ more) new
 
--- Where memory ran out in a run of these events, it is a run of those before the one that could not happen, and safe.
-abbrev pub IsCutShort : Setup → List Event → RunFault → Type 0
-IsCutShort setup events Start = Unit {0}
-IsCutShort setup events (At count world) = (count < length events) × IsRunOf setup (take count events) world × IsSafe world
+-- these events have come to what they come to: that is a run of the machine, and safe
+pub record IsWhole (setup : Setup) (events : List Event) (v : Kept) : Type 0 where
+  pub comes : Follows (begun setup) events v
+  pub run : IsRunOf setup events v
+  pub safe : IsSafe v

@@ -5,12 +5,15 @@ use Rattle.gtp_machine.specs.Choice.{HasSession, HasBearer}
 use Rattle.gtp_machine.specs.Input.{Command, Send_user, Input, Entry, entry_for, Out, Effect, nothing}
 use Rattle.gtp_machine.specs.declared.role.Role.{Role}
 use Rattle.gtp_machine.specs.Node.{Node, written}
+use Rattle.gtp_machine.specs.Spelling.{Datagram}
 use Rattle.gtp_machine.specs.Step.{Step}
+use Rattle.gtp_machine.specs.declared.outcome.Outcome.{Outcome}
 use Rattle.gtp_machine.specs.Tick.{Ticks}
 use Rattle.gtp_machine.specs.World.{By, signed}
 use Rattle.gtp_gateway.specs.Sent.{datagram_by}
 use Rattle.gtp_gateway.specs.Taken.{datagrams}
-use Rattle.gtp_gateway.specs.Ticked.{due_in, arrivals_of}
+use Rattle.gtp_gateway.specs.Station.{Station}
+use Rattle.gtp_gateway.specs.Ticked.{due_in, arrivals_of, CountsOn}
 use Rattle.gtp_gateway.specs.declared.tick.Ticked.{Ticked}
 use Rattle.gtp_gateway.specs.declared.user_step.Accepted.{Accepted}
 use Rattle.gtp_gateway.specs.UserTaken.{AreEntries}
@@ -33,13 +36,14 @@ pub record TellsCame (role : Role) (old : Half) (came : Came) (e : Effect) : Typ
   pub gave_up : e.out.gave_up ≡ []
   pub forgot : e.out.forgot ≡ []
 
--- The gateway took an input.
-pub record IsInput (role : Role) (input : Input) (old : Half) (came : Came) (new : Half) : Type 0 where
+-- The gateway took an input, and what its ticks go by is as this says.
+pub record IsInput (role : Role) (input : Input) (Timed : List Datagram → Outcome → Station → Station → Type 0) (old : Half) (came : Came) (new : Half) : Type 0 where
   pub effect : Effect
   pub step : Step old.station.role old.station.node input effect
   pub readable : AreReadable effect.out
   pub node : new.station.node ≡ effect.node
   pub role_stays : new.station.role ≡ old.station.role
+  pub timed : Timed (sent_at old effect.out) effect.outcome old.station new.station
   pub becomes : new ≡ half_after old new.station effect.out
   pub tells : TellsCame role old came effect
 
@@ -49,6 +53,7 @@ pub record IsTick (old : Half) (ticked : Ticked) (new : Half) : Type 0 where
   pub ticks : Ticks old.station.node (due_in old.station.timing) out new.station.node
   pub readable : AreReadable out
   pub role_stays : new.station.role ≡ old.station.role
+  pub counts : CountsOn old.station new.station
   pub becomes : new ≡ half_after old new.station out
   pub sent : map datagram_by ticked.resent.items ≡ sent_at old out
   pub gave_up : ticked.gave_up.items ≡ out.gave_up

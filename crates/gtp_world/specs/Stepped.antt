@@ -1,20 +1,28 @@
 -- What an event leaves.
-use Rattle.std.specs.Prelude.{◌≡◌, ℕ, ◌+◌, ◌%◌, ◌<◌, Bool, true, false, List, [], ◌∷◌, ◌++◌, map, length, take, All, slice_get, Some, option_to_list}
+use Rattle.std.specs.Prelude.{◌≡◌, ◌≢◌, Option, ℕ, ◌+◌, ◌%◌, ◌<◌, Bool, true, false, List, [], ◌∷◌, ◌++◌, map, length, take, All, slice_get, Some, option_to_list}
 use Rattle.gtp_values.specs.FiniteMap.{Among}
+use Rattle.gtp_values.specs.declared.address.Endpoint.{Endpoint}
+use Rattle.gtp_reliable.specs.Pending.{IsNextFree}
 use Rattle.gtp_machine.specs.Input.{Input, Commanded, Out, Effect, nothing}
-use Rattle.gtp_machine.specs.Message.{Control}
+use Rattle.gtp_machine.specs.Message.{Plane, Control, User}
+use Rattle.gtp_machine.specs.declared.outcome.Outcome.{Outcome}
+use Rattle.gtp_machine.specs.declared.outcome.Outcome.TheVariants.{Begun, Broken}
 use Rattle.gtp_machine.specs.declared.role.Role.{Role}
 use Rattle.gtp_machine.specs.Ordered.{Unless}
 use Rattle.gtp_machine.specs.Spelling.{Datagram, datagram_of}
 use Rattle.gtp_machine.specs.Step.{Step}
 use Rattle.gtp_machine.specs.Tick.{Ticks}
 use Rattle.gtp_machine.specs.World.{By, EventOutcome, Came_to, Ticked, Restarted, No_such_datagram, Restarts_used, Cut_too_long, Event, Does, Tick, Deliver, Cut, Restart, other, signed}
+use Rattle.gtp_gateway.specs.declared.purpose.Purpose.{Purpose}
+use Rattle.gtp_gateway.specs.Asking.{after_begun}
+use Rattle.gtp_gateway.specs.GoesOn.{GoesOn}
 use Rattle.gtp_gateway.specs.Parts.{arrival_of}
 use Rattle.gtp_gateway.specs.Received.{coming}
 use Rattle.gtp_gateway.specs.Sent.{SendingReads}
 use Rattle.gtp_gateway.specs.Settings.{Settings}
 use Rattle.gtp_gateway.specs.Station.{Station, starting}
-use Rattle.gtp_gateway.specs.Ticked.{due_in}
+use Rattle.gtp_gateway.specs.Ticked.{due_in, CountsOn}
+use Rattle.gtp_gateway.specs.UserTaken.{WaitOn}
 use Rattle.gtp_world.specs.Kept.{oldest_first, Half, Told, Log, Kept, half_in, with_half, counted}
 
 -- what is kept of a gateway, after a step that tells this
@@ -48,23 +56,47 @@ sent_at half out = map (datagram_of half.station.node.config) out.sent
 abbrev pub AreReadable : Out → Type 0
 AreReadable out = All SendingReads out.sent
 
--- A gateway takes an input, by the rules of the machine.
-pub record Takes (old : Kept) (role : Role) (input : Input) (late : Bool) (new : Kept) : Type 0 where
+-- a request that was sent waits from now on, under the next free number
+pub record WaitsFor (old : Station) (d : Datagram) (new : Station) : Type 0 where
+  pub number : ℕ
+  pub free : IsNextFree old.timing.next old.timing.waiting number
+  pub purpose : Purpose
+  pub timing : new.timing ≡ after_begun number purpose d.to d.octets old.timing
+
+-- what ticks go by, after a command: a request that was begun waits from now on; where none was, nothing changes
+pub record AsksFor (sent : List Datagram) (outcome : Outcome) (old new : Station) : Type 0 where
+  pub asks : (teid : Option ℕ) → outcome ≡ Begun teid → (d : Datagram) × (sent ≡ d ∷ []) × WaitsFor old d new
+  pub none : ((teid : Option ℕ) → outcome ≢ Begun teid) → new.timing ≡ old.timing
+
+-- what ticks go by, after a datagram of that plane: the requests that are still pending wait on; one of the control plane may have been given an answer, which
+-- is held from now on, and one of the user plane changes nothing, but where bearers go that the peer does not know
+abbrev pub KeepsOn : Plane → Endpoint → List ℕ → List Datagram → Outcome → Station → Station → Type 0
+KeepsOn Control source octets sent outcome old new = GoesOn source octets old new
+KeepsOn User source octets sent outcome old new = (outcome ≢ Broken → new.timing ≡ old.timing) × WaitOn old new
+
+-- A gateway takes an input, by the rules of the machine; and what its ticks go by is as this says.
+pub record Takes (old : Kept) (role : Role) (input : Input) (Timed : List Datagram → Outcome → Station → Station → Type 0) (late : Bool) (new : Kept) : Type 0 where
   pub effect : Effect
   pub step : Step (half_in old role).station.role (half_in old role).station.node input effect
   pub readable : AreReadable effect.out
   pub station : Station
   pub node : station.node ≡ effect.node
   pub role_stays : station.role ≡ (half_in old role).station.role
+  pub timed : Timed (sent_at (half_in old role) effect.out) effect.outcome (half_in old role).station station
   pub becomes : new ≡ kept_after old role station effect.out (sent_at (half_in old role) effect.out) (Came_to effect.outcome) late
 
--- A gateway ticks: what is due by its counts of ticks is done.
+-- The octets of a datagram come to the gateway that did not send it.
+abbrev pub Brings : Kept → By Datagram → List ℕ → Bool → Kept → Type 0
+Brings old sent octets late new = Takes old (other sent.role) (coming sent.what.plane sent.what.from octets) (KeepsOn sent.what.plane sent.what.from octets) late new
+
+-- A gateway ticks: what is due by its counts of ticks is done, and what waits has waited one tick more.
 pub record TicksBy (old : Kept) (role : Role) (new : Kept) : Type 0 where
   pub out : Out
   pub station : Station
   pub ticks : Ticks (half_in old role).station.node (due_in (half_in old role).station.timing) out station.node
   pub readable : AreReadable out
   pub role_stays : station.role ≡ (half_in old role).station.role
+  pub counts : CountsOn (half_in old role).station station
   pub becomes : new ≡ kept_after old role station out (sent_at (half_in old role) out) Ticked false
 
 -- the log, where this is told, and nothing else
@@ -98,17 +130,21 @@ half_restarted role h = record h { station = starting role h.settings (counter_a
 
 -- What comes of an event.
 abbrev pub Comes : Kept → Event → Kept → Type 0
-Comes old (Does role command) new = Takes old role (Commanded command) false new
+Comes old (Does role command) new = Takes old role (Commanded command) AsksFor false new
 Comes old (Tick role) new = TicksBy old role new
 Comes old (Deliver number) new =
     Unless (IsThere old.log.datagrams number) (new ≡ passed_over old No_such_datagram) (λ found.
-    Unless (IsLate (half_in old (other found.sent.role)) found.sent.what)
-    (Takes old (other found.sent.role) (coming found.sent.what.plane found.sent.what.from found.sent.what.octets) false new)
-    (λ late. Takes old (other found.sent.role) (coming found.sent.what.plane found.sent.what.from found.sent.what.octets) true new))
+    Unless (IsLate (half_in old (other found.sent.role)) found.sent.what) (Brings old found.sent found.sent.what.octets false new) (λ late.
+    Brings old found.sent found.sent.what.octets true new))
 Comes old (Cut number count) new =
     Unless (IsThere old.log.datagrams number) (new ≡ passed_over old No_such_datagram) (λ found.
     Unless (count < length found.sent.what.octets) (new ≡ passed_over old Cut_too_long) (λ short.
-    Takes old (other found.sent.role) (coming found.sent.what.plane found.sent.what.from (take count found.sent.what.octets)) false new))
+    Brings old found.sent (take count found.sent.what.octets) false new))
 Comes old (Restart role) new =
     Unless ((half_in old role).restarts < 127) (new ≡ passed_over old Restarts_used) (λ few.
     new ≡ record (with_half old role (half_restarted role (half_in old role))) { log = log_with old.log (Restarted (counter_after (half_in old role))) })
+
+-- The events come to what they come to, one after the other.
+abbrev pub Follows : Kept → List Event → Kept → Type 0
+Follows old [] new = new ≡ old
+Follows old (event ∷ events) new = (mid : Kept) × Comes old event mid × Follows mid events new

@@ -2,7 +2,7 @@
 
 ghost use Rattle.std.specs.Prelude.{◌≡◌, true, option_map, IfOk, OnErr};
 ghost use Rattle.gtp_gateway.specs.Begun.{IsDone, IsRefusedWhere, outcome_by};
-ghost use Rattle.gtp_world.specs.Commands.{command_of, is_command};
+ghost use Rattle.gtp_world.specs.Commands.{command_of, is_command, IsTimed};
 
 use crate::event::Event;
 use gtp_gateway::{Begun, CommandFault, Gateway, Outcome, Teid};
@@ -13,6 +13,8 @@ pub fn tell(gateway: &mut Gateway, alloc: Global, event: &Event) -> Result<Begun
     requires { is_command event.now ≡ true }
     ensures done { IfOk result (λ begun.
         IsDone (command_of event.now) gateway.old begun gateway.new) }
+    ensures timed { IfOk result (λ begun.
+        IsTimed (command_of event.now) gateway.old begun gateway.new) }
     ensures refused { IsRefusedWhere (command_of event.now) gateway.old result }
     ensures err { OnErr result (gateway.new ≡ gateway.old) }
 {

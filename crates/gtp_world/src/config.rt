@@ -1,6 +1,6 @@
 //! What both gateways of a world are set up with.
 
-ghost use Rattle.std.specs.Prelude.{◌≡◌, ◌↔◌, IsOk, IfOk, IfErr};
+ghost use Rattle.std.specs.Prelude.{◌≡◌, ◌↔◌, [], ◌∷◌, map, IsTrue, IsOk, IfOk, IfErr};
 ghost use Rattle.gtp_values.specs.declared.fault.ValueFault.TheVariants.{OutOfRange};
 ghost use Rattle.gtp_world.specs.Runs.{AreFacing};
 
@@ -18,13 +18,20 @@ pub struct WorldConfig {
 
 impl Model for WorldConfig {
     ghost use Rattle.std.specs.Prelude.{◌<◌};
-    ghost use Rattle.gtp_world.specs.Runs.{Setup};
+    ghost use Rattle.gtp_world.specs.Runs.{Setup, AreFacing};
 
     ghost Value = { Setup };
 
     ghost view = { λ c. record { serving = c.serving; packet = c.packet; serving_counter = c.serving_counter.0; packet_counter = c.packet_counter.0 } };
 
-    ghost invariant = { λ c. (c.serving_counter.0 < 256) × (c.packet_counter.0 < 256) };
+    ghost invariant = { λ c. (c.serving_counter.0 < 256) × (c.packet_counter.0 < 256) × AreFacing c.serving c.packet };
+}
+
+/// Whether each gateway has the other's addresses for its peer.
+fn are_facing(serving: &Config, packet: &Config) -> bool
+    ensures { IsTrue result ↔ AreFacing serving.now packet.now }
+{
+    serving.own() == packet.peer() && packet.own() == serving.peer()
 }
 
 impl WorldConfig {
@@ -38,13 +45,11 @@ impl WorldConfig {
         ensures ok { IsOk result ↔ AreFacing serving packet }
         ensures serving { IfOk result (λ c. c.serving ≡ serving) }
         ensures packet { IfOk result (λ c. c.packet ≡ packet) }
+        ensures counters { IfOk result (λ c. map (λ k. k.0) counters
+            ≡ c.serving_counter ∷ c.packet_counter ∷ []) }
         ensures fault { IfErr result (λ f. f ≡ OutOfRange) }
     {
-        let from_serving = serving.own();
-        let from_packet = packet.own();
-        let to_packet = serving.peer();
-        let to_serving = packet.peer();
-        if from_serving != to_serving || from_packet != to_packet {
+        if !are_facing(&serving, &packet) {
             return Err(ValueFault::OutOfRange);
         }
         let [serving_counter, packet_counter] = counters;
@@ -58,7 +63,9 @@ impl WorldConfig {
 
     /// How the serving gateway is set up.
     pub fn serving(&self) -> &Config
-        ensures { result.now ≡ self.now.serving }
+        ensures config { result.now ≡ self.now.serving }
+        // At all times each gateway has the other's addresses for its peer.
+        ensures always { AreFacing self.now.serving self.now.packet }
     {
         &self.serving
     }

@@ -5,6 +5,7 @@ mod command;
 mod config;
 mod event;
 mod log;
+mod mutual;
 mod records;
 mod room;
 mod run;
@@ -14,6 +15,12 @@ mod world;
 
 pub use config::WorldConfig;
 pub use event::{Event, EventOutcome};
+pub use gtp_gateway::{
+    Apn, Config, Counter, Ebi, Gateway, Memory, Outcome, Qos, Role, Sent, Seq, SessionSpec, Teid,
+    Tft, ValueFault,
+};
+pub use gtp_machine::laws;
 pub use log::{Datagram, Entry, Note};
+pub use mutual::{Mutual, Mutuals};
 pub use run::RunFault;
 pub use world::World;

@@ -39,5 +39,5 @@ pub struct Note {
     /// The requests whose answers are held no more.
     pub forgotten: Vec<Request>,
     /// A request was delivered whose answer had been given up.
-    pub late: bool,
+    pub(crate) late: bool,
 }

@@ -1,12 +1,12 @@
 //! What is kept of what both gateways did.
 
 ghost use Rattle.std.specs.Prelude.{◌≡◌, ◌+◌, ◌<◌, ◌≤◌, ◌++◌, [], ◌∷◌, false, map, length, vec_len, vec_capacity};
-ghost use Rattle.std.specs.Prelude.{IfSome, IfNone, OnOk};
+ghost use Rattle.std.specs.Prelude.{◌↔◌, IsTrue, IfSome, IfNone, OnOk};
 ghost use Rattle.gtp_machine.specs.Input.{nothing};
-ghost use Rattle.gtp_machine.specs.World.{signed};
+ghost use Rattle.gtp_machine.specs.World.{signed, other, HasBy};
 ghost use Rattle.gtp_gateway.specs.Sent.{datagram_by};
 ghost use Rattle.gtp_gateway.specs.Taken.{datagrams};
-ghost use Rattle.gtp_world.specs.Kept.{log_of, told_by, outcome_of, outcomes_in, sent_by};
+ghost use Rattle.gtp_world.specs.Kept.{log_of, told_by, entry_by, outcome_of, outcomes_in, sent_by};
 ghost use Rattle.gtp_world.specs.Recorded.{HasRoom, empty_log, log_of_came, log_of_tick};
 ghost use Rattle.gtp_world.specs.Stepped.{log_with, told_of};
 
@@ -38,6 +38,26 @@ fn count_of(out: &Option<Sent>) -> usize
         Some(_) => 1,
         None => 0,
     }
+}
+
+/// Whether the one is the packet that was handed in at one gateway, and the other the same packet,
+/// accepted at the other gateway.
+fn is_handed_over(handed: &Entry, accepted: &Entry) -> bool
+    ensures { IsTrue result
+        ↔ entry_by handed.now ≡ record { role = other accepted.now.node; what = (entry_by accepted.now).what } }
+{
+    handed.node != accepted.node && is_same_packet(handed, accepted)
+}
+
+/// Whether both are of the same packet, for the same context.
+fn is_same_packet(a: &Entry, b: &Entry) -> bool
+    ensures { IsTrue result ↔ (entry_by a.now).what ≡ (entry_by b.now).what }
+{
+    a.teid == b.teid
+        && a.payload.as_slice() == b.payload.as_slice()
+        && a.imsi == b.imsi
+        && a.apn == b.apn
+        && a.ebi == b.ebi
 }
 
 impl Note {
@@ -170,6 +190,20 @@ impl Records {
     {
         keep(&mut self.notes, Note::of(alloc, outcome));
         outcome
+    }
+
+    /// Whether an accepted packet was handed in at the other gateway: octet for octet, for the same
+    /// TEID, subscriber, access point and bearer.
+    pub fn is_owed(&self, accepted: &Entry) -> bool
+        ensures { IsTrue result
+            ↔ HasBy (log_of self.now).handed (other accepted.now.node) (entry_by accepted.now).what }
+    {
+        for handed in self.handed.as_slice() {
+            if is_handed_over(handed, accepted) {
+                return true;
+            }
+        }
+        false
     }
 
     /// How many deliveries were late.

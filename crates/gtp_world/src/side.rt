@@ -14,7 +14,8 @@ ghost use Rattle.gtp_gateway.specs.Ticked.{asked_by, arrivals_of};
 ghost use Rattle.gtp_world.specs.Commands.{command_of, is_command};
 ghost use Rattle.gtp_world.specs.Kept.{half_of};
 ghost use Rattle.gtp_world.specs.Sides.{IsInput, IsTick, IsEntryAt, IsHanded, IsAccepted};
-ghost use Rattle.gtp_world.specs.Stepped.{IsLate, counter_after, half_begun, half_restarted};
+ghost use Rattle.gtp_world.specs.Views.{IsCount};
+ghost use Rattle.gtp_world.specs.Stepped.{AsksFor, KeepsOn, IsLate, counter_after, half_begun, half_restarted};
 
 use crate::command::{outcome_of, tell};
 use crate::event::Event;
@@ -138,7 +139,7 @@ impl Side {
     /// Carries a command out, or refuses it.
     pub fn does(&mut self, alloc: Global, node: Role, event: &Event) -> Result<Came, Memory>
         requires command { is_command event.now ≡ true }
-        ensures done { IfOk result (λ came. IsInput node (Commanded (command_of event.now))
+        ensures done { IfOk result (λ came. IsInput node (Commanded (command_of event.now)) AsksFor
             (half_of self.old) came (half_of self.new)) }
         ensures err { OnErr result (half_of self.new ≡ half_of self.old) }
     {
@@ -186,7 +187,7 @@ impl Side {
         octets: &[u8],
     ) -> Result<Came, Memory>
         ensures taken { IfOk result (λ came. IsInput node (coming plane source octets.now)
-            (half_of self.old) came (half_of self.new)) }
+            (KeepsOn plane source octets.now) (half_of self.old) came (half_of self.new)) }
         ensures err { OnErr result (half_of self.new ≡ half_of self.old) }
     {
         self.seen.try_reserve(1)?;
@@ -227,6 +228,19 @@ impl Side {
             }
         }
         false
+    }
+
+    /// How many contexts the gateway has made for this request.
+    pub fn contexts_made(&self, source: Endpoint, octets: &[u8]) -> usize
+        ensures { IsCount (arrival_of source octets.now) (half_of self.now).made result }
+    {
+        let mut count = 0usize;
+        for request in self.made.as_slice() {
+            if is_from(request, source, octets) {
+                count += 1;
+            }
+        }
+        count
     }
 
     /// A tick passes.

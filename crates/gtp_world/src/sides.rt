@@ -3,13 +3,13 @@
 ghost use Rattle.std.specs.Prelude.{◌≡◌, ◌↔◌, ◌<◌, ◌≤◌, ◌++◌, [], ◌∷◌, true, false, length, take, IsTrue, IfOk, IfSome, IfNone, OnOk, OnErr};
 ghost use Rattle.gtp_machine.specs.Input.{Commanded};
 ghost use Rattle.gtp_machine.specs.World.{other, Restart, Tick, Deliver, Cut};
-ghost use Rattle.gtp_gateway.specs.Received.{coming};
 ghost use Rattle.gtp_world.specs.Commands.{command_of, is_command};
 ghost use Rattle.gtp_world.specs.Events.{event_of};
-ghost use Rattle.gtp_world.specs.Kept.{kept_of, half_in, outcome_of, outcomes_in};
+ghost use Rattle.gtp_world.specs.Kept.{kept_of, half_of, half_in, outcome_of, outcomes_in};
 ghost use Rattle.gtp_world.specs.Recorded.{HasRoom};
-ghost use Rattle.gtp_world.specs.Runs.{begun};
-ghost use Rattle.gtp_world.specs.Stepped.{Comes, Takes, TicksBy, IsThere, IsLate};
+ghost use Rattle.gtp_world.specs.Runs.{begun, AreFacing};
+ghost use Rattle.gtp_world.specs.Views.{IsMade};
+ghost use Rattle.gtp_world.specs.Stepped.{Comes, Takes, AsksFor, Brings, TicksBy, IsThere, IsLate};
 
 use crate::config::WorldConfig;
 use crate::event::{Event, EventOutcome};
@@ -43,6 +43,7 @@ impl Sides {
     /// Both gateways, just started, which have sent nothing.
     pub fn start(alloc: Global, config: &WorldConfig) -> Result<Sides, Memory>
         ensures begun { IfOk result (λ sides. kept_of sides ≡ begun config.now) }
+        ensures facing { OnOk result (AreFacing config.now.serving config.now.packet) }
         ensures serving { OnOk result (config.now.serving_counter < 256) }
         ensures packet { OnOk result (config.now.packet_counter < 256) }
     {
@@ -63,11 +64,34 @@ impl Sides {
         })
     }
 
+    /// One of the gateways.
+    pub fn side(&self, role: Role) -> &Side
+        ensures { half_of result.now ≡ half_in (kept_of self.now) role }
+    {
+        match role {
+            Role::Serving => &self.serving,
+            Role::Packet => &self.packet,
+        }
+    }
+
+    /// How many contexts were made for the datagram of this number, if there is one, by the gateway
+    /// that did not send it, since that started.
+    pub fn made(&self, number: u64) -> Option<usize>
+        ensures some { IfSome result (λ count. IsMade (kept_of self.now) number count) }
+        ensures none { IfNone result (length (kept_of self.now).log.datagrams ≤ number) }
+    {
+        let index = self.records.find(number)?;
+        let datagram = &self.records.datagrams[index];
+        let receiver = self.side(other_than(datagram.node));
+        let sent = &datagram.sent;
+        Some(receiver.contexts_made(sent.from, sent.octets.as_slice()))
+    }
+
     /// A gateway carries a command out, or refuses it.
     fn does(&mut self, alloc: Global, node: Role, event: &Event) -> Result<EventOutcome, Memory>
         requires command { is_command event.now ≡ true }
         ensures takes { OnOk result (Takes (kept_of self.old) node
-            (Commanded (command_of event.now)) false (kept_of self.new)) }
+            (Commanded (command_of event.now)) AsksFor false (kept_of self.new)) }
         ensures outcome { IfOk result (λ outcome. outcomes_in (kept_of self.new).log
             ≡ outcomes_in (kept_of self.old).log ++ outcome_of outcome ∷ []) }
         ensures err { OnErr result (kept_of self.new ≡ kept_of self.old) }
@@ -91,9 +115,8 @@ impl Sides {
         requires room { HasRoom 1 self.old.records }
         requires there { index < length self.old.records.datagrams.items }
         ensures takes { OnOk result ((found : IsThere (kept_of self.old).log.datagrams index)
-            → Takes (kept_of self.old) (other found.sent.role)
-            (coming found.sent.what.plane found.sent.what.from (take count found.sent.what.octets))
-            late (kept_of self.new)) }
+            → Brings (kept_of self.old) found.sent (take count found.sent.what.octets) late
+            (kept_of self.new)) }
         ensures outcome { IfOk result (λ outcome. outcomes_in (kept_of self.new).log
             ≡ outcomes_in (kept_of self.old).log ++ outcome_of outcome ∷ []) }
         ensures err { OnErr result (kept_of self.new ≡ kept_of self.old) }
@@ -123,10 +146,7 @@ impl Sides {
             → IsTrue result ↔ IsLate (half_in (kept_of self.now) (other found.sent.role)) found.sent.what }
     {
         let datagram = &self.records.datagrams[index];
-        match datagram.node {
-            Role::Serving => self.packet.is_late(&datagram.sent),
-            Role::Packet => self.serving.is_late(&datagram.sent),
-        }
+        self.side(other_than(datagram.node)).is_late(&datagram.sent)
     }
 
     /// A datagram comes to the gateway that did not send it.

@@ -57,6 +57,7 @@ tick_held old (move ∷ moves) out new (e, rest, step, others, is) h among = mov
 pub record IsOfSent (history : List Sent) (sender : Role) (from : Addresses) (h : Held) : Type 0 where
   pub message : Message
   pub sent : HasSent history sender message
+  pub control : plane_of message ≡ Control
   pub is : h.request ≡ arrival from message
 
 -- each held answer is for a datagram that the other gateway sent
@@ -64,7 +65,7 @@ abbrev pub HeldOfSent : World → Type 0
 HeldOfSent w = (role : Role) (h : Held) → Among h (side_of w role).node.held → IsOfSent w.history (other role) (side_of w (other role)).node.config.own h
 
 later : (history : List Sent) (by : Role) (sent : List Message) (sender : Role) (from now : Addresses) (h : Held) → now ≡ from → IsOfSent history sender from h → IsOfSent (history ++ signed by sent) sender now h
-later history by sent sender from now h same is = record { message = is.message; sent = by_before history sender by sent is.message is.sent; is = is.is ∙ ap (λ k. arrival k is.message) (sym same) }
+later history by sent sender from now h same is = record { message = is.message; sent = by_before history sender by sent is.message is.sent; control = is.control; is = is.is ∙ ap (λ k. arrival k is.message) (sym same) }
 
 -- a step of a gateway
 stepped_held : (w : World) (role : Role) (e : Effect) (note : Note) (steps : _) → HeldOfSent w → e.node.config ≡ (side_of w role).node.config → ((h : Held) → Among h e.node.held → Among h (side_of w role).node.held ⊎ IsOfSent w.history (other role) (side_of w (other role)).node.config.own h) → HeldOfSent (with_steps (noted (moved w role e) note) role steps)
@@ -120,9 +121,9 @@ module _ (own : Addresses) where
   moves_held w inv held role input new m carried now = subst HeldOfSent (sym m.becomes) (stepped_held w role m.effect _ _ held (run.config_stays own w inv role input m.effect carried m.step) now)
 
   -- a datagram comes
-  brought : (w : World) → run.Invariant own w → HeldOfSent w → (role : Role) (p : Plane) (m : Message) → HasSent w.history (other role) m → (new : World) → Carried role w.history (side_of w role).node (delivered_on p (side_of w (other role)).node.config.own m) → Moves w role (delivered_on p (side_of w (other role)).node.config.own m) new → HeldOfSent new
-  brought w inv held role Control m sent new carried d = moves_held w inv held role _ new d carried (λ h among. ⊎_elim (λ was. inl was) (λ is. inr (record { message = m; sent = sent; is = is })) (control_held role _ (Control_message m) (side_of w role).node d.effect d.step h among))
-  brought w inv held role User m sent new carried d = moves_held w inv held role _ new d carried (λ h among. inl (user_came_held role _ (User_message m) (side_of w role).node d.effect d.step h among))
+  brought : (w : World) → run.Invariant own w → HeldOfSent w → (role : Role) (p : Plane) (m : Message) → HasSent w.history (other role) m → plane_of m ≡ p → (new : World) → Carried role w.history (side_of w role).node (delivered_on p (side_of w (other role)).node.config.own m) → Moves w role (delivered_on p (side_of w (other role)).node.config.own m) new → HeldOfSent new
+  brought w inv held role Control m sent on new carried d = moves_held w inv held role _ new d carried (λ h among. ⊎_elim (λ was. inl was) (λ is. inr (record { message = m; sent = sent; control = on; is = is })) (control_held role _ (Control_message m) (side_of w role).node d.effect d.step h among))
+  brought w inv held role User m sent on new carried d = moves_held w inv held role _ new d carried (λ h among. inl (user_came_held role _ (User_message m) (side_of w role).node d.effect d.step h among))
 
   cut_held : (w : World) → run.Invariant own w → HeldOfSent w → (role : Role) (p : Plane) (from : Addresses) (m : Message) (count : ℕ) (new : World) → Moves w role (cut_on p from m count) new → HeldOfSent new
   cut_held w inv held role Control from m count new d = moves_held w inv held role _ new d tt (λ h among. inl (fault_held role _ (cut_fault count) (side_of w role).node d.effect d.step h among))
@@ -130,18 +131,18 @@ module _ (own : Addresses) where
 
   -- a datagram that its sender sent comes, on time or late
   to_serving : (w : World) → run.Invariant own w → HeldOfSent w → (m : Message) → HasSent w.history Packet m → (new : World) → Delivers w Packet m new → HeldOfSent new
-  to_serving w inv held m sent new (inl d) = brought w inv held Serving (plane_of m) m sent new (run.serving_carried own w inv (plane_of m) m sent) d.1
+  to_serving w inv held m sent new (inl d) = brought w inv held Serving (plane_of m) m sent refl new (run.serving_carried own w inv (plane_of m) m sent) d.1
   to_serving w inv held m sent new (inr d) =
       let a = arrival w.packet.node.config.own m in
       let late = run.late_keeps own w inv Serving a in
-      brought (late_once w Serving a) late (late_held w Serving a held) Serving (plane_of m) m sent new (run.serving_carried own (late_once w Serving a) late (plane_of m) m sent) d.1
+      brought (late_once w Serving a) late (late_held w Serving a held) Serving (plane_of m) m sent refl new (run.serving_carried own (late_once w Serving a) late (plane_of m) m sent) d.1
 
   to_packet : (w : World) → run.Invariant own w → HeldOfSent w → (m : Message) → HasSent w.history Serving m → (new : World) → Delivers w Serving m new → HeldOfSent new
-  to_packet w inv held m sent new (inl d) = brought w inv held Packet (plane_of m) m sent new (run.packet_carried own w inv (plane_of m) m sent) d.1
+  to_packet w inv held m sent new (inl d) = brought w inv held Packet (plane_of m) m sent refl new (run.packet_carried own w inv (plane_of m) m sent) d.1
   to_packet w inv held m sent new (inr d) =
       let a = arrival w.serving.node.config.own m in
       let late = run.late_keeps own w inv Packet a in
-      brought (late_once w Packet a) late (late_held w Packet a held) Packet (plane_of m) m sent new (run.packet_carried own (late_once w Packet a) late (plane_of m) m sent) d.1
+      brought (late_once w Packet a) late (late_held w Packet a held) Packet (plane_of m) m sent refl new (run.packet_carried own (late_once w Packet a) late (plane_of m) m sent) d.1
 
   delivers : (w : World) → run.Invariant own w → HeldOfSent w → (sender : Role) (m : Message) → HasSent w.history sender m → (new : World) → Delivers w sender m new → HeldOfSent new
   delivers w inv held Packet m sent new d = to_serving w inv held m sent new d

@@ -1,5 +1,5 @@
 -- The command, the delivery of its request and the delivery of its answer make the session.
-use Rattle.std.proofs.Common.{◌≡◌, ◌≢◌, inl, inr, ℕ, ◌+◌, ◌<◌, ◌≤◌, ◌==◌, length, List, [], ◌∷◌, ◌++◌, Option, Some, Bool, true, false, if◌then◌else◌, slice_get, refl, sym, ◌∙◌, ap, subst, arith}
+use Rattle.std.proofs.Common.{◌≡◌, ◌≢◌, inl, inr, ℕ, ◌+◌, ◌≤◌, ◌==◌, length, List, [], ◌∷◌, ◌++◌, Option, Some, Bool, true, false, if◌then◌else◌, slice_get, refl, sym, ◌∙◌, ap, subst, arith}
 use Rattle.std.specs.FinMap.{get}
 use Rattle.gtp_values.specs.Counter.{age_of}
 use Rattle.gtp_values.specs.FiniteMap.{Among}
@@ -7,7 +7,7 @@ use Rattle.gtp_values.specs.declared.address.Endpoint.{Endpoint}
 use Rattle.gtp_values.specs.declared.counter.Age.TheVariants.{Earlier}
 use Rattle.gtp_machine.specs.Config.{Addresses, Config, user_end}
 use Rattle.gtp_machine.specs.Element.{IsAccepting, cause_of, tunnel_end}
-use Rattle.gtp_machine.specs.Message.{CreateSessionRequest, CreateSessionResponse, Message, Create_session_request, Create_session_response, Packet_data, plane_of, User, Create_bearer_request, Create_bearer_response, Owns}
+use Rattle.gtp_machine.specs.Message.{CreateSessionRequest, CreateSessionResponse, Message, Create_session_request, Create_session_response, Packet_data, plane_of, Control, User, Create_bearer_request, Create_bearer_response, Owns}
 use Rattle.gtp_machine.specs.Node.{Role, Serving, Packet, Active, Session, Bearer, Arrival, Node, holding, written}
 use Rattle.gtp_machine.specs.Input.{Specification, Create_session, Send_user, Input, Commanded, Control_came, User_came, Control_message, User_message, Accepted, Effect, messages}
 use Rattle.gtp_machine.specs.Choice.{IsFree}
@@ -16,14 +16,14 @@ use Rattle.gtp_machine.specs.User.{MayCome, UserStep}
 use Rattle.gtp_machine.specs.Answer.{IsNew}
 use Rattle.gtp_machine.specs.Serving.{opened_session, opened_bearer}
 use Rattle.gtp_machine.specs.Packet.{session_cause, session_response, session_made, made_session, made_bearer}
-use Rattle.gtp_machine.specs.Spelling.{IsSendable}
+use Rattle.gtp_machine.specs.Reading.{control_reading}
+use Rattle.gtp_machine.specs.Spelling.{ReadsAs, spelled}
 use Rattle.gtp_machine.specs.Step.{Step}
 use Rattle.gtp_machine.specs.World.{World, Sent, HasSent, Side, Event, Does, Deliver, Happens, Delivers, Moves, Run, Came_to, other, side_of, signed, late_once, arrival, delivered_on, start}
-use Rattle.gtp_machine.specs.Exchange.{CanExchange, CameTo, Carries, IsMade, Exchanged, FairExchange}
+use Rattle.gtp_machine.specs.Exchange.{AllRead, IsOnePath, CanExchange, CameTo, Carries, IsMade, Exchanged, FairExchange}
 use Rattle.gtp_machine.proofs.Basics.Ages.{earlier_start}
-use Rattle.gtp_machine.proofs.Basics.FiniteMaps.{get-insert_same}
+use Rattle.gtp_machine.proofs.Basics.FiniteMaps.{get-insert_same, Among-left, Among-last}
 use Rattle.gtp_machine.proofs.Origins.Drawing.{Drawing, unowned}
-use Rattle.gtp_machine.proofs.Octets.Spelled.{spelled_apart}
 use Rattle.gtp_machine.proofs.Worlds.Hearing.{Hearing}
 use Rattle.gtp_machine.proofs.Worlds.Runs.{Invariant, always}
 use Rattle.gtp_machine.proofs.Exchange.Held.{HeldOfSent, always_held}
@@ -177,8 +177,16 @@ owns_user (Create_bearer_request r) t owns = owns
 owns_user (Create_bearer_response x) t owns = owns
 owns_user _ t none = absurd none
 
-module _ (serving packet : Config) (serving_counter packet_counter : ℕ) (events : List Event) (w begun answered opened : World) (spec : Specification) (r : Run (start serving packet serving_counter packet_counter) events w) (can : CanExchange w spec)
-    (h1 : Happens w (Does Serving (Create_session spec)) begun) (h2 : Happens begun (Deliver (length w.history)) answered) (h3 : Happens answered (Deliver (1 + length w.history)) opened) where
+-- messages of the control plane that read as themselves, and have one text, are one
+apart : (m n : Message) → plane_of m ≡ Control → plane_of n ≡ Control → ReadsAs (plane_of m) (spelled m) m → ReadsAs (plane_of n) (spelled n) n → spelled m ≡ spelled n → m ≡ n
+apart m n m_control n_control m_reads n_reads text =
+    let first : Control_message m ≡ control_reading (spelled m) = subst (λ p. ReadsAs p (spelled m) m) m_control m_reads in
+    let second : Control_message n ≡ control_reading (spelled n) = subst (λ p. ReadsAs p (spelled n) n) n_control n_reads in
+    let same : Control_message m ≡ Control_message n = first ∙ ap control_reading text ∙ sym second in
+    cc same
+
+module _ (serving packet : Config) (serving_counter packet_counter : ℕ) (events : List Event) (w begun answered opened : World) (spec : Specification) (r : Run (start serving packet serving_counter packet_counter) events w) (path : IsOnePath w.serving.node.config w.packet.node.config) (can : CanExchange w spec)
+    (h1 : Happens w (Does Serving (Create_session spec)) begun) (h2 : Happens begun (Deliver (length w.history)) answered) (h3 : Happens answered (Deliver (1 + length w.history)) opened) (reads : AllRead answered) where
   inv : Invariant packet.own w
   inv = always serving packet serving_counter packet_counter events w r
 
@@ -207,9 +215,6 @@ module _ (serving packet : Config) (serving_counter packet_counter : ℕ) (event
   begun_history : begun.history ≡ w.history ++ signed Serving (Create_session_request q ∷ [])
   begun_history = f1.history ∙ ap (λ (f : Effect). w.history ++ signed Serving (messages f.out.sent)) r1.gives
 
-  request_sendable : IsSendable (Create_session_request q)
-  request_sendable = can.sendable.request r1.control r1.user r1.number r1.control_free r1.user_free r1.number_free
-
   -- the request comes
   d2 : IsBrought begun Serving (Create_session_request q) answered
   d2 = brought begun Serving (Create_session_request q) (length w.history) answered (ap (λ hs. slice_get hs (length w.history)) begun_history ∙ at_end w.history _) h2
@@ -223,27 +228,37 @@ module _ (serving packet : Config) (serving_counter packet_counter : ℕ) (event
   serving_own : begun.serving.node.config.own ≡ w.serving.node.config.own
   serving_own = ap (λ (n : Node). n.config.own) begun_node
 
+  f2 : IsMoved d2.before Packet d2.moves.effect answered
+  f2 = moved_is d2.before Packet _ answered d2.moves
+
+  -- what was sent before the answer reads as itself
+  reads_before : (role : Role) (m : Message) → HasSent begun.history role m → ReadsAs (plane_of m) (spelled m) m
+  reads_before role m sent = reads role m (subst (λ h. HasSent h role m) (sym (f2.history ∙ ap (λ h. h ++ signed Packet (messages d2.moves.effect.out.sent)) d2.history)) (Among-left _ begun.history _ sent))
+
+  reads_first : (role : Role) (m : Message) → HasSent w.history role m → ReadsAs (plane_of m) (spelled m) m
+  reads_first role m sent = reads_before role m (subst (λ h. HasSent h role m) (sym begun_history) (Among-left _ w.history _ sent))
+
+  request_reads : ReadsAs (plane_of (Create_session_request q)) (spelled (Create_session_request q)) (Create_session_request q)
+  request_reads = reads_before Serving (Create_session_request q) (subst (λ h. HasSent h Serving (Create_session_request q)) (sym begun_history) (Among-last _ w.history))
+
   new2 : IsNew w.packet.node asked
   new2 h among same =
       let s = held Packet h among in
       let octets : arrival w.serving.node.config.own s.message ≡ asked = sym s.is ∙ same in
-      let message = spelled_apart s.message (Create_session_request q) (can.sendable.each Serving s.message s.sent) request_sendable (ap (λ (a : Arrival). a.octets) octets) in
+      let message = apart s.message (Create_session_request q) s.control refl (reads_first Serving s.message s.sent) request_reads (ap (λ (a : Arrival). a.octets) octets) in
       unowned w.serving Serving w.history inv.serving.draws (Create_session_request q) r1.control (subst (λ m. HasSent w.history Serving m) message s.sent) (inl refl) r1.control_free
 
   can_make : CanMake w.packet.node q
   can_make = record { room = can.held_room; one = refl; identity = can.identity; configured = can.configured; pdn = can.pdn; few = can.packet_room; draws = can.packet_draws; address = can.address }
 
   a2 : IsAnswered asked q w.packet.node d2.moves.effect
-  a2 = answers asked q w.serving.node.counter w.packet.node d2.moves.effect (ap (λ (k : Addresses). k.control) (serving_own ∙ sym can.path.back)) new2 refl (not_earlier w.serving Serving w.history w.packet.node.known w.packet.seen w.serving.node.counter inv.serving.draws inv.packet.hearing refl) can_make (subst (λ n. Step Packet n (Control_came asked (Control_message (Create_session_request q))) d2.moves.effect) same2 d2.moves.step)
+  a2 = answers asked q w.serving.node.counter w.packet.node d2.moves.effect (ap (λ (k : Addresses). k.control) (serving_own ∙ sym path.back)) new2 refl (not_earlier w.serving Serving w.history w.packet.node.known w.packet.seen w.serving.node.counter inv.serving.draws inv.packet.hearing refl) can_make (subst (λ n. Step Packet n (Control_came asked (Control_message (Create_session_request q))) d2.moves.effect) same2 d2.moves.step)
 
   abbrev a : CreateSessionResponse
   a = session_response a2.mid q a2.made.control a2.made.user a2.made.address
 
   abbrev made_node : Node
   made_node = holding asked (Create_session_response a) (session_made a2.mid q a2.made.control a2.made.user a2.made.address)
-
-  f2 : IsMoved d2.before Packet d2.moves.effect answered
-  f2 = moved_is d2.before Packet _ answered d2.moves
 
   answered_node : answered.packet.node ≡ made_node
   answered_node = f2.node ∙ a2.node ∙ ap (λ (f : Effect). f.node) a2.made.gives
@@ -269,17 +284,14 @@ module _ (serving packet : Config) (serving_counter packet_counter : ℕ) (event
   free_before : (t : ℕ) → IsFree a2.mid t → IsFree w.packet.node t
   free_before t free = record { counted = free.counted ∙ a2.ready.counter; numbered = free.numbered; undrawn = subst (λ l. Among t l → ⊥) a2.ready.drawn free.undrawn }
 
-  answer_is : session_response w.packet.node q a2.made.control a2.made.user (w.packet.node.config.pool_start + a2.made.address_free.place) ≡ a
-  answer_is = (λ i. session_response (record w.packet.node { config = sym a2.ready.config i; counter = sym a2.ready.counter i }) q a2.made.control a2.made.user ((ap (λ (c : Config). c.pool_start + a2.made.address_free.place) (sym a2.ready.config) ∙ sym a2.made.address_free.is) i))
-
-  answer_sendable : IsSendable (Create_session_response a)
-  answer_sendable = subst (λ x. IsSendable (Create_session_response x)) answer_is (can.sendable.answer q a2.made.control a2.made.user a2.made.address_free.place (free_before a2.made.control a2.made.control_free) (free_before a2.made.user a2.made.user_free) (subst (λ (c : Config). a2.made.address_free.place < c.pool_count) a2.ready.config a2.made.address_free.in_pool) request_sendable)
+  answer_reads : ReadsAs (plane_of (Create_session_response a)) (spelled (Create_session_response a)) (Create_session_response a)
+  answer_reads = reads Packet (Create_session_response a) (subst (λ h. HasSent h Packet (Create_session_response a)) (sym answered_history) (Among-last _ (w.history ++ signed Serving (Create_session_request q ∷ []))))
 
   new3 : IsNew e1.node told
   new3 h among same =
       let s = held Serving h among in
       let octets : arrival w.packet.node.config.own s.message ≡ told = sym s.is ∙ same in
-      let message = spelled_apart s.message (Create_session_response a) (can.sendable.each Packet s.message s.sent) answer_sendable (ap (λ (k : Arrival). k.octets) octets) in
+      let message = apart s.message (Create_session_response a) s.control refl (reads_first Packet s.message s.sent) answer_reads (ap (λ (k : Arrival). k.octets) octets) in
       unowned w.packet Packet w.history inv.packet.draws (Create_session_response a) a2.made.control (subst (λ m. HasSent w.history Packet m) message s.sent) (inl refl) (free_before a2.made.control a2.made.control_free)
 
   waits : Waits e1.node q
@@ -289,7 +301,7 @@ module _ (serving packet : Config) (serving_counter packet_counter : ℕ) (event
   opens_by = record { number = refl; header = refl; accepts = accepts_cause spec.pdn; context = record { identity = q.context.identity; cause = cause_of 16; user = Some (tunnel_end 5 a2.made.user a2.mid.config.own.user); qos = Some q.context.qos; charging = Some a2.made.user }; alone = refl; default = refl; both = record { low = omega arith; high = omega arith }; given = refl }
 
   o3 : IsOpened a q a2.made.address e1.node d3.moves.effect
-  o3 = is_opened_by told a q a2.made.address a2.mid.counter e1.node d3.moves.effect (ap (λ (k : Addresses). k.control) (packet_own ∙ sym can.path.there)) new3 refl (not_earlier w.packet Packet w.history w.serving.node.known w.serving.seen a2.mid.counter inv.packet.draws inv.serving.hearing a2.ready.counter) waits opens_by (subst (λ n. Step Serving n (Control_came told (Control_message (Create_session_response a))) d3.moves.effect) same3 d3.moves.step)
+  o3 = is_opened_by told a q a2.made.address a2.mid.counter e1.node d3.moves.effect (ap (λ (k : Addresses). k.control) (packet_own ∙ sym path.there)) new3 refl (not_earlier w.packet Packet w.history w.serving.node.known w.serving.seen a2.mid.counter inv.packet.draws inv.serving.hearing a2.ready.counter) waits opens_by (subst (λ n. Step Serving n (Control_came told (Control_message (Create_session_response a))) d3.moves.effect) same3 d3.moves.step)
 
   f3 : IsMoved d3.before Serving d3.moves.effect opened
   f3 = moved_is d3.before Serving _ opened d3.moves
@@ -349,8 +361,8 @@ module _ (serving packet : Config) (serving_counter packet_counter : ℕ) (event
     of = refl;
     of_there = refl;
     identity = refl;
-    up = carries opened Serving r1.user a2.made.user (record { here = bearer_at_serving; stands = bearer_stands; active = refl; unended = refl; remote = refl; at = bearer_at_packet; stands_there = bearer_stands_there; active_there = refl; unended_there = refl; path = ap (λ (c : Config). c.peer) packet_config ∙ can.path.back ∙ ap (λ (c : Config). c.own) (sym serving_config) });
-    down = carries opened Packet a2.made.user r1.user (record { here = bearer_at_packet; stands = bearer_stands_there; active = refl; unended = refl; remote = refl; at = bearer_at_serving; stands_there = bearer_stands; active_there = refl; unended_there = refl; path = ap (λ (c : Config). c.peer) serving_config ∙ can.path.there ∙ ap (λ (c : Config). c.own) (sym packet_config) });
+    up = carries opened Serving r1.user a2.made.user (record { here = bearer_at_serving; stands = bearer_stands; active = refl; unended = refl; remote = refl; at = bearer_at_packet; stands_there = bearer_stands_there; active_there = refl; unended_there = refl; path = ap (λ (c : Config). c.peer) packet_config ∙ path.back ∙ ap (λ (c : Config). c.own) (sym serving_config) });
+    down = carries opened Packet a2.made.user r1.user (record { here = bearer_at_packet; stands = bearer_stands_there; active = refl; unended = refl; remote = refl; at = bearer_at_serving; stands_there = bearer_stands; active_there = refl; unended_there = refl; path = ap (λ (c : Config). c.peer) serving_config ∙ path.there ∙ ap (λ (c : Config). c.own) (sym packet_config) });
   }
 
   no_bearer : (role : Role) (t : ℕ) → IsFree (side_of w role).node t → (b : Bearer) → get (side_of w role).node.bearers t ≡ Some b → ⊥
@@ -382,4 +394,4 @@ module _ (serving packet : Config) (serving_counter packet_counter : ℕ) (event
   }
 
 pub fair_exchange : FairExchange
-fair_exchange serving packet sc pc events w begun answered opened spec r can h1 h2 h3 = exchanged serving packet sc pc events w begun answered opened spec r can h1 h2 h3
+fair_exchange serving packet sc pc events w begun answered opened spec r path can h1 h2 h3 reads = exchanged serving packet sc pc events w begun answered opened spec r path can h1 h2 h3 reads

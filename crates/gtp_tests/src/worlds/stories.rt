@@ -1,13 +1,15 @@
 //! Stories of two gateways: sessions and packets, repeats, loss, restarts, late requests.
 
 use super::{Happens, QUIET, Row, Story, Told, both_set_up, event, happens_so, step};
-use crate::gateways::{BEARER_REQUEST, BEARER_RESPONSE, SESSION_REQUEST, SESSION_RESPONSE, Sends};
+use crate::gateways::{
+    BEARER_REQUEST, BEARER_RESPONSE, SESSION_REQUEST, SESSION_RESPONSE, Sends, specification,
+};
 use EventOutcome::{CameTo, CutTooLong, NoSuchDatagram, Restarted, RestartsUsed, Ticked};
 use Happens::*;
 use Sends::{Nothing, Octets, Shown};
 use gtp_gateway::{DropReason, FaultName, Outcome, Plane, Refusal, Role};
-use gtp_values::Counter;
-use gtp_world::{Event, EventOutcome, World};
+use gtp_values::{Counter, Teid};
+use gtp_world::{Event, EventOutcome, Mutual, World};
 use std::alloc::Global;
 use std::process::Abort;
 use std::test::Fail;
@@ -36,6 +38,23 @@ const MADE_BEFORE: Row = (
 /// It is opened.
 const OPENED: Row = (Deliver(1), CameTo(Outcome::Opened), Nothing);
 
+/// The session, and its default bearer, at both gateways.
+const SESSION: Mutual = Mutual::Session {
+    serving: Teid(0x0100_0001),
+    packet: Teid(0x0100_0001),
+};
+
+const DEFAULT: Mutual = Mutual::Bearer {
+    serving: Teid(0x0100_0002),
+    packet: Teid(0x0100_0002),
+};
+
+/// The dedicated bearer.
+const BEARER: Mutual = Mutual::Bearer {
+    serving: Teid(0x0100_0003),
+    packet: Teid(0x0100_0003),
+};
+
 /// No request waits for this answer.
 const UNASKED: EventOutcome = CameTo(Outcome::Dropped(DropReason::NoPending));
 
@@ -58,7 +77,9 @@ const PACKETS: Story = Story {
         ],
     ],
     has: [(1, 1), (1, 1)],
-    packets: [2, 2],
+    mutual: &[SESSION, DEFAULT],
+    handed_in: 2,
+    owed: &[true, true],
     ..QUIET
 };
 
@@ -98,6 +119,8 @@ const REPEATED: Story = Story {
         &[(Deliver(2), UNASKED, Nothing)],
     ],
     has: [(1, 1), (1, 1)],
+    mutual: &[SESSION, DEFAULT],
+    made: &[(0, 1), (1, 0)],
     ..QUIET
 };
 
@@ -128,6 +151,7 @@ const LOST: Story = Story {
         forgotten: 0,
     }],
     has: [(0, 0), (1, 1)],
+    made: &[(0, 1)],
     ..QUIET
 };
 
@@ -162,6 +186,7 @@ const RESTARTED: Story = Story {
         forgotten: 0,
     }],
     has: [(0, 0), (1, 1)],
+    made: &[(0, 1)],
     ..QUIET
 };
 
@@ -185,6 +210,19 @@ const DEDICATED: [Row; 3] = [
     (Deliver(3), CameTo(Outcome::Opened), Nothing),
 ];
 
+const ON_TIME: Story = Story {
+    rows: &[&[ASKED, MADE, OPENED], &DEDICATED],
+    has: [(1, 2), (1, 2)],
+    mutual: &[SESSION, DEFAULT, BEARER],
+    made: &[(0, 1), (2, 1)],
+    ..QUIET
+};
+
+#[test]
+fn a_session_has_a_dedicated_bearer(rt: HostRuntime) -> Result<(), Fail> {
+    happens_so(&rt, rt.alloc(), &ON_TIME)
+}
+
 const LATE: Story = Story {
     rows: &[
         &[ASKED, MADE, OPENED],
@@ -207,7 +245,10 @@ const LATE: Story = Story {
         forgotten: 1,
     }],
     has: [(1, 3), (1, 2)],
-    packets: [1, 1],
+    mutual: &[SESSION, DEFAULT, BEARER],
+    handed_in: 1,
+    owed: &[false],
+    made: &[(2, 2)],
     late: 1,
     ..QUIET
 };
@@ -240,6 +281,7 @@ const UNHAPPENED: Story = Story {
         ],
     ],
     has: [(1, 1), (1, 1)],
+    mutual: &[SESSION, DEFAULT],
     ..QUIET
 };
 
@@ -305,6 +347,72 @@ fn a_path_is_tested(rt: HostRuntime) -> Result<(), Fail> {
     happens_so(&rt, rt.alloc(), &ECHOED)
 }
 
+const ONE_ADDRESS: Story = Story {
+    addresses: 1,
+    rows: &[
+        &[ASKED, MADE, OPENED],
+        &[
+            (
+                CreateSession,
+                CameTo(Outcome::Begun(Some(0x0100_0003))),
+                Shown,
+            ),
+            (Deliver(2), CameTo(Outcome::Answered(84)), Shown),
+            (Deliver(3), CameTo(Outcome::Rejected(84)), Nothing),
+        ],
+    ],
+    has: [(1, 1), (1, 1)],
+    mutual: &[SESSION, DEFAULT],
+    made: &[(0, 1), (2, 0)],
+    ..QUIET
+};
+
+#[test]
+fn no_address_is_left(rt: HostRuntime) -> Result<(), Fail> {
+    happens_so(&rt, rt.alloc(), &ONE_ADDRESS)
+}
+
+/// A dedicated bearer is asked for under this TEID, and its request and answer come.
+fn bearer(
+    rt: &impl Abort,
+    alloc: Global,
+    world: &mut World,
+    teid: u32,
+    comes_to: [Outcome; 2],
+) -> Result<(), Fail> {
+    let next = world.datagrams().len() as u64;
+    let [answered, told] = comes_to;
+    let begun = CameTo(Outcome::Begun(Some(teid)));
+    step(rt, alloc, world, &(CreateBearer(0x0100_0001), begun, Shown))?;
+    step(rt, alloc, world, &(Deliver(next), CameTo(answered), Shown))?;
+    step(
+        rt,
+        alloc,
+        world,
+        &(Deliver(next + 1), CameTo(told), Nothing),
+    )
+}
+
+/// Ten dedicated bearers are made, and an eleventh is refused.
+fn bearers(rt: &impl Abort, alloc: Global, world: &mut World) -> Result<(), Fail> {
+    for row in [ASKED, MADE, OPENED] {
+        step(rt, alloc, world, &row)?;
+    }
+    for number in 0..10u32 {
+        let comes_to = [Outcome::Answered(16), Outcome::Opened];
+        bearer(rt, alloc, world, 0x0100_0003 + number, comes_to)?;
+    }
+    let comes_to = [Outcome::Answered(73), Outcome::Rejected(73)];
+    bearer(rt, alloc, world, 0x0100_000d, comes_to)
+}
+
+#[test]
+fn a_session_has_no_more_than_eleven_bearers(rt: HostRuntime) -> Result<(), Fail> {
+    let config = both_set_up(rt.alloc(), &QUIET)?;
+    let mut world = World::start(rt.alloc(), &config)?;
+    bearers(&rt, rt.alloc(), &mut world)
+}
+
 /// The serving gateway restarts 127 times, with the counters from 2 on, and then no more.
 fn restarts(rt: &impl Abort, alloc: Global, world: &mut World) -> Result<(), Fail> {
     for counter in 2..129u8 {
@@ -324,6 +432,20 @@ fn a_gateway_restarts_no_more_than_127_times(rt: HostRuntime) -> Result<(), Fail
     let config = both_set_up(rt.alloc(), &QUIET)?;
     let mut world = World::start(rt.alloc(), &config)?;
     restarts(&rt, rt.alloc(), &mut world)
+}
+
+/// A session is made in one call.
+fn exchanges(rt: &impl Abort, alloc: Global, world: &mut World) -> Result<(), Fail> {
+    let outcomes = world.exchange(alloc, &specification()?)?;
+    assert!(rt; outcomes == [ASKED.1, MADE.1, OPENED.1], "{outcomes:?}");
+    Ok(())
+}
+
+#[test]
+fn a_session_is_made_in_one_exchange(rt: HostRuntime) -> Result<(), Fail> {
+    let config = both_set_up(rt.alloc(), &QUIET)?;
+    let mut world = World::start(rt.alloc(), &config)?;
+    exchanges(&rt, rt.alloc(), &mut world)
 }
 
 /// The outcomes of a run are these.

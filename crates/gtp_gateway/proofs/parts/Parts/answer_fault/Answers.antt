@@ -17,8 +17,8 @@ use Rattle.gtp_gateway.proofs.FaultsTaken.{fault_answered}
 use Rattle.gtp_gateway.proofs.SentBack.{one_sent}
 use Rattle.gtp_gateway.proofs.parts.Parts.answer_fault.Goals as goal
 
-pub returns : goal.returns
-returns c = λ request from peer new.
+pub returns-clause-taken : goal.returns-clause-taken
+returns-clause-taken c = λ request from peer new.
     let old = station_of c.args.self.now in
     let node = node_of c.args.self.now in
     let f = c.args.faulty.now in

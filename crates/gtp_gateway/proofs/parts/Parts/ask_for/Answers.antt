@@ -1,6 +1,6 @@
 use Rattle.std.proofs.Common.{rules, ◌≡◌, ◌<◌, false, List, length, refl, sym, ◌∙◌, ap, subst}
 use Rattle.gtp_reliable.specs.Waiting.{Waiting}
-use Rattle.gtp_reliable.specs.Pending.{is_pending}
+use Rattle.gtp_reliable.specs.Pending.{is_pending, IsNextFree}
 use Rattle.gtp_machine.specs.Config.{control_end}
 use Rattle.gtp_machine.specs.Message.{Message}
 use Rattle.gtp_machine.specs.Command.{asks}
@@ -8,17 +8,18 @@ use Rattle.gtp_machine.specs.Reading.{control_message}
 use Rattle.gtp_machine.specs.declared.outcome.Outcome.TheVariants as outcomes
 use Rattle.gtp_machine.specs.Spelling.{datagram_of}
 use Rattle.gtp_gateway.specs.declared.purpose.Purpose.{Purpose}
-use Rattle.gtp_gateway.specs.Asking.{about, asking}
+use Rattle.gtp_gateway.specs.Asking.{about, asking, after_begun}
+use Rattle.gtp_gateway.specs.Begun.{request_number}
 use Rattle.gtp_gateway.specs.Change.{changed_by}
 use Rattle.gtp_gateway.specs.Parts.{node_of}
 use Rattle.gtp_gateway.specs.Sent.{ReadsBack}
 use Rattle.gtp_gateway.specs.Spelled.{is_for}
-use Rattle.gtp_gateway.specs.Station.{Station, station_of}
+use Rattle.gtp_gateway.specs.Station.{Timing, Station, station_of}
 use Rattle.gtp_gateway.specs.Wish.{request_of, purpose_of, change_of, teid_of, AsksFor}
 use Rattle.gtp_gateway.proofs.Refusals.{has_room, last_refused}
 use Rattle.gtp_gateway.proofs.Requests.{none_pending, small_number}
 use Rattle.gtp_gateway.proofs.SentBack.{one_sent}
-use Rattle.gtp_gateway.proofs.Wishes.{meant, wish_goes_on}
+use Rattle.gtp_gateway.proofs.Wishes.{meant, numbered, wish_goes_on}
 use Rattle.gtp_gateway.proofs.parts.Parts.ask_for.Goals as goal
 
 pub returns-in_err-seq-clause-refused : goal.returns-in_err-seq-clause-refused
@@ -69,4 +70,18 @@ returns-clause-done c =
       outcome = ap (λ t. outcomes.Begun t) (sym c.teid.ensures);
       becomes = c.in_ok-out.ensures.node ∙ (λ i. asking (c.change.ensures i) seq (c.purpose.ensures i) (says i) (same i).node);
       role = c.in_ok-out.ensures.role ∙ ap (λ (s : Station). s.role) same;
+    }
+
+pub returns-clause-next : goal.returns-clause-next
+returns-clause-next c =
+    let wish = c.args.wish.now in
+    let seq = c.in_ok-seq.seq in
+    let same : station_of c.next_number.new.self ≡ station_of c.args.self.now = c.in_ok-seq.ensures.same in
+    let out = c.in_ok-out.out in
+    record {
+      number = seq;
+      free = subst (λ (t : Timing). IsNextFree t.next t.waiting seq) (ap (λ (s : Station). s.timing) same) c.in_ok-seq.ensures.prepared.number;
+      sent = ap request_number (c.in_ok-out.ensures.read ∙ c.in_ok-message.ensures.says) ∙ numbered wish seq _;
+      purpose = c.purpose.result;
+      timing = c.in_ok-out.ensures.timing ∙ (λ i. after_begun seq c.purpose.result out.to out.octets.items (same i).timing);
     }

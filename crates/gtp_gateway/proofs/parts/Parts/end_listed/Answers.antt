@@ -9,12 +9,14 @@ use Rattle.gtp_gateway.specs.Ending.{ReadsIdentities, removal_effect}
 use Rattle.gtp_gateway.specs.Parts.{arrival_of}
 use Rattle.gtp_gateway.specs.Station.{station_of}
 use Rattle.gtp_gateway.proofs.Answers.{held_few}
+use Rattle.gtp_gateway.proofs.Columns.{yes, no}
+use Rattle.gtp_gateway.proofs.Counted.{has_identities, count_is}
 use Rattle.gtp_gateway.proofs.Endings.{row_as, many_judged}
 use Rattle.gtp_gateway.proofs.Rows.{if_ok}
 use Rattle.gtp_gateway.proofs.parts.Parts.end_listed.Goals as goal
 
-pub returns-then-len-gt-MOST_IDENTITIES-clause-taken : goal.returns-then-len-gt-MOST_IDENTITIES-clause-taken
-returns-then-len-gt-MOST_IDENTITIES-clause-taken c =
+pub returns-then-has_too_many-clause-taken : goal.returns-then-has_too_many-clause-taken
+returns-then-has_too_many-clause-taken c =
     let old = station_of c.args.self.now in
     let new = station_of c.answer_removal.new.self in
     let source = c.args.source in
@@ -22,14 +24,15 @@ returns-then-len-gt-MOST_IDENTITIES-clause-taken c =
     let request = arrival_of source octets in
     let r = c.args.request.now in
     let m = c.args.view.now.message in
-    let ids = c.in_ok-identities.identities.items in
+    let listed = has_identities octets m c.requires.spelled.0 c.requires.kind in
+    let ids : List EbiValue = listed.0 in
     let a : RemovalAnswer = record { header = c.args.header; cause = 94; linked = None; change = Stays } in
     let room : HasHeldRoom old.node = record { few = held_few c.args.self.now.held.pairs (λ many. omega (arith, many, c.requires.few)) } in
-    let many : 11 < length ids = omega (arith, c.if-len-gt-MOST_IDENTITIES.true, c.len.ensures) in
+    let many : 11 < length ids = omega (arith, yes c.has_too_many.ensures c.if-has_too_many.true, count_is octets c.args.view.now c.requires.spelled.0 c.requires.spelled.1 c.requires.kind ids listed.1) in
     if_ok c.answer_removal.result
     (λ step taken. λ d says reads.
     row_as (λ n e. e ≡ removal_effect request d a n) (RemovalAsked request d) request old.role old.node step new
-    (λ e is. inr (room, subst (λ (x : Effect). RemovalJudged request d old.node x) (sym is) (many_judged request r d old.node c.args.header ids says (reads ids c.in_ok-identities.ensures) c.requires.asked many)))
+    (λ e is. inr (room, subst (λ (x : Effect). RemovalJudged request d old.node x) (sym is) (many_judged request r d old.node c.args.header ids says (reads ids listed.1) c.requires.asked many)))
     (taken d says.number))
     c.answer_removal.ensures.taken
 
@@ -49,3 +52,11 @@ returns-clause-taken c =
     row_as (RemovalJudged request d) (RemovalAsked request d) request old.role old.node step new (λ e judged. inr (room, judged))
     (ends d says (reads ids (subst (λ (l : List EbiValue). ReadsIdentities m l) (sym c.as_slice.ensures.value) c.in_ok-identities.ensures))))
     c.end_named.ensures.taken
+
+-- the list that was counted is the one that was read
+pub end_named-requires-clause-short : goal.end_named-requires-clause-short
+end_named-requires-clause-short c =
+    let ids : List EbiValue = c.as_slice.result.now in
+    let m = c.args.view.now.message in
+    let reads : ReadsIdentities m ids = subst (λ (l : List EbiValue). ReadsIdentities m l) (sym c.as_slice.ensures.value) c.in_ok-identities.ensures in
+    omega (arith, no c.has_too_many.ensures c.if-has_too_many.false, count_is c.args.octets.now c.args.view.now c.requires.spelled.0 c.requires.spelled.1 c.requires.kind ids reads)

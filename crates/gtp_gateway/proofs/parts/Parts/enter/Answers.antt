@@ -19,10 +19,11 @@ use Rattle.gtp_gateway.proofs.Columns.{yes, no}
 use Rattle.gtp_gateway.proofs.Readings.{control_kept}
 use Rattle.gtp_gateway.proofs.SentBack.{none_sent, one_sent}
 use Rattle.gtp_gateway.proofs.Taking.{by_role, kept_back, spelled_answer}
+use Rattle.gtp_gateway.proofs.Needing.{on_err, repeated_needs}
 use Rattle.gtp_gateway.proofs.parts.Parts.enter.Goals as goal
 
-pub returns-then-not-is_from_peer : goal.returns-then-not-is_from_peer
-returns-then-not-is_from_peer c =
+pub returns-then-not-is_from_peer-clause-entered : goal.returns-then-not-is_from_peer-clause-entered
+returns-then-not-is_from_peer-clause-entered c =
     let old = station_of c.args.self.now in
     let source = c.args.source in
     let octets = c.args.octets.now in
@@ -35,15 +36,15 @@ returns-then-not-is_from_peer c =
       role = refl;
     })
 
-pub returns-in_default : goal.returns-in_default
-returns-in_default c = record {
+pub returns-in_default-clause-entered : goal.returns-in_default-clause-entered
+returns-in_default-clause-entered c = record {
   peer = yes c.is_from_peer.ensures c.if-not-is_from_peer.false;
   new = none_held c.args.self.now.held.pairs c.args.source c.args.octets.now c.in_default.ensures.none;
   none = c.in_default.ensures.none;
 }
 
-pub returns : goal.returns
-returns c =
+pub returns-clause-entered : goal.returns-clause-entered
+returns-clause-entered c =
     let old = station_of c.args.self.now in
     let config = old.node.config in
     let source = c.args.source in
@@ -68,3 +69,10 @@ returns c =
       becomes = refl;
       role = refl;
     })
+
+pub returns-in_err-from_slice-clause-memory : goal.returns-in_err-from_slice-clause-memory
+returns-in_err-from_slice-clause-memory c =
+    let old = station_of c.args.self.now in
+    let request = arrival_of c.args.source c.args.octets.now in
+    let pair = repeats c.args.self.now.held.pairs c.args.source c.args.octets.now c.in-Some.answer.now c.in-Some.ensures.found in
+    on_err c.from_residual.result (repeated_needs request (control_reading c.args.octets.now) old (yes c.is_from_peer.ensures c.if-not-is_from_peer.false) pair.pair pair.stands pair.same)

@@ -5,7 +5,9 @@ use Rattle.gtp_gateway.specs.declared.step.Step.{Step}
 use Rattle.gtp_gateway.specs.Received.{IsReceived, KeepsTiming}
 use Rattle.gtp_gateway.specs.Station.{station_of}
 use Rattle.gtp_gateway.proofs.AcceptedStays.{accepted_stays}
+use Rattle.gtp_gateway.proofs.Needing.{on_err}
 use Rattle.gtp_gateway.proofs.Receiving.{control_received, user_received}
+use Rattle.gtp_gateway.specs.Received.{NeedsMemory}
 use Rattle.gtp_gateway.proofs.parts.Parts.receive.Goals as goal
 
 pub returns-in_ok-step-in-Control-clause-received : goal.returns-in_ok-step-in-Control-clause-received
@@ -50,3 +52,7 @@ returns-in_ok-step-in-User-clause-packet c =
     let new = station_of c.receive_user.new.self in
     subst (λ (r : Step). IsSome r.accepted → new ≡ old) (sym c.from-in-User.ensures)
     (accepted_stays c.args.source c.args.octets.now old c.in_ok-step-in-User.step new c.in_ok-step-in-User.ensures.taken)
+
+pub returns-in_err-step-in-Control-clause-memory : goal.returns-in_err-step-in-Control-clause-memory
+returns-in_err-step-in-Control-clause-memory c =
+    on_err c.from_residual.result (subst (λ (p : Plane). NeedsMemory p c.args.source c.args.octets.now (station_of c.args.self.now)) (sym c.in-Control.is) c.in_err-step-in-Control.ensures.memory)

@@ -14,6 +14,9 @@ use Rattle.gtp_gateway.proofs.Left.{reads_message, fault_received}
 use Rattle.gtp_gateway.proofs.Procedures.{not_taken}
 use Rattle.gtp_gateway.proofs.Rows.{if_ok, message_left}
 use Rattle.gtp_gateway.proofs.SentBack.{none_sent}
+use Rattle.gtp_gateway.proofs.Needing.{from_err}
+use Rattle.gtp_gateway.specs.Needing.{StepSendsOrOpens}
+use Rattle.gtp_gateway.proofs.Left.{reads_fault}
 use Rattle.gtp_gateway.proofs.parts.Parts.receive_control.Goals as goal
 
 pub flaw_of-requires : goal.flaw_of-requires
@@ -22,8 +25,8 @@ flaw_of-requires c = fault_small c.args.octets.now c.in-Err.fault c.in-Err.ensur
 pub returns-in-Err-clause-taken : goal.returns-in-Err-clause-taken
 returns-in-Err-clause-taken c =
     let old = station_of c.args.self.now in
-    let fresh = subst (IsEntered c.args.source c.args.octets.now old c.args.self.now.held.pairs) c.in-New.is c.in_ok-step.ensures in
-    if_ok c.take_flaw.result (λ step taken. fault_received c.args.source c.args.octets.now old c.in-Err.fault (reading_of c.flaw_of.result) step fresh.peer fresh.new c.in-Err.ensures.fault c.flaw_of.ensures taken) c.take_flaw.ensures
+    let fresh = subst (IsEntered c.args.source c.args.octets.now old c.args.self.now.held.pairs) c.in-New.is c.in_ok-step.ensures.entered in
+    if_ok c.take_flaw.result (λ step taken. fault_received c.args.source c.args.octets.now old c.in-Err.fault (reading_of c.flaw_of.result) step fresh.peer fresh.new c.in-Err.ensures.fault c.flaw_of.ensures taken) c.take_flaw.ensures.taken
 
 pub returns-in-None-clause-taken : goal.returns-in-None-clause-taken
 returns-in-None-clause-taken c =
@@ -31,7 +34,7 @@ returns-in-None-clause-taken c =
     let source = c.args.source in
     let octets = c.args.octets.now in
     let m = c.in-Ok.view.message in
-    let fresh = subst (IsEntered source octets old c.args.self.now.held.pairs) c.in-New.is c.in_ok-step.ensures in
+    let fresh = subst (IsEntered source octets old c.args.self.now.held.pairs) c.in-New.is c.in_ok-step.ensures.entered in
     let none : takes_by old.role (message_of m) ≡ false = not_taken old.role m (subst (λ (k : ℕ). HasNot old.role (procedure_at k)) c.kind.ensures c.in-None.ensures.none) in
     let effect : Effect = dropped old.node Unexpected in
     subst (λ (s : ControlStep). IsTaken source octets old s old) (sym c.dropped.ensures)
@@ -42,3 +45,11 @@ returns-in-None-clause-taken c =
       becomes = refl;
       role = refl;
     })
+
+pub returns-in-Err-clause-memory : goal.returns-in-Err-clause-memory
+returns-in-Err-clause-memory c =
+    let old = station_of c.args.self.now in
+    let octets = c.args.octets.now in
+    let request = arrival_of c.args.source octets in
+    let fresh = subst (IsEntered c.args.source octets old c.args.self.now.held.pairs) c.in-New.is c.in_ok-step.ensures.entered in
+    from_err c.take_flaw.result (λ needs. subst (λ (r : ControlReading). StepSendsOrOpens request r old) (c.flaw_of.ensures ∙ reads_fault octets c.in-Err.fault c.in-Err.ensures.fault) (needs request refl fresh.peer)) c.take_flaw.ensures.memory

@@ -1,16 +1,21 @@
-use Rattle.std.proofs.Common.{◌≡◌, Option, inl, inr, refl, sym, subst}
+use Rattle.std.proofs.Common.{◌≡◌, true, Option, inl, inr, refl, sym, ◌∙◌, ap, subst}
+use Rattle.gtp_machine.specs.Node.{Node}
 use Rattle.gtp_machine.specs.Reading.{control_message}
 use Rattle.gtp_machine.specs.Serving.{BearerJudged, BearerAsked}
 use Rattle.gtp_machine.specs.declared.outcome.DropReason.TheVariants.{HeldFull, ContextNotActive}
+use Rattle.gtp_gateway.specs.declared.change.Change.{Change}
 use Rattle.gtp_gateway.specs.declared.granting.BearerVerdict.{BearerVerdict}
 use Rattle.gtp_gateway.specs.Answering.{answering}
 use Rattle.gtp_gateway.specs.Change.{changed_by}
-use Rattle.gtp_gateway.specs.Granting.{bearer_answer, bearer_effect}
+use Rattle.gtp_gateway.specs.Granting.{bearer_answer, bearer_effect, is_granted, Chooses}
 use Rattle.gtp_gateway.specs.Parts.{arrival_of, node_of}
 use Rattle.gtp_gateway.specs.Station.{station_of}
 use Rattle.gtp_gateway.proofs.Answers.{held_few, held_many}
 use Rattle.gtp_gateway.proofs.Columns.{yes, no}
 use Rattle.gtp_gateway.proofs.Rows.{drops, answers_made}
+use Rattle.gtp_gateway.proofs.Needing.{on_err, bearer_asked}
+use Rattle.gtp_gateway.proofs.Choosings.{unmade, lowest_bearer}
+use Rattle.gtp_gateway.specs.declared.control_step.ControlStep.{ControlStep}
 use Rattle.gtp_gateway.proofs.parts.Parts.take_bearer_request.Goals as goal
 
 pub returns-then-is_full-clause-taken : goal.returns-then-is_full-clause-taken
@@ -44,3 +49,32 @@ returns-clause-taken c = λ q says.
       record { few = held_few old.held.pairs (no c.is_full.ensures.full c.if-is_full.false) },
       subst (λ e. BearerJudged request q node e) (λ i. answering (sym c.is_granted.ensures i) request (sym said i) (sym c.cause.ensures i) (changed_by (sym c.change.ensures i) node)) judged,
     ))
+
+pub returns-in_err-message-clause-memory : goal.returns-in_err-message-clause-memory
+returns-in_err-message-clause-memory c = on_err c.from_residual.result (λ arrival q says.
+    let old = c.args.self.now in
+    let node = node_of old in
+    let judged = subst (λ (o : Option BearerVerdict). BearerJudged arrival q node (bearer_effect arrival c.args.request.now q o node)) c.in-Some.is (c.judge_bearer.ensures.judged arrival q says) in
+    bearer_asked arrival q node _ _ _ _ (record { few = held_few old.held.pairs (no c.is_full.ensures.full c.if-is_full.false) }) judged)
+
+pub returns-in_err-out-clause-memory : goal.returns-in_err-out-clause-memory
+returns-in_err-out-clause-memory c = on_err c.from_residual-in_err-out.result (λ arrival q says.
+    let old = c.args.self.now in
+    let node = node_of old in
+    let judged = subst (λ (o : Option BearerVerdict). BearerJudged arrival q node (bearer_effect arrival c.args.request.now q o node)) c.in-Some.is (c.judge_bearer.ensures.judged arrival q says) in
+    bearer_asked arrival q node _ _ _ _ (record { few = held_few old.held.pairs (no c.is_full.ensures.full c.if-is_full.false) }) judged)
+
+pub returns-clause-choices : goal.returns-clause-choices
+returns-clause-choices c = λ made.
+    let old = node_of c.args.self.now in
+    let r = c.args.request.now in
+    let v = c.in-Some.verdict in
+    let granted : is_granted v.answer ≡ true = sym c.is_granted.ensures ∙ (sym (ap (λ (s : ControlStep). s.report.made) c.answered.ensures) ∙ made) in
+    lowest_bearer r v.answer old (node_of c.answer.new.self) (subst (λ (o : Option BearerVerdict). Chooses r.header.0 o old) c.in-Some.is c.judge_bearer.ensures.chosen)
+    (ap (λ (n : Node). n.bearers) c.in_ok-out.ensures.node ∙ ap (λ (k : Change). (changed_by k old).bearers) c.change.ensures) granted
+
+pub returns-then-is_full-clause-choices : goal.returns-then-is_full-clause-choices
+returns-then-is_full-clause-choices c = unmade c.dropped.result.report.made (ap (λ (s : ControlStep). s.report.made) c.dropped.ensures)
+
+pub returns-in_default-clause-choices : goal.returns-in_default-clause-choices
+returns-in_default-clause-choices c = unmade c.dropped-in_default.result.report.made (ap (λ (s : ControlStep). s.report.made) c.dropped-in_default.ensures)

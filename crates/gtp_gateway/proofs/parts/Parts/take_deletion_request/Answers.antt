@@ -10,6 +10,7 @@ use Rattle.gtp_gateway.specs.Parts.{arrival_of, node_of}
 use Rattle.gtp_gateway.specs.Station.{station_of}
 use Rattle.gtp_gateway.proofs.Answers.{held_few, held_many}
 use Rattle.gtp_gateway.proofs.Columns.{yes, no}
+use Rattle.gtp_gateway.proofs.Needing.{on_err, deletion_asked}
 use Rattle.gtp_gateway.proofs.Rows.{drops, answers}
 use Rattle.gtp_gateway.proofs.parts.Parts.take_deletion_request.Goals as goal
 
@@ -32,3 +33,6 @@ returns-clause-taken c = λ d says.
       record { few = held_few old.held.pairs (no c.is_full.ensures.full c.if-is_full.false) },
       subst (λ (k : Message). DeletionJudged request d node (answered request k v.cause (changed_by v.change node))) (sym said) (c.judge_deletion-verdict.ensures.judged request d says),
     ))
+
+pub returns-in_err-out-clause-memory : goal.returns-in_err-out-clause-memory
+returns-in_err-out-clause-memory c = on_err c.from_residual.result (λ arrival d. deletion_asked arrival d (node_of c.args.self.now) (record { few = held_few c.args.self.now.held.pairs (no c.is_full.ensures.full c.if-is_full.false) }))

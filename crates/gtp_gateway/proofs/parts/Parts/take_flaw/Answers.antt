@@ -7,19 +7,28 @@ use Rattle.gtp_gateway.specs.Faulty.{defect_of, fault_of, reading_of, dropped_fo
 use Rattle.gtp_gateway.specs.Station.{station_of}
 use Rattle.gtp_gateway.proofs.FaultsTaken.{drops_for, fault_unanswered}
 use Rattle.gtp_gateway.proofs.Left.{fault_dropped}
+use Rattle.gtp_gateway.proofs.Needing.{on_err, fault_needs}
+use Rattle.gtp_gateway.specs.Needing.{StepSendsOrOpens}
 use Rattle.gtp_gateway.proofs.parts.Parts.take_flaw.Goals as goal
 
-pub returns-in-Plain : goal.returns-in-Plain
-returns-in-Plain c = λ request from peer new.
+pub returns-in-Plain-clause-taken : goal.returns-in-Plain-clause-taken
+returns-in-Plain-clause-taken c = λ request from peer new.
     let old = station_of c.args.self.now in
     subst (λ (s : ControlStep). IsFaultEffect request (reading_of c.args.flaw.now) old s) (sym c.undecodable.ensures)
     (subst (λ (f : Flaw). IsFaultEffect request (reading_of f) old (dropped_for c.in-Plain.number)) (sym c.in-Plain.is)
     (drops_for request _ old c.in-Plain.number (fault_dropped old.role old.node request c.in-Plain.number (ap (λ (e : Endpoint). e.ip) from ∙ peer) new)))
 
-pub returns-else-answers : goal.returns-else-answers
-returns-else-answers c = λ request from peer new.
+pub returns-else-answers-clause-taken : goal.returns-else-answers-clause-taken
+returns-else-answers-clause-taken c = λ request from peer new.
     let old = station_of c.args.self.now in
     let f = c.in-Faulty.faulty in
     subst (λ (s : ControlStep). IsFaultEffect request (reading_of c.args.flaw.now) old s) (sym (c.undecodable-else-answers.ensures ∙ ap dropped_for c.number.ensures))
     (subst (λ (g : Flaw). IsFaultEffect request (reading_of g) old (dropped_for (fault_number (defect_of f.defect)))) (sym c.in-Faulty.is)
     (drops_for request _ old (fault_number (defect_of f.defect)) (fault_unanswered old.node request (fault_of f) old.role f.kind refl (sym c.answers.ensures ∙ c.if-answers.false) (ap (λ (e : Endpoint). e.ip) from ∙ peer) new)))
+
+pub returns-then-answers-clause-memory : goal.returns-then-answers-clause-memory
+returns-then-answers-clause-memory c = on_err c.answer_fault.result (λ request from peer.
+    let old = station_of c.args.self.now in
+    let f = c.in-Faulty.faulty in
+    subst (λ (g : Flaw). StepSendsOrOpens request (reading_of g) old) (sym c.in-Faulty.is)
+    (fault_needs request (fault_of f) old f.kind (ap (λ (e : Endpoint). e.ip) from ∙ peer) refl (sym c.answers.ensures ∙ c.if-answers.true)))

@@ -20,6 +20,9 @@ use Rattle.gtp_gateway.proofs.Grants.{has_context, create_bearer_is, takes_beare
 use Rattle.gtp_gateway.proofs.BearerAnswers.{takes_bearer_response}
 use Rattle.gtp_gateway.proofs.Rows.{if_ok, as_row}
 use Rattle.gtp_gateway.proofs.SessionAnswers.{takes_session_response}
+use Rattle.gtp_gateway.proofs.Needing.{on_err, from_err, needs_echo, needs_session, needs_deletion, needs_bearer, needs_removal, needs_session_response, needs_bearer_response}
+use Rattle.gtp_gateway.specs.Needing.{AlwaysSendsOrOpens}
+use Rattle.gtp_machine.specs.Node.{Node}
 use Rattle.gtp_gateway.proofs.parts.Parts.take_heard.Goals as goal
 
 pub returns-in-EchoAsked-clause-taken : goal.returns-in-EchoAsked-clause-taken
@@ -169,3 +172,62 @@ pub returns-in-RemovalAnswered-clause-goes : goal.returns-in-RemovalAnswered-cla
 returns-in-RemovalAnswered-clause-goes c =
     let heard = station_of c.hear-in-RemovalAnswered.new.self in
     on_goes c.args.source c.args.octets.now (station_of c.args.self.now) (station_of c.take_removal_response.new.self) (wait_on (station_of c.args.self.now) heard (station_of c.take_removal_response.new.self) c.hear-in-RemovalAnswered.ensures.waits c.take_removal_response.ensures.waits)
+
+pub returns-in-EchoAsked-clause-memory : goal.returns-in-EchoAsked-clause-memory
+returns-in-EchoAsked-clause-memory c =
+    let old = station_of c.args.self.now in
+    let m = c.args.view.now.message in
+    let says = echo_request_is c.args.octets.now m c.requires.spelled (c.requires.of ∙ ap (λ (p : Procedure). Some p) c.in-EchoAsked.is) in
+    on_err c.take_echo_request.result (needs_echo old.role (arrival_of c.args.source c.args.octets.now) (message_of m) (node_heard c.args.heard old.node) says.request says.is)
+
+pub returns-in-SessionAsked-clause-memory : goal.returns-in-SessionAsked-clause-memory
+returns-in-SessionAsked-clause-memory c =
+    let old = station_of c.args.self.now in
+    let request = arrival_of c.args.source c.args.octets.now in
+    let q = c.session_request_in-request.ensures in
+    from_err c.take_session_request.result (λ needs. needs_session old.role request (message_of c.args.view.now.message) (node_heard c.args.heard old.node) q.0 (subst (λ (p : Procedure). has old.role p ≡ true) c.in-SessionAsked.is c.requires.has) q.1 (needs request q.0))
+    c.take_session_request.ensures.memory
+
+pub returns-in-DeletionAsked-clause-memory : goal.returns-in-DeletionAsked-clause-memory
+returns-in-DeletionAsked-clause-memory c =
+    let old = station_of c.args.self.now in
+    let m = c.args.view.now.message in
+    let request = arrival_of c.args.source c.args.octets.now in
+    let says = deletion_request_is c.args.octets.now m c.deletion_request_in-request.result c.requires.spelled (c.requires.of ∙ ap (λ (p : Procedure). Some p) c.in-DeletionAsked.is) c.deletion_request_in-request.ensures in
+    from_err c.take_deletion_request.result (λ needs. subst (λ (n : Node). AlwaysSendsOrOpens (TakesBy old.role request (message_of m)) n) (unheard c.args.heard (message_of m) old c.requires.weighed (ap recovery_of says.is))
+    (needs_deletion old.role request (message_of m) old.node says.request (subst (λ (p : Procedure). has old.role p ≡ true) c.in-DeletionAsked.is c.requires.has) says.is (needs request says.request)))
+    c.take_deletion_request.ensures.memory
+
+pub returns-in-BearerAsked-clause-memory : goal.returns-in-BearerAsked-clause-memory
+returns-in-BearerAsked-clause-memory c =
+    let old = station_of c.args.self.now in
+    let m = c.args.view.now.message in
+    let request = arrival_of c.args.source c.args.octets.now in
+    let says = create_bearer_is c.args.octets.now m c.bearer_request_in-request.result c.requires.spelled (c.requires.of ∙ ap (λ (p : Procedure). Some p) c.in-BearerAsked.is) c.bearer_request_in-request.ensures in
+    from_err c.take_bearer_request.result (λ needs. subst (λ (n : Node). AlwaysSendsOrOpens (TakesBy old.role request (message_of m)) n) (unheard c.args.heard (message_of m) old c.requires.weighed (ap recovery_of says.is))
+    (needs_bearer old.role request (message_of m) old.node says.request (subst (λ (p : Procedure). has old.role p ≡ true) c.in-BearerAsked.is c.requires.has) says.is (needs request says.request says.says)))
+    c.take_bearer_request.ensures.memory
+
+pub returns-in-RemovalAsked-clause-memory : goal.returns-in-RemovalAsked-clause-memory
+returns-in-RemovalAsked-clause-memory c =
+    let old = station_of c.args.self.now in
+    let m = c.args.view.now.message in
+    let request = arrival_of c.args.source c.args.octets.now in
+    let says = delete_bearer_is c.args.octets.now m c.deletion_request_in-request-in-RemovalAsked.result c.requires.spelled (c.requires.of ∙ ap (λ (p : Procedure). Some p) c.in-RemovalAsked.is) c.deletion_request_in-request-in-RemovalAsked.ensures in
+    from_err c.take_removal_request.result (λ needs. subst (λ (n : Node). AlwaysSendsOrOpens (TakesBy old.role request (message_of m)) n) (unheard c.args.heard (message_of m) old c.requires.weighed (ap recovery_of says.is))
+    (needs_removal old.role request (message_of m) old.node says.request (subst (λ (p : Procedure). has old.role p ≡ true) c.in-RemovalAsked.is c.requires.has) says.is (needs request says.request says.says)))
+    c.take_removal_request.ensures.memory
+
+pub returns-in-SessionAnswered-clause-memory : goal.returns-in-SessionAnswered-clause-memory
+returns-in-SessionAnswered-clause-memory c =
+    let old = station_of c.args.self.now in
+    let reads = c.session_response_in-answer.ensures in
+    from_err c.take_session_response.result (λ needs. needs_session_response old.role (arrival_of c.args.source c.args.octets.now) (message_of c.args.view.now.message) (node_heard c.args.heard old.node) reads.response (subst (λ (p : Procedure). has old.role p ≡ true) c.in-SessionAnswered.is c.requires.has) reads.is (needs reads.response reads.says))
+    c.take_session_response.ensures.memory
+
+pub returns-in-BearerAnswered-clause-memory : goal.returns-in-BearerAnswered-clause-memory
+returns-in-BearerAnswered-clause-memory c =
+    let old = station_of c.args.self.now in
+    let reads = c.bearer_response_in-answer.ensures in
+    from_err c.take_bearer_response.result (λ needs. needs_bearer_response old.role (arrival_of c.args.source c.args.octets.now) (message_of c.args.view.now.message) (node_heard c.args.heard old.node) reads.response (subst (λ (p : Procedure). has old.role p ≡ true) c.in-BearerAnswered.is c.requires.has) reads.is (needs reads.response reads.says))
+    c.take_bearer_response.ensures.memory

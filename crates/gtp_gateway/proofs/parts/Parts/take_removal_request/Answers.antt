@@ -1,15 +1,19 @@
-use Rattle.std.proofs.Common.{◌≡◌, inl, inr, refl, sym, subst}
+use Rattle.std.proofs.Common.{◌≡◌, inl, inr, refl, sym, ◌∙◌, ap, subst}
+use Rattle.std.specs.FinMap.{get}
 use Rattle.gtp_machine.specs.Choice.{HasHeldRoom}
 use Rattle.gtp_machine.specs.Input.{Effect}
+use Rattle.gtp_machine.specs.Node.{Pending, Session}
 use Rattle.gtp_machine.specs.Serving.{RemovalJudged, RemovalAsked}
 use Rattle.gtp_machine.specs.declared.outcome.DropReason.TheVariants.{HeldFull, ContextNotActive}
 use Rattle.gtp_gateway.specs.Ending.{removal_effect}
-use Rattle.gtp_gateway.specs.Parts.{arrival_of}
+use Rattle.gtp_gateway.specs.Parts.{arrival_of, node_of}
 use Rattle.gtp_gateway.specs.Station.{station_of}
 use Rattle.gtp_gateway.proofs.Answers.{held_few, held_many}
 use Rattle.gtp_gateway.proofs.Columns.{yes, no}
 use Rattle.gtp_gateway.proofs.Endings.{row_as}
 use Rattle.gtp_gateway.proofs.Rows.{if_ok, drops}
+use Rattle.gtp_gateway.proofs.Needing.{on_err, removal_opened, removal_asked}
+use Rattle.gtp_machine.proofs.Sound.Parts.{one_value}
 use Rattle.gtp_gateway.proofs.parts.Parts.take_removal_request.Goals as goal
 
 pub returns-then-is_full-clause-taken : goal.returns-then-is_full-clause-taken
@@ -42,3 +46,15 @@ returns-in-Answered-clause-taken c =
     (λ e is. inr (room, subst (λ (x : Effect). RemovalJudged request d old.node x) (sym is) (c.in-Answered.ensures.judged request d says)))
     (taken d says.number))
     c.answer_removal.ensures.taken
+
+pub returns-in-Answered-clause-memory : goal.returns-in-Answered-clause-memory
+returns-in-Answered-clause-memory c = on_err c.answer_removal.result (λ arrival d says.
+    let node = node_of c.args.self.now in
+    removal_asked arrival d node (record { few = held_few c.args.self.now.held.pairs (no c.is_full.ensures.full c.if-is_full.false) }) (removal_opened arrival d node _ _ _ (c.in-Answered.ensures.judged arrival d says)))
+
+pub returns-in-Bearers-clause-memory : goal.returns-in-Bearers-clause-memory
+returns-in-Bearers-clause-memory c = on_err c.end_listed.result (λ arrival d says.
+    let node = node_of c.args.self.now in
+    let asked = c.in-Bearers.ensures in
+    removal_asked arrival d node (record { few = held_few c.args.self.now.held.pairs (no c.is_full.ensures.full c.if-is_full.false) })
+    (λ at. subst (λ (s : Session). s.state ≡ Pending → ⊥) (one_value (get node.sessions d.header) asked.session at.session (ap (get node.sessions) says.header ∙ asked.stands) at.stands) asked.opened))

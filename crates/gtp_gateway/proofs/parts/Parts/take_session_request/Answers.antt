@@ -1,9 +1,9 @@
-use Rattle.std.proofs.Common.{◌<◌, List, length, false, true, inl, inr, refl, sym, subst}
+use Rattle.std.proofs.Common.{◌<◌, List, length, false, true, inl, inr, refl, sym, ap, subst}
 use Rattle.gtp_machine.specs.Answer.{answered, making}
 use Rattle.gtp_machine.specs.Choice.{HasHeldRoom}
 use Rattle.gtp_machine.specs.Input.{Effect}
 use Rattle.gtp_machine.specs.Message.{Message}
-use Rattle.gtp_machine.specs.Node.{Held}
+use Rattle.gtp_machine.specs.Node.{Held, Node}
 use Rattle.gtp_machine.specs.Packet.{SessionJudged, SessionAsked, session_cause}
 use Rattle.gtp_machine.specs.declared.outcome.DropReason.TheVariants.{HeldFull}
 use Rattle.gtp_machine.specs.declared.outcome.Outcome.TheVariants.{Dropped}
@@ -16,6 +16,9 @@ use Rattle.gtp_gateway.proofs.Answers.{held_few, held_many}
 use Rattle.gtp_gateway.proofs.Answered.{held_stays, answered_so, refusal_same, grant_same, made_same}
 use Rattle.gtp_gateway.proofs.Columns.{yes, no}
 use Rattle.gtp_gateway.proofs.Rows.{if_ok, ends, config_stays}
+use Rattle.gtp_gateway.proofs.Needing.{on_err, session_asked}
+use Rattle.gtp_gateway.proofs.Choosings.{unmade, lowest_session}
+use Rattle.gtp_gateway.specs.declared.control_step.ControlStep.{ControlStep}
 use Rattle.gtp_gateway.proofs.parts.Parts.take_session_request.Goals as goal
 
 pub returns-then-is_full-clause-taken : goal.returns-then-is_full-clause-taken
@@ -60,3 +63,28 @@ returns-in-Granted-clause-taken c =
           (subst (λ (v : SessionVerdict). SessionJudged request q left (session_effect request q v left)) c.in-Granted.is (c.judge_session.ensures.judged request q says)),
     )))
     c.grant_session.ensures.granted
+
+pub returns-in-Refused-clause-memory : goal.returns-in-Refused-clause-memory
+returns-in-Refused-clause-memory c =
+    let old = station_of c.args.self.now in
+    let left = node_heard c.args.heard old.node in
+    on_err c.refuse_session.result (λ arrival q. session_asked arrival q left (record { few = subst (λ (held : List Held). length held < 4096) (sym (held_stays c.args.heard old.node)) (held_few c.args.self.now.held.pairs (no c.is_full.ensures.full c.if-is_full.false)) }))
+
+pub returns-in-Granted-clause-memory : goal.returns-in-Granted-clause-memory
+returns-in-Granted-clause-memory c =
+    let old = station_of c.args.self.now in
+    let left = node_heard c.args.heard old.node in
+    on_err c.grant_session.result (λ arrival q. session_asked arrival q left (record { few = subst (λ (held : List Held). length held < 4096) (sym (held_stays c.args.heard old.node)) (held_few c.args.self.now.held.pairs (no c.is_full.ensures.full c.if-is_full.false)) }))
+
+pub returns-in-Refused-clause-choices : goal.returns-in-Refused-clause-choices
+returns-in-Refused-clause-choices c = if_ok c.refuse_session.result (λ step a. unmade step.report.made (ap (λ (s : ControlStep). s.report.made) a.is)) c.refuse_session.ensures.refused
+
+pub returns-in-Granted-clause-choices : goal.returns-in-Granted-clause-choices
+returns-in-Granted-clause-choices c =
+    let r = c.args.request.now in
+    let old = node_of c.args.self.now in
+    let chosen = subst (λ (v : SessionVerdict). IsVerdict r.default.identity v c.args.heard old) c.in-Granted.is c.judge_session.ensures.is in
+    if_ok c.grant_session.result (λ step a made. lowest_session r.default.identity r c.in-Granted.grant c.args.heard old (node_of c.grant_session.new.self) chosen (ap (λ (n : Node). n.sessions) a.becomes)) c.grant_session.ensures.granted
+
+pub returns-then-is_full-clause-choices : goal.returns-then-is_full-clause-choices
+returns-then-is_full-clause-choices c = unmade c.dropped.result.report.made (ap (λ (s : ControlStep). s.report.made) c.dropped.ensures)

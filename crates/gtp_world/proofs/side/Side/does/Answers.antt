@@ -5,6 +5,7 @@ use Rattle.gtp_gateway.specs.Station.{Station}
 use Rattle.gtp_world.specs.Commands.{command_of}
 use Rattle.gtp_world.specs.Kept.{Half, half_of}
 use Rattle.gtp_world.specs.Sides.{IsInput}
+use Rattle.gtp_world.specs.Stepped.{AsksFor}
 use Rattle.gtp_world.specs.declared.side.Came.{Came}
 use Rattle.gtp_world.proofs.Telling.{came_of_refused, done, turned_down}
 use Rattle.gtp_world.proofs.side.Side.does.Goals as goal
@@ -14,8 +15,8 @@ returns-in-Ok-clause-done c =
     let command = command_of c.args.event.now in
     let handed = c.in_ok-handed.handed in
     let came = c.begun.ensures ∙ ap (λ (o : Outcome). record { outcome = o; restart = None; out = Some c.in-Ok.begun.out; handed = handed; accepted = None }) c.outcome_of-outcome.ensures in
-    subst (λ (k : Came). IsInput c.args.node (Commanded command) (half_of c.args.self.now) k (record (half_of c.args.self.now) { station = c.tell.new.gateway })) (sym came)
-    (done c.args.node command (half_of c.args.self.now) c.in-Ok.begun c.tell.new.gateway handed c.in-Ok.ensures.done c.in_ok-handed.ensures)
+    subst (λ (k : Came). IsInput c.args.node (Commanded command) AsksFor (half_of c.args.self.now) k (record (half_of c.args.self.now) { station = c.tell.new.gateway })) (sym came)
+    (done c.args.node command (half_of c.args.self.now) c.in-Ok.begun c.tell.new.gateway handed c.in-Ok.ensures.done c.in-Ok.ensures.timed c.in_ok-handed.ensures)
 
 pub returns-in-Err-Refused-clause-done : goal.returns-in-Err-Refused-clause-done
 returns-in-Err-Refused-clause-done c =
@@ -23,6 +24,6 @@ returns-in-Err-Refused-clause-done c =
     let old = half_of c.args.self.now in
     let why = c.in-Err-Refused.why in
     let same = ap (λ (s : Station). record old { station = s }) (sym c.in-Err-Refused.ensures.err) in
-    subst (λ (k : Came). IsInput c.args.node (Commanded command) old k (record old { station = c.tell.new.gateway })) (sym c.refused.ensures)
-    (subst (λ (h : Half). IsInput c.args.node (Commanded command) old (came_of_refused why) h) same
+    subst (λ (k : Came). IsInput c.args.node (Commanded command) AsksFor old k (record old { station = c.tell.new.gateway })) (sym c.refused.ensures)
+    (subst (λ (h : Half). IsInput c.args.node (Commanded command) AsksFor old (came_of_refused why) h) same
     (turned_down c.args.node command old why ((c.tell.ensures.refused why).0 (c.in-Err-Refused.is ∙ ap Err c.in-Err-Refused.field-0-is))))

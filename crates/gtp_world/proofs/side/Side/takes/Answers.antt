@@ -6,6 +6,7 @@ use Rattle.gtp_gateway.specs.Taken.{made_for}
 use Rattle.gtp_gateway.specs.Ticked.{arrivals_of}
 use Rattle.gtp_world.specs.Kept.{Half, half_of}
 use Rattle.gtp_world.specs.Sides.{IsInput}
+use Rattle.gtp_world.specs.Stepped.{KeepsOn}
 use Rattle.gtp_world.specs.declared.side.Side.{Side}
 use Rattle.gtp_world.proofs.Telling.{taken, heard_kept, came_of_step}
 use Rattle.gtp_world.proofs.side.Side.takes.Goals as goal
@@ -24,5 +25,5 @@ returns-clause-taken c =
     ∙ ap (λ l. arrivals_of l ++ made_for (arrival_of c.args.source c.in_ok-from_slice.field-0.items) step.report.made) c.try_reserve-2.ensures.items
     ∙ ap (λ l. arrivals_of old.made.items ++ made_for (arrival_of c.args.source l) step.report.made) c.in_ok-from_slice.ensures.items in
     let after = ap half_of both ∙ (λ i. record (half_of old) { station = c.receive.new.self; seen = seen i; made = made i }) in
-    subst (λ (h : Half). IsInput c.args.node (coming c.args.plane c.args.source octets) (half_of old) (came_of_step step c.in_ok-accepted.accepted) h) (sym after)
-    (taken c.args.node c.args.plane c.args.source octets (half_of old) step c.receive.new.self c.in_ok-accepted.accepted c.in_ok-step.ensures.received c.in_ok-step.ensures.packet c.in_ok-accepted.ensures.accepted)
+    subst (λ (h : Half). IsInput c.args.node (coming c.args.plane c.args.source octets) (KeepsOn c.args.plane c.args.source octets) (half_of old) (came_of_step step c.in_ok-accepted.accepted) h) (sym after)
+    (taken c.args.node c.args.plane c.args.source octets (half_of old) step c.receive.new.self c.in_ok-accepted.accepted c.in_ok-step.ensures.received c.in_ok-step.ensures.timing c.in_ok-step.ensures.packet c.in_ok-accepted.ensures.accepted)

@@ -20,6 +20,7 @@ returns-clause-ticked c =
       ticks = t.ticks;
       readable = t.tells.sent.read;
       role_stays = t.role;
+      counts = c.in_ok-ticked.ensures.counts;
       becomes = λ i. record { settings = old.config; station = c.tick.new.self; first = old.first.0; restarts = old.restarts; seen = heard i; forgotten = forgotten i; made = none_made i };
       sent = t.tells.sent.octets;
       gave_up = t.tells.gave_up;

@@ -4,7 +4,7 @@ use Rattle.std.proofs.lemmas.Option.{slice_get_read}
 use Rattle.gtp_gateway.specs.Received.{coming}
 use Rattle.gtp_world.specs.Kept.{half_of, kept_of}
 use Rattle.gtp_world.specs.Sides.{IsInput}
-use Rattle.gtp_world.specs.Stepped.{Takes}
+use Rattle.gtp_world.specs.Stepped.{Takes, KeepsOn}
 use Rattle.gtp_world.specs.declared.side.Came.{Came}
 use Rattle.gtp_world.proofs.Finding.{brought}
 use Rattle.gtp_world.proofs.Sidewise.{at_serving, at_packet, takes_at}
@@ -26,23 +26,24 @@ reads c = elim c.match-get.branch [
 ]
 
 -- a gateway takes it
-taken : (c : goal.After-settle) → Takes (kept_of c.args.self.now) c.other_than-node.result (coming c.index-datagram.result.now.sent.plane c.index-datagram.result.now.sent.from c.match-get.octets.now) c.args.late (kept_of record c.match-node.self { records = c.settle.new.self })
+taken : (c : goal.After-settle) → Takes (kept_of c.args.self.now) c.other_than-node.result (coming c.index-datagram.result.now.sent.plane c.index-datagram.result.now.sent.from c.match-get.octets.now) (KeepsOn c.index-datagram.result.now.sent.plane c.index-datagram.result.now.sent.from c.match-get.octets.now) c.args.late (kept_of record c.match-node.self { records = c.settle.new.self })
 taken c =
     let old = c.args.self.now in
     let mid = c.match-node.self in
     let d = c.index-datagram.result.now in
     let node = c.other_than-node.result in
     let input = coming d.sent.plane d.sent.from c.match-get.octets.now in
+    let keeps = KeepsOn d.sent.plane d.sent.from c.match-get.octets.now in
     elim c.match-node.branch [
       | in-Serving+in_ok-came-in-Serving w ↦
-          takes_at old mid node input (half_of old.serving) (half_of w.takes.new.self) c.match-node.came c.settle.new.self c.args.late
+          takes_at old mid node input keeps (half_of old.serving) (half_of w.takes.new.self) c.match-node.came c.settle.new.self c.args.late
           (at_serving old mid node w.takes.new.self old.records w.in-Serving.is w.self-is refl)
-          (subst (λ (k : Came). IsInput node input (half_of old.serving) k (half_of w.takes.new.self)) (sym w.came-is) w.in_ok-came-in-Serving.ensures.taken)
+          (subst (λ (k : Came). IsInput node input keeps (half_of old.serving) k (half_of w.takes.new.self)) (sym w.came-is) w.in_ok-came-in-Serving.ensures.taken)
           c.settle.ensures.log
       | in-Packet+in_ok-came-in-Packet w ↦
-          takes_at old mid node input (half_of old.packet) (half_of w.takes-in-Packet.new.self) c.match-node.came c.settle.new.self c.args.late
+          takes_at old mid node input keeps (half_of old.packet) (half_of w.takes-in-Packet.new.self) c.match-node.came c.settle.new.self c.args.late
           (at_packet old mid node w.takes-in-Packet.new.self old.records w.in-Packet.is w.self-is refl)
-          (subst (λ (k : Came). IsInput node input (half_of old.packet) k (half_of w.takes-in-Packet.new.self)) (sym w.came-is) w.in_ok-came-in-Packet.ensures.taken)
+          (subst (λ (k : Came). IsInput node input keeps (half_of old.packet) k (half_of w.takes-in-Packet.new.self)) (sym w.came-is) w.in_ok-came-in-Packet.ensures.taken)
           c.settle.ensures.log
     ]
 

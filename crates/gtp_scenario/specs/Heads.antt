@@ -1,0 +1,140 @@
+-- Which JSON data are which two gateways.
+use Rattle.std.specs.Prelude.{ℕ, ◌+◌, ◌^◌, List, [], ◌∷◌, codes, nat_le, if◌then◌else◌, Option, Some, None, option_map}
+use Rattle.std.specs.Int.{w32, from_be_bytes}
+use Rattle.serde_json.specs.Data.{Data, Items, no_items, item}
+use Rattle.serde_json.specs.Find.{get, as_str, as_array}
+use Rattle.gtp_values.specs.declared.address.Ip.{Ip}
+use Rattle.gtp_values.specs.declared.address.Ip.TheVariants.{V4}
+use Rattle.gtp_tables.specs.Pool.{Range}
+use Rattle.gtp_reliable.specs.Pending.{AreLimits}
+use Rattle.gtp_reliable.specs.Held.{IsHold}
+use Rattle.gtp_gateway.specs.declared.config.Addresses.{Addresses}
+use Rattle.gtp_gateway.specs.declared.config.Timers.{Timers}
+use Rattle.gtp_gateway.specs.Settings.{settings_of}
+use Rattle.gtp_world.specs.Runs.{Setup}
+use Rattle.gtp_scenario.specs.Steps.{◌>>=◌}
+use Rattle.gtp_scenario.specs.Json.{text_at, number_at, number_or, within, has_only, count_of}
+use Rattle.gtp_scenario.specs.Texts.{apn_of, address_of}
+
+-- ---- values of keys
+
+unfoldable pub address_at : List ℕ → Data → Option Ip
+address_at key d = option_map V4 (text_at key d >>= address_of)
+
+-- the address of a gateway on each plane
+unfoldable pub addresses_at : Data → Option Addresses
+addresses_at d = do
+  control ← address_at (codes "control") d
+  user ← address_at (codes "user") d
+  Some (record { control = control; user = user })
+
+-- a restart counter: 0 to 255
+unfoldable pub counter_at : Data → Option ℕ
+counter_at d = number_at (codes "counter") d >>= within 0 255
+
+-- an access point name
+unfoldable pub access_point_of : Data → Option (List ℕ)
+access_point_of d = as_str d >>= apn_of
+
+-- access point names, in order
+abbrev pub access_points_in : Items → Option (List (List ℕ))
+access_points_in no_items = Some []
+access_points_in (item d items) = do
+  first ← access_point_of d
+  others ← access_points_in items
+  Some (first ∷ others)
+
+-- at most 16 of them
+unfoldable pub access_points_at : Data → Option (List (List ℕ))
+access_points_at d = do
+  items ← get (codes "apns") d >>= as_array
+  if nat_le (count_of items) 16 then access_points_in items else None
+
+-- addresses in a row, which end at 255.255.255.255 at the latest
+abbrev pub pool_from : ℕ → ℕ → Option Range
+pool_from start count = if nat_le (start + count) (2 ^ 32) then Some (record { start = start; count = count }) else None
+
+-- 0 to 65,536 addresses
+unfoldable pub pool_at : Data → Option Range
+pool_at d = do
+  start ← option_map (from_be_bytes w32) (text_at (codes "pool") d >>= address_of)
+  count ← number_at (codes "count") d >>= within 0 65536
+  pool_from start count
+
+-- each time is in its range
+pub record AreTimers (timers : Timers) : Type 0 where
+  pub requests : AreLimits timers.t3 timers.n3
+  pub answers : IsHold timers.hold
+
+-- a time in ticks, from low to high, which may be absent
+abbrev pub time_at : List ℕ → ℕ → ℕ → ℕ → Data → Option ℕ
+time_at key absent low high d = number_or absent (get key d) >>= within low high
+
+-- the times, which are 3, 3 and 60 ticks where the scenario does not say
+unfoldable pub timers_at : Data → Option Timers
+timers_at d = do
+  t3 ← time_at (codes "t3") 3 1 1000 d
+  n3 ← time_at (codes "n3") 3 0 100 d
+  hold ← time_at (codes "hold") 60 1 100000 d
+  Some (record { t3 = t3; n3 = n3; hold = hold })
+
+-- ---- gateways
+
+pub record ServingHead : Type 0 where
+  pub own : Addresses
+  pub counter : ℕ
+
+unfoldable pub serving_of : Data → Option ServingHead
+serving_of d =
+    if has_only (codes "control" ∷ codes "user" ∷ codes "counter" ∷ []) d
+    then (do
+      own ← addresses_at d
+      counter ← counter_at d
+      Some (record { own = own; counter = counter }))
+    else None
+
+pub record PacketHead : Type 0 where
+  pub own : Addresses
+  pub counter : ℕ
+  pub access_points : List (List ℕ)
+  pub pool : Range
+
+unfoldable pub packet_of : Data → Option PacketHead
+packet_of d =
+    if has_only (codes "control" ∷ codes "user" ∷ codes "counter" ∷ codes "apns" ∷ codes "pool" ∷ codes "count" ∷ []) d
+    then (do
+      own ← addresses_at d
+      counter ← counter_at d
+      access_points ← access_points_at d
+      pool ← pool_at d
+      Some (record { own = own; counter = counter; access_points = access_points; pool = pool }))
+    else None
+
+-- no addresses
+abbrev pub no_pool : Range
+no_pool = record { start = 0; count = 0 }
+
+-- the two gateways as each other's peers: the access points and the pool are the packet gateway's alone
+abbrev pub set_up : Timers → ServingHead → PacketHead → Setup
+set_up timers serving packet =
+    record {
+      serving = settings_of serving.own packet.own [] no_pool timers;
+      packet = settings_of packet.own serving.own packet.access_points packet.pool timers;
+      serving_counter = serving.counter;
+      packet_counter = packet.counter;
+    }
+
+-- all of a scenario but its events
+unfoldable pub setup_of : Data → Option Setup
+setup_of d =
+    if has_only (codes "serving" ∷ codes "packet" ∷ codes "t3" ∷ codes "n3" ∷ codes "hold" ∷ codes "events" ∷ []) d
+    then (do
+      timers ← timers_at d
+      serving ← get (codes "serving") d >>= serving_of
+      packet ← get (codes "packet") d >>= packet_of
+      Some (set_up timers serving packet))
+    else None
+
+-- the list of events
+unfoldable pub events_at : Data → Option Items
+events_at d = get (codes "events") d >>= as_array

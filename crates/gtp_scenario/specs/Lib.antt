@@ -1,0 +1,9 @@
+pub mod Steps
+pub mod Json
+pub mod Texts
+pub mod Events
+pub mod Entries
+pub mod Heads
+pub mod Scenarios
+pub mod Views
+pub mod Spelling

@@ -1,0 +1,65 @@
+//! Entries of the list of events.
+
+ghost use Rattle.std.specs.Prelude.{◌≡◌, ◌≤◌, IfOk, Some, option_map, string_bytes};
+ghost use Rattle.serde_json.specs.View.{view};
+ghost use Rattle.gtp_scenario.specs.Steps.{Gives};
+ghost use Rattle.gtp_scenario.specs.Entries.{entry_of, entry_within};
+ghost use Rattle.gtp_scenario.specs.Views.{entry as entry_view};
+
+use crate::event::event_named;
+use crate::fault::Fault;
+use crate::json::{number_or, text_at, text_if, within};
+use gtp_world::Event;
+use serde_json::Value;
+use std::alloc::Global;
+
+/// An event of a scenario.
+#[derive(Debug, Drop)]
+pub struct Entry {
+    pub event: Event,
+    /// How often it happens, 1 to 1,000; more than once only a tick.
+    pub times: u32,
+    /// The first word of what it has to come to, each time, if the scenario says so.
+    pub expect: Option<String>,
+}
+
+/// A text of our own.
+fn copied(alloc: Global, text: Option<&str>) -> Result<Option<String>, Fault>
+    ensures { Gives (option_map (λ s. string_bytes s)) result
+        (Some (option_map (λ s. s.now) text.entry)) }
+{
+    match text {
+        None => Ok(None),
+        Some(text) => Ok(Some(String::from_str(alloc, text)?)),
+    }
+}
+
+#[tactic(auto, unfolding(crate::specs::Entries::entry_of))]
+fn entry_of(alloc: Global, value: &Value) -> Result<Entry, Fault>
+    ensures { Gives entry_view result (entry_of (view value.now)) }
+{
+    let word = text_at(value, "do").ok_or(Fault::Wrong)?;
+    let event = event_named(alloc, word, value)?;
+    let times = number_or(value, "times", 1).ok_or(Fault::Wrong)?;
+    let times = within(1, 1000, times).ok_or(Fault::Wrong)?;
+    let expect = text_if(value, "expect").ok_or(Fault::Wrong)?;
+    let expect = copied(alloc, expect)?;
+    Ok(Entry {
+        event,
+        times,
+        expect,
+    })
+}
+
+/// An entry, where there is room for so many events.
+#[tactic(auto, unfolding(crate::specs::Entries::entry_within))]
+pub(crate) fn entry_within(alloc: Global, room: u32, value: &Value) -> Result<Entry, Fault>
+    ensures read { Gives entry_view result (entry_within room (view value.now)) }
+    ensures fits { IfOk result (λ e. e.times ≤ room) }
+{
+    let entry = entry_of(alloc, value)?;
+    if entry.times > room {
+        return Err(Fault::Wrong);
+    }
+    Ok(entry)
+}

@@ -1,0 +1,228 @@
+//! Both gateways of a scenario.
+
+ghost use Rattle.std.specs.Prelude.{◌≡◌, ◌≤◌, length, IfOk, IfSome, option_map};
+ghost use Rattle.std.specs.Int.{w32, from_be_bytes};
+ghost use Rattle.serde_json.specs.View.{view, items_view};
+ghost use Rattle.gtp_scenario.specs.Steps.{Gives};
+ghost use Rattle.gtp_scenario.specs.Heads.{AreTimers, address_at, addresses_at, counter_at, access_point_of, access_points_in, access_points_at};
+ghost use Rattle.gtp_scenario.specs.Heads.{pool_from, pool_at, no_pool, time_at, timers_at, serving_of, packet_of, set_up, setup_of, events_at};
+ghost use Rattle.gtp_scenario.specs.Views.{serving_head, packet_head};
+
+use crate::fault::Fault;
+use crate::json::{has_only, number_at, number_or, text_at, within};
+use crate::text::{address_of, apn_of};
+use gtp_gateway::{Addresses, Apn, Config, Counter, Ip, Pool, Timers};
+use gtp_world::WorldConfig;
+use serde_json::Value;
+use std::alloc::Global;
+
+/// The most access points of a gateway.
+const MOST_ACCESS_POINTS: usize = 16;
+
+/// The serving gateway's part of a head.
+#[derive(Clone, Copy)]
+struct ServingHead {
+    own: Addresses,
+    counter: Counter,
+}
+
+/// The packet gateway's part of a head.
+#[derive(Drop)]
+struct PacketHead {
+    own: Addresses,
+    counter: Counter,
+    access_points: Vec<Apn>,
+    pool: Pool,
+}
+
+#[tactic(auto, unfolding(crate::specs::Heads::address_at))]
+fn address_at(value: &Value, key: &str) -> Option<Ip>
+    ensures { result ≡ address_at key.now (view value.now) }
+{
+    let address = address_of(text_at(value, key)?)?;
+    Some(Ip::V4(address.octets()))
+}
+
+/// The address on each plane.
+#[tactic(auto, unfolding(crate::specs::Heads::addresses_at))]
+fn addresses_at(value: &Value) -> Option<Addresses>
+    ensures { result ≡ addresses_at (view value.now) }
+{
+    Some(Addresses {
+        control: address_at(value, "control")?,
+        user: address_at(value, "user")?,
+    })
+}
+
+#[tactic(auto, unfolding(crate::specs::Heads::counter_at))]
+fn counter_at(value: &Value) -> Option<Counter>
+    ensures { option_map (λ counter. counter.0) result ≡ counter_at (view value.now) }
+{
+    let number = within(0, 255, number_at(value, "counter")?)?;
+    Some(Counter(number as u8))
+}
+
+#[tactic(auto, unfolding(crate::specs::Heads::access_point_of))]
+fn access_point_of(value: &Value) -> Option<Apn>
+    ensures { result ≡ access_point_of (view value.now) }
+{
+    apn_of(value.as_str()?)
+}
+
+/// Access points, in order.
+fn access_points_in(alloc: Global, values: &[Value]) -> Result<Vec<Apn>, Fault>
+    ensures read { Gives (λ v. v.items) result (access_points_in (items_view values.now)) }
+    ensures each { IfOk result (λ v. length v.items ≡ length values.now) }
+{
+    let mut access_points = Vec::new(alloc);
+    for value in values {
+        access_points.push(access_point_of(value).ok_or(Fault::Wrong)?)?;
+    }
+    Ok(access_points)
+}
+
+#[tactic(auto, unfolding(crate::specs::Heads::access_points_at), using(crate::proofs::Keys::count_of_view))]
+fn access_points_at(alloc: Global, value: &Value) -> Result<Vec<Apn>, Fault>
+    ensures read { Gives (λ v. v.items) result (access_points_at (view value.now)) }
+    ensures few { IfOk result (λ v. length v.items ≤ 16) }
+{
+    let values = value.get("apns").ok_or(Fault::Wrong)?;
+    let values = values.as_array().ok_or(Fault::Wrong)?;
+    if values.len() > MOST_ACCESS_POINTS {
+        return Err(Fault::Wrong);
+    }
+    access_points_in(alloc, values)
+}
+
+/// Addresses in a row, the first of them as a number.
+fn pool_from(start: u32, count: u32) -> Option<Pool>
+    requires { count ≤ 65536 }
+    ensures { result ≡ pool_from start count }
+{
+    Pool::try_new(start, count).ok()
+}
+
+#[tactic(auto, unfolding(crate::specs::Heads::pool_at))]
+fn pool_at(value: &Value) -> Option<Pool>
+    ensures { result ≡ pool_at (view value.now) }
+{
+    let start = address_of(text_at(value, "pool")?)?;
+    let count = within(0, 65_536, number_at(value, "count")?)?;
+    pool_from(u32::from_be_bytes(start.octets()), count)
+}
+
+/// A time in ticks, which may be absent.
+fn time_at(value: &Value, key: &str, absent: u32, low: u32, high: u32) -> Option<u32>
+    ensures read { result ≡ time_at key.now absent low high (view value.now) }
+    ensures range { IfSome result (λ time. (low ≤ time) × (time ≤ high)) }
+{
+    within(low, high, number_or(value, key, u64::from(absent))?)
+}
+
+#[tactic(auto, unfolding(crate::specs::Heads::timers_at))]
+fn timers_at(value: &Value) -> Option<Timers>
+    ensures read { result ≡ timers_at (view value.now) }
+    ensures range { IfSome result AreTimers }
+{
+    let default = Timers::default();
+    Some(Timers {
+        t3: time_at(value, "t3", default.t3, 1, 1_000)?,
+        n3: time_at(value, "n3", default.n3, 0, 100)?,
+        hold: time_at(value, "hold", default.hold, 1, 100_000)?,
+    })
+}
+
+#[tactic(auto, unfolding(crate::specs::Heads::serving_of))]
+fn serving_of(value: &Value) -> Option<ServingHead>
+    ensures { option_map serving_head result ≡ serving_of (view value.now) }
+{
+    if !has_only(value, &["control", "user", "counter"]) {
+        return None;
+    }
+    Some(ServingHead {
+        own: addresses_at(value)?,
+        counter: counter_at(value)?,
+    })
+}
+
+#[tactic(auto, unfolding(crate::specs::Heads::packet_of))]
+fn packet_of(alloc: Global, value: &Value) -> Result<PacketHead, Fault>
+    ensures read { Gives packet_head result (packet_of (view value.now)) }
+    ensures few { IfOk result (λ head. length head.access_points.items ≤ 16) }
+{
+    if !has_only(
+        value,
+        &["control", "user", "counter", "apns", "pool", "count"],
+    ) {
+        return Err(Fault::Wrong);
+    }
+    let own = addresses_at(value).ok_or(Fault::Wrong)?;
+    let counter = counter_at(value).ok_or(Fault::Wrong)?;
+    let access_points = access_points_at(alloc, value)?;
+    let pool = pool_at(value).ok_or(Fault::Wrong)?;
+    Ok(PacketHead {
+        own,
+        counter,
+        access_points,
+        pool,
+    })
+}
+
+/// No addresses.
+fn no_pool() -> Pool
+    ensures { result ≡ no_pool }
+{
+    match Pool::try_new(0, 0) {
+        Ok(pool) => pool,
+        Err(_) => unreachable!(),
+    }
+}
+
+/// Both gateways, as each other's peers.
+fn set_up(alloc: Global, timers: Timers, serving: ServingHead, packet: PacketHead) -> WorldConfig
+    requires range { AreTimers timers }
+    requires few { length packet.access_points.items ≤ 16 }
+    ensures { result ≡ set_up timers (serving_head serving) (packet_head packet) }
+{
+    let none = Vec::new(alloc);
+    let PacketHead {
+        own,
+        counter,
+        access_points,
+        pool,
+    } = packet;
+    let Ok(from_serving) = Config::try_new(serving.own, own, none, no_pool(), timers) else {
+        unreachable!()
+    };
+    let Ok(from_packet) = Config::try_new(own, serving.own, access_points, pool, timers) else {
+        unreachable!()
+    };
+    match WorldConfig::try_new(from_serving, from_packet, [serving.counter, counter]) {
+        Ok(config) => config,
+        Err(_) => unreachable!(),
+    }
+}
+
+/// All of a scenario but its events.
+#[tactic(auto, unfolding(crate::specs::Heads::setup_of))]
+pub(crate) fn setup_of(alloc: Global, value: &Value) -> Result<WorldConfig, Fault>
+    ensures { Gives (λ config. config) result (setup_of (view value.now)) }
+{
+    if !has_only(value, &["serving", "packet", "t3", "n3", "hold", "events"]) {
+        return Err(Fault::Wrong);
+    }
+    let timers = timers_at(value).ok_or(Fault::Wrong)?;
+    let serving = value.get("serving").ok_or(Fault::Wrong)?;
+    let serving = serving_of(serving).ok_or(Fault::Wrong)?;
+    let packet = value.get("packet").ok_or(Fault::Wrong)?;
+    let packet = packet_of(alloc, packet)?;
+    Ok(set_up(alloc, timers, serving, packet))
+}
+
+/// The list of events.
+#[tactic(auto, unfolding(crate::specs::Heads::events_at))]
+pub(crate) fn events_at(value: &Value) -> Option<&Vec<Value>>
+    ensures { option_map (λ v. items_view v.now.items) result ≡ events_at (view value.now) }
+{
+    value.get("events")?.as_array()
+}

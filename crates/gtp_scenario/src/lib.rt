@@ -1,0 +1,22 @@
+//! Scenarios: two gateways and what happens to them, read from JSON.
+#![tactic(auto)]
+
+mod entry;
+mod event;
+mod expanding;
+mod fault;
+mod fixed;
+mod head;
+mod json;
+pub mod laws;
+mod scenario;
+mod text;
+
+pub use entry::Entry;
+pub use expanding::events_of;
+pub use fault::{ReadFault, Refusal};
+pub use scenario::{Scenario, read_scenario};
+
+/// What the signatures and contracts here name of the crates below.
+pub use gtp_values::Memory;
+pub use gtp_world::{Event, WorldConfig};

@@ -1,0 +1,96 @@
+//! Whole scenarios.
+
+ghost use Rattle.std.specs.Prelude.{◌≡◌, ◌≤◌, IfOk, map};
+ghost use Rattle.std.specs.Option.{ok_or};
+ghost use Rattle.serde_json.specs.View.{view, items_view};
+ghost use Rattle.gtp_scenario.specs.declared.fault.Refusal.TheVariants as refusals;
+ghost use Rattle.gtp_scenario.specs.Steps.{Gives, Reads};
+ghost use Rattle.gtp_scenario.specs.Entries.{entry_within};
+ghost use Rattle.gtp_scenario.specs.Scenarios.{most_events, json_of, entries_from, scenario_of};
+ghost use Rattle.gtp_scenario.specs.Views.{entry as entry_view, scenario as scenario_view};
+
+use crate::entry::{Entry, entry_within};
+use crate::fault::{Fault, ReadFault, Refusal};
+use crate::head::{events_at, setup_of};
+use gtp_world::WorldConfig;
+use serde_json::Value;
+use std::alloc::Global;
+
+/// The most octets of a scenario.
+const MOST_OCTETS: usize = 16_777_216;
+
+/// The most events of a scenario, each as often as it happens.
+const MOST_EVENTS: u32 = 100_000;
+
+/// Two gateways, and what happens to them.
+#[derive(Debug, Drop)]
+pub struct Scenario {
+    pub config: WorldConfig,
+    /// In order, at most 100,000 events in all.
+    pub entries: Vec<Entry>,
+}
+
+#[tactic(auto, unfolding(crate::specs::Scenarios::json_of))]
+fn json_of(alloc: Global, octets: &[u8]) -> Result<Value, Fault>
+    ensures { Gives view result (json_of octets.now) }
+{
+    if octets.len() > MOST_OCTETS {
+        return Err(Fault::Wrong);
+    }
+    match Value::from_slice(alloc, octets) {
+        Ok(value) => Ok(value),
+        Err(e) => {
+            if e.is_memory() {
+                Err(Fault::Memory)
+            } else {
+                Err(Fault::Wrong)
+            }
+        }
+    }
+}
+
+/// The entry at this place.
+fn entry_at(alloc: Global, place: usize, room: u32, value: &Value) -> Result<Entry, ReadFault>
+    ensures read { Reads entry_view result
+        (ok_or (entry_within room (view value.now)) (refusals.Event place)) }
+    ensures fits { IfOk result (λ e. e.times ≤ room) }
+{
+    match entry_within(alloc, room, value) {
+        Ok(entry) => Ok(entry),
+        Err(fault) => Err(fault.refused(Refusal::Event(place))),
+    }
+}
+
+fn entries_of(alloc: Global, values: &[Value]) -> Result<Vec<Entry>, ReadFault>
+    ensures { Reads (λ v. map entry_view v.items) result
+        (entries_from 0 most_events (items_view values.now)) }
+{
+    let mut entries = Vec::new(alloc);
+    let mut room = MOST_EVENTS;
+    for (place, value) in values.iter().enumerate() {
+        let entry = entry_at(alloc, place, room, value)?;
+        room -= entry.times;
+        entries.push(entry)?;
+    }
+    Ok(entries)
+}
+
+/// The scenario that the octets are. They are refused for the first of these: they are no JSON, or
+/// more than 16,777,216 octets; their head is none; an entry of `events` is none, or passes 100,000
+/// events.
+#[tactic(auto, unfolding(crate::specs::Scenarios::scenario_of))]
+pub fn read_scenario(alloc: Global, octets: &[u8]) -> Result<Scenario, ReadFault>
+    ensures read { Reads scenario_view result (scenario_of octets.now) }
+{
+    let value = match json_of(alloc, octets) {
+        Ok(value) => value,
+        Err(fault) => return Err(fault.refused(Refusal::Json)),
+    };
+    let config = match setup_of(alloc, &value) {
+        Ok(config) => config,
+        Err(fault) => return Err(fault.refused(Refusal::Head)),
+    };
+    let events = events_at(&value).ok_or(ReadFault::Refused(Refusal::Head))?;
+    let entries = entries_of(alloc, events)?;
+    Ok(Scenario { config, entries })
+}

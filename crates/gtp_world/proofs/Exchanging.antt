@@ -1,0 +1,97 @@
+-- The three events of an exchange.
+use Rattle.std.proofs.Common.{◌≡◌, inl, inr, ℕ, ◌+◌, ◌<◌, suc, take, arith, List, [], ◌∷◌, ◌++◌, map, length, refl, sym, ◌∙◌, ap, subst}
+use Rattle.std.proofs.lemmas.List.{map-append}
+use Rattle.gtp_machine.specs.Config.{Config}
+use Rattle.gtp_machine.specs.Exchange.{IsOnePath, CanExchange, AllRead, CameTo}
+use Rattle.gtp_machine.specs.Input.{Specification, Create_session}
+use Rattle.gtp_machine.specs.Message.{Message, plane_of}
+use Rattle.gtp_machine.specs.Spelling.{Datagram, ReadsAs, spelled}
+use Rattle.gtp_machine.specs.declared.role.Role.{Role}
+use Rattle.gtp_machine.specs.declared.role.Role.TheVariants.{Serving, Packet}
+use Rattle.gtp_machine.specs.World.{By, Sent, HasSent, World, Event, Does, Deliver, Note, EventOutcome, Run, start}
+use Rattle.gtp_machine.proofs.Exchange.Made.{fair_exchange}
+use Rattle.gtp_world.specs.Kept.{oldest_first, Told, Kept, outcomes_in}
+use Rattle.gtp_world.specs.Runs.{Setup, AreFacing, AreFor, told_in, StandsFor, IsRunOf, IsReached}
+use Rattle.gtp_world.specs.Stepped.{Comes, Follows}
+use Rattle.gtp_world.specs.Exchange.{CameSoFar, IsExchanged}
+use Rattle.gtp_world.proofs.Configs.{set_up}
+use Rattle.gtp_world.proofs.Going.{goes}
+use Rattle.gtp_world.proofs.Running.{runs_on}
+
+-- as many datagrams as messages
+as_many : (setup : Setup) (datagrams : List (By Datagram)) (history : List Sent) → AreFor setup datagrams history → length datagrams ≡ length history
+as_many setup [] [] are = refl
+as_many setup [] (s ∷ history) are = absurd are
+as_many setup (d ∷ datagrams) [] are = absurd are
+as_many setup (d ∷ datagrams) (s ∷ history) are = ap (λ n. suc n) (as_many setup datagrams history are.1)
+
+-- each message that was sent reads as itself
+each_reads : (setup : Setup) (datagrams : List (By Datagram)) (history : List Sent) → AreFor setup datagrams history → (role : Role) (m : Message) → HasSent history role m → ReadsAs (plane_of m) (spelled m) m
+each_reads setup [] [] are role m none = absurd none
+each_reads setup [] (s ∷ history) are role m has = absurd are
+each_reads setup (d ∷ datagrams) [] are role m none = absurd none
+each_reads setup (d ∷ datagrams) (s ∷ history) are role m (inl is) = subst (λ (k : Sent). ReadsAs (plane_of k.what) (spelled k.what) k.what) (sym is) are.0.reads
+each_reads setup (d ∷ datagrams) (s ∷ history) are role m (inr has) = each_reads setup datagrams history are.1 role m has
+
+all_read : (setup : Setup) (v : Kept) (w : World) → StandsFor setup v w → AllRead w
+all_read setup v w stands = each_reads setup v.log.datagrams w.history stands.datagrams
+
+-- a list with one more is not empty
+not_empty : {X : Type 0} (xs : List X) (x : X) → [] ≡ xs ++ (x ∷ []) → ⊥
+not_empty [] x is = cc is
+not_empty (y ∷ xs) x is = cc is
+
+-- the last of a list
+same_last : {X : Type 0} (xs ys : List X) (x y : X) → xs ++ (x ∷ []) ≡ ys ++ (y ∷ []) → x ≡ y
+same_last [] [] x y is = cc is
+same_last [] (z ∷ ys) x y is = absurd (not_empty ys y (cc is))
+same_last (z ∷ xs) [] x y is = absurd (not_empty xs x (cc is))
+same_last (z ∷ xs) (u ∷ ys) x y is = same_last xs ys x y (cc is)
+
+-- what the latest event came to is the last that is told
+last_told : (setup : Setup) (v : Kept) (w : World) (before : List EventOutcome) (outcome came : EventOutcome) → StandsFor setup v w → outcomes_in v.log ≡ before ++ (outcome ∷ []) → CameTo w came → outcome ≡ came
+last_told setup v w before outcome came stands told at =
+    let outcome_in : Told → EventOutcome = λ t. t.outcome in
+    let notes = stands.notes ∙ ap (λ (l : List Note). oldest_first (map told_in l)) at.notes in
+    let whole = ap (map outcome_in) notes ∙ map-append outcome_in (oldest_first (map told_in at.before)) (told_in at.note ∷ []) in
+    same_last before (map outcome_in (oldest_first (map told_in at.before))) outcome at.note.outcome (sym told ∙ whole) ∙ at.is
+
+-- gateways that face each other are one path
+one_path : (setup : Setup) (events : List Event) (w : World) → Run (start setup.serving.config setup.packet.config setup.serving_counter setup.packet_counter) events w → AreFacing setup.serving setup.packet → IsOnePath w.serving.node.config w.packet.node.config
+one_path setup events w run facing =
+    let serving = set_up setup events w run Serving in
+    let packet = set_up setup events w run Packet in
+    let there : setup.serving.config.peer ≡ setup.packet.config.own = λ i. record { control = sym facing.control_back i; user = sym facing.user_back i } in
+    let back : setup.packet.config.peer ≡ setup.serving.config.own = λ i. record { control = sym facing.control i; user = sym facing.user i } in
+    record {
+      there = ap (λ (c : Config). c.peer) serving ∙ there ∙ ap (λ (c : Config). c.own) (sym packet);
+      back = ap (λ (c : Config). c.peer) packet ∙ back ∙ ap (λ (c : Config). c.own) (sym serving);
+    }
+
+pub exchanged : (old : Kept) (reached : IsReached old) (spec : Specification) (next : ℕ) (v1 v2 new : Kept) (o1 o2 o3 : EventOutcome) → next ≡ length old.log.datagrams
+    → Comes old (Does Serving (Create_session spec)) v1 → Comes v1 (Deliver next) v2 → Comes v2 (Deliver (next + 1)) new
+    → outcomes_in v1.log ≡ outcomes_in old.log ++ (o1 ∷ []) → outcomes_in v2.log ≡ outcomes_in v1.log ++ (o2 ∷ []) → outcomes_in new.log ≡ outcomes_in v2.log ++ (o3 ∷ [])
+    → CanExchange reached.run.world spec → IsExchanged spec old reached (o1 ∷ o2 ∷ o3 ∷ []) new
+exchanged old reached spec next v1 v2 new o1 o2 o3 next_is comes1 comes2 comes3 told1 told2 told3 can =
+    let setup = reached.setup in
+    let events = reached.events in
+    let r = reached.run in
+    let e1 = Does Serving (Create_session spec) in
+    let g1 = goes setup events old r e1 v1 comes1 in
+    let at = next_is ∙ as_many setup old.log.datagrams r.world.history r.stands.datagrams in
+    let after : next + 1 ≡ 1 + length r.world.history = omega (arith, at) in
+    let comes_there = subst (λ n. Comes v1 (Deliver n) v2) at comes2 in
+    let comes_back = subst (λ n. Comes v2 (Deliver n) new) after comes3 in
+    let r1 : IsRunOf setup (events ++ (e1 ∷ [])) v1 = record { world = g1.world; run = g1.run; stands = g1.stands } in
+    let g2 = goes setup (events ++ (e1 ∷ [])) v1 r1 (Deliver (length r.world.history)) v2 comes_there in
+    let r2 : IsRunOf setup ((events ++ (e1 ∷ [])) ++ (Deliver (length r.world.history) ∷ [])) v2 = record { world = g2.world; run = g2.run; stands = g2.stands } in
+    let g3 = goes setup ((events ++ (e1 ∷ [])) ++ (Deliver (length r.world.history) ∷ [])) v2 r2 (Deliver (1 + length r.world.history)) new comes_back in
+    let x = fair_exchange setup.serving.config setup.packet.config setup.serving_counter setup.packet_counter events r.world g1.world g2.world g3.world spec r.run (one_path setup events r.world r.run reached.facing) can g1.happens g2.happens g3.happens (all_read setup v2 g2.world g2.stands) in
+    let is1 = last_told setup v1 g1.world (outcomes_in old.log) o1 _ g1.stands told1 x.first in
+    let is2 = last_told setup v2 g2.world (outcomes_in v1.log) o2 _ g2.stands told2 x.second in
+    let is3 = last_told setup new g3.world (outcomes_in v2.log) o3 _ g3.stands told3 x.third in
+    record { begun = g1.world; answered = g2.world; opened = g3.world; exchanged = x; outcomes_are = λ i. is1 i ∷ is2 i ∷ is3 i ∷ []; stands = g3.stands }
+
+-- the first of the events came
+pub so_far : (old : Kept) (events : List Event) (new : Kept) (count : ℕ) → count < 3 → Follows old (take count events) new → CameSoFar old events new
+so_far old events new count few comes = record { count = count; few = few; comes = comes; run = runs_on old (take count events) new comes }

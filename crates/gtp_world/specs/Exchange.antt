@@ -1,0 +1,31 @@
+-- The exchange that makes a session (TS 29.274, 7.2.1 and 7.2.2).
+use Rattle.std.specs.Prelude.{◌≡◌, ◌<◌, ℕ, ◌+◌, List, [], ◌∷◌, Some, take}
+use Rattle.gtp_machine.specs.Exchange.{Exchanged}
+use Rattle.gtp_machine.specs.Input.{Specification, Create_session}
+use Rattle.gtp_machine.specs.declared.outcome.Outcome.TheVariants.{Begun, Answered, Opened}
+use Rattle.gtp_machine.specs.declared.role.Role.TheVariants.{Serving}
+use Rattle.gtp_machine.specs.World.{World, Event, Does, Deliver, EventOutcome, Came_to}
+use Rattle.gtp_world.specs.Kept.{Kept}
+use Rattle.gtp_world.specs.Runs.{RunsOn, IsReached, StandsFor}
+use Rattle.gtp_world.specs.Stepped.{Follows}
+
+-- the command, and the deliveries of its request, the datagram of this number, and of the answer, the next
+abbrev pub exchange_events : Specification → ℕ → List Event
+exchange_events spec next = Does Serving (Create_session spec) ∷ Deliver next ∷ Deliver (next + 1) ∷ []
+
+-- Not all of the events have come to what they come to, but the first of them; a run goes on by those.
+pub record CameSoFar (old : Kept) (events : List Event) (new : Kept) : Type 0 where
+  pub count : ℕ
+  pub few : count < 3
+  pub comes : Follows old (take count events) new
+  pub run : RunsOn old (take count events) new
+
+-- After a run, the three events make a session: they come to begun, to answered with cause 16, or 18 where both versions were asked for, and to opened; and the
+-- session is a new one, at both gateways, which carries packets in both directions.
+pub record IsExchanged (spec : Specification) (old : Kept) (r : IsReached old) (outcomes : List EventOutcome) (new : Kept) : Type 0 where
+  pub begun : World
+  pub answered : World
+  pub opened : World
+  pub exchanged : Exchanged spec r.run.world begun answered opened
+  pub outcomes_are : outcomes ≡ Came_to (Begun (Some exchanged.made.session)) ∷ Came_to (Answered exchanged.cause) ∷ Came_to Opened ∷ []
+  pub stands : StandsFor r.setup new opened

@@ -1,0 +1,29 @@
+-- What the views of a world tell.
+use Rattle.std.specs.Prelude.{◌≡◌, ℕ, ◌+◌, ◌≤◌, List, [], ◌∷◌}
+use Rattle.gtp_values.specs.FiniteMap.{Among}
+use Rattle.gtp_machine.specs.Node.{Arrival}
+use Rattle.gtp_machine.specs.Ordered.{Unless}
+use Rattle.gtp_machine.specs.Spelling.{Datagram}
+use Rattle.gtp_machine.specs.World.{By, Event, other, side_of}
+use Rattle.gtp_gateway.specs.Parts.{arrival_of}
+use Rattle.gtp_world.specs.Kept.{Kept, half_in}
+use Rattle.gtp_world.specs.Runs.{Setup, IsRunOf}
+use Rattle.gtp_world.specs.Stepped.{IsThere}
+
+-- so many of the list are this
+abbrev pub IsCount : {X : Type 0} → X → List X → ℕ → Type 0
+IsCount x [] count = count ≡ 0
+IsCount x (y ∷ ys) count = Unless (y ≡ x) (IsCount x ys count) (λ is. (others : ℕ) × IsCount x ys others × (count ≡ others + 1))
+
+-- a datagram of the control plane, as its receiver keeps it
+abbrev pub as_it_came : By Datagram → Arrival
+as_it_came d = arrival_of d.what.from d.what.octets
+
+-- the gateway that did not send the datagram made so many contexts for it since it started
+pub record IsMade (v : Kept) (number count : ℕ) : Type 0 where
+  pub found : IsThere v.log.datagrams number
+  pub counts : IsCount (as_it_came found.sent) (half_in v (other found.sent.role)).made count
+
+-- at the end of a run in which no delivery of the datagram was late, since its receiver started, at most one context was made for it
+abbrev pub IsMadeOnce : Kept → ℕ → ℕ → Type 0
+IsMadeOnce v number count = (setup : Setup) (events : List Event) (r : IsRunOf setup events v) (found : IsThere v.log.datagrams number) → (Among (as_it_came found.sent) (side_of r.world (other found.sent.role)).came_late → ⊥) → count ≤ 1
