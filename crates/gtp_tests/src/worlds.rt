@@ -5,14 +5,14 @@ mod stories;
 
 use crate::gateways::{Sends, bearer_count, qos, session_count, set_up, specification};
 use gtp_gateway::*;
-use gtp_values::{Counter, Ebi, Teid, Tft};
+use gtp_values::{Counter, Ebi, Memory, Teid, Tft};
 use gtp_world::{Datagram, Event, EventOutcome, Mutual, Note, World, WorldConfig};
 use std::alloc::Global;
 use std::process::Abort;
 use std::test::Fail;
 
 /// What happens.
-#[derive(Clone, Copy, Debug)]
+#[derive(Clone, Copy)]
 pub(crate) enum Happens {
     CreateSession,
     DeleteSession(u32),
@@ -25,8 +25,15 @@ pub(crate) enum Happens {
     /// So many ticks pass.
     Ticks(Role, u32),
     Deliver(u64),
+    /// The datagram that was sent last comes.
+    DeliverLast,
     Cut(u64, u64),
     Restart(Role),
+    /// So many restarts. The row has the counter of the first.
+    Restarts(Role, u32),
+    /// So many sessions are made, each in one call. The first has this TEID at the serving gateway, and
+    /// the row has the last outcome of each.
+    Exchanges(u32, u32),
 }
 
 /// What happens, what it comes to, and what is sent for it: by each of several ticks.
@@ -44,6 +51,33 @@ pub(crate) struct Told {
     pub forgotten: usize,
 }
 
+/// How it ends.
+#[derive(Clone, Copy, Debug, PartialEq, Eq)]
+pub(crate) struct Ending {
+    /// How many sessions and bearers the serving gateway has.
+    pub serving: (usize, usize),
+    /// The same of the packet gateway.
+    pub packet: (usize, usize),
+    /// How many contexts name each other.
+    pub mutual: usize,
+    /// How many packets were handed in.
+    pub handed_in: usize,
+    /// How many were accepted, and how many of these are owed.
+    pub accepted: (usize, usize),
+    /// How many deliveries were late.
+    pub late: usize,
+}
+
+/// Nothing is there.
+pub(crate) const EMPTY: Ending = Ending {
+    serving: (0, 0),
+    packet: (0, 0),
+    mutual: 0,
+    handed_in: 0,
+    accepted: (0, 0),
+    late: 0,
+};
+
 /// What happens to two gateways, and how it ends.
 #[derive(Clone, Copy)]
 pub(crate) struct Story<'a> {
@@ -52,19 +86,15 @@ pub(crate) struct Story<'a> {
     /// How many addresses the packet gateway has, from 10.1.0.1 on.
     pub addresses: u32,
     pub rows: &'a [&'a [Row]],
+    /// How often these happen after that.
+    pub times: u32,
+    pub again: &'a [Row],
     pub told: &'a [Told],
-    /// How many sessions and bearers each gateway has at the end, the serving one first.
-    pub has: [(usize, usize); 2],
-    /// The contexts that name each other at the end. They agree.
+    pub ending: Ending,
+    /// The first contexts that name each other at the end. They agree.
     pub mutual: &'a [Mutual],
-    /// How many packets were handed in.
-    pub handed_in: usize,
-    /// Which packets that were accepted are owed.
-    pub owed: &'a [bool],
     /// How many contexts were made for datagrams, by their numbers.
     pub made: &'a [(u64, usize)],
-    /// How many deliveries were late.
-    pub late: usize,
 }
 
 /// Two gateways with the counter 1 and ten addresses, to which nothing happens.
@@ -72,13 +102,12 @@ pub(crate) const QUIET: Story<'static> = Story {
     counters: [Counter(1), Counter(1)],
     addresses: 10,
     rows: &[],
+    times: 0,
+    again: &[],
     told: &[],
-    has: [(0, 0), (0, 0)],
+    ending: EMPTY,
     mutual: &[],
-    handed_in: 0,
-    owed: &[],
     made: &[],
-    late: 0,
 };
 
 /// How both are set up.
@@ -115,24 +144,30 @@ fn command(alloc: Global, happens: Happens) -> Result<Event, Fail> {
 }
 
 /// What happens, as an event.
-fn event(alloc: Global, happens: Happens) -> Result<Event, Fail> {
+pub(crate) fn event(alloc: Global, happens: Happens) -> Result<Event, Fail> {
     match happens {
         Happens::Echo(node) => Ok(Event::Echo(node)),
         Happens::Ticks(node, _) => Ok(Event::Tick(node)),
         Happens::Deliver(number) => Ok(Event::Deliver(number)),
         Happens::Cut(datagram, length) => Ok(Event::Cut { datagram, length }),
-        Happens::Restart(node) => Ok(Event::Restart(node)),
+        Happens::Restart(node) | Happens::Restarts(node, _) => Ok(Event::Restart(node)),
         _ => command(alloc, happens),
     }
 }
 
-/// What was sent is what the row says.
-fn is_sent(rt: &impl Abort, alloc: Global, row: &Row, sent: &[Datagram]) -> Result<(), Fail> {
-    match (row.2, sent) {
+/// What was sent for this event is what its row says.
+fn is_sent(
+    rt: &impl Abort,
+    alloc: Global,
+    event: usize,
+    sends: Sends,
+    sent: &[Datagram],
+) -> Result<(), Fail> {
+    match (sends, sent) {
         (Sends::Nothing, []) | (Sends::Shown, [_]) => Ok(()),
         (Sends::Octets(digits), [datagram]) => {
             let text = hex::encode(alloc, datagram.sent.octets.as_slice())?;
-            assert!(rt; text.as_str() == digits, "sent for {:?}: {text}", row.0);
+            assert!(rt; text.as_str() == digits, "sent for event {event}: {text}");
             Ok(())
         }
         _ => Err("sent, or not sent".into()),
@@ -140,32 +175,110 @@ fn is_sent(rt: &impl Abort, alloc: Global, row: &Row, sent: &[Datagram]) -> Resu
 }
 
 /// An event happens.
-fn step(rt: &impl Abort, alloc: Global, world: &mut World, row: &Row) -> Result<(), Fail> {
-    let before = world.datagrams().len();
-    let outcome = world.step(alloc, &event(alloc, row.0)?)?;
-    assert!(rt; outcome == row.1, "outcome of {:?}: {outcome:?}", row.0);
-    is_sent(
-        rt,
-        alloc,
-        row,
-        world.datagrams().get(before..).unwrap_or(&[]),
-    )
+fn step(alloc: Global, world: &mut World, event: &Event) -> Result<EventOutcome, Memory> {
+    world.step(alloc, event)
+}
+
+/// A session is made in one call.
+fn exchange(
+    alloc: Global,
+    world: &mut World,
+    spec: &SessionSpec,
+) -> Result<[EventOutcome; 3], Memory> {
+    world.exchange(alloc, spec)
+}
+
+/// All that was sent.
+fn sent(world: &World) -> &[Datagram] {
+    world.datagrams()
+}
+
+/// What happens, where the datagram that was sent last is named by its number.
+fn numbered(happens: Happens, count: usize) -> Happens {
+    match happens {
+        Happens::DeliverLast => Happens::Deliver((count as u64).saturating_sub(1)),
+        _ => happens,
+    }
+}
+
+/// This happens.
+fn happen(alloc: Global, world: &mut World, happens: Happens) -> Result<EventOutcome, Fail> {
+    let event = event(alloc, happens)?;
+    Ok(step(alloc, world, &event)?)
+}
+
+/// What a row comes to when it happens once more, from 0.
+fn outcome_at(outcome: EventOutcome, at: u32) -> EventOutcome {
+    match outcome {
+        EventOutcome::Restarted(first) => {
+            let [_, _, _, later] = at.to_be_bytes();
+            EventOutcome::Restarted(Counter(first.0.wrapping_add(later)))
+        }
+        _ => outcome,
+    }
+}
+
+/// A row happens once, for so many times before.
+fn once(rt: &impl Abort, alloc: Global, world: &mut World, row: &Row, at: u32) -> Result<(), Fail> {
+    let event = notes(world).len();
+    let before = sent(world).len();
+    let outcome = happen(alloc, world, numbered(row.0, before))?;
+    assert!(rt;
+        outcome == outcome_at(row.1, at),
+        "event {event}: {outcome:?}"
+    );
+    let sent = sent(world).get(before..).unwrap_or(&[]);
+    is_sent(rt, alloc, event, row.2, sent)
 }
 
 /// How often it happens.
 fn times(happens: Happens) -> u32 {
     match happens {
-        Happens::Ticks(_, times) => times,
+        Happens::Ticks(_, times) | Happens::Restarts(_, times) => times,
         _ => 1,
     }
 }
 
-/// A row.
-fn row(rt: &impl Abort, alloc: Global, world: &mut World, row: &Row) -> Result<(), Fail> {
-    for _ in 0..times(row.0) {
-        step(rt, alloc, world, row)?;
+/// A row, as often as it happens.
+fn often(rt: &impl Abort, alloc: Global, world: &mut World, row: &Row) -> Result<(), Fail> {
+    for at in 0..times(row.0) {
+        once(rt, alloc, world, row, at)?;
     }
     Ok(())
+}
+
+/// Sessions are made, each in one call.
+fn exchanges(
+    rt: &impl Abort,
+    alloc: Global,
+    world: &mut World,
+    first: u32,
+    times: u32,
+) -> Result<(), Fail> {
+    let spec = specification()?;
+    for at in 0..times {
+        let teid = first.wrapping_add(at).wrapping_add(at);
+        let outcomes = exchange(alloc, world, &spec)?;
+        assert!(rt; outcomes == made_under(teid), "{outcomes:?}");
+    }
+    Ok(())
+}
+
+/// What the events come to that make a session.
+fn made_under(teid: u32) -> [EventOutcome; 3] {
+    [
+        EventOutcome::CameTo(Outcome::Begun(Some(teid))),
+        EventOutcome::CameTo(Outcome::Answered(16)),
+        EventOutcome::CameTo(Outcome::Opened),
+    ]
+}
+
+/// A row.
+fn row(rt: &impl Abort, alloc: Global, world: &mut World, row: &Row) -> Result<(), Fail> {
+    match row.0 {
+        Happens::Exchanges(first, times) => exchanges(rt, alloc, world, first, times),
+        _ => often(rt, alloc, world, row),
+    }
 }
 
 /// Rows, in order.
@@ -176,59 +289,83 @@ fn rows(rt: &impl Abort, alloc: Global, world: &mut World, rows: &[Row]) -> Resu
     Ok(())
 }
 
+/// All rows of a story.
+fn all_rows(
+    rt: &impl Abort,
+    alloc: Global,
+    world: &mut World,
+    story: &Story<'_>,
+) -> Result<(), Fail> {
+    for some in story.rows {
+        rows(rt, alloc, world, some)?;
+    }
+    for _ in 0..story.times {
+        rows(rt, alloc, world, story.again)?;
+    }
+    Ok(())
+}
+
 /// Of an event, this request alone was given up, or none was.
 fn is_given_up(note: &Note, number: Option<u32>) -> bool {
-    match (note.gave_up.as_slice(), number) {
-        ([], None) => true,
-        ([one], Some(number)) => one.number() == number,
-        _ => false,
-    }
+    let given_up = note.gave_up.as_slice();
+    given_up.len() <= 1 && given_up.first().map(|one| one.number()) == number
 }
 
 /// What is told of an event is this.
-fn is_told(rt: &impl Abort, world: &World, told: &Told) -> Result<(), Fail> {
-    let Some(note) = world.outcomes().get(told.event) else {
-        return Err("no such event".into());
-    };
-    assert!(rt; note.restart == told.restart, "restart at {}", told.event);
-    assert!(rt;
-        note.forgotten.len() == told.forgotten,
-        "forgotten at {}",
-        told.event
-    );
-    assert!(rt;
-        is_given_up(note, told.gave_up),
-        "given up at {}",
-        told.event
-    );
-    Ok(())
+fn is_told(note: &Note, told: &Told) -> bool {
+    note.restart == told.restart
+        && note.forgotten.len() == told.forgotten
+        && is_given_up(note, told.gave_up)
+}
+
+/// What came of each event.
+fn notes(world: &World) -> &[Note] {
+    world.outcomes()
+}
+
+/// What is told of these events is this.
+fn are_told(rt: &impl Abort, notes: &[Note], told: &[Told]) {
+    for one in told {
+        let is_so = notes.get(one.event).is_some_and(|note| is_told(note, one));
+        assert!(rt; is_so, "told of {}", one.event);
+    }
 }
 
 /// How many sessions and bearers a gateway has.
-fn counted(gateway: &Gateway) -> (usize, usize) {
+fn counted(world: &World, role: Role) -> (usize, usize) {
+    let gateway = world.gateway(role);
     (session_count(gateway), bearer_count(gateway))
 }
 
-/// How it ends.
-fn ends(rt: &impl Abort, world: &World, story: &Story<'_>) -> Result<(), Fail> {
-    for told in story.told {
-        is_told(rt, world, told)?;
+/// How many packets were accepted, and how many of these are owed.
+fn owed(world: &World) -> (usize, usize) {
+    let mut owed = 0usize;
+    let count = world.accepted().len();
+    for at in 0..count {
+        if world.owed(at) == Some(true) {
+            owed = owed.saturating_add(1);
+        }
     }
-    let [serving, packet] = story.has;
-    assert!(rt;
-        counted(world.gateway(Role::Serving)) == serving,
-        "at the serving gateway"
-    );
-    assert!(rt;
-        counted(world.gateway(Role::Packet)) == packet,
-        "at the packet gateway"
-    );
-    assert!(rt; world.handed_in().len() == story.handed_in);
-    assert!(rt; world.late() == story.late, "late: {}", world.late());
-    are_mutual(rt, world, story.mutual);
-    are_owed(rt, world, story.owed);
-    are_made(rt, world, story.made);
-    Ok(())
+    (count, owed)
+}
+
+/// How many contexts name each other.
+fn mutual_count(world: &World) -> usize {
+    world
+        .mutual()
+        .fold(0usize, |count, _| count.saturating_add(1))
+}
+
+/// How a world ends.
+fn end_of(world: &World) -> Ending {
+    Ending {
+        serving: counted(world, Role::Serving),
+        packet: counted(world, Role::Packet),
+        mutual: mutual_count(world),
+        handed_in: world.handed_in().len(),
+        accepted: owed(world),
+        late: world.late(),
+    }
 }
 
 /// These contexts name each other, in this order, and agree.
@@ -238,15 +375,6 @@ fn are_mutual(rt: &impl Abort, world: &World, mutual: &[Mutual]) {
         assert!(rt; listed.next() == Some(*pair), "mutual at {at}");
         assert!(rt; world.agree(at) == Some(true), "agree at {at}");
     }
-    assert!(rt; listed.next().is_none() && world.agree(mutual.len()).is_none());
-}
-
-/// These accepted packets are owed, and these are not.
-fn are_owed(rt: &impl Abort, world: &World, owed: &[bool]) {
-    for (at, owed) in owed.iter().enumerate() {
-        assert!(rt; world.owed(at) == Some(*owed), "owed at {at}");
-    }
-    assert!(rt; world.owed(owed.len()).is_none());
 }
 
 /// So many contexts were made for these datagrams.
@@ -254,7 +382,23 @@ fn are_made(rt: &impl Abort, world: &World, made: &[(u64, usize)]) {
     for (number, count) in made {
         assert!(rt; world.made(*number) == Some(*count), "made for {number}");
     }
-    assert!(rt; world.made(world.datagrams().len() as u64).is_none());
+}
+
+/// Past their ends the views have nothing.
+fn nothing_is_past(rt: &impl Abort, world: &World, ending: &Ending) {
+    assert!(rt; world.agree(ending.mutual).is_none());
+    assert!(rt; world.owed(ending.accepted.0).is_none());
+    assert!(rt; world.made(sent(world).len() as u64).is_none());
+}
+
+/// It ends so.
+fn ends(rt: &impl Abort, world: &World, story: &Story<'_>) {
+    let ending = end_of(world);
+    assert!(rt; ending == story.ending, "{ending:?}");
+    are_told(rt, notes(world), story.told);
+    are_mutual(rt, world, story.mutual);
+    are_made(rt, world, story.made);
+    nothing_is_past(rt, world, &ending);
 }
 
 /// The story, from its start to its end.
@@ -264,15 +408,19 @@ fn told_in(
     world: &mut World,
     story: &Story<'_>,
 ) -> Result<(), Fail> {
-    for some in story.rows {
-        rows(rt, alloc, world, some)?;
-    }
-    ends(rt, world, story)
+    all_rows(rt, alloc, world, story)?;
+    ends(rt, world, story);
+    Ok(())
+}
+
+/// A world in which nothing has happened.
+fn started(alloc: Global, story: &Story<'_>) -> Result<World, Fail> {
+    let config = both_set_up(alloc, story)?;
+    Ok(World::start(alloc, &config)?)
 }
 
 /// The story happens so.
 pub(crate) fn happens_so(rt: &impl Abort, alloc: Global, story: &Story<'_>) -> Result<(), Fail> {
-    let config = both_set_up(alloc, story)?;
-    let mut world = World::start(alloc, &config)?;
+    let mut world = started(alloc, story)?;
     told_in(rt, alloc, &mut world, story)
 }

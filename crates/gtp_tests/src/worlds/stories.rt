@@ -1,15 +1,15 @@
 //! Stories of two gateways: sessions and packets, repeats, loss, restarts, late requests.
 
-use super::{Happens, QUIET, Row, Story, Told, both_set_up, event, happens_so, step};
-use crate::gateways::{
-    BEARER_REQUEST, BEARER_RESPONSE, SESSION_REQUEST, SESSION_RESPONSE, Sends, specification,
+use super::{
+    EMPTY, Ending, Happens, QUIET, Row, Story, Told, both_set_up, event, happens_so, notes,
 };
+use crate::gateways::{BEARER_REQUEST, BEARER_RESPONSE, SESSION_REQUEST, SESSION_RESPONSE, Sends};
 use EventOutcome::{CameTo, CutTooLong, NoSuchDatagram, Restarted, RestartsUsed, Ticked};
 use Happens::*;
 use Sends::{Nothing, Octets, Shown};
 use gtp_gateway::{DropReason, FaultName, Outcome, Plane, Refusal, Role};
 use gtp_values::{Counter, Teid};
-use gtp_world::{Event, EventOutcome, Mutual, World};
+use gtp_world::{Event, EventOutcome, Mutual, Note, World};
 use std::alloc::Global;
 use std::process::Abort;
 use std::test::Fail;
@@ -76,10 +76,15 @@ const PACKETS: Story = Story {
             (Deliver(3), CameTo(Outcome::Accepted), Nothing),
         ],
     ],
-    has: [(1, 1), (1, 1)],
+    ending: Ending {
+        serving: (1, 1),
+        packet: (1, 1),
+        mutual: 2,
+        handed_in: 2,
+        accepted: (2, 2),
+        ..EMPTY
+    },
     mutual: &[SESSION, DEFAULT],
-    handed_in: 2,
-    owed: &[true, true],
     ..QUIET
 };
 
@@ -118,7 +123,12 @@ const REPEATED: Story = Story {
         &[ASKED, MADE, MADE_BEFORE, MADE_BEFORE, OPENED],
         &[(Deliver(2), UNASKED, Nothing)],
     ],
-    has: [(1, 1), (1, 1)],
+    ending: Ending {
+        serving: (1, 1),
+        packet: (1, 1),
+        mutual: 2,
+        ..EMPTY
+    },
     mutual: &[SESSION, DEFAULT],
     made: &[(0, 1), (1, 0)],
     ..QUIET
@@ -150,7 +160,10 @@ const LOST: Story = Story {
         gave_up: Some(0),
         forgotten: 0,
     }],
-    has: [(0, 0), (1, 1)],
+    ending: Ending {
+        packet: (1, 1),
+        ..EMPTY
+    },
     made: &[(0, 1)],
     ..QUIET
 };
@@ -185,7 +198,10 @@ const RESTARTED: Story = Story {
         gave_up: None,
         forgotten: 0,
     }],
-    has: [(0, 0), (1, 1)],
+    ending: Ending {
+        packet: (1, 1),
+        ..EMPTY
+    },
     made: &[(0, 1)],
     ..QUIET
 };
@@ -212,7 +228,12 @@ const DEDICATED: [Row; 3] = [
 
 const ON_TIME: Story = Story {
     rows: &[&[ASKED, MADE, OPENED], &DEDICATED],
-    has: [(1, 2), (1, 2)],
+    ending: Ending {
+        serving: (1, 2),
+        packet: (1, 2),
+        mutual: 3,
+        ..EMPTY
+    },
     mutual: &[SESSION, DEFAULT, BEARER],
     made: &[(0, 1), (2, 1)],
     ..QUIET
@@ -244,12 +265,17 @@ const LATE: Story = Story {
         gave_up: None,
         forgotten: 1,
     }],
-    has: [(1, 3), (1, 2)],
+    ending: Ending {
+        serving: (1, 3),
+        packet: (1, 2),
+        mutual: 3,
+        handed_in: 1,
+        accepted: (1, 0),
+        late: 1,
+        ..EMPTY
+    },
     mutual: &[SESSION, DEFAULT, BEARER],
-    handed_in: 1,
-    owed: &[false],
     made: &[(2, 2)],
-    late: 1,
     ..QUIET
 };
 
@@ -280,7 +306,12 @@ const UNHAPPENED: Story = Story {
             ),
         ],
     ],
-    has: [(1, 1), (1, 1)],
+    ending: Ending {
+        serving: (1, 1),
+        packet: (1, 1),
+        mutual: 2,
+        ..EMPTY
+    },
     mutual: &[SESSION, DEFAULT],
     ..QUIET
 };
@@ -361,7 +392,12 @@ const ONE_ADDRESS: Story = Story {
             (Deliver(3), CameTo(Outcome::Rejected(84)), Nothing),
         ],
     ],
-    has: [(1, 1), (1, 1)],
+    ending: Ending {
+        serving: (1, 1),
+        packet: (1, 1),
+        mutual: 2,
+        ..EMPTY
+    },
     mutual: &[SESSION, DEFAULT],
     made: &[(0, 1), (2, 0)],
     ..QUIET
@@ -372,104 +408,302 @@ fn no_address_is_left(rt: HostRuntime) -> Result<(), Fail> {
     happens_so(&rt, rt.alloc(), &ONE_ADDRESS)
 }
 
-/// A dedicated bearer is asked for under this TEID, and its request and answer come.
-fn bearer(
-    rt: &impl Abort,
-    alloc: Global,
-    world: &mut World,
-    teid: u32,
-    comes_to: [Outcome; 2],
-) -> Result<(), Fail> {
-    let next = world.datagrams().len() as u64;
-    let [answered, told] = comes_to;
-    let begun = CameTo(Outcome::Begun(Some(teid)));
-    step(rt, alloc, world, &(CreateBearer(0x0100_0001), begun, Shown))?;
-    step(rt, alloc, world, &(Deliver(next), CameTo(answered), Shown))?;
-    step(
-        rt,
-        alloc,
-        world,
-        &(Deliver(next + 1), CameTo(told), Nothing),
-    )
+/// The rows that open dedicated bearers, each by its TEID.
+macro_rules! bearers {
+    ($($teid:literal),*) => {
+        [$(
+            (
+                CreateBearer(0x0100_0001),
+                CameTo(Outcome::Begun(Some($teid))),
+                Shown,
+            ),
+            (DeliverLast, CameTo(Outcome::Answered(16)), Shown),
+            (DeliverLast, CameTo(Outcome::Opened), Nothing),
+        )*]
+    };
 }
 
-/// Ten dedicated bearers are made, and an eleventh is refused.
-fn bearers(rt: &impl Abort, alloc: Global, world: &mut World) -> Result<(), Fail> {
-    for row in [ASKED, MADE, OPENED] {
-        step(rt, alloc, world, &row)?;
-    }
-    for number in 0..10u32 {
-        let comes_to = [Outcome::Answered(16), Outcome::Opened];
-        bearer(rt, alloc, world, 0x0100_0003 + number, comes_to)?;
-    }
-    let comes_to = [Outcome::Answered(73), Outcome::Rejected(73)];
-    bearer(rt, alloc, world, 0x0100_000d, comes_to)
-}
+/// Ten dedicated bearers are made. The session has then all identities.
+const TEN: [Row; 30] = bearers![
+    0x0100_0003,
+    0x0100_0004,
+    0x0100_0005,
+    0x0100_0006,
+    0x0100_0007,
+    0x0100_0008,
+    0x0100_0009,
+    0x0100_000a,
+    0x0100_000b,
+    0x0100_000c
+];
+
+const ELEVEN: Story = Story {
+    rows: &[
+        &[ASKED, MADE, OPENED],
+        &TEN,
+        &[
+            (
+                CreateBearer(0x0100_0001),
+                CameTo(Outcome::Begun(Some(0x0100_000d))),
+                Shown,
+            ),
+            (DeliverLast, CameTo(Outcome::Answered(73)), Shown),
+            (DeliverLast, CameTo(Outcome::Rejected(73)), Nothing),
+        ],
+    ],
+    ending: Ending {
+        serving: (1, 11),
+        packet: (1, 11),
+        mutual: 12,
+        ..EMPTY
+    },
+    mutual: &[SESSION, DEFAULT, BEARER],
+    ..QUIET
+};
 
 #[test]
 fn a_session_has_no_more_than_eleven_bearers(rt: HostRuntime) -> Result<(), Fail> {
-    let config = both_set_up(rt.alloc(), &QUIET)?;
-    let mut world = World::start(rt.alloc(), &config)?;
-    bearers(&rt, rt.alloc(), &mut world)
+    happens_so(&rt, rt.alloc(), &ELEVEN)
 }
 
-/// The serving gateway restarts 127 times, with the counters from 2 on, and then no more.
-fn restarts(rt: &impl Abort, alloc: Global, world: &mut World) -> Result<(), Fail> {
-    for counter in 2..129u8 {
-        let row = (Restart(Role::Serving), Restarted(Counter(counter)), Nothing);
-        step(rt, alloc, world, &row)?;
-    }
-    step(
-        rt,
-        alloc,
-        world,
-        &(Restart(Role::Serving), RestartsUsed, Nothing),
-    )
-}
+const RESTARTS: Story = Story {
+    rows: &[&[
+        (Restarts(Role::Serving, 127), Restarted(Counter(2)), Nothing),
+        (Restart(Role::Serving), RestartsUsed, Nothing),
+        (Restart(Role::Packet), Restarted(Counter(2)), Nothing),
+    ]],
+    ..QUIET
+};
 
 #[test]
 fn a_gateway_restarts_no_more_than_127_times(rt: HostRuntime) -> Result<(), Fail> {
-    let config = both_set_up(rt.alloc(), &QUIET)?;
-    let mut world = World::start(rt.alloc(), &config)?;
-    restarts(&rt, rt.alloc(), &mut world)
+    happens_so(&rt, rt.alloc(), &RESTARTS)
 }
 
-/// A session is made in one call.
-fn exchanges(rt: &impl Abort, alloc: Global, world: &mut World) -> Result<(), Fail> {
-    let outcomes = world.exchange(alloc, &specification()?)?;
-    assert!(rt; outcomes == [ASKED.1, MADE.1, OPENED.1], "{outcomes:?}");
-    Ok(())
-}
+const EXCHANGE: Story = Story {
+    rows: &[&[(Exchanges(0x0100_0001, 1), CameTo(Outcome::Opened), Shown)]],
+    ending: Ending {
+        serving: (1, 1),
+        packet: (1, 1),
+        mutual: 2,
+        ..EMPTY
+    },
+    mutual: &[SESSION, DEFAULT],
+    ..QUIET
+};
 
 #[test]
 fn a_session_is_made_in_one_exchange(rt: HostRuntime) -> Result<(), Fail> {
-    let config = both_set_up(rt.alloc(), &QUIET)?;
-    let mut world = World::start(rt.alloc(), &config)?;
-    exchanges(&rt, rt.alloc(), &mut world)
+    happens_so(&rt, rt.alloc(), &EXCHANGE)
 }
 
-/// The outcomes of a run are these.
-fn comes_to(rt: &impl Abort, world: &World, outcomes: &[EventOutcome]) {
-    assert!(rt; world.outcomes().len() == outcomes.len());
-    for (note, outcome) in world.outcomes().iter().zip(outcomes) {
+const THOUSAND: Story = Story {
+    addresses: 1001,
+    rows: &[&[
+        (Exchanges(0x0100_0001, 1000), CameTo(Outcome::Opened), Shown),
+        (
+            CreateSession,
+            CameTo(Outcome::Refused(Refusal::SessionsFull)),
+            Nothing,
+        ),
+    ]],
+    ending: Ending {
+        serving: (1000, 1000),
+        packet: (1000, 1000),
+        mutual: 2000,
+        ..EMPTY
+    },
+    ..QUIET
+};
+
+#[test]
+fn no_more_than_a_thousand_sessions(rt: HostRuntime) -> Result<(), Fail> {
+    happens_so(&rt, rt.alloc(), &THOUSAND)
+}
+
+/// The third session has the address of the first, which has ended.
+const THIRD_RESPONSE: &str = concat!(
+    "482100730100000500000300",
+    "020002001000",
+    "5700090187010000030a000002", // no TEID was drawn for the second
+    "4f000500010a010001",
+    "48000800000003e8000003e8",
+    "5d003a00",
+    "4900010005",
+    "020002001000",
+    "5700090285010000040a000002",
+    "500016002009",
+    "0000000000000000000000000000000000000000",
+    "5e00040001000004",
+    "0300010001"
+);
+
+const ADDRESS_AGAIN: Story = Story {
+    addresses: 1,
+    rows: &[
+        &[ASKED, MADE, OPENED],
+        &[
+            (
+                CreateSession,
+                CameTo(Outcome::Begun(Some(0x0100_0003))),
+                Shown,
+            ),
+            (DeliverLast, CameTo(Outcome::Answered(84)), Shown),
+            (DeliverLast, CameTo(Outcome::Rejected(84)), Nothing),
+        ],
+        &[
+            (
+                DeleteSession(0x0100_0001),
+                CameTo(Outcome::Begun(Some(0x0100_0001))),
+                Shown,
+            ),
+            (DeliverLast, CameTo(Outcome::Answered(16)), Shown),
+            (DeliverLast, CameTo(Outcome::Closed), Nothing),
+        ],
+        &[
+            (
+                CreateSession,
+                CameTo(Outcome::Begun(Some(0x0100_0005))),
+                Shown,
+            ),
+            (
+                DeliverLast,
+                CameTo(Outcome::Answered(16)),
+                Octets(THIRD_RESPONSE),
+            ),
+            (DeliverLast, CameTo(Outcome::Opened), Nothing),
+        ],
+    ],
+    ending: Ending {
+        serving: (1, 1),
+        packet: (1, 1),
+        mutual: 2,
+        ..EMPTY
+    },
+    made: &[(0, 1), (2, 0), (6, 1)],
+    ..QUIET
+};
+
+#[test]
+fn an_address_is_given_again(rt: HostRuntime) -> Result<(), Fail> {
+    happens_so(&rt, rt.alloc(), &ADDRESS_AGAIN)
+}
+
+const LATE_AGAIN: Story = Story {
+    rows: &[
+        &[ASKED, MADE, OPENED],
+        &DEDICATED,
+        &[
+            (Ticks(Role::Serving, 59), Ticked, Nothing),
+            (Deliver(2), CameTo(Outcome::Repeated), Shown), // not late
+            (Ticks(Role::Serving, 1), Ticked, Nothing),
+            (Deliver(2), CameTo(Outcome::Answered(16)), Shown), // late
+            (Deliver(2), CameTo(Outcome::Repeated), Shown), // late again
+            (
+                Cut(2, 11),
+                CameTo(Outcome::Dropped(DropReason::Undecodable(FaultName {
+                    plane: Plane::Control,
+                    number: 3,
+                }))),
+                Nothing,
+            ),
+            (Deliver(0), CameTo(Outcome::Repeated), Shown),
+        ],
+    ],
+    ending: Ending {
+        serving: (1, 3),
+        packet: (1, 2),
+        mutual: 3,
+        late: 2,
+        ..EMPTY
+    },
+    made: &[(0, 1), (2, 2)],
+    ..QUIET
+};
+
+#[test]
+fn each_late_delivery_counts(rt: HostRuntime) -> Result<(), Fail> {
+    happens_so(&rt, rt.alloc(), &LATE_AGAIN)
+}
+
+/// A session and 10,000 events more: packets each way, Echo paths, ticks and what cannot happen.
+const MIXED: Story = Story {
+    rows: &[&[ASKED, MADE, OPENED]],
+    times: 1000,
+    again: &[
+        (
+            Send(Role::Serving, 0x0100_0002, b"abc"),
+            CameTo(Outcome::GoneOut),
+            Octets("30ff000301000002616263"),
+        ),
+        (DeliverLast, CameTo(Outcome::Accepted), Nothing),
+        (
+            Send(Role::Packet, 0x0100_0002, b"def"),
+            CameTo(Outcome::GoneOut),
+            Octets("30ff000301000002646566"),
+        ),
+        (DeliverLast, CameTo(Outcome::Accepted), Nothing),
+        (Echo(Role::Serving), CameTo(Outcome::Begun(None)), Shown),
+        (DeliverLast, CameTo(Outcome::Echoed), Shown),
+        (DeliverLast, CameTo(Outcome::Alive), Nothing),
+        (Ticks(Role::Serving, 1), Ticked, Nothing),
+        (Deliver(18_446_744_073_709_551_615), NoSuchDatagram, Nothing),
+        (
+            EndMarker(0x0100_0009),
+            CameTo(Outcome::Refused(Refusal::NoSuchContext)),
+            Nothing,
+        ),
+    ],
+    ending: Ending {
+        serving: (1, 1),
+        packet: (1, 1),
+        mutual: 2,
+        handed_in: 2000,
+        accepted: (2000, 2000),
+        late: 0,
+    },
+    mutual: &[SESSION, DEFAULT],
+    made: &[(0, 1)],
+    ..QUIET
+};
+
+#[test]
+fn ten_thousand_events(rt: HostRuntime) -> Result<(), Fail> {
+    happens_so(&rt, rt.alloc(), &MIXED)
+}
+
+/// What a run of these events leaves.
+fn ran(alloc: Global, events: &[Event]) -> Result<World, Fail> {
+    let config = both_set_up(alloc, &QUIET)?;
+    match World::run(alloc, &config, events) {
+        Ok(world) => Ok(world),
+        Err(_) => Err("no memory".into()),
+    }
+}
+
+/// The outcomes are these.
+fn come_to(rt: &impl Abort, notes: &[Note], outcomes: &[EventOutcome]) {
+    assert!(rt; notes.len() == outcomes.len());
+    for (note, outcome) in notes.iter().zip(outcomes) {
         assert!(rt; note.outcome == *outcome, "{:?}", note.outcome);
     }
 }
 
+/// A run comes to this.
+fn runs_so(
+    rt: &impl Abort,
+    alloc: Global,
+    events: &[Event],
+    outcomes: &[EventOutcome],
+) -> Result<(), Fail> {
+    let world = ran(alloc, events)?;
+    come_to(rt, notes(&world), outcomes);
+    Ok(())
+}
+
 #[test]
 fn a_list_of_events_is_run(rt: HostRuntime) -> Result<(), Fail> {
-    let alloc = rt.alloc();
-    let config = both_set_up(alloc, &QUIET)?;
-    let events = [
-        event(alloc, CreateSession)?,
-        Event::Deliver(0),
-        Event::Deliver(1),
-    ];
-    match World::run(alloc, &config, &events) {
-        Ok(world) => {
-            comes_to(&rt, &world, &[ASKED.1, MADE.1, OPENED.1]);
-            Ok(())
-        }
-        Err(_) => Err("no memory".into()),
-    }
+    let begins = event(rt.alloc(), CreateSession)?;
+    let events = [begins, Event::Deliver(0), Event::Deliver(1)];
+    runs_so(&rt, rt.alloc(), &events, &[ASKED.1, MADE.1, OPENED.1])
 }
