@@ -1,6 +1,6 @@
-//! Tests of values, of both codecs, of tables, of reliable delivery, of gateways and of the world:
-//! vectors from outside, printed texts, plain lists beside indexes, and calls that allocate where there
-//! is memory. What their contracts say is not tested again.
+//! Tests of values, of both codecs, of tables, of reliable delivery, of gateways, of the world and of
+//! scenarios: vectors from outside, printed texts, plain lists beside indexes, and calls that allocate
+//! where there is memory. What their contracts say is not tested again.
 #![tactic(auto)]
 
 #[cfg(test)]
@@ -11,6 +11,8 @@ mod elements;
 mod gateways;
 #[cfg(test)]
 mod reliable;
+#[cfg(test)]
+mod scenarios;
 #[cfg(test)]
 mod tables;
 #[cfg(test)]
