@@ -2,6 +2,8 @@
 //! what is done, what it comes to and what is sent for it, and its looks what the gateways show at the
 //! end; they, and the octets where a row has them, come from outside.
 
+mod faulty;
+mod full;
 mod hostile;
 mod restarts;
 mod sessions;
@@ -23,12 +25,16 @@ pub(crate) use crate::control::{
 };
 
 /// What is done.
-#[derive(Clone, Copy, Debug)]
+#[derive(Clone, Copy)]
 pub(crate) enum Act {
     CreateSession,
     DeleteSession(u32),
     ReleaseSession(Role, u32),
     CreateBearer(u32),
+    /// Commands of the other gateway.
+    CreateSessionAt(Role),
+    DeleteSessionAt(Role, u32),
+    CreateBearerAt(Role, u32),
     DeleteBearer(u32, u8),
     EndMarker(u32),
     Echo(Role),
@@ -39,16 +45,54 @@ pub(crate) enum Act {
     Deliver(usize),
     /// These octets are handed to a gateway, from its peer.
     Comes(Role, Plane, &'static str),
+    /// The same on the control plane, from this port.
+    ComesFrom(Role, u16, &'static str),
+    /// A request of this type and number is handed to a gateway, about a session that is not there.
+    Asks(Role, u8, u32),
     /// The same, from another address.
     Strays(Role, Plane, &'static str),
     /// So many ticks pass, in which these requests are sent again.
     Ticks(Role, u32, u32),
     /// The gateway starts again with this restart counter.
     Restarts(Role, u8),
+    /// The last datagram that came told this.
+    Told(Tells),
+    /// The last ticks ended so.
+    Ended(Ended),
+    /// So many Echo Requests are sent.
+    Echoes(Role, u32),
+    /// So many requests of this type are handed to a gateway, with the numbers from 0 on.
+    AsksOften(Role, u8, u32),
+    /// So many sessions are opened.
+    Opens(u32),
+}
+
+/// What is told of a datagram that came, beside its outcome and what is sent for it.
+#[derive(Clone, Copy)]
+pub(crate) struct Tells {
+    /// The restart counter that was heard.
+    pub heard: Option<Counter>,
+    /// The same, where it is later than the one that was known.
+    pub restart: Option<Counter>,
+    /// A context was made for a request.
+    pub made: bool,
+    /// The bearer of the packet that was accepted, and the packet.
+    pub bearer: Option<Teid>,
+    pub packet: &'static [u8],
+}
+
+/// What is told of ticks, beside what is sent again.
+#[derive(Clone, Copy, Debug, PartialEq, Eq)]
+pub(crate) struct Ended {
+    /// How many requests were given up, and the number of the first of them.
+    pub gave_up: usize,
+    pub first: Option<u32>,
+    /// How many answers are held no more.
+    pub forgotten: usize,
 }
 
 /// What is sent for it.
-#[derive(Clone, Copy, Debug)]
+#[derive(Clone, Copy)]
 pub(crate) enum Sends {
     Nothing,
     Octets(&'static str),
@@ -60,7 +104,7 @@ pub(crate) enum Sends {
 pub(crate) type Row = (Act, Outcome, Sends);
 
 /// What a gateway shows.
-#[derive(Clone, Copy, Debug, PartialEq, Eq)]
+#[derive(Clone, Copy, PartialEq, Eq)]
 pub(crate) enum Look {
     /// So many sessions and bearers.
     Has(usize, usize),
@@ -113,6 +157,14 @@ struct Path {
     packet: Gateway,
     sent: Vec<(Role, Sent)>,
     pool: Pool,
+    /// How many rows were played.
+    at: usize,
+    /// What the last datagram told.
+    report: Report,
+    bearer: Option<Teid>,
+    payload: Vec<u8>,
+    /// How the last ticks ended.
+    ended: Ended,
 }
 
 /// The other gateway.
@@ -153,6 +205,21 @@ fn started(alloc: Global, role: Role, pool: Pool, counter: u8) -> Result<Gateway
     Ok(Gateway::start(alloc, role, &config, Counter(counter))?)
 }
 
+/// No datagram came.
+const NO_REPORT: Report = Report {
+    outcome: Outcome::Moved,
+    heard: None,
+    restart: None,
+    made: false,
+};
+
+/// No request was given up, and no answer.
+const NOTHING_ENDED: Ended = Ended {
+    gave_up: 0,
+    first: None,
+    forgotten: 0,
+};
+
 /// Two gateways that have just started, the packet gateway with this counter and so many addresses
 /// from 10.1.0.1 on.
 fn new_path(alloc: Global, counter: u8, addresses: u32) -> Result<Path, Fail> {
@@ -162,6 +229,11 @@ fn new_path(alloc: Global, counter: u8, addresses: u32) -> Result<Path, Fail> {
         packet: started(alloc, Role::Packet, pool, counter)?,
         sent: Vec::new(alloc),
         pool,
+        at: 0,
+        report: NO_REPORT,
+        bearer: None,
+        payload: Vec::new(alloc),
+        ended: NOTHING_ENDED,
     })
 }
 
@@ -212,37 +284,50 @@ struct Told {
     sent: Option<Sent>,
 }
 
-/// What a command comes to that sends a request.
-fn begun(answer: Result<Begun, CommandFault>) -> Result<Told, Fail> {
+/// What a command comes to: one that sends a request, or one that sends a packet.
+fn told_by(act: Act, answer: Result<Begun, CommandFault>) -> Result<Told, Fail> {
     match answer {
         Ok(begun) => Ok(Told {
-            outcome: Outcome::Begun(begun.teid.map(|teid| teid.0)),
+            outcome: outcome_of(act, begun.teid),
             sent: Some(begun.out),
         }),
-        Err(fault) => refused(fault),
-    }
-}
-
-/// What a command comes to that sends a packet.
-fn gone(answer: Result<Begun, CommandFault>) -> Result<Told, Fail> {
-    match answer {
-        Ok(begun) => Ok(Told {
-            outcome: Outcome::GoneOut,
-            sent: Some(begun.out),
-        }),
-        Err(fault) => refused(fault),
-    }
-}
-
-/// A command that was refused.
-fn refused(fault: CommandFault) -> Result<Told, Fail> {
-    match fault {
-        CommandFault::Refused(why) => Ok(Told {
+        Err(CommandFault::Refused(why)) => Ok(Told {
             outcome: Outcome::Refused(why),
             sent: None,
         }),
-        CommandFault::Memory => Err("no memory".into()),
+        Err(CommandFault::Memory) => Err("no memory".into()),
     }
+}
+
+/// What a command comes to that was carried out for this context.
+fn outcome_of(act: Act, context: Option<Teid>) -> Outcome {
+    match act {
+        Act::EndMarker(_) | Act::Send(_, _, _) | Act::SendZeros(_, _, _) => Outcome::GoneOut,
+        _ => Outcome::Begun(context.map(|teid| teid.0)),
+    }
+}
+
+/// The port that datagrams come from, unless a row names another.
+const PORT: u16 = 40_000;
+
+/// The peer of a gateway, at this port.
+fn from_peer(to: Role, port: u16) -> Endpoint {
+    Endpoint {
+        ip: address_of(peer_of(to)),
+        port,
+    }
+}
+
+/// An address that is no peer's.
+const STRANGER: Endpoint = Endpoint {
+    ip: Ip::V4([10, 0, 0, 9]),
+    port: PORT,
+};
+
+/// A request of this type and number, about a session that is not there.
+fn request_of(kind: u8, number: u32) -> [u8; 17] {
+    let [_, a, b, c] = number.to_be_bytes();
+    [0x48, kind, 0, 13, 1, 0, 0, 9, a, b, c, 0, 73, 0, 1, 0, 5]
 }
 
 impl Path {
@@ -254,17 +339,28 @@ impl Path {
         }
     }
 
+    /// What a datagram told is kept.
+    fn keep(&mut self, report: Report, accepted: Option<Accepted<'_>>) -> Result<(), Fail> {
+        self.report = report;
+        self.bearer = accepted.map(|packet| packet.bearer);
+        self.payload.clear();
+        if let Some(packet) = accepted {
+            self.payload.extend_from_slice(packet.payload)?;
+        }
+        Ok(())
+    }
+
     /// Octets come to a gateway, from an address.
     fn comes(
         &mut self,
         alloc: Global,
         to: Role,
         plane: Plane,
-        ip: Ip,
+        source: Endpoint,
         octets: &[u8],
     ) -> Result<Told, Fail> {
-        let source = Endpoint { ip, port: 40_000 };
         let step = self.gateway(to).receive(alloc, source, plane, octets)?;
+        self.keep(step.report, step.accepted)?;
         Ok(Told {
             outcome: step.report.outcome,
             sent: step.out,
@@ -277,24 +373,36 @@ impl Path {
         alloc: Global,
         to: Role,
         plane: Plane,
-        ip: Ip,
+        source: Endpoint,
         digits: &str,
     ) -> Result<Told, Fail> {
         let octets = hex::decode(alloc, digits)?;
-        self.comes(alloc, to, plane, ip, octets.as_slice())
+        self.comes(alloc, to, plane, source, octets.as_slice())
     }
 
     /// A datagram that was sent is handed to the other gateway.
     fn deliver(&mut self, alloc: Global, number: usize) -> Result<Told, Fail> {
         let (to, plane, octets) = copy_of(alloc, &self.sent, number)?;
-        self.comes(alloc, to, plane, address_of(peer_of(to)), octets.as_slice())
+        self.comes(alloc, to, plane, from_peer(to, PORT), octets.as_slice())
+    }
+
+    /// What a tick told is kept.
+    fn keep_ended(&mut self, ticked: &Ticked) {
+        let first = ticked.gave_up.first().map(|number| number.number());
+        self.ended = Ended {
+            gave_up: self.ended.gave_up.saturating_add(ticked.gave_up.len()),
+            first: self.ended.first.or(first),
+            forgotten: self.ended.forgotten.saturating_add(ticked.forgotten.len()),
+        };
     }
 
     /// Ticks pass; so many requests are sent again in them.
     fn ticks(&mut self, alloc: Global, role: Role, times: u32) -> Result<u32, Fail> {
         let mut resent = 0u32;
+        self.ended = NOTHING_ENDED;
         for _ in 0..times {
             let ticked = self.gateway(role).tick(alloc)?;
+            self.keep_ended(&ticked);
             resent = resent.saturating_add(ticked.resent.len() as u32);
         }
         Ok(resent)
@@ -307,40 +415,70 @@ impl Path {
         role: Role,
         bearer: u32,
         count: usize,
-    ) -> Result<Told, Fail> {
+    ) -> Result<Result<Begun, CommandFault>, Fail> {
         let packet = vec![in alloc; 0u8; count]?;
-        gone(
+        Ok(
             self.gateway(role)
                 .send_user(alloc, Teid(bearer), packet.as_slice()),
         )
     }
 
-    /// A command of a gateway.
-    fn command(&mut self, alloc: Global, act: Act) -> Result<Told, Fail> {
-        match act {
-            Act::CreateSession => begun(self.serving.create_session(alloc, &specification()?)),
-            Act::DeleteSession(session) => begun(self.serving.delete_session(alloc, Teid(session))),
-            Act::ReleaseSession(role, session) => begun(
-                self.gateway(role).release_session(alloc, Teid(session)),
-            ),
-            Act::CreateBearer(session) => {
-                let tft = Tft::try_new(&[0x21])?;
-                begun(
-                    self.packet
-                        .create_bearer(alloc, Teid(session), &tft, &qos()),
-                )
+    /// A dedicated bearer is asked for.
+    fn create_bearer(
+        &mut self,
+        alloc: Global,
+        role: Role,
+        session: u32,
+    ) -> Result<Result<Begun, CommandFault>, Fail> {
+        let tft = Tft::try_new(&[0x21])?;
+        Ok(
+            self.gateway(role)
+                .create_bearer(alloc, Teid(session), &tft, &qos()),
+        )
+    }
+
+    /// A session is asked for.
+    fn create_session(
+        &mut self,
+        alloc: Global,
+        role: Role,
+    ) -> Result<Result<Begun, CommandFault>, Fail> {
+        let spec = specification()?;
+        Ok(self.gateway(role).create_session(alloc, &spec))
+    }
+
+    /// A command about a session or a bearer, or an Echo Request.
+    fn command(&mut self, alloc: Global, act: Act) -> Result<Result<Begun, CommandFault>, Fail> {
+        Ok(match act {
+            Act::DeleteSession(session) => self.serving.delete_session(alloc, Teid(session)),
+            Act::DeleteSessionAt(role, session) => {
+                self.gateway(role).delete_session(alloc, Teid(session))
+            }
+            Act::ReleaseSession(role, session) => {
+                self.gateway(role).release_session(alloc, Teid(session))
             }
             Act::DeleteBearer(session, identity) => {
                 let identity = Ebi::try_new(identity)?;
-                begun(self.packet.delete_bearer(alloc, Teid(session), identity))
+                self.packet.delete_bearer(alloc, Teid(session), identity)
             }
-            Act::EndMarker(bearer) => gone(self.packet.end_marker(alloc, Teid(bearer))),
-            Act::Echo(role) => begun(self.gateway(role).echo(alloc)),
-            Act::Send(role, bearer, payload) => gone(
-                self.gateway(role).send_user(alloc, Teid(bearer), payload),
-            ),
+            Act::EndMarker(bearer) => self.packet.end_marker(alloc, Teid(bearer)),
+            Act::Echo(role) => self.gateway(role).echo(alloc),
+            Act::Send(role, bearer, payload) => {
+                self.gateway(role).send_user(alloc, Teid(bearer), payload)
+            }
+            _ => return Err("no command".into()),
+        })
+    }
+
+    /// What a command is answered.
+    fn answer(&mut self, alloc: Global, act: Act) -> Result<Result<Begun, CommandFault>, Fail> {
+        match act {
+            Act::CreateSession => self.create_session(alloc, Role::Serving),
+            Act::CreateSessionAt(role) => self.create_session(alloc, role),
+            Act::CreateBearer(session) => self.create_bearer(alloc, Role::Packet, session),
+            Act::CreateBearerAt(role, session) => self.create_bearer(alloc, role, session),
             Act::SendZeros(role, bearer, count) => self.send_zeros(alloc, role, bearer, count),
-            _ => Err("no command".into()),
+            _ => self.command(alloc, act),
         }
     }
 
@@ -348,54 +486,75 @@ impl Path {
     fn act(&mut self, alloc: Global, act: Act) -> Result<Told, Fail> {
         match act {
             Act::Deliver(number) => self.deliver(alloc, number),
-            Act::Comes(role, plane, digits) => self.comes_as(
-                alloc,
-                role,
-                plane,
-                address_of(peer_of(role)),
-                digits,
-            ),
-            Act::Strays(role, plane, digits) => self.comes_as(
-                alloc,
-                role,
-                plane,
-                Ip::V4([10, 0, 0, 9]),
-                digits,
-            ),
-            _ => self.command(alloc, act),
+            Act::Comes(role, plane, digits) => {
+                self.comes_as(alloc, role, plane, from_peer(role, PORT), digits)
+            }
+            Act::ComesFrom(role, port, digits) => {
+                self.comes_as(alloc, role, Plane::Control, from_peer(role, port), digits)
+            }
+            Act::Asks(role, kind, number) => {
+                let request = request_of(kind, number);
+                self.comes(alloc, role, Plane::Control, from_peer(role, PORT), &request)
+            }
+            Act::Strays(role, plane, digits) => self.comes_as(alloc, role, plane, STRANGER, digits),
+            _ => told_by(act, self.answer(alloc, act)?),
         }
     }
 
-    /// Ticks, and starts: what has no outcome.
+    /// The last datagram told this.
+    fn tells(&self, rt: &impl Abort, tells: &Tells) {
+        let (at, report) = (self.at, &self.report);
+        let is_heard = report.heard == tells.heard && report.restart == tells.restart;
+        assert!(rt;
+            is_heard && report.made == tells.made,
+            "row {at}: {report:?}"
+        );
+        let is_taken = self.bearer == tells.bearer && self.payload.as_slice() == tells.packet;
+        assert!(rt; is_taken, "packet before row {at}");
+    }
+
+    /// Ticks, starts and what was told: what has no outcome.
     fn passes(&mut self, rt: &impl Abort, alloc: Global, act: Act) -> Result<bool, Fail> {
         match act {
             Act::Ticks(role, times, resent) => {
-                assert!(rt; self.ticks(alloc, role, times)? == resent, "resent {act:?}");
-                Ok(true)
+                assert!(rt;
+                    self.ticks(alloc, role, times)? == resent,
+                    "resent in row {}",
+                    self.at
+                );
             }
             Act::Restarts(role, counter) => {
                 *self.gateway(role) = started(alloc, role, self.pool, counter)?;
-                Ok(true)
             }
-            _ => Ok(false),
+            Act::Told(tells) => self.tells(rt, &tells),
+            Act::Ended(ended) => {
+                assert!(rt; self.ended == ended, "row {}: {:?}", self.at, self.ended);
+            }
+            _ => return Ok(false),
         }
+        Ok(true)
     }
 
     /// One row.
     fn row(&mut self, rt: &impl Abort, alloc: Global, row: &Row) -> Result<(), Fail> {
+        let at = self.at;
+        self.at = at.saturating_add(1);
         if self.passes(rt, alloc, row.0)? {
             return Ok(());
         }
         let told = self.act(alloc, row.0)?;
-        assert!(rt;
-            told.outcome == row.1,
-            "outcome of {:?}: {:?}",
-            row.0,
-            told.outcome
-        );
-        is_sent(rt, alloc, row, &told.sent)?;
+        assert!(rt; told.outcome == row.1, "row {at}: {:?}", told.outcome);
+        is_sent(rt, alloc, at, row, &told.sent)?;
         if let Some(sent) = told.sent {
             self.sent.push((sender_of(&sent), sent))?;
+        }
+        Ok(())
+    }
+
+    /// One row, as often as it is done.
+    fn often(&mut self, rt: &impl Abort, alloc: Global, row: &Row) -> Result<(), Fail> {
+        for at in 0..times(row.0) {
+            self.row(rt, alloc, &nth(row, at))?;
         }
         Ok(())
     }
@@ -403,7 +562,7 @@ impl Path {
     /// Rows in order.
     fn rows(&mut self, rt: &impl Abort, alloc: Global, rows: &[Row]) -> Result<(), Fail> {
         for row in rows {
-            self.row(rt, alloc, row)?;
+            self.often(rt, alloc, row)?;
         }
         Ok(())
     }
@@ -441,17 +600,97 @@ fn copy_of(
     Ok((peer_of(*from), sent.plane, octets))
 }
 
+/// How often a row is done.
+fn times(act: Act) -> u32 {
+    match act {
+        Act::Echoes(_, times) | Act::AsksOften(_, _, times) => times,
+        Act::Opens(sessions) => sessions.saturating_mul(3),
+        _ => 1,
+    }
+}
+
+/// What is done the next time, from 0.
+fn nth(row: &Row, at: u32) -> Row {
+    match row.0 {
+        Act::Echoes(role, _) => (Act::Echo(role), row.1, row.2),
+        Act::AsksOften(role, kind, _) => (Act::Asks(role, kind, at), row.1, row.2),
+        Act::Opens(_) => opening(at / 3, at % 3),
+        _ => *row,
+    }
+}
+
+/// A step of the opening of a session, of which so many were opened before.
+fn opening(before: u32, step: u32) -> Row {
+    let teid = 0x0100_0001u32.wrapping_add(before).wrapping_add(before);
+    let number = (before as usize).saturating_add(before as usize);
+    match step {
+        0 => (Act::CreateSession, Outcome::Begun(Some(teid)), Sends::Shown),
+        1 => (Act::Deliver(number), Outcome::Answered(16), Sends::Shown),
+        _ => (
+            Act::Deliver(number.saturating_add(1)),
+            Outcome::Opened,
+            Sends::Nothing,
+        ),
+    }
+}
+
+/// The port of a plane.
+fn port_of(plane: Plane) -> u16 {
+    match plane {
+        Plane::Control => 2123,
+        Plane::User => 2152,
+    }
+}
+
+/// The port that what is sent for a row goes to: an answer to the port that asked, all else to that of
+/// its plane.
+fn port_for(row: &Row, plane: Plane) -> u16 {
+    match row {
+        (Act::ComesFrom(_, port, _), _, _) => *port,
+        (_, Outcome::Answered(_) | Outcome::Echoed | Outcome::Repeated, _) => PORT,
+        _ => port_of(plane),
+    }
+}
+
+/// A datagram goes from a port of its plane to the port that it is for at the other gateway.
+fn has_ends(row: &Row, sent: &Sent) -> bool {
+    let to = from_peer(sender_of(sent), port_for(row, sent.plane));
+    sent.from.port == port_of(sent.plane) && sent.to == to
+}
+
 /// What was sent is what the row says.
-fn is_sent(rt: &impl Abort, alloc: Global, row: &Row, sent: &Option<Sent>) -> Result<(), Fail> {
+fn is_sent(
+    rt: &impl Abort,
+    alloc: Global,
+    at: usize,
+    row: &Row,
+    sent: &Option<Sent>,
+) -> Result<(), Fail> {
     match (row.2, sent) {
-        (Sends::Nothing, None) | (Sends::Shown, Some(_)) => Ok(()),
-        (Sends::Octets(digits), Some(sent)) => {
-            let text = hex::encode(alloc, sent.octets.as_slice())?;
-            assert!(rt; text.as_str() == digits, "sent for {:?}: {text}", row.0);
+        (Sends::Nothing, None) => Ok(()),
+        (Sends::Shown, Some(sent)) => {
+            assert!(rt; has_ends(row, sent), "ends in row {at}");
             Ok(())
+        }
+        (Sends::Octets(digits), Some(sent)) => {
+            assert!(rt; has_ends(row, sent), "ends in row {at}");
+            is_written(rt, alloc, at, digits, sent.octets.as_slice())
         }
         _ => Err("sent, or not sent".into()),
     }
+}
+
+/// Octets are these, in hexadecimal.
+fn is_written(
+    rt: &impl Abort,
+    alloc: Global,
+    at: usize,
+    digits: &str,
+    octets: &[u8],
+) -> Result<(), Fail> {
+    let text = hex::encode(alloc, octets)?;
+    assert!(rt; text.as_str() == digits, "sent in row {at}: {text}");
+    Ok(())
 }
 
 /// The first session of a gateway, in order of TEIDs.
@@ -527,9 +766,8 @@ fn seen(rt: &impl Abort, gateway: &Gateway, look: &Look) -> Look {
 
 /// A gateway shows all this.
 fn shows(rt: &impl Abort, gateway: &Gateway, looks: &[Look]) {
-    for look in looks {
-        let seen = seen(rt, gateway, look);
-        assert!(rt; seen == *look, "{seen:?} in place of {look:?}");
+    for (at, look) in looks.iter().enumerate() {
+        assert!(rt; seen(rt, gateway, look) == *look, "look {at}");
     }
 }
 
@@ -580,3 +818,46 @@ pub(crate) const DEDICATED: [Row; 3] = [
     BEARER_ANSWERED,
     (Act::Deliver(3), Outcome::Opened, Sends::Nothing),
 ];
+
+/// Nothing more is told of a datagram.
+pub(crate) const PLAIN: Tells = Tells {
+    heard: None,
+    restart: None,
+    made: false,
+    bearer: None,
+    packet: b"",
+};
+
+/// The last datagram told nothing more.
+pub(crate) const UNTOLD: Row = (Act::Told(PLAIN), Outcome::Moved, Sends::Nothing);
+
+/// It told the restart counter 1, which is no later one.
+pub(crate) const HEARD: Row = (
+    Act::Told(Tells {
+        heard: Some(Counter(1)),
+        ..PLAIN
+    }),
+    Outcome::Moved,
+    Sends::Nothing,
+);
+
+/// The same, and a context was made.
+pub(crate) const MADE: Row = (
+    Act::Told(Tells {
+        heard: Some(Counter(1)),
+        made: true,
+        ..PLAIN
+    }),
+    Outcome::Moved,
+    Sends::Nothing,
+);
+
+/// A context was made for a request that told no restart counter.
+pub(crate) const MADE_UNHEARD: Row = (
+    Act::Told(Tells {
+        made: true,
+        ..PLAIN
+    }),
+    Outcome::Moved,
+    Sends::Nothing,
+);

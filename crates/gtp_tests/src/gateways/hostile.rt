@@ -20,7 +20,7 @@ const CUT: Outcome = Outcome::Dropped(DropReason::Undecodable(FaultName {
 }));
 
 /// A Create Session Request without its access point name.
-const WITHOUT_NAME: &str = concat!(
+pub(super) const WITHOUT_NAME: &str = concat!(
     "482000810000000000000000",
     "0100080000010121436587f9",
     "5200010006",

@@ -1,14 +1,16 @@
 //! Sessions and dedicated bearers, from their making to their end.
 
 use super::{
-    Act, BEARER_ANSWERED, BEARER_ASKED, DEDICATED, IDLE, Look, OPENED, Row, SESSION_ANSWERED,
-    SESSION_ASKED, SESSION_REQUEST, SESSION_RESPONSE, Scene, Sends, plays,
+    Act, BEARER_ANSWERED, BEARER_ASKED, DEDICATED, Ended, HEARD, IDLE, Look, MADE, MADE_UNHEARD,
+    OPENED, PLAIN, Row, SESSION_ANSWERED, SESSION_ASKED, SESSION_REQUEST, SESSION_RESPONSE, Scene,
+    Sends, Tells, UNTOLD, plays,
 };
 use Act::*;
 use Look::{Address, FirstBearer, FirstSession, Has, SessionState};
 use Sends::{Nothing, Octets, Shown};
 use gtp_gateway::*;
 use gtp_tables::State;
+use gtp_values::Teid;
 use std::test::Fail;
 
 /// The one session and the one bearer of a gateway, after the session was opened.
@@ -39,6 +41,36 @@ fn a_session_opens(rt: HostRuntime) -> Result<(), Fail> {
     plays(&rt, rt.alloc(), &OPENING)
 }
 
+/// A packet was accepted on a bearer.
+macro_rules! took {
+    ($bearer:literal, $packet:literal) => {
+        (
+            Act::Told(Tells {
+                bearer: Some(Teid($bearer)),
+                packet: $packet,
+                ..PLAIN
+            }),
+            Outcome::Moved,
+            Nothing,
+        )
+    };
+}
+
+/// Ticks ended so.
+macro_rules! ended {
+    ($gave_up:literal, $first:expr, $forgotten:literal) => {
+        (
+            Act::Ended(Ended {
+                gave_up: $gave_up,
+                first: $first,
+                forgotten: $forgotten,
+            }),
+            Outcome::Moved,
+            Nothing,
+        )
+    };
+}
+
 /// Packets each way, and the end of the session.
 const PACKETS_AND_END: Scene = Scene {
     rows: &[
@@ -50,12 +82,14 @@ const PACKETS_AND_END: Scene = Scene {
                 Octets("30ff000301000002616263"),
             ),
             (Deliver(2), Outcome::Accepted, Nothing),
+            took!(0x0100_0002, b"abc"),
             (
                 Send(Role::Packet, 0x0100_0002, b"def"),
                 Outcome::GoneOut,
                 Octets("30ff000301000002646566"),
             ),
             (Deliver(3), Outcome::Accepted, Nothing),
+            took!(0x0100_0002, b"def"),
             (
                 DeleteSession(0x0100_0001),
                 Outcome::Begun(Some(0x0100_0001)),
@@ -66,7 +100,9 @@ const PACKETS_AND_END: Scene = Scene {
                 Outcome::Answered(16),
                 Octets("4825001301000001000001000200020010000300010001"),
             ),
+            UNTOLD,
             (Deliver(5), Outcome::Closed, Nothing),
+            HEARD,
         ],
     ],
     serving: &[Has(0, 0)],
@@ -84,10 +120,15 @@ const ANSWERED_AGAIN: Scene = Scene {
     rows: &[&[
         SESSION_ASKED,
         SESSION_ANSWERED,
+        MADE,
         (Deliver(0), Outcome::Repeated, Octets(SESSION_RESPONSE)),
+        UNTOLD,
         (Deliver(0), Outcome::Repeated, Octets(SESSION_RESPONSE)),
+        UNTOLD,
         (Deliver(1), Outcome::Opened, Nothing),
+        HEARD,
         (Deliver(2), Outcome::Dropped(DropReason::NoPending), Nothing),
+        HEARD,
     ]],
     packet: &[Has(1, 1)],
     ..IDLE
@@ -106,8 +147,11 @@ const GIVEN_UP: Scene = Scene {
         (Ticks(Role::Serving, 2, 0), Outcome::Moved, Nothing),
         (Ticks(Role::Serving, 1, 1), Outcome::Moved, Nothing),
         (Ticks(Role::Serving, 8, 2), Outcome::Moved, Nothing),
+        ended!(0, None, 0),
         (Ticks(Role::Serving, 1, 0), Outcome::Moved, Nothing),
+        ended!(1, Some(0), 0),
         (Deliver(1), Outcome::Dropped(DropReason::NoPending), Nothing),
+        HEARD,
     ]],
     serving: &[Has(0, 0)],
     ..IDLE
@@ -124,7 +168,10 @@ const FORGOTTEN: Scene = Scene {
         &OPENED,
         &DEDICATED,
         &[
-            (Ticks(Role::Serving, 60, 0), Outcome::Moved, Nothing),
+            (Ticks(Role::Serving, 59, 0), Outcome::Moved, Nothing),
+            ended!(0, None, 0),
+            (Ticks(Role::Serving, 1, 0), Outcome::Moved, Nothing),
+            ended!(0, None, 1),
             (
                 Deliver(2),
                 Outcome::Answered(16),
@@ -139,12 +186,14 @@ const FORGOTTEN: Scene = Scene {
                     "0300010001"
                 )),
             ),
+            MADE_UNHEARD,
             (
                 Send(Role::Serving, 0x0100_0004, b"x"),
                 Outcome::GoneOut,
-                Shown,
+                Octets("30ff00010100000378"),
             ),
             (Deliver(5), Outcome::Accepted, Nothing),
+            took!(0x0100_0003, b"x"),
         ],
     ],
     serving: &[Has(1, 3)],
@@ -334,6 +383,21 @@ const REFUSED: Scene = Scene {
         ),
         (
             ReleaseSession(Role::Serving, 0x0100_0001),
+            Outcome::Refused(Refusal::WrongRole),
+            Nothing,
+        ),
+        (
+            CreateBearerAt(Role::Serving, 0x0100_0001),
+            Outcome::Refused(Refusal::WrongRole),
+            Nothing,
+        ),
+        (
+            CreateSessionAt(Role::Packet),
+            Outcome::Refused(Refusal::WrongRole),
+            Nothing,
+        ),
+        (
+            DeleteSessionAt(Role::Packet, 0x0100_0001),
             Outcome::Refused(Refusal::WrongRole),
             Nothing,
         ),

@@ -189,6 +189,16 @@ const LONGEST: Scene = Scene {
                 Outcome::GoneOut,
                 Shown,
             ),
+            (
+                SendZeros(Role::Packet, 0x0100_0002, 65_001),
+                Outcome::Refused(Refusal::PacketTooLong),
+                Nothing,
+            ),
+            (
+                SendZeros(Role::Packet, 0x0100_0002, 65_000),
+                Outcome::GoneOut,
+                Shown,
+            ),
         ],
     ],
     ..IDLE

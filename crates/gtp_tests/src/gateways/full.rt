@@ -1,0 +1,259 @@
+//! As many pending requests, held answers and sessions as there can be.
+
+use super::hostile::WITHOUT_NAME;
+use super::{
+    Act, BEARER_REQUEST, Ended, HEARD, IDLE, Look, OPENED, Row, SESSION_ASKED, Scene, Sends,
+    UNTOLD, plays,
+};
+use Act::*;
+use Look::Has;
+use Sends::{Nothing, Octets, Shown};
+use gtp_gateway::*;
+use std::test::Fail;
+
+/// A command is refused, since 256 requests are pending.
+macro_rules! full {
+    ($($act:expr),*) => {
+        [$(
+            ($act, Outcome::Refused(Refusal::PendingFull), Nothing),
+        )*]
+    };
+}
+
+/// All commands that wait for an answer.
+const NONE_MORE: [Row; 6] = full![
+    Echo(Role::Serving),
+    Echo(Role::Packet),
+    CreateSession,
+    DeleteSession(0x0100_0001),
+    CreateBearer(0x0100_0001),
+    ReleaseSession(Role::Packet, 0x0100_0001)
+];
+
+/// Ticks of the packet gateway.
+const WAITS: Row = (Ticks(Role::Packet, 2, 0), Outcome::Moved, Nothing);
+
+/// A tick in which all requests are sent again.
+const ALL_AGAIN: Row = (Ticks(Role::Packet, 1, 256), Outcome::Moved, Nothing);
+
+/// 256 requests are pending at each gateway. One answer makes room for one request, with the next number.
+/// In the third tick all are sent again, and in the twelfth all are given up.
+const MOST_PENDING: Scene = Scene {
+    rows: &[
+        &OPENED,
+        &[
+            (Echoes(Role::Serving, 256), Outcome::Begun(None), Shown),
+            (Echoes(Role::Packet, 256), Outcome::Begun(None), Shown),
+        ],
+        &NONE_MORE,
+        &[
+            (
+                DeleteSession(0x0100_0009),
+                Outcome::Refused(Refusal::NoSuchContext),
+                Nothing,
+            ),
+            (
+                Comes(Role::Serving, Plane::Control, "40020009000001000300010001"),
+                Outcome::Alive,
+                Nothing,
+            ),
+            HEARD,
+            (
+                Echo(Role::Serving),
+                Outcome::Begun(None),
+                Octets("40010009000101000300010001"),
+            ),
+            (
+                CreateSession,
+                Outcome::Refused(Refusal::PendingFull),
+                Nothing,
+            ),
+        ],
+        &[WAITS, ALL_AGAIN, WAITS, ALL_AGAIN, WAITS, ALL_AGAIN, WAITS],
+        &[
+            (Ticks(Role::Packet, 1, 0), Outcome::Moved, Nothing),
+            (
+                Act::Ended(Ended {
+                    gave_up: 256,
+                    first: Some(0),
+                    forgotten: 0,
+                }),
+                Outcome::Moved,
+                Nothing,
+            ),
+            (
+                Echo(Role::Packet),
+                Outcome::Begun(None),
+                Octets("40010009000100000300010001"),
+            ),
+        ],
+    ],
+    ..IDLE
+};
+
+#[test]
+fn as_many_requests_wait_as_can(rt: HostRuntime) -> Result<(), Fail> {
+    plays(&rt, rt.alloc(), &MOST_PENDING)
+}
+
+/// No request without a fault is answered any more, whether its session is not there or is pending. A
+/// faulty one is, as are those that were answered before and Echo Requests.
+const HELD_AT_SERVING: Scene = Scene {
+    rows: &[&[
+        SESSION_ASKED,
+        (
+            AsksOften(Role::Serving, 99, 4096),
+            Outcome::Answered(64),
+            Shown,
+        ),
+        (
+            Asks(Role::Serving, 99, 0x00ff_ffff),
+            Outcome::Dropped(DropReason::HeldFull),
+            Nothing,
+        ),
+        (
+            Comes(
+                Role::Serving,
+                Plane::Control,
+                "4863000d01000001ffffff004900010005",
+            ),
+            Outcome::Dropped(DropReason::HeldFull),
+            Nothing,
+        ),
+        (
+            Comes(Role::Serving, Plane::Control, BEARER_REQUEST),
+            Outcome::Dropped(DropReason::HeldFull),
+            Nothing,
+        ),
+        UNTOLD,
+        (
+            Comes(Role::Serving, Plane::Control, "4863000801000001ffffff00"),
+            Outcome::Answered(103),
+            Octets("4864001700000000ffffff00020006006700490000000300010001"),
+        ),
+        (
+            Comes(
+                Role::Serving,
+                Plane::Control,
+                "4863000d01000009000000004900010005",
+            ),
+            Outcome::Repeated,
+            Octets("4864001300000000000000000200020040000300010001"),
+        ),
+        UNTOLD,
+        (
+            Comes(Role::Serving, Plane::Control, "40010009000005000300010001"),
+            Outcome::Echoed,
+            Octets("40020009000005000300010001"),
+        ),
+        HEARD,
+    ]],
+    ..IDLE
+};
+
+#[test]
+fn as_many_answers_are_held_as_can(rt: HostRuntime) -> Result<(), Fail> {
+    plays(&rt, rt.alloc(), &HELD_AT_SERVING)
+}
+
+/// The same at the other gateway, which still hears what a request tells of its sender's start. In the
+/// sixtieth tick all answers are forgotten.
+const HELD_AT_PACKET: Scene = Scene {
+    rows: &[&[
+        SESSION_ASKED,
+        (
+            AsksOften(Role::Packet, 36, 4096),
+            Outcome::Answered(64),
+            Shown,
+        ),
+        (Deliver(0), Outcome::Dropped(DropReason::HeldFull), Nothing),
+        HEARD,
+        (
+            Asks(Role::Packet, 36, 0x00ff_ffff),
+            Outcome::Dropped(DropReason::HeldFull),
+            Nothing,
+        ),
+        (
+            Comes(Role::Packet, Plane::Control, WITHOUT_NAME),
+            Outcome::Answered(70),
+            Octets("482100170100000100000000020006004600470000000300010001"),
+        ),
+        UNTOLD,
+        (Ticks(Role::Packet, 59, 0), Outcome::Moved, Nothing),
+        (
+            Act::Ended(Ended {
+                gave_up: 0,
+                first: None,
+                forgotten: 0,
+            }),
+            Outcome::Moved,
+            Nothing,
+        ),
+        (Ticks(Role::Packet, 1, 0), Outcome::Moved, Nothing),
+        (
+            Act::Ended(Ended {
+                gave_up: 0,
+                first: None,
+                forgotten: 4096,
+            }),
+            Outcome::Moved,
+            Nothing,
+        ),
+        (Deliver(0), Outcome::Answered(16), Shown),
+    ]],
+    packet: &[Has(1, 1)],
+    ..IDLE
+};
+
+#[test]
+fn answers_that_are_forgotten_make_room(rt: HostRuntime) -> Result<(), Fail> {
+    plays(&rt, rt.alloc(), &HELD_AT_PACKET)
+}
+
+/// There is no place for another session, which is told before there being no address.
+const MOST_SESSIONS: Scene = Scene {
+    addresses: 1000,
+    rows: &[&[
+        (Opens(1000), Outcome::Moved, Nothing),
+        (
+            CreateSession,
+            Outcome::Refused(Refusal::SessionsFull),
+            Nothing,
+        ),
+        (
+            Comes(
+                Role::Packet,
+                Plane::Control,
+                concat!(
+                    "4820008e00000000ffffff00",
+                    "0100080000010121436587f9",
+                    "5200010006",
+                    "5300030000f110",
+                    "5700090086010000010a000001",
+                    "4700090008696e7465726e6574",
+                    "8000010000",
+                    "6300010001",
+                    "4f0005000100000000",
+                    "48000800000003e8000003e8",
+                    "5d002c00",
+                    "4900010005",
+                    "500016002009",
+                    "0000000000000000000000000000000000000000",
+                    "5700090284010000020a000001",
+                    "0300010001"
+                ),
+            ),
+            Outcome::Answered(73),
+            Octets("4821001301000001ffffff000200020049000300010001"),
+        ),
+        HEARD,
+    ]],
+    serving: &[Has(1000, 1000)],
+    packet: &[Has(1000, 1000)],
+    ..IDLE
+};
+
+#[test]
+fn as_many_sessions_stand_as_can(rt: HostRuntime) -> Result<(), Fail> {
+    plays(&rt, rt.alloc(), &MOST_SESSIONS)
+}
