@@ -12,6 +12,7 @@ pub mod Safe
 pub mod Begin
 pub mod Finding
 pub mod Counts
+pub mod Answered
 pub mod Owed
 pub mod Naming
 pub mod Exchanging
