@@ -28,7 +28,7 @@ use Rattle.gtp_gateway.specs.declared.user_step.Accepted.{Accepted}
 use Rattle.gtp_gateway.proofs.SentBack.{none_sent}
 use Rattle.gtp_world.specs.Commands.{IsTimed}
 use Rattle.gtp_world.specs.Kept.{oldest_first, Half}
-use Rattle.gtp_world.specs.Sides.{entries, IsHanded, IsAccepted, IsInput}
+use Rattle.gtp_world.specs.Sides.{IsHanded, IsAccepted, IsInput}
 use Rattle.gtp_world.specs.Stepped.{AsksFor, KeepsOn, sent_at}
 use Rattle.gtp_world.specs.declared.log.Entry.{Entry as LoggedEntry}
 use Rattle.gtp_world.specs.declared.side.Came.{Came}

@@ -1,4 +1,4 @@
-use Rattle.std.proofs.Common.{◌≡◌, ◌<◌, ℕ, List, [], ◌∷◌, ◌++◌, map, sym, ◌∙◌, ap, subst, arith}
+use Rattle.std.proofs.Common.{◌<◌, List, [], ◌∷◌, ◌++◌, map, sym, ◌∙◌, ap, subst, arith}
 use Rattle.gtp_machine.specs.Node.{Arrival}
 use Rattle.gtp_gateway.specs.Ticked.{arrivals_of}
 use Rattle.gtp_world.specs.Indexes.{Arrivals, IsIndexed, asked}

@@ -3,7 +3,6 @@ use Rattle.gtp_machine.specs.Input.{Out}
 use Rattle.gtp_gateway.specs.Ticked.{arrivals_of}
 use Rattle.gtp_world.specs.Kept.{oldest_first}
 use Rattle.gtp_world.proofs.Forgets.{forgets_due}
-use Rattle.gtp_world.proofs.Logs.{arrivals_kept}
 use Rattle.gtp_world.proofs.side.Side.ticks.Goals as goal
 
 pub returns-clause-ticked : goal.returns-clause-ticked
