@@ -1,4 +1,6 @@
 pub mod Lists
+pub mod Indexes
+pub mod SameKeys
 pub mod Logs
 pub mod Quiet
 pub mod Forgets
@@ -12,10 +14,9 @@ pub mod Safe
 pub mod Begin
 pub mod Finding
 pub mod Counts
-pub mod Owed
+pub mod Answered
 pub mod Naming
 pub mod Exchanging
 pub mod Timely
 pub mod Reached
-pub mod Late
 pub mod Running

@@ -1,6 +1,6 @@
 -- One more in a log.
 use Rattle.std.proofs.Common.{◌≡◌, ℕ, suc, ◌<◌, Bool, true, false, List, [], ◌∷◌, ◌++◌, map, take, length, Option, Some, None, option_to_list, refl, ◌∙◌, ap, get_or}
-use Rattle.std.proofs.lemmas.List.{map-append}
+use Rattle.std.proofs.lemmas.List.{map-append, length-map}
 use Rattle.std.proofs.Math.Seq.{take-suc}
 use Rattle.gtp_world.specs.Kept.{Told, told_by, entry_by, counted, late_among}
 use Rattle.gtp_reliable.specs.Forgotten.{question_of}
@@ -39,6 +39,9 @@ entry_kept old new (Some e) is = ap (map entry_by) is ∙ map-append entry_by ol
 
 pub arrivals_kept : (a b : List Request) → arrivals_of (a ++ b) ≡ arrivals_of a ++ arrivals_of b
 arrivals_kept a b = ap (map asked_by) (map-append question_of a b) ∙ map-append asked_by (map question_of a) (map question_of b)
+
+pub as_many_arrivals : (requests : List Request) → length (arrivals_of requests) ≡ length requests
+as_many_arrivals requests = length-map (map question_of requests) asked_by ∙ length-map requests question_of
 
 -- the outcomes that are told, with one more
 pub told_last : (old new : List Told) (last : Told) → new ≡ old ++ last ∷ [] → map (λ (t : Told). t.outcome) new ≡ map (λ (t : Told). t.outcome) old ++ (last.outcome ∷ [])

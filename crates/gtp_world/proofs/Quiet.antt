@@ -7,6 +7,7 @@ use Rattle.gtp_machine.specs.Command.{CommandStep, SessionBegun, SessionDeleted,
 use Rattle.gtp_machine.specs.Choice.{HasBearer}
 use Rattle.gtp_machine.specs.Input.{Specification, Command, Create_session, Delete_session, Create_bearer, Delete_bearer, Release_session, Mark_end, Send_echo, Send_user, Effect, Out, nothing, refused}
 use Rattle.gtp_machine.specs.Node.{Node}
+use Rattle.gtp_machine.specs.Ordered.{Unless}
 use Rattle.gtp_machine.specs.declared.outcome.Refusal.{Refusal}
 
 -- only datagrams and packets that are handed in are told
@@ -25,53 +26,37 @@ IsQuiet e = e.out ≡ record nothing { sent = e.out.sent }
 by : (e k : Effect) → e ≡ k → IsQuiet k → IsQuiet e
 by e k is quiet = subst IsQuiet (sym is) quiet
 
+-- a row of a column: where its test fails the effect is this, and else the column goes on
+row : {A : Type 0} {Rest : A → Type 0} (e k : Effect) → Unless A (e ≡ k) Rest → IsQuiet k → ((x : A) → Rest x → IsQuiet e) → IsQuiet e
+row e k (inl (fails, is)) quiet rest = by e k is quiet
+row e k (inr (x, r)) quiet rest = rest x r
+
 session_begun : (role : Role) (spec : Specification) (old : Node) (e : Effect) → SessionBegun role spec old e → IsQuiet e
 session_begun Packet spec old e is = by e _ is refl
-session_begun Serving spec old e (inl (not_so, is)) = by e _ is refl
-session_begun Serving spec old e (inr (room, inl (not_so, is))) = by e _ is refl
-session_begun Serving spec old e (inr (room, inr (draws, inl (not_so, is)))) = by e _ is refl
-session_begun Serving spec old e (inr (room, inr (draws, inr (few, b)))) = by e _ b.gives refl
+session_begun Serving spec old e r = row e _ r refl (λ room r. row e _ r refl (λ draws r. row e _ r refl (λ few b. by e _ b.gives refl)))
 
 session_deleted : (role : Role) (session : ℕ) (old : Node) (e : Effect) → SessionDeleted role session old e → IsQuiet e
 session_deleted Packet session old e is = by e _ is refl
-session_deleted Serving session old e (inl (not_so, is)) = by e _ is refl
-session_deleted Serving session old e (inr (at, inl (not_so, is))) = by e _ is refl
-session_deleted Serving session old e (inr (at, inr (active, inl (not_so, is)))) = by e _ is refl
-session_deleted Serving session old e (inr (at, inr (active, inr (few, b)))) = by e _ b.gives refl
+session_deleted Serving session old e r = row e _ r refl (λ at r. row e _ r refl (λ active r. row e _ r refl (λ few b. by e _ b.gives refl)))
 
 bearer_begun : (role : Role) (session : ℕ) (tft : List ℕ) (qos : Qos) (old : Node) (e : Effect) → BearerBegun role session tft qos old e → IsQuiet e
 bearer_begun Serving session tft qos old e is = by e _ is refl
-bearer_begun Packet session tft qos old e (inl (not_so, is)) = by e _ is refl
-bearer_begun Packet session tft qos old e (inr (at, inl (not_so, is))) = by e _ is refl
-bearer_begun Packet session tft qos old e (inr (at, inr (active, inl (not_so, is)))) = by e _ is refl
-bearer_begun Packet session tft qos old e (inr (at, inr (active, inr (draws, inl (not_so, is))))) = by e _ is refl
-bearer_begun Packet session tft qos old e (inr (at, inr (active, inr (draws, inr (few, b))))) = by e _ b.gives refl
+bearer_begun Packet session tft qos old e r = row e _ r refl (λ at r. row e _ r refl (λ active r. row e _ r refl (λ draws r. row e _ r refl (λ few b. by e _ b.gives refl))))
 
 bearer_deleted : (role : Role) (session identity : ℕ) (old : Node) (e : Effect) → BearerDeleted role session identity old e → IsQuiet e
 bearer_deleted Serving session identity old e is = by e _ is refl
-bearer_deleted Packet session identity old e (inl (not_so, is)) = by e _ is refl
-bearer_deleted Packet session identity old e (inr (at, inl (not_so, is))) = by e _ is refl
-bearer_deleted Packet session identity old e (inr (at, inr (named, inl (not_so, is)))) = by e _ is refl
-bearer_deleted Packet session identity old e (inr (at, inr (named, inr (active, inl (not_so, is))))) = by e _ is refl
-bearer_deleted Packet session identity old e (inr (at, inr (named, inr (active, inr (few, b))))) = by e _ b.gives refl
+bearer_deleted Packet session identity old e r = row e _ r refl (λ at r. row e _ r refl (λ named r. row e _ r refl (λ active r. row e _ r refl (λ few b. by e _ b.gives refl))))
 
 session_released : (role : Role) (session : ℕ) (old : Node) (e : Effect) → SessionReleased role session old e → IsQuiet e
 session_released Serving session old e is = by e _ is refl
-session_released Packet session old e (inl (not_so, is)) = by e _ is refl
-session_released Packet session old e (inr (at, inl (not_so, is))) = by e _ is refl
-session_released Packet session old e (inr (at, inr (active, inl (not_so, is)))) = by e _ is refl
-session_released Packet session old e (inr (at, inr (active, inr (few, b)))) = by e _ b.gives refl
+session_released Packet session old e r = row e _ r refl (λ at r. row e _ r refl (λ active r. row e _ r refl (λ few b. by e _ b.gives refl)))
 
 end_marked : (role : Role) (bearer : ℕ) (old : Node) (e : Effect) → EndMarked role bearer old e → IsQuiet e
 end_marked Serving bearer old e is = by e _ is refl
-end_marked Packet bearer old e (inl (not_so, is)) = by e _ is refl
-end_marked Packet bearer old e (inr (at, inl (not_so, is))) = by e _ is refl
-end_marked Packet bearer old e (inr (at, inr (active, inl (not_so, is)))) = by e _ is refl
-end_marked Packet bearer old e (inr (at, inr (active, inr (before, is)))) = by e _ is refl
+end_marked Packet bearer old e r = row e _ r refl (λ at r. row e _ r refl (λ active r. row e _ r refl (λ before is. by e _ is refl)))
 
 echo_begun : (old : Node) (e : Effect) → EchoBegun old e → IsQuiet e
-echo_begun old e (inl (not_so, is)) = by e _ is refl
-echo_begun old e (inr (few, b)) = by e _ b.gives refl
+echo_begun old e r = row e _ r refl (λ few b. by e _ b.gives refl)
 
 -- a packet is handed in, or the command tells nothing but datagrams
 pub record Hands (old : Node) (bearer : ℕ) (payload : List ℕ) (e : Effect) : Type 0 where

@@ -4,7 +4,6 @@ use Rattle.std.specs.Prelude.{IsTrue, OnOk, OnErr}
 use Rattle.std.proofs.lemmas.Grind.{merely}
 use mathlib.Core.Logic.{∥∥₁_elim, ∥∥₁_prop}
 use Rattle.gtp_machine.specs.World.{Event}
-use Rattle.gtp_values.specs.FiniteMap.{Among}
 use Rattle.gtp_world.specs.Kept.{Kept}
 use Rattle.gtp_world.specs.Runs.{IsReached}
 use Rattle.gtp_world.specs.Stepped.{Comes}

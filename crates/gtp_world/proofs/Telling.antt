@@ -11,7 +11,7 @@ use Rattle.gtp_machine.specs.Input.{Command, Create_session, Delete_session, Cre
 use Rattle.gtp_machine.specs.Message.{Plane, Control, User}
 use Rattle.gtp_machine.specs.Node.{Arrival, Node}
 use Rattle.gtp_machine.specs.Spelling.{Datagram}
-use Rattle.gtp_machine.specs.World.{signed}
+use Rattle.gtp_machine.specs.World.{By, signed}
 use Rattle.gtp_machine.specs.declared.outcome.Outcome.{Outcome}
 use Rattle.gtp_machine.specs.declared.outcome.Outcome.TheVariants.{Begun as Asked, Refused, GoneOut}
 use Rattle.gtp_machine.specs.declared.outcome.Refusal.{Refusal}
@@ -28,17 +28,17 @@ use Rattle.gtp_gateway.specs.declared.user_step.Accepted.{Accepted}
 use Rattle.gtp_gateway.proofs.SentBack.{none_sent}
 use Rattle.gtp_world.specs.Commands.{IsTimed}
 use Rattle.gtp_world.specs.Kept.{oldest_first, Half}
-use Rattle.gtp_world.specs.Sides.{entries, IsHanded, IsAccepted, IsInput}
+use Rattle.gtp_world.specs.Sides.{IsHanded, IsAccepted, IsInput}
 use Rattle.gtp_world.specs.Stepped.{AsksFor, KeepsOn, sent_at}
 use Rattle.gtp_world.specs.declared.log.Entry.{Entry as LoggedEntry}
 use Rattle.gtp_world.specs.declared.side.Came.{Came}
 use Rattle.gtp_world.proofs.Quiet.{IsQuiet, Handing, handing, plainly}
 
-none_handed : (role : Role) (entry : Option LoggedEntry) (e : Effect) → entry ≡ None → IsQuiet e → entries entry ≡ signed role e.out.handed
-none_handed role entry e none quiet = ap entries none ∙ ap (λ (o : Out). signed role o.handed) (sym quiet)
+none_handed : (role : Role) (entry : Option (By Entry)) (e : Effect) → entry ≡ None → IsQuiet e → option_to_list entry ≡ signed role e.out.handed
+none_handed role entry e none quiet = ap option_to_list none ∙ ap (λ (o : Out). signed role o.handed) (sym quiet)
 
 -- the entry that is kept is that of the packet which the command hands in
-told : (node role : Role) (command : Command) (old : Node) (teid : Option ℕ) (entry : Option LoggedEntry) (e : Effect) → Handing role old command e → e.outcome ≡ outcome_by command teid → IsHanded node old command entry → entries entry ≡ signed node e.out.handed
+told : (node role : Role) (command : Command) (old : Node) (teid : Option ℕ) (entry : Option (By Entry)) (e : Effect) → Handing role old command e → e.outcome ≡ outcome_by command teid → IsHanded node old command entry → option_to_list entry ≡ signed node e.out.handed
 told node role (Create_session spec) old teid entry e quiet outcome none = none_handed node entry e none quiet
 told node role (Delete_session session) old teid entry e quiet outcome none = none_handed node entry e none quiet
 told node role (Create_bearer session tft qos) old teid entry e quiet outcome none = none_handed node entry e none quiet
@@ -84,10 +84,10 @@ asks_for (Mark_end bearer) old new begun teid sent outcome is out same = unasked
 asks_for (Send_user bearer payload) old new begun teid sent outcome is out same = unasked old new sent outcome (gone_out outcome is) same
 
 -- what a command that was carried out came to
-abbrev pub came_of_begun : Command → Begun → Option LoggedEntry → Came
+abbrev pub came_of_begun : Command → Begun → Option (By Entry) → Came
 came_of_begun command begun handed = record { outcome = outcome_by command (option_map (λ (t : Teid). t.0) begun.teid); restart = None; out = Some begun.out; handed = handed; accepted = None }
 
-pub done : (node : Role) (command : Command) (old : Half) (begun : Begun) (station : Station) (handed : Option LoggedEntry) → IsDone command old.station begun station → IsTimed command old.station begun station → IsHanded node old.station.node command handed → IsInput node (Commanded command) AsksFor old (came_of_begun command begun handed) (record old { station = station })
+pub done : (node : Role) (command : Command) (old : Half) (begun : Begun) (station : Station) (handed : Option (By Entry)) → IsDone command old.station begun station → IsTimed command old.station begun station → IsHanded node old.station.node command handed → IsInput node (Commanded command) AsksFor old (came_of_begun command begun handed) (record old { station = station })
 done node command old begun station handed d times is =
     let plain = plainly old.station.role command old.station.node d.effect d.step in
     record {

@@ -10,10 +10,10 @@ use Rattle.gtp_gateway.specs.Sent.{datagram_by}
 use Rattle.gtp_gateway.specs.Settings.{Settings}
 use Rattle.gtp_gateway.specs.Station.{Station}
 use Rattle.gtp_gateway.specs.Ticked.{arrivals_of}
+pub use Rattle.gtp_world.specs.Indexes.{entry_by}
 use Rattle.gtp_world.specs.declared.event.EventOutcome.{EventOutcome as Outcome}
 use Rattle.gtp_world.specs.declared.event.EventOutcome.TheVariants as outcomes
 use Rattle.gtp_world.specs.declared.log.Datagram.{Datagram as LoggedDatagram}
-use Rattle.gtp_world.specs.declared.log.Entry.{Entry as LoggedEntry}
 use Rattle.gtp_world.specs.declared.log.Note.{Note}
 use Rattle.gtp_world.specs.declared.records.Records.{Records}
 use Rattle.gtp_world.specs.declared.side.Side.{Side}
@@ -74,7 +74,7 @@ with_half v Packet half = record v { packet = half }
 -- the same of what the program keeps
 
 abbrev pub half_of : Side → Half
-half_of s = record { settings = s.config; station = s.gateway; first = s.first.0; restarts = s.restarts; seen = map (λ c. c.0) s.seen.items; forgotten = arrivals_of s.forgotten.items; made = arrivals_of s.made.items }
+half_of s = record { settings = s.config; station = s.gateway; first = s.first.0; restarts = s.restarts; seen = map (λ c. c.0) s.seen.items; forgotten = s.forgotten.list; made = arrivals_of s.made.items }
 
 abbrev pub outcome_of : Outcome → EventOutcome
 outcome_of (outcomes.CameTo outcome) = Came_to outcome
@@ -86,9 +86,6 @@ outcome_of outcomes.CutTooLong = Cut_too_long
 
 abbrev pub sent_by : LoggedDatagram → By Datagram
 sent_by d = record { role = d.node; what = datagram_by d.sent }
-
-abbrev pub entry_by : LoggedEntry → By Entry
-entry_by e = record { role = e.node; what = record { target = e.teid.0; payload = e.payload.items; imsi = e.imsi; access_point = e.apn; identity = e.ebi } }
 
 abbrev pub told_by : Note → Told
 told_by n = record { outcome = outcome_of n.outcome; learned = option_map (λ c. c.0) n.restart; sent = n.sent; gave_up = n.gave_up.items; forgot = arrivals_of n.forgotten.items }
@@ -103,7 +100,7 @@ late_among [] = 0
 late_among (n ∷ notes) = counted n.late (late_among notes)
 
 abbrev pub log_of : Records → Log
-log_of r = record { datagrams = map sent_by r.datagrams.items; handed = map entry_by r.handed.items; accepted = map entry_by r.accepted.items; late = late_among r.notes.items; notes = map told_by r.notes.items }
+log_of r = record { datagrams = map sent_by r.datagrams.items; handed = r.handed.list; accepted = map entry_by r.accepted.items; late = late_among r.notes.items; notes = map told_by r.notes.items }
 
 abbrev pub kept_of : Sides → Kept
 kept_of w = record { serving = half_of w.serving; packet = half_of w.packet; log = log_of w.records }

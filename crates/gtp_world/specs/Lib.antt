@@ -1,3 +1,4 @@
+pub mod Indexes
 pub mod Kept
 pub mod Stepped
 pub mod Commands

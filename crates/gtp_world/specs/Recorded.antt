@@ -1,5 +1,5 @@
 -- The log of what both gateways did.
-use Rattle.std.specs.Prelude.{ℕ, ◌+◌, ◌≤◌, Bool, [], ◌∷◌, ◌++◌, map, length, None, option_map, vec_len, vec_capacity}
+use Rattle.std.specs.Prelude.{ℕ, ◌+◌, ◌<◌, ◌≤◌, option_to_list, Bool, [], ◌∷◌, ◌++◌, map, length, None, option_map, vec_len, vec_capacity}
 use Rattle.gtp_machine.specs.declared.role.Role.{Role}
 use Rattle.gtp_machine.specs.World.{Came_to, Ticked, signed}
 use Rattle.gtp_gateway.specs.Sent.{datagram_by}
@@ -18,7 +18,7 @@ empty_log = record { datagrams = []; handed = []; accepted = []; late = 0; notes
 -- room for so many datagrams, and for one more of all else
 pub record HasRoom (count : ℕ) (r : Records) : Type 0 where
   pub datagrams : vec_len r.datagrams + count ≤ vec_capacity r.datagrams
-  pub handed : vec_len r.handed + 1 ≤ vec_capacity r.handed
+  pub handed : 0 < r.handed.room
   pub accepted : vec_len r.accepted + 1 ≤ vec_capacity r.accepted
   pub notes : vec_len r.notes + 1 ≤ vec_capacity r.notes
 
@@ -27,7 +27,7 @@ abbrev pub log_of_came : Log → Role → Came → Bool → Log
 log_of_came log role came late =
     record {
       datagrams = log.datagrams ++ signed role (datagrams came.out);
-      handed = log.handed ++ entries came.handed;
+      handed = log.handed ++ option_to_list came.handed;
       accepted = log.accepted ++ entries came.accepted;
       late = counted late log.late;
       notes = log.notes ++ (record { outcome = Came_to came.outcome; learned = option_map (λ c. c.0) came.restart; sent = length (datagrams came.out); gave_up = []; forgot = [] } ∷ []);

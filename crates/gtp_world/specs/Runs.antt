@@ -1,5 +1,5 @@
 -- Runs of the machine, and what they leave.
-use Rattle.std.specs.Prelude.{◌≡◌, ◌<◌, ℕ, List, [], ◌∷◌, ◌++◌, map, length, take}
+use Rattle.std.specs.Prelude.{◌≡◌, ℕ, List, [], ◌∷◌, ◌++◌, map, length}
 use Rattle.gtp_machine.specs.Config.{Config, own_end}
 use Rattle.gtp_machine.specs.Message.{plane_of}
 use Rattle.gtp_machine.specs.declared.role.Role.{Role}

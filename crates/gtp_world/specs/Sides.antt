@@ -31,7 +31,7 @@ pub record TellsCame (role : Role) (old : Half) (came : Came) (e : Effect) : Typ
   pub sent : datagrams came.out ≡ sent_at old e.out
   pub outcome : came.outcome ≡ e.outcome
   pub learned : option_map (λ c. c.0) came.restart ≡ e.out.learned
-  pub handed : entries came.handed ≡ signed role e.out.handed
+  pub handed : option_to_list came.handed ≡ signed role e.out.handed
   pub accepted : entries came.accepted ≡ signed role e.out.accepted
   pub gave_up : e.out.gave_up ≡ []
   pub forgot : e.out.forgot ≡ []
@@ -66,13 +66,13 @@ named_or None remote = written remote
 named_or (Some teid) remote = teid.0
 
 -- the entry of a packet on a bearer, where that and its session stand
-abbrev pub IsEntryAt : Role → Node → ℕ → Option Teid → List ℕ → Option LoggedEntry → Type 0
-IsEntryAt role node bearer names payload entry = (at : HasBearer node bearer) (of : HasSession node at.bearer.session) → entries entry ≡ record { role = role; what = entry_for (named_or names at.bearer.remote) payload of.session.subscriber at.bearer.identity } ∷ []
+abbrev pub IsEntryAt : Role → Node → ℕ → Option Teid → List ℕ → Option (By Entry) → Type 0
+IsEntryAt role node bearer names payload packet = (at : HasBearer node bearer) (of : HasSession node at.bearer.session) → option_to_list packet ≡ record { role = role; what = entry_for (named_or names at.bearer.remote) payload of.session.subscriber at.bearer.identity } ∷ []
 
 -- the entry of a packet that is handed in, where its bearer and that bearer's session stand; no other command has one
-abbrev pub IsHanded : Role → Node → Command → Option LoggedEntry → Type 0
-IsHanded role node (Send_user bearer payload) entry = IsEntryAt role node bearer None payload entry
-IsHanded role node command entry = entry ≡ None
+abbrev pub IsHanded : Role → Node → Command → Option (By Entry) → Type 0
+IsHanded role node (Send_user bearer payload) handed = IsEntryAt role node bearer None payload handed
+IsHanded role node command handed = handed ≡ None
 
 -- the entry of a packet that was accepted, if one was
 abbrev pub IsAccepted : Role → Node → Option Accepted → Option LoggedEntry → Type 0

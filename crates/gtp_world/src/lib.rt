@@ -1,12 +1,15 @@
 //! Both gateways of the S5/S8 interface, and every datagram that they have ever sent.
 #![tactic(auto)]
 
+mod asked;
 mod command;
 mod config;
 mod event;
+mod handed;
 mod log;
 mod mutual;
 mod records;
+mod remembered;
 mod room;
 mod run;
 mod side;

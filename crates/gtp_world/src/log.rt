@@ -12,17 +12,22 @@ pub struct Datagram {
 }
 
 /// A user packet that was handed in or accepted, at which gateway, and the context that it is for.
-#[derive(Debug, Drop)]
+#[derive(Debug, Drop, PartialEq, Eq)]
+#[derive_where(Hash)]
 pub struct Entry {
+    #[derive_where(skip(Hash))]
     pub node: Role,
     /// The TEID that the packet names.
     pub teid: Teid,
     pub payload: Vec<u8>,
     /// Of the bearer's session.
+    #[derive_where(skip(Hash))]
     pub imsi: Imsi,
     /// Of the bearer's session.
+    #[derive_where(skip(Hash))]
     pub apn: Apn,
     /// Of the bearer.
+    #[derive_where(skip(Hash))]
     pub ebi: Option<Ebi>,
 }
 

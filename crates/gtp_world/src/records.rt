@@ -11,6 +11,7 @@ ghost use Rattle.gtp_world.specs.Recorded.{HasRoom, empty_log, log_of_came, log_
 ghost use Rattle.gtp_world.specs.Stepped.{log_with, told_of};
 
 use crate::event::EventOutcome;
+use crate::handed::Handed;
 use crate::log::{Datagram, Entry, Note};
 use crate::room::{keep, keep_any};
 use crate::side::Came;
@@ -18,12 +19,12 @@ use gtp_gateway::{Memory, Role, Sent, Ticked};
 use std::alloc::Global;
 
 /// What is kept of what both gateways did.
-#[derive(Debug, Drop)]
+#[derive(Drop)]
 pub struct Records {
     /// Each datagram that was ever sent.
     pub datagrams: Vec<Datagram>,
     /// Each packet that was handed in.
-    pub handed: Vec<Entry>,
+    pub handed: Handed,
     /// Each packet that was accepted.
     pub accepted: Vec<Entry>,
     /// What came of each event.
@@ -38,26 +39,6 @@ fn count_of(out: &Option<Sent>) -> usize
         Some(_) => 1,
         None => 0,
     }
-}
-
-/// Whether the one is the packet that was handed in at one gateway, and the other the same packet,
-/// accepted at the other gateway.
-fn is_handed_over(handed: &Entry, accepted: &Entry) -> bool
-    ensures { IsTrue result
-        ↔ entry_by handed.now ≡ record { role = other accepted.now.node; what = (entry_by accepted.now).what } }
-{
-    handed.node != accepted.node && is_same_packet(handed, accepted)
-}
-
-/// Whether both are of the same packet, for the same context.
-fn is_same_packet(a: &Entry, b: &Entry) -> bool
-    ensures { IsTrue result ↔ (entry_by a.now).what ≡ (entry_by b.now).what }
-{
-    a.teid == b.teid
-        && a.payload.as_slice() == b.payload.as_slice()
-        && a.imsi == b.imsi
-        && a.apn == b.apn
-        && a.ebi == b.ebi
 }
 
 impl Note {
@@ -84,7 +65,7 @@ impl Records {
     {
         Records {
             datagrams: Vec::new(alloc),
-            handed: Vec::new(alloc),
+            handed: Handed::new(alloc),
             accepted: Vec::new(alloc),
             notes: Vec::new(alloc),
         }
@@ -96,7 +77,7 @@ impl Records {
         ensures same { log_of self.new ≡ log_of self.old }
     {
         self.datagrams.try_reserve(datagrams)?;
-        self.handed.try_reserve(1)?;
+        self.handed.make_room()?;
         self.accepted.try_reserve(1)?;
         self.notes.try_reserve(1)?;
         Ok(())
@@ -143,7 +124,7 @@ impl Records {
             late,
         };
         self.keep_sent(node, came.out);
-        keep_any(&mut self.handed, came.handed);
+        self.handed.keep_any(came.handed);
         keep_any(&mut self.accepted, came.accepted);
         keep(&mut self.notes, note);
         outcome
@@ -198,12 +179,7 @@ impl Records {
         ensures { IsTrue result
             ↔ HasBy (log_of self.now).handed (other accepted.now.node) (entry_by accepted.now).what }
     {
-        for handed in self.handed.as_slice() {
-            if is_handed_over(handed, accepted) {
-                return true;
-            }
-        }
-        false
+        self.handed.owes(accepted)
     }
 
     /// How many deliveries were late.

@@ -12,15 +12,18 @@ ghost use Rattle.gtp_gateway.specs.Taken.{made_for};
 ghost use Rattle.gtp_reliable.specs.Forgotten.{question_of};
 ghost use Rattle.gtp_gateway.specs.Ticked.{asked_by, arrivals_of};
 ghost use Rattle.gtp_world.specs.Commands.{command_of, is_command};
-ghost use Rattle.gtp_world.specs.Kept.{half_of};
+ghost use Rattle.gtp_world.specs.Kept.{half_of, entry_by};
 ghost use Rattle.gtp_world.specs.Sides.{IsInput, IsTick, IsEntryAt, IsHanded, IsAccepted};
 ghost use Rattle.gtp_world.specs.Views.{IsCount};
 ghost use Rattle.gtp_world.specs.Stepped.{AsksFor, KeepsOn, IsLate, counter_after, half_begun, half_restarted};
 
+use crate::asked::Asked;
 use crate::command::{outcome_of, tell};
 use crate::event::Event;
+use crate::handed::HandedIn;
 use crate::log::Entry;
-use crate::room::{keep, keep_all};
+use crate::remembered::Remembered;
+use crate::room::keep;
 use gtp_gateway::{
     Accepted, Begun, CommandFault, Config, Counter, Endpoint, Gateway, Memory, Outcome, Plane,
     Refusal, Request, Role, Sent, Teid, Ticked,
@@ -39,7 +42,7 @@ pub struct Side {
     /// The counters that it heard.
     pub seen: Vec<Counter>,
     /// The requests whose answers it has given up.
-    pub forgotten: Vec<Request>,
+    pub forgotten: Remembered,
     /// The create requests for which it made a context.
     pub made: Vec<Request>,
 }
@@ -50,7 +53,7 @@ pub struct Came {
     pub outcome: Outcome,
     pub restart: Option<Counter>,
     pub out: Option<Sent>,
-    pub handed: Option<Entry>,
+    pub handed: Option<HandedIn>,
     pub accepted: Option<Entry>,
 }
 
@@ -73,7 +76,7 @@ impl Side {
             first,
             restarts: 0,
             seen: Vec::new(alloc),
-            forgotten: Vec::new(alloc),
+            forgotten: Remembered::new(alloc),
             made: Vec::new(alloc),
         })
     }
@@ -87,7 +90,8 @@ impl Side {
         names: Option<Teid>,
         payload: Vec<u8>,
     ) -> Option<Entry>
-        ensures { IsEntryAt node self.now.gateway.node bearer.0 names payload.items result }
+        ensures { IsEntryAt node self.now.gateway.node bearer.0 names payload.items
+            (option_map entry_by result) }
     {
         let at = self.gateway.bearer(bearer)?;
         let of = self.gateway.session(Teid(at.session))?;
@@ -102,7 +106,7 @@ impl Side {
     }
 
     /// The entry of a packet that a command hands in.
-    fn handing(&self, alloc: Global, node: Role, event: &Event) -> Result<Option<Entry>, Memory>
+    fn handing(&self, alloc: Global, node: Role, event: &Event) -> Result<Option<HandedIn>, Memory>
         ensures { IfOk result (λ entry.
             IsHanded node self.now.gateway.node (command_of event.now) entry) }
     {
@@ -115,7 +119,7 @@ impl Side {
             return Ok(None);
         };
         let payload = Vec::from_slice(alloc, payload.as_slice())?;
-        Ok(self.entry(node, *bearer, None, payload))
+        HandedIn::of_any(alloc, self.entry(node, *bearer, None, payload))
     }
 
     /// The entry of a packet that was accepted.
@@ -210,24 +214,17 @@ impl Side {
     }
 
     /// Whether a datagram is a request whose answer the gateway has given up.
-    pub fn is_late(&self, sent: &Sent) -> bool
-        ensures { IsTrue result ↔ IsLate (half_of self.now) (datagram_by sent.now) }
+    pub fn is_late(&self, alloc: Global, sent: &Sent) -> Result<bool, Memory>
+        ensures { IfOk result (λ late.
+            IsTrue late ↔ IsLate (half_of self.now) (datagram_by sent.now)) }
     {
-        matches!(sent.plane, Plane::Control)
-            && self.has_forgotten(sent.from, sent.octets.as_slice())
-    }
-
-    /// Whether the gateway has given up the answer to this request.
-    fn has_forgotten(&self, source: Endpoint, octets: &[u8]) -> bool
-        ensures { IsTrue result
-            ↔ Among (arrival_of source octets.now) (arrivals_of self.now.forgotten.items) }
-    {
-        for request in self.forgotten.as_slice() {
-            if is_from(request, source, octets) {
-                return true;
+        match sent.plane {
+            Plane::Control => {
+                let request = Asked::copy(alloc, sent.from, sent.octets.as_slice())?;
+                Ok(self.forgotten.has(&request))
             }
+            Plane::User => Ok(false),
         }
-        false
     }
 
     /// How many contexts the gateway has made for this request.
@@ -249,10 +246,10 @@ impl Side {
         ensures few { IfOk result (λ ticked. length ticked.resent.items ≤ 256) }
         ensures err { OnErr result (half_of self.new ≡ half_of self.old) }
     {
-        let forgotten = self.gateway.forgets()?;
-        self.forgotten.try_reserve(forgotten.len())?;
+        let forgotten = Remembered::of(alloc, self.gateway.forgets()?)?;
+        self.forgotten.make_room_for(&forgotten)?;
         let ticked = self.gateway.tick(alloc)?;
-        keep_all(&mut self.forgotten, forgotten);
+        self.forgotten.append(forgotten);
         Ok(ticked)
     }
 
@@ -283,7 +280,7 @@ impl Side {
 
 impl Came {
     /// A command was carried out.
-    fn begun(begun: Begun, outcome: Outcome, handed: Option<Entry>) -> Came
+    fn begun(begun: Begun, outcome: Outcome, handed: Option<HandedIn>) -> Came
         ensures { result ≡ record { outcome = outcome; restart = None; out = Some begun.out; handed = handed; accepted = None } }
     {
         Came {

@@ -13,6 +13,7 @@ ghost use Rattle.gtp_world.specs.Stepped.{Comes, Takes, AsksFor, Brings, TicksBy
 
 use crate::config::WorldConfig;
 use crate::event::{Event, EventOutcome};
+use crate::handed::other_than;
 use crate::records::Records;
 use crate::side::Side;
 use gtp_gateway::{Memory, Role};
@@ -28,16 +29,6 @@ pub struct Sides {
 
 /// The most datagrams that a tick sends.
 const MOST_RESENT: usize = 256;
-
-/// The other gateway.
-fn other_than(node: Role) -> Role
-    ensures { result ≡ other node }
-{
-    match node {
-        Role::Serving => Role::Packet,
-        Role::Packet => Role::Serving,
-    }
-}
 
 impl Sides {
     /// Both gateways, just started, which have sent nothing.
@@ -140,13 +131,14 @@ impl Sides {
     }
 
     /// Whether the delivery of the datagram at an index is late.
-    fn is_late(&self, index: usize) -> bool
+    fn is_late(&self, alloc: Global, index: usize) -> Result<bool, Memory>
         requires { index < length self.now.records.datagrams.items }
-        ensures { (found : IsThere (kept_of self.now).log.datagrams index)
-            → IsTrue result ↔ IsLate (half_in (kept_of self.now) (other found.sent.role)) found.sent.what }
+        ensures { IfOk result (λ late. (found : IsThere (kept_of self.now).log.datagrams index)
+            → IsTrue late ↔ IsLate (half_in (kept_of self.now) (other found.sent.role)) found.sent.what) }
     {
         let datagram = &self.records.datagrams[index];
-        self.side(other_than(datagram.node)).is_late(&datagram.sent)
+        self.side(other_than(datagram.node))
+            .is_late(alloc, &datagram.sent)
     }
 
     /// A datagram comes to the gateway that did not send it.
@@ -161,7 +153,7 @@ impl Sides {
             return Ok(self.records.pass_over(alloc, EventOutcome::NoSuchDatagram));
         };
         let count = self.records.datagrams[index].sent.octets.len();
-        let late = self.is_late(index);
+        let late = self.is_late(alloc, index)?;
         self.bring(alloc, index, count, late)
     }
 

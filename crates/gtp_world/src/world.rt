@@ -11,7 +11,7 @@ ghost use Rattle.gtp_world.specs.Kept.{half_in, outcome_of, outcomes_in, sent_by
 ghost use Rattle.gtp_world.specs.Events.{event_of};
 ghost use Rattle.gtp_world.specs.Naming.{Pair, pair_of, mutual_pairs, NameEachOther, DoAgree};
 ghost use Rattle.gtp_world.specs.Stepped.{Comes, Follows};
-ghost use Rattle.gtp_world.specs.Views.{IsMade, IsMadeOnce};
+ghost use Rattle.gtp_world.specs.Views.{IsMade, IsMadeOnce, IsAnsweredAlike};
 ghost use Rattle.gtp_world.specs.Ends.{IsCutShort};
 ghost use Rattle.gtp_world.specs.Exchange.{exchange_events, CameSoFar, IsExchanged};
 ghost use Rattle.gtp_world.specs.Runs.{begun, IsReached, IsRunOf, RunsOn, IsSafe};
@@ -186,6 +186,8 @@ impl World {
         // is where no delivery at all was late.
         ensures once { IfSome result (λ count. IsMadeOnce self.now number count) }
         ensures timely { self.now.log.late ≡ 0 → IfSome result (λ count. count ≤ 1) }
+        // And all that was then sent in answer to it, since its receiver started, is the same octets.
+        ensures answers { IsAnsweredAlike self.now number }
     {
         self.sides.made(number)
     }

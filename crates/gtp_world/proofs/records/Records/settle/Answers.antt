@@ -1,4 +1,4 @@
-use Rattle.std.proofs.Common.{◌≡◌, [], ◌∷◌, ◌++◌, map, option_map, length, ◌∙◌, ap}
+use Rattle.std.proofs.Common.{◌≡◌, [], ◌∷◌, ◌++◌, map, option_map, option_to_list, length, ◌∙◌, ap}
 use Rattle.gtp_machine.specs.World.{Came_to}
 use Rattle.gtp_gateway.specs.Taken.{datagrams}
 use Rattle.gtp_gateway.specs.Ticked.{arrivals_of}
@@ -15,7 +15,7 @@ returns-clause-log c =
     let old = c.args.self.now in
     let mid = c.keep_sent.new.self in
     let rest = c.keep_sent.ensures.rest in
-    let handed = entry_kept mid.handed.items c.keep_any.new.list.items c.args.came.handed c.keep_any.ensures ∙ ap (λ (r : Records). map entry_by r.handed.items ++ entries c.args.came.handed) rest in
+    let handed = c.keep_any.ensures ∙ ap (λ (r : Records). r.handed.list ++ option_to_list c.args.came.handed) rest in
     let accepted = entry_kept mid.accepted.items c.keep_any-2.new.list.items c.args.came.accepted c.keep_any-2.ensures ∙ ap (λ (r : Records). map entry_by r.accepted.items ++ entries c.args.came.accepted) rest in
     let note : Note = record { outcome = outcomes.CameTo c.args.came.outcome; restart = c.args.came.restart; sent = c.count_of.result; gave_up = c.new.result; forgotten = c.new-2.result; late = c.args.late } in
     let told : told_by note ≡ record { outcome = Came_to c.args.came.outcome; learned = option_map (λ k. k.0) c.args.came.restart; sent = length (datagrams c.args.came.out); gave_up = []; forgot = [] } = λ i. record { outcome = Came_to c.args.came.outcome; learned = option_map (λ k. k.0) c.args.came.restart; sent = c.count_of.ensures i; gave_up = c.new.ensures.items i; forgot = arrivals_of (c.new-2.ensures.items i) } in

@@ -17,7 +17,7 @@ returns-clause-log c =
     let told : told_by note ≡ record { outcome = Ticked; learned = None; sent = length c.args.ticked.resent.items; gave_up = c.args.ticked.gave_up.items; forgot = arrivals_of c.args.ticked.forgotten.items } = λ i. record { outcome = Ticked; learned = None; sent = ap length c.as_slice.ensures.value i; gave_up = c.args.ticked.gave_up.items; forgot = arrivals_of c.args.ticked.forgotten.items } in
     let notes = note_kept mid.notes.items c.keep.new.list.items note c.keep.ensures.items ∙ ap (λ (r : Records). map told_by r.notes.items ++ (told_by note ∷ [])) rest ∙ ap (λ (k : Told). map told_by old.notes.items ++ (k ∷ [])) told in
     let late = late_kept mid.notes.items c.keep.new.list.items note c.keep.ensures.items ∙ ap (λ (r : Records). late_among r.notes.items) rest in
-    λ i. record { datagrams = c.keep_all_sent.ensures.datagrams i; handed = ap (λ (r : Records). map entry_by r.handed.items) rest i; accepted = ap (λ (r : Records). map entry_by r.accepted.items) rest i; late = late i; notes = notes i }
+    λ i. record { datagrams = c.keep_all_sent.ensures.datagrams i; handed = ap (λ (r : Records). r.handed.list) rest i; accepted = ap (λ (r : Records). map entry_by r.accepted.items) rest i; late = late i; notes = notes i }
 
 pub returns-clause-told : goal.returns-clause-told
 returns-clause-told c = told_last _ _ _ (ap (λ (l : Log). l.notes) (returns-clause-log c))

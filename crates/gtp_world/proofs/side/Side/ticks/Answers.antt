@@ -3,7 +3,6 @@ use Rattle.gtp_machine.specs.Input.{Out}
 use Rattle.gtp_gateway.specs.Ticked.{arrivals_of}
 use Rattle.gtp_world.specs.Kept.{oldest_first}
 use Rattle.gtp_world.proofs.Forgets.{forgets_due}
-use Rattle.gtp_world.proofs.Logs.{arrivals_kept}
 use Rattle.gtp_world.proofs.side.Side.ticks.Goals as goal
 
 pub returns-clause-ticked : goal.returns-clause-ticked
@@ -12,7 +11,7 @@ returns-clause-ticked c =
     let t = c.in_ok-ticked.ensures.ticked in
     let seen : List ℕ = map (λ k. k.0) old.seen.items in
     let made = arrivals_of old.made.items in
-    let forgotten = ap arrivals_of c.keep_all.ensures ∙ ap (λ l. arrivals_of (l ++ c.in_ok-forgotten.forgotten.items)) c.try_reserve.ensures.items ∙ arrivals_kept old.forgotten.items c.in_ok-forgotten.forgotten.items ∙ ap (λ l. arrivals_of old.forgotten.items ++ l) (c.in_ok-forgotten.ensures.forgets ∙ sym (forgets_due _ _ t.out _ t.ticks)) in
+    let forgotten = c.append.ensures ∙ ap (λ l. l ++ c.in_ok-forgotten.forgotten.list) c.make_room_for.ensures.same ∙ ap (λ l. old.forgotten.list ++ l) (c.in_ok-forgotten.ensures ∙ c.in_ok-forgets.ensures.forgets ∙ sym (forgets_due _ _ t.out _ t.ticks)) in
     let heard = sym (append-nil seen) ∙ ap (λ (o : Out). seen ++ option_to_list o.heard) (sym t.tells.all) in
     let none_made = sym (append-nil made) ∙ ap (λ (o : Out). made ++ oldest_first o.made) (sym t.tells.all) in
     record {

@@ -23,6 +23,6 @@ returns-clause-comes c =
     so_on_ok c.bring.result _ _ (λ takes.
     subst (λ (n : ℕ). Comes (kept_of old) (Deliver n) new) is.0
     (subst (λ (k : Kept). Comes k (Deliver i) new) same
-    (delivered v i new c.is_late-late.result found (c.is_late-late.ensures found)
-    (all_of v c.is_late-late.result new c.len-count.result datagrams i d found at (c.len-count.ensures ∙ d.sent.octets.ok.0) (takes found)))))
+    (delivered v i new c.in_ok-late.late found (c.in_ok-late.ensures found)
+    (all_of v c.in_ok-late.late new c.len-count.result datagrams i d found at (c.len-count.ensures ∙ d.sent.octets.ok.0) (takes found)))))
     c.bring.ensures.takes
