@@ -9,7 +9,7 @@ use Happens::*;
 use Sends::{Nothing, Octets, Shown};
 use gtp_gateway::{DropReason, FaultName, Outcome, Plane, Refusal, Role};
 use gtp_values::{Counter, Teid};
-use gtp_world::{Event, EventOutcome, Mutual, Note, World};
+use gtp_world::{Event, EventOutcome, Mutual, Note, World, WorldConfig};
 use std::alloc::Global;
 use std::process::Abort;
 use std::test::Fail;
@@ -672,13 +672,9 @@ fn ten_thousand_events(rt: HostRuntime) -> Result<(), Fail> {
     happens_so(&rt, rt.alloc(), &MIXED)
 }
 
-/// What a run of these events leaves.
-fn ran(alloc: Global, events: &[Event]) -> Result<World, Fail> {
-    let config = both_set_up(alloc, &QUIET)?;
-    match World::run(alloc, &config, events) {
-        Ok(world) => Ok(world),
-        Err(_) => Err("no memory".into()),
-    }
+/// What a run of these events leaves, where there is memory.
+fn ran(alloc: Global, config: &WorldConfig, events: &[Event]) -> Option<World> {
+    World::run(alloc, config, events).ok()
 }
 
 /// The outcomes are these.
@@ -696,7 +692,8 @@ fn runs_so(
     events: &[Event],
     outcomes: &[EventOutcome],
 ) -> Result<(), Fail> {
-    let world = ran(alloc, events)?;
+    let config = both_set_up(alloc, &QUIET)?;
+    let world = ran(alloc, &config, events).expect(rt, "no memory");
     come_to(rt, notes(&world), outcomes);
     Ok(())
 }
