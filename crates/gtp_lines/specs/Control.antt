@@ -12,7 +12,8 @@ use Rattle.gtp_v2.specs.Tables.{table_of}
 use Rattle.gtp_v2.specs.Message.{Content, Fields, Raw, MessageValue}
 use Rattle.gtp_v2.specs.Datagram.{IsMessage, IsFault}
 use Rattle.gtp_v2.specs.Viewed.{place_of}
-use Rattle.gtp_lines.specs.Text.{octets_text, teid_text}
+use Rattle.gtp_values.specs.Teid.{teid_text}
+use Rattle.gtp_lines.specs.Text.{octets_text}
 use Rattle.gtp_lines.specs.Values.{field_shown, raw_shown, body_shown}
 
 -- what stands before an element's value

@@ -8,7 +8,8 @@ use Rattle.gtp_user.specs.Chain.{Extension}
 use Rattle.gtp_user.specs.Message.{Content, EchoRequest, EchoResponse, ErrorIndication, Notification, EndMarker, Packet, Other, MessageValue}
 use Rattle.gtp_user.specs.Datagram.{IsUserMessage, IsUserFault}
 use Rattle.gtp_values.specs.Address.{ip_text}
-use Rattle.gtp_lines.specs.Text.{octets_text, teid_text}
+use Rattle.gtp_values.specs.Teid.{teid_text}
+use Rattle.gtp_lines.specs.Text.{octets_text}
 use Rattle.gtp_lines.specs.Values.{field_shown}
 
 -- the type of a message, by its number and its name

@@ -11,7 +11,8 @@ use Rattle.gtp_ie.specs.Value.{Value, OfImsi, OfCause, OfRecovery, OfApn, OfAmbr
 use Rattle.std.specs.Net.Text.{ipv4_text}
 use Rattle.gtp_values.specs.Apn.{apn_text}
 use Rattle.gtp_values.specs.Imsi.{digits_text}
-use Rattle.gtp_lines.specs.Text.{octets_text, teid_text}
+use Rattle.gtp_values.specs.Teid.{teid_text}
+use Rattle.gtp_lines.specs.Text.{octets_text}
 
 -- a mark and a number
 abbrev pub field_shown : List ℕ → ℕ → List ℕ

@@ -90,7 +90,7 @@ pub fn put_elements(out: &mut Vec<u8>, elements: &Elements) -> Result<(), AllocE
 }
 
 /// The name of a type of message.
-fn message_name(kind: u8) -> &'static str
+pub fn message_name(kind: u8) -> &'static str
     ensures { result.now ≡ spec_message_name kind }
 {
     type_name(kind).unwrap_or("other")

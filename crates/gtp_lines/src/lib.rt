@@ -3,10 +3,11 @@
 
 mod control;
 mod lines;
-mod text;
+pub mod text;
 mod user;
 mod values;
 
+pub use control::message_name;
 pub use lines::{Shown, decode_lines};
 
 /// What the signatures here name of the crate below.

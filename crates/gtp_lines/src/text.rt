@@ -3,9 +3,9 @@
 ghost use Rattle.std.specs.Prelude.{◌≡◌, ◌<◌, ◌++◌, All, OnOk, IfSome, decimal, map, take};
 ghost use Rattle.hex.specs.Hex.{encode_lower};
 ghost use Rattle.gtp_values.specs.Imsi.{digits_text};
-ghost use Rattle.gtp_lines.specs.Text.{octets_text, teid_text};
+ghost use Rattle.gtp_values.specs.Teid.{teid_text};
+ghost use Rattle.gtp_lines.specs.Text.{octets_text};
 
-use byteorder::{BigEndian, ByteOrder};
 use gtp_values::Teid;
 use itoa::Buffer;
 use std::alloc::AllocError;
@@ -55,9 +55,7 @@ pub fn put_octets(out: &mut Vec<u8>, octets: &[u8]) -> Result<(), AllocError>
 pub fn put_teid(out: &mut Vec<u8>, teid: Teid) -> Result<(), AllocError>
     ensures ok { OnOk result (out.new.items ≡ out.old.items ++ teid_text teid.0) }
 {
-    let mut octets = [0u8; 4];
-    BigEndian::write_u32(&mut octets, teid.0);
-    put_hex(out, &octets)
+    put_hex(out, &teid.0.to_be_bytes())
 }
 
 /// Appends what a value displays.

@@ -6,4 +6,5 @@ pub mod Entries
 pub mod Heads
 pub mod Scenarios
 pub mod Views
+pub mod Words
 pub mod Spelling

@@ -11,6 +11,7 @@ use Rattle.gtp_machine.specs.declared.role.Role.TheVariants.{Serving, Packet}
 use Rattle.gtp_machine.specs.Input.{Specification, Command, Create_session, Delete_session, Create_bearer, Delete_bearer, Release_session, Mark_end, Send_echo, Send_user}
 use Rattle.gtp_machine.specs.World.{Event, Does, Tick, Deliver, Cut, Restart}
 use Rattle.gtp_scenario.specs.Events.{qos, session_for}
+use Rattle.gtp_scenario.specs.Words.{role_text, word_of}
 use Rattle.gtp_scenario.specs.Entries.{Entry}
 
 -- ---- members of an object
@@ -23,19 +24,11 @@ with_text key text members = put key (string text) members
 abbrev pub with_number : List ℕ → ℕ → Members → Members
 with_number key n members = put key (number (unsigned n)) members
 
-abbrev pub role_text : Role → List ℕ
-role_text Serving = codes "serving"
-role_text Packet = codes "packet"
-
 abbrev pub with_node : Role → Members → Members
 with_node node members = with_text (codes "node") (role_text node) members
 
 abbrev pub with_teid : ℕ → Members → Members
 with_teid teid members = with_text (codes "teid") (teid_text teid) members
-
--- an event of this name, with these members beside
-abbrev pub named : List ℕ → Members → Members
-named word members = with_text (codes "do") word members
 
 -- ---- entries
 
@@ -46,23 +39,28 @@ session_members s =
     (with_number (codes "ebi") s.subscriber.identity
     (with_number (codes "pdn") s.pdn no_members)))
 
+-- what a command says beside its word
 abbrev pub command_members : Role → Command → Members
-command_members node (Create_session spec) = named (codes "create_session") (session_members spec)
-command_members node (Delete_session teid) = named (codes "delete_session") (with_teid teid no_members)
-command_members node (Create_bearer teid tft of) = named (codes "create_bearer") (with_teid teid (with_text (codes "tft") (encode_lower tft) no_members))
-command_members node (Delete_bearer teid ebi) = named (codes "delete_bearer") (with_teid teid (with_number (codes "ebi") ebi no_members))
-command_members node (Release_session teid) = named (codes "release_session") (with_teid teid no_members)
-command_members node (Mark_end teid) = named (codes "end_marker") (with_teid teid no_members)
-command_members node Send_echo = named (codes "echo") (with_node node no_members)
-command_members node (Send_user teid payload) = named (codes "send") (with_node node (with_teid teid (with_text (codes "payload") (encode_lower payload) no_members)))
+command_members node (Create_session spec) = session_members spec
+command_members node (Delete_session teid) = with_teid teid no_members
+command_members node (Create_bearer teid tft of) = with_teid teid (with_text (codes "tft") (encode_lower tft) no_members)
+command_members node (Delete_bearer teid ebi) = with_teid teid (with_number (codes "ebi") ebi no_members)
+command_members node (Release_session teid) = with_teid teid no_members
+command_members node (Mark_end teid) = with_teid teid no_members
+command_members node Send_echo = with_node node no_members
+command_members node (Send_user teid payload) = with_node node (with_teid teid (with_text (codes "payload") (encode_lower payload) no_members))
 
--- the event, and how often it happens where that may be said
+-- what an event says beside its word, and how often it happens where that may be said
 abbrev pub event_members : Event → ℕ → Members
 event_members (Does node command) times = command_members node command
-event_members (Tick node) times = named (codes "tick") (with_node node (with_number (codes "times") times no_members))
-event_members (Deliver datagram) times = named (codes "deliver") (with_number (codes "datagram") datagram no_members)
-event_members (Cut datagram size) times = named (codes "cut") (with_number (codes "datagram") datagram (with_number (codes "length") size no_members))
-event_members (Restart node) times = named (codes "restart") (with_node node no_members)
+event_members (Tick node) times = with_node node (with_number (codes "times") times no_members)
+event_members (Deliver datagram) times = with_number (codes "datagram") datagram no_members
+event_members (Cut datagram size) times = with_number (codes "datagram") datagram (with_number (codes "length") size no_members)
+event_members (Restart node) times = with_node node no_members
+
+-- the event, by its word
+abbrev pub named_members : Event → ℕ → Members
+named_members event times = with_text (codes "do") (word_of event) (event_members event times)
 
 -- what it has to come to, where that is said
 abbrev pub expecting : Option (List ℕ) → Members → Members
@@ -70,7 +68,7 @@ expecting None members = members
 expecting (Some word) members = with_text (codes "expect") word members
 
 abbrev pub spelling : Entry → Data
-spelling entry = object (expecting entry.expect (event_members entry.event entry.times))
+spelling entry = object (expecting entry.expect (named_members entry.event entry.times))
 
 -- ---- what may be written
 
