@@ -1,16 +1,34 @@
--- What the program says where nothing could be shown.
+-- What the program says where nothing could be shown or replayed, and how a replay ends.
 use Rattle.std.specs.Prelude.{ℕ, List, codes}
 use Rattle.gtpshow.specs.declared.command.Failure.{Failure}
-use Rattle.gtpshow.specs.declared.command.Failure.TheVariants.{BadHex, Memory, Write}
+use Rattle.gtpshow.specs.declared.command.Failure.TheVariants.{BadHex, Memory, Read, Write}
+use Rattle.gtp_replay.specs.declared.verdict.Verdict.{Verdict}
+use Rattle.gtp_replay.specs.declared.verdict.Verdict.TheVariants.{Expected, Unexpected, Bad}
+use Rattle.gtp_replay.specs.declared.verdict.ReplayFault.{ReplayFault}
+use Rattle.gtp_replay.specs.declared.verdict.ReplayFault.TheVariants as faults
 
--- the exit status: 2 for bad hexadecimal, and 3 where memory ran out or a write failed
+-- the exit status: 2 for bad hexadecimal, and 3 where memory ran out, or a read or write failed
 abbrev pub status_of : Failure → ℕ
 status_of BadHex = 2
 status_of Memory = 3
+status_of Read = 3
 status_of Write = 3
 
 -- the words that are printed
 abbrev pub failure_text : Failure → List ℕ
 failure_text BadHex = codes "bad hex"
 failure_text Memory = codes "no memory"
+failure_text Read = codes "read failed"
 failure_text Write = codes "write failed"
+
+-- the exit status of a replay
+abbrev pub verdict_status : Verdict → ℕ
+verdict_status Expected = 0
+verdict_status Unexpected = 1
+verdict_status Bad = 2
+
+-- why nothing was replayed
+abbrev pub failure_by : ReplayFault → Failure
+failure_by faults.Memory = Memory
+failure_by faults.Read = Read
+failure_by faults.Write = Write

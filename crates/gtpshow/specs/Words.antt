@@ -15,10 +15,22 @@ octets_word = record (new_rule (codes "octets")) { value_names = 1; required = t
 abbrev pub decode_words : App
 decode_words = with_rule (with_rule (new_app (codes "decode")) user_flag) octets_word
 
+-- that a diagram is drawn
+abbrev pub diagram_flag : Rule
+diagram_flag = record (new_rule (codes "diagram")) { long = Some (codes "diagram"); action = Some SetTrue }
+
+-- a file with a scenario
+abbrev pub file_word : Rule
+file_word = record (new_rule (codes "file")) { value_names = 1 }
+
+-- to replay a scenario
+abbrev pub replay_words : App
+replay_words = with_rule (with_rule (new_app (codes "replay")) diagram_flag) file_word
+
 -- the program's name, before a subcommand; the program has a version
 abbrev pub gtpshow_word : Shape
 gtpshow_word = record (new_app (codes "gtpshow")).top { has_version = true; subcommand_required = true }
 
 -- all of them
 abbrev pub program_words : App
-program_words = with_subcommand (record { top = gtpshow_word; subs = [] }) decode_words.top
+program_words = with_subcommand (with_subcommand (record { top = gtpshow_word; subs = [] }) decode_words.top) replay_words.top

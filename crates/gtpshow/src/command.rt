@@ -12,13 +12,27 @@ use std::fmt;
 const VERSION: &str = "0.1.0";
 
 const NOTES: &str = "\
-Example:
+Examples:
   gtpshow decode 40010009000001000300010007
   gtpshow decode --user 30ff000301000002616263
+  gtpshow replay examples/scenarios/attach.json
 
-Exit status: 0 shown, 1 a fault was shown, 2 bad words or hexadecimal, 3 no memory or a failed write
+Exit status: 0 shown, or replayed as expected; 1 a fault was shown, or an event came to something
+else; 2 bad words, hexadecimal or scenario; 3 no memory, or a failed read or write
 
-docs/PROTOCOL.md of the repository explains the codes of faults (H1 .., I1 .., U1 ..)";
+docs/PROTOCOL.md of the repository explains the codes (H1 .., U1 .., G1 .., X1 .., N1 ..)";
+
+const SCENARIO: &str = "\
+A scenario:
+  {\"serving\": {\"control\": \"10.0.0.1\", \"user\": \"10.0.0.1\", \"counter\": 1},
+   \"packet\": {\"control\": \"10.0.0.2\", \"user\": \"10.0.0.2\", \"counter\": 1,
+    \"apns\": [\"internet\"], \"pool\": \"10.1.0.1\", \"count\": 10},
+   \"events\": [
+    {\"do\": \"create_session\", \"imsi\": \"001010123456789\", \"apn\": \"internet\", \"ebi\": 5},
+    {\"do\": \"deliver\", \"datagram\": 0},
+    {\"do\": \"deliver\", \"datagram\": 1, \"expect\": \"opened\"}]}
+
+docs/PROTOCOL.md of the repository lists all events, and explains the report";
 
 /// The words that the program takes.
 pub fn command<'a>(alloc: Global) -> Result<Command<'a>, AllocError>
@@ -36,19 +50,33 @@ pub fn command<'a>(alloc: Global) -> Result<Command<'a>, AllocError>
         .about("Shows one datagram, or its first fault")
         .arg(user)?
         .arg(octets)?;
+    let file = Arg::new(alloc, "file")
+        .value_name("FILE")
+        .help("The scenario, in JSON; standard input for - or no word");
+    let diagram = Arg::new(alloc, "diagram")
+        .long("diagram")
+        .action(ArgAction::SetTrue)
+        .help("Draws the run as a sequence diagram, in place of the report");
+    let replay = Command::new(alloc, "replay")
+        .about("Runs a scenario between two gateways, and reports what comes of it")
+        .after_help(SCENARIO)
+        .arg(diagram)?
+        .arg(file)?;
     Command::new(alloc, "gtpshow")
-        .about("Shows GTP datagrams")
+        .about("Shows GTP datagrams, and replays scenarios of two gateways")
         .version(VERSION)
         .after_help(NOTES)
         .subcommand_required(true)
-        .subcommand(decode)
+        .subcommand(decode)?
+        .subcommand(replay)
 }
 
-/// Why nothing could be shown.
+/// Why nothing could be shown or replayed.
 #[derive(Clone, Copy, Debug, PartialEq, Eq)]
 pub enum Failure {
     BadHex,
     Memory,
+    Read,
     Write,
 }
 
@@ -59,7 +87,7 @@ impl Failure {
     {
         match self {
             Failure::BadHex => 2,
-            Failure::Memory | Failure::Write => 3,
+            Failure::Memory | Failure::Read | Failure::Write => 3,
         }
     }
 }
@@ -71,6 +99,7 @@ impl fmt::Display for Failure {
         match self {
             Failure::BadHex => write!(f, "bad hex"),
             Failure::Memory => write!(f, "no memory"),
+            Failure::Read => write!(f, "read failed"),
             Failure::Write => write!(f, "write failed"),
         }
     }

@@ -1,24 +1,56 @@
-//! gtpshow shows GTP datagrams.
+//! gtpshow shows GTP datagrams, and replays scenarios of two gateways.
 #![tactic(auto)]
 
 mod command;
+mod replaying;
 mod showing;
 mod watched;
 
 ghost use Rattle.std.specs.Prelude.{◌≤◌, IfOk};
 
 use crate::command::{Failure, command};
+use crate::replaying::{Form, replay_file};
 use crate::showing::show;
 use crate::watched::Watched;
+use clap::ArgMatches;
 use clap::error::ErrorKind;
 use gtp_lines::Plane;
 use std::alloc::Global;
 use std::process::ExitCode;
-use std::rt::Env;
+use std::rt::{Env, Files};
 use std::{env, io};
 
+/// Shows the datagram that the words name, and answers the exit status.
+fn decode<R: Print>(rt: &R, alloc: Global, asked: &ArgMatches) -> Result<u8, Failure>
+    ensures { IfOk result (λ status. status ≤ 2) }
+{
+    let digits = asked.get_str("octets").unwrap_or("");
+    let plane = if asked.get_flag("user") {
+        Plane::User
+    } else {
+        Plane::Control
+    };
+    show(alloc, &mut Watched::new(io::writer(rt)), plane, digits)
+}
+
+/// Replays the scenario that the words name, and answers the exit status.
+fn replay_asked<R: Print + Input + Files>(
+    rt: &R,
+    alloc: Global,
+    asked: &ArgMatches,
+) -> Result<u8, Failure>
+    ensures { IfOk result (λ status. status ≤ 2) }
+{
+    let form = if asked.get_flag("diagram") {
+        Form::Diagram
+    } else {
+        Form::Report
+    };
+    replay_file(rt, alloc, form, asked.get_str("file").unwrap_or("-"))
+}
+
 /// Does what the words ask for, and answers the exit status.
-fn run<R: Print + Eprint + Env + AllocGlobal>(rt: &R) -> Result<u8, Failure>
+fn run<R: Print + Eprint + Input + Env + Files + AllocGlobal>(rt: &R) -> Result<u8, Failure>
     ensures { IfOk result (λ status. status ≤ 2) }
 {
     let alloc: Global = rt.alloc();
@@ -35,16 +67,11 @@ fn run<R: Print + Eprint + Env + AllocGlobal>(rt: &R) -> Result<u8, Failure>
             return Ok(if error.use_stderr() { 2 } else { 0 });
         }
     };
-    let Some(("decode", asked)) = matches.subcommand() else {
-        return Ok(2);
-    };
-    let digits = asked.get_str("octets").unwrap_or("");
-    let plane = if asked.get_flag("user") {
-        Plane::User
-    } else {
-        Plane::Control
-    };
-    show(alloc, &mut Watched::new(io::writer(rt)), plane, digits)
+    match matches.subcommand() {
+        Some(("decode", asked)) => decode(rt, alloc, asked),
+        Some(("replay", asked)) => replay_asked(rt, alloc, asked),
+        _ => Ok(2),
+    }
 }
 
 fn main(rt: HostRuntime) -> ExitCode {

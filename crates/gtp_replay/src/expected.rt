@@ -1,0 +1,50 @@
+//! Whether events came to what a scenario expects.
+
+ghost use Rattle.std.specs.Prelude.{◌≡◌, map, option_map, string_bytes};
+ghost use Rattle.std.specs.List.{list_all};
+ghost use Rattle.gtp_world.specs.Kept.{outcome_of, told_by};
+ghost use Rattle.gtp_scenario.specs.Views.{entry as entry_view};
+ghost use Rattle.gtp_replay.specs.Expected.{is_met, told_is_met, all_met};
+
+use gtp_report::{first_word, is_refused};
+use gtp_scenario::Entry;
+use gtp_world::{EventOutcome, Note};
+
+/// Whether this is expected: the first word of an outcome, or else any that is no refusal.
+fn is_met(expect: &Option<String>, outcome: EventOutcome) -> bool
+    ensures { result ≡ is_met (option_map (λ s. string_bytes s) expect.now) (outcome_of outcome) }
+{
+    match expect {
+        None => !is_refused(outcome),
+        Some(word) => word.as_str() == first_word(outcome),
+    }
+}
+
+/// Whether each of these is expected.
+fn each_met(expect: &Option<String>, notes: &[Note]) -> bool
+    ensures { result ≡ list_all (told_is_met (option_map (λ s. string_bytes s) expect.now))
+        (map told_by notes.now) }
+{
+    for note in notes {
+        if !is_met(expect, note.outcome) {
+            return false;
+        }
+    }
+    true
+}
+
+/// Whether each event came to what its entry expects.
+pub(crate) fn all_met(entries: &[Entry], notes: &[Note]) -> bool
+    ensures { result ≡ all_met (map entry_view entries.now) (map told_by notes.now) }
+{
+    let mut rest = notes;
+    for entry in entries {
+        let count = rest.len().min(entry.times as usize);
+        let (its, others) = rest.split_at(count);
+        if !each_met(&entry.expect, its) {
+            return false;
+        }
+        rest = others;
+    }
+    true
+}

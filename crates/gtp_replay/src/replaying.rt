@@ -1,0 +1,216 @@
+//! From octets to octets.
+
+ghost use Rattle.std.specs.Prelude.{◌≡◌, ◌-◌, ◌^◌, ◌<◌, map, IfOk, IfErr, IfSome};
+ghost use Rattle.gtp_world.specs.Events.{event_of};
+ghost use Rattle.gtp_world.specs.Runs.{IsWhole};
+ghost use Rattle.gtp_scenario.specs.Views.{scenario as scenario_view};
+ghost use Rattle.gtp_replay.specs.Ran.{IsRan};
+ghost use Rattle.gtp_replay.specs.Counts.{inner_of, failures_of};
+ghost use Rattle.gtp_replay.specs.Streams.{ConsumesUpTo};
+ghost use Rattle.gtp_replay.specs.Told.{refusal_line, verdict_on, IsJudgedScenario, TellsScenario, Tells, IsJudged, Told, ToldFront};
+
+use crate::counted::Counted;
+use crate::expected::all_met;
+use crate::streams::{read_octets, write_octets};
+use crate::verdict::{ReplayFault, Verdict};
+use gtp_lines::text::{put, put_number};
+use gtp_report::{diagram, report};
+use gtp_scenario::{ReadFault, Refusal, Scenario, events_of, read_scenario};
+use gtp_world::{Event, World, WorldConfig};
+use std::alloc::Global;
+use std::io::{Read, Write};
+
+/// One octet more than a scenario may have.
+const MOST_READ: usize = 16_777_217;
+
+/// The line of a refusal.
+#[tactic(auto, using(crate::proofs::Appends::appending))]
+fn refusal_text(alloc: Global, refusal: Refusal) -> Result<Vec<u8>, ReplayFault>
+    ensures text { IfOk result (λ text. text.items ≡ refusal_line refusal) }
+    ensures err { IfErr result (λ e. e ≡ ReplayFault.Memory) }
+{
+    let mut text = Vec::new(alloc);
+    match refusal {
+        Refusal::Json => put(&mut text, b"bad json")?,
+        Refusal::Head => put(&mut text, b"bad scenario head")?,
+        Refusal::Event(place) => {
+            put(&mut text, b"bad scenario event ")?;
+            put_number(&mut text, place as u64)?;
+        }
+    }
+    put(&mut text, b"\n")?;
+    Ok(text)
+}
+
+/// A run of a scenario: its events, and the world that they leave.
+#[derive(Drop)]
+struct Ran {
+    events: Vec<Event>,
+    world: World,
+}
+
+/// The world that these events of a scenario leave.
+fn world_of(alloc: Global, config: &WorldConfig, events: &[Event]) -> Option<World>
+    ensures { IfSome result (λ world. IsWhole config.now (map event_of events.now) world) }
+{
+    World::run(alloc, config, events).ok()
+}
+
+/// Runs a scenario.
+fn run_scenario(alloc: Global, scenario: &Scenario) -> Result<Ran, ReplayFault>
+    ensures ran { IfOk result (λ ran. IsRan (scenario_view scenario.now) ran) }
+    ensures err { IfErr result (λ e. e ≡ ReplayFault.Memory) }
+{
+    let events = events_of(alloc, &scenario.entries)?;
+    let Some(world) = world_of(alloc, &scenario.config, &events) else {
+        return Err(ReplayFault::Memory);
+    };
+    Ok(Ran { events, world })
+}
+
+/// Whether each event of a scenario came to what is expected.
+fn judged(scenario: &Scenario, world: &World) -> Verdict
+    ensures { result ≡ verdict_on (scenario_view scenario.now) world.now }
+{
+    if all_met(&scenario.entries, world.outcomes()) {
+        Verdict::Expected
+    } else {
+        Verdict::Unexpected
+    }
+}
+
+/// The report of a run of a scenario, and whether each event came to what it expects.
+fn report_of(
+    alloc: Global,
+    scenario: &Scenario,
+    ran: &Ran,
+) -> Result<(Vec<u8>, Verdict), ReplayFault>
+    ensures told { IsRan (scenario_view scenario.now) ran.now → IfOk result (λ p.
+        TellsScenario (scenario_view scenario.now) p.0.items p.1) }
+    ensures err { IfErr result (λ e. e ≡ ReplayFault.Memory) }
+{
+    let text = report(alloc, &ran.events, &ran.world)?;
+    Ok((text, judged(scenario, &ran.world)))
+}
+
+/// The diagram of a run of a scenario, and whether each event came to what it expects.
+fn diagram_of(
+    alloc: Global,
+    scenario: &Scenario,
+    ran: &Ran,
+) -> Result<(Vec<u8>, Verdict), ReplayFault>
+    ensures judged { IsRan (scenario_view scenario.now) ran.now → IfOk result (λ p.
+        IsJudgedScenario (scenario_view scenario.now) p.1) }
+    ensures err { IfErr result (λ e. e ≡ ReplayFault.Memory) }
+{
+    let text = diagram(alloc, &ran.events, &ran.world)?;
+    Ok((text, judged(scenario, &ran.world)))
+}
+
+/// The report of a scenario, and whether each event came to what it expects.
+fn reported(alloc: Global, scenario: &Scenario) -> Result<(Vec<u8>, Verdict), ReplayFault>
+    ensures told { IfOk result (λ p. TellsScenario (scenario_view scenario.now) p.0.items p.1) }
+    ensures err { IfErr result (λ e. e ≡ ReplayFault.Memory) }
+{
+    let ran = run_scenario(alloc, scenario)?;
+    report_of(alloc, scenario, &ran)
+}
+
+/// The diagram of a scenario, and whether each event came to what it expects.
+fn drawn(alloc: Global, scenario: &Scenario) -> Result<(Vec<u8>, Verdict), ReplayFault>
+    ensures judged { IfOk result (λ p. IsJudgedScenario (scenario_view scenario.now) p.1) }
+    ensures err { IfErr result (λ e. e ≡ ReplayFault.Memory) }
+{
+    let ran = run_scenario(alloc, scenario)?;
+    diagram_of(alloc, scenario, &ran)
+}
+
+/// What is written for these octets, and how the replay goes.
+#[tactic(auto, unfolding(crate::specs::Told::Tells))]
+fn answered(alloc: Global, octets: &[u8]) -> Result<(Vec<u8>, Verdict), ReplayFault>
+    ensures told { IfOk result (λ p. Tells octets.now p.0.items p.1) }
+    ensures err { IfErr result (λ e. e ≡ ReplayFault.Memory) }
+{
+    match read_scenario(alloc, octets) {
+        Ok(scenario) => reported(alloc, &scenario),
+        Err(ReadFault::Refused(refusal)) => Ok((refusal_text(alloc, refusal)?, Verdict::Bad)),
+        Err(ReadFault::Memory) => Err(ReplayFault::Memory),
+    }
+}
+
+/// The diagram of these octets, and how the replay goes.
+#[tactic(auto, unfolding(crate::specs::Told::IsJudged))]
+fn sketched(alloc: Global, octets: &[u8]) -> Result<(Vec<u8>, Verdict), ReplayFault>
+    ensures judged { IfOk result (λ p. IsJudged octets.now p.1) }
+    ensures err { IfErr result (λ e. e ≡ ReplayFault.Memory) }
+{
+    match read_scenario(alloc, octets) {
+        Ok(scenario) => drawn(alloc, &scenario),
+        Err(ReadFault::Refused(refusal)) => Ok((refusal_text(alloc, refusal)?, Verdict::Bad)),
+        Err(ReadFault::Memory) => Err(ReplayFault::Memory),
+    }
+}
+
+/// Reads a scenario, runs it, and writes the report of the world that its events leave; or, where
+/// what is read is no scenario, the line of the first thing that is wrong with it. At most 16,777,217
+/// octets are read, one past the limit of a scenario. The text is whole before the first of it is
+/// written.
+pub fn replay<R: Read, W: Write>(
+    alloc: Global,
+    reader: &mut Counted<R>,
+    writer: &mut Counted<W>,
+) -> Result<Verdict, ReplayFault>
+    requires reads { failures_of reader.old < 2 ^ 64 - 1 }
+    requires writes { failures_of writer.old < 2 ^ 64 - 1 }
+    // What is written is what is told for the octets that are read, and so is the verdict.
+    ensures written { IfOk result (λ verdict. IfSome (R.remaining (inner_of reader.old)) (λ octets.
+        Told octets verdict (W.contents (inner_of writer.old)) (W.contents (inner_of writer.new)))) }
+    ensures consumed { ConsumesUpTo 16777217
+        (R.remaining (inner_of reader.old)) (R.remaining (inner_of reader.new)) }
+    // A fault of a side is answered only where a call of it failed.
+    ensures read { result ≡ Err ReplayFault.Read
+        → failures_of reader.old < failures_of reader.new }
+    ensures write { result ≡ Err ReplayFault.Write
+        → failures_of writer.old < failures_of writer.new }
+    // A failed write leaves a beginning of the text, and any other fault leaves the writer alone.
+    ensures front { result ≡ Err ReplayFault.Write
+        → IfSome (R.remaining (inner_of reader.old)) (λ octets. ToldFront octets
+        (W.contents (inner_of writer.old)) (W.contents (inner_of writer.new))) }
+    ensures unread { result ≡ Err ReplayFault.Read → writer.new ≡ writer.old }
+    ensures memory { result ≡ Err ReplayFault.Memory → writer.new ≡ writer.old }
+{
+    let octets = read_octets(alloc, reader, MOST_READ)?;
+    let (text, verdict) = answered(alloc, &octets)?;
+    write_octets(writer, &text)?;
+    Ok(verdict)
+}
+
+/// Reads a scenario, runs it, and writes the run as a sequence diagram in plain text; or, where what
+/// is read is no scenario, the line of the first thing that is wrong with it. It reads and writes as
+/// `replay` does.
+pub fn replay_diagram<R: Read, W: Write>(
+    alloc: Global,
+    reader: &mut Counted<R>,
+    writer: &mut Counted<W>,
+) -> Result<Verdict, ReplayFault>
+    requires reads { failures_of reader.old < 2 ^ 64 - 1 }
+    requires writes { failures_of writer.old < 2 ^ 64 - 1 }
+    // The verdict is that on the octets that are read.
+    ensures judged { IfOk result (λ verdict.
+        IfSome (R.remaining (inner_of reader.old)) (λ octets. IsJudged octets verdict)) }
+    ensures consumed { ConsumesUpTo 16777217
+        (R.remaining (inner_of reader.old)) (R.remaining (inner_of reader.new)) }
+    // A fault of a side is answered only where a call of it failed.
+    ensures read { result ≡ Err ReplayFault.Read
+        → failures_of reader.old < failures_of reader.new }
+    ensures write { result ≡ Err ReplayFault.Write
+        → failures_of writer.old < failures_of writer.new }
+    // Any fault but a failed write leaves the writer alone.
+    ensures unread { result ≡ Err ReplayFault.Read → writer.new ≡ writer.old }
+    ensures memory { result ≡ Err ReplayFault.Memory → writer.new ≡ writer.old }
+{
+    let octets = read_octets(alloc, reader, MOST_READ)?;
+    let (text, verdict) = sketched(alloc, &octets)?;
+    write_octets(writer, &text)?;
+    Ok(verdict)
+}

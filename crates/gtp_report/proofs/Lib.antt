@@ -1,0 +1,4 @@
+pub mod Appends
+pub mod Numbered
+pub mod Each
+pub mod Lines
