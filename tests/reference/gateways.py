@@ -338,7 +338,8 @@ class Gateway:
         self.bearers[bearer] = Bearer(teid, False, PENDING)
         context = number_of(EBI, 0) + element(TFT, 0, tft) + end_of(1, 5, bearer, self.setup.user)
         context += QUALITY + number_of(CHARGING_ID, bearer, 4)
-        told = self.ask(CREATE_BEARER, session.remote, number_of(EBI, session.identity) + element(CONTEXT, 0, context), teid, bearer)
+        body = number_of(EBI, session.identity) + element(CONTEXT, 0, context)
+        told = self.ask(CREATE_BEARER, session.remote, body, teid, bearer)
         return replace(told, outcome=f"begun {bearer:08x}")
 
     def delete_bearer(self, teid, identity):
@@ -486,7 +487,8 @@ class Gateway:
             return session.remote, 73, element(CONTEXT, 0, refused)
         bearer = self.draw()
         self.bearers[bearer] = Bearer(message.teid, False, ACTIVE, identity, teid_in(asked))
-        made = number_of(EBI, identity) + cause_of(16) + end_of(2, 4, bearer, self.setup.user) + element(FTEID, 3, asked)
+        made = number_of(EBI, identity) + cause_of(16) + end_of(2, 4, bearer, self.setup.user)
+        made += element(FTEID, 3, asked)
         return session.remote, 16, element(CONTEXT, 0, made)
 
     def bearers_deleted(self, message):
@@ -518,8 +520,8 @@ class Gateway:
         if pending is None:
             raise Refused("X3")
         refusal = message.teid == 0 and message.cause == 64 and pending.header != 0
-        fits = message.kind == pending.kind + 1 and (pending.kind == ECHO_REQUEST or message.teid == pending.session or refusal)
-        if not fits:
+        named = pending.kind == ECHO_REQUEST or message.teid == pending.session or refusal
+        if message.kind != pending.kind + 1 or not named:
             raise Refused("X4")
         rules = {
             ECHO_REQUEST: lambda *_: "alive",

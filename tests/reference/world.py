@@ -3,6 +3,9 @@
 from gateways import ACTIVE, MOST_RESTARTS, PACKET, SERVING, Gateway, Refused, Setup, Told
 
 
+OF_THE_PACKET_GATEWAY = ("create_bearer", "delete_bearer", "release_session", "end_marker")
+
+
 def other(role):
     return PACKET if role == SERVING else SERVING
 
@@ -41,7 +44,7 @@ class World:
 
     def step(self, event):
         """An event as a scenario has it: what it comes to."""
-        node = event.get("node") or {"create_bearer": PACKET, "delete_bearer": PACKET, "release_session": PACKET, "end_marker": PACKET}.get(event["do"], SERVING)
+        node = event.get("node") or (PACKET if event["do"] in OF_THE_PACKET_GATEWAY else SERVING)
         try:
             told = getattr(self, event["do"])(event, node)
         except Refused as refused:
@@ -168,7 +171,8 @@ def event_lines(world, number, event, told, before):
 
 def context_lines(node, gateway):
     for teid, s in sorted(gateway.sessions.items()):
-        yield f"session {node} {teid:08x} {teid_text(s.remote)} {s.imsi} {s.apn} {s.identity} {address_text(s.address)} {s.state}"
+        subscriber = f"{s.imsi} {s.apn} {s.identity}"
+        yield f"session {node} {teid:08x} {teid_text(s.remote)} {subscriber} {address_text(s.address)} {s.state}"
     for teid, b in sorted(gateway.bearers.items()):
         ended = " ended" if b.ended else ""
         yield f"bearer {node} {teid:08x} {teid_text(b.remote)} {b.session:08x} {shown(b.identity)} {b.state}{ended}"
