@@ -61,7 +61,7 @@ as_before old station out heard forgot made =
 asked : (old new : Station) (begun : Begun) (teid : Option ℕ) (sent : List Datagram) (outcome : Outcome) → outcome ≡ Asked teid → (datagram_by begun.out ∷ []) ≡ sent → AsksNext old begun new → AsksFor sent outcome old new
 asked old new begun teid sent outcome is out next =
     record {
-      asks = λ other same. (datagram_by begun.out, sym out, record { number = next.number; free = next.free; purpose = next.purpose; timing = next.timing });
+      asks = λ other same. (datagram_by begun.out, sym out, record { number = next.number; free = next.free; purpose = next.purpose; timing = next.timing; tied = next.tied });
       none = λ never. absurd (never teid is);
     }
 

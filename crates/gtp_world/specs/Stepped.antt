@@ -20,7 +20,7 @@ use Rattle.gtp_gateway.specs.Parts.{arrival_of}
 use Rattle.gtp_gateway.specs.Received.{coming}
 use Rattle.gtp_gateway.specs.Sent.{SendingReads}
 use Rattle.gtp_gateway.specs.Settings.{Settings}
-use Rattle.gtp_gateway.specs.Station.{Station, starting}
+use Rattle.gtp_gateway.specs.Station.{Station, starting, IsTied}
 use Rattle.gtp_gateway.specs.Ticked.{due_in, CountsOn}
 use Rattle.gtp_gateway.specs.UserTaken.{WaitOn}
 use Rattle.gtp_world.specs.Kept.{oldest_first, Half, Told, Log, Kept, half_in, with_half, counted}
@@ -56,12 +56,13 @@ sent_at half out = map (datagram_of half.station.node.config) out.sent
 abbrev pub AreReadable : Out → Type 0
 AreReadable out = All SendingReads out.sent
 
--- a request that was sent waits from now on, under the next free number
+-- a request that was sent waits from now on, under the next free number; the node keeps what ticks and draws go by
 pub record WaitsFor (old : Station) (d : Datagram) (new : Station) : Type 0 where
   pub number : ℕ
   pub free : IsNextFree old.timing.next old.timing.waiting number
   pub purpose : Purpose
   pub timing : new.timing ≡ after_begun number purpose d.to d.octets old.timing
+  pub tied : IsTied new
 
 -- what ticks go by, after a command: a request that was begun waits from now on; where none was, nothing changes
 pub record AsksFor (sent : List Datagram) (outcome : Outcome) (old new : Station) : Type 0 where
