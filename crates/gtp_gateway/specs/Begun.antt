@@ -43,8 +43,8 @@ request_number (Create_bearer_request r) = Some r.number
 request_number (Delete_bearer_request d) = Some d.number
 request_number m = None
 
--- the request that was sent has the next free number, as its octets read, and waits from now on under that; the node keeps what ticks and draws go by, so
--- that it is about what the node says, and as many TEIDs, one after the other, were drawn
+-- the request that was sent has the next free number, as its octets read, and waits from now on under that; what ticks and draws go by is what the
+-- node keeps: so the request is about the session and bearer that the node says, and the TEIDs that were drawn are one after the other
 pub record AsksNext (old : Station) (begun : Begun) (new : Station) : Type 0 where
   pub number : ℕ
   pub free : IsNextFree old.timing.next old.timing.waiting number

@@ -12,8 +12,8 @@ abbrev pub held_with : Endpoint → List ℕ → Option (List ℕ) → List Held
 held_with source request None pairs = pairs
 held_with source request (Some answer) pairs = after_held source request answer pairs
 
--- the requests that are still pending wait on as they did, and an answer that was given is held from now on; nothing else changes of what ticks go by; and the node keeps
--- what ticks and draws go by
+-- the requests that are still pending wait on as they did, and an answer that was given is held from now on; nothing else changes of what ticks go by; and it is
+-- what the node keeps
 pub record GoesOn (source : Endpoint) (octets : List ℕ) (old new : Station) : Type 0 where
   pub stays : Waiting Purpose → Bool
   pub answer : Option (List ℕ)

@@ -81,8 +81,8 @@ tick_later t =
       held = filter_map (held.after_tick t.timers.hold) t.held;
     }
 
--- the requests that are still pending, and the answers that are still held, have waited one tick more; nothing else changes of what ticks go by; and the node keeps
--- what ticks and draws go by
+-- the requests that are still pending, and the answers that are still held, have waited one tick more; nothing else changes of what ticks go by;
+-- and it is what the node keeps
 pub record CountsOn (old new : Station) : Type 0 where
   pub stays : Waiting Purpose → Bool
   pub timing : new.timing ≡ tick_later (record old.timing { waiting = filter stays old.timing.waiting })

@@ -56,7 +56,7 @@ sent_at half out = map (datagram_of half.station.node.config) out.sent
 abbrev pub AreReadable : Out → Type 0
 AreReadable out = All SendingReads out.sent
 
--- a request that was sent waits from now on, under the next free number; the node keeps what ticks and draws go by
+-- a request that was sent waits from now on, under the next free number; and what ticks and draws go by is what the node keeps
 pub record WaitsFor (old : Station) (d : Datagram) (new : Station) : Type 0 where
   pub number : ℕ
   pub free : IsNextFree old.timing.next old.timing.waiting number
@@ -70,10 +70,10 @@ pub record AsksFor (sent : List Datagram) (outcome : Outcome) (old new : Station
   pub none : ((teid : Option ℕ) → outcome ≢ Begun teid) → new.timing ≡ old.timing
 
 -- what ticks go by, after a datagram of that plane: the requests that are still pending wait on; one of the control plane may have been given an answer, which
--- is held from now on, and one of the user plane changes nothing, but where bearers go that the peer does not know
+-- is held from now on, and one of the user plane changes nothing, but where bearers go that the peer does not know; and it is what the node keeps
 abbrev pub KeepsOn : Plane → Endpoint → List ℕ → List Datagram → Outcome → Station → Station → Type 0
 KeepsOn Control source octets sent outcome old new = GoesOn source octets old new
-KeepsOn User source octets sent outcome old new = (outcome ≢ Broken → new.timing ≡ old.timing) × WaitOn old new
+KeepsOn User source octets sent outcome old new = (outcome ≢ Broken → new.timing ≡ old.timing) × WaitOn old new × IsTied new
 
 -- A gateway takes an input, by the rules of the machine; and what its ticks go by is as this says.
 pub record Takes (old : Kept) (role : Role) (input : Input) (Timed : List Datagram → Outcome → Station → Station → Type 0) (late : Bool) (new : Kept) : Type 0 where
