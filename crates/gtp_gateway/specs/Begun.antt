@@ -17,7 +17,7 @@ use Rattle.gtp_gateway.specs.declared.sent.Begun.{Begun}
 use Rattle.gtp_gateway.specs.Asking.{after_begun}
 use Rattle.gtp_gateway.specs.Sent.{datagram_by, AreSent}
 use Rattle.gtp_gateway.specs.Spelled.{message_in}
-use Rattle.gtp_gateway.specs.Station.{Station}
+use Rattle.gtp_gateway.specs.Station.{Station, IsTied}
 
 -- what a command comes to: a request is sent, or a packet or an End Marker
 abbrev pub outcome_by : Command → Option ℕ → Outcome
@@ -43,13 +43,15 @@ request_number (Create_bearer_request r) = Some r.number
 request_number (Delete_bearer_request d) = Some d.number
 request_number m = None
 
--- the request that was sent has the next free number, as its octets read, and waits from now on under that
+-- the request that was sent has the next free number, as its octets read, and waits from now on under that; what ticks and draws go by is what the
+-- node keeps: so the request is about the session and bearer that the node says, and the TEIDs that were drawn are one after the other
 pub record AsksNext (old : Station) (begun : Begun) (new : Station) : Type 0 where
   pub number : ℕ
   pub free : IsNextFree old.timing.next old.timing.waiting number
   pub sent : request_number (message_in begun.out.octets.items) ≡ Some number
   pub purpose : Purpose
   pub timing : new.timing ≡ after_begun number purpose begun.out.to begun.out.octets.items old.timing
+  pub tied : IsTied new
 
 -- a command is refused so exactly where the machine refuses it so
 abbrev pub IsRefusedWhere : Command → Station → Result Begun CommandFault → Type 0

@@ -14,7 +14,7 @@ use Rattle.gtp_gateway.specs.GoesOn.{GoesOn}
 use Rattle.gtp_gateway.specs.Needing.{ControlSendsOrOpens}
 use Rattle.gtp_gateway.specs.Parts.{arrival_of}
 use Rattle.gtp_gateway.specs.Sent.{AreSent}
-use Rattle.gtp_gateway.specs.Station.{Station}
+use Rattle.gtp_gateway.specs.Station.{Station, IsTied}
 use Rattle.gtp_gateway.specs.Taken.{datagrams, made_for, plain_report}
 use Rattle.gtp_gateway.specs.UserTaken.{AreEntries, IsAnswered, WaitOn}
 
@@ -48,10 +48,10 @@ NeedsMemory Control source octets old = ControlSendsOrOpens source octets old
 NeedsMemory User source octets old = IsAnswered source octets old
 
 -- what ticks go by, after a datagram: the requests that are still pending wait on; one of the control plane may have been given an answer, which is held from
--- now on, and one of the user plane changes nothing, but where bearers go that the peer does not know
+-- now on, and one of the user plane changes nothing, but where bearers go that the peer does not know; and it is what the node keeps
 abbrev pub KeepsTiming : Plane → Endpoint → List ℕ → Step → Station → Station → Type 0
 KeepsTiming Control source octets step old new = GoesOn source octets old new
-KeepsTiming User source octets step old new = (step.report.outcome ≢ Broken → new.timing ≡ old.timing) × WaitOn old new
+KeepsTiming User source octets step old new = (step.report.outcome ≢ Broken → new.timing ≡ old.timing) × WaitOn old new × IsTied new
 
 -- what a datagram of the control plane comes to, or one of the user plane
 abbrev pub of_control : ControlStep → Step

@@ -17,9 +17,9 @@ use Rattle.gtp_machine.specs.Spelling.{Datagram}
 use Rattle.gtp_machine.specs.Tick.{Due, Ticks}
 use Rattle.gtp_gateway.specs.declared.purpose.Purpose.{Purpose}
 use Rattle.gtp_gateway.specs.declared.tick.Ticked.{Ticked}
-use Rattle.gtp_gateway.specs.Parts.{arrival_of, pending_in}
+use Rattle.gtp_gateway.specs.Parts.{arrival_of}
 use Rattle.gtp_gateway.specs.Sent.{datagram_by, AreSent}
-use Rattle.gtp_gateway.specs.Station.{Timing, Station}
+use Rattle.gtp_gateway.specs.Station.{Timing, Station, IsTied}
 
 -- the request of an answer that is held, from where it came
 abbrev pub asked_by : Question → Arrival
@@ -81,8 +81,9 @@ tick_later t =
       held = filter_map (held.after_tick t.timers.hold) t.held;
     }
 
--- the requests that are still pending, and the answers that are still held, have waited one tick more; nothing else changes of what ticks go by
+-- the requests that are still pending, and the answers that are still held, have waited one tick more; nothing else changes of what ticks go by;
+-- and it is what the node keeps
 pub record CountsOn (old new : Station) : Type 0 where
   pub stays : Waiting Purpose → Bool
   pub timing : new.timing ≡ tick_later (record old.timing { waiting = filter stays old.timing.waiting })
-  pub pending : new.node.pending ≡ pending_in new.timing.waiting
+  pub tied : IsTied new

@@ -102,7 +102,7 @@ impl Parts {
 
     /// Gives an answer that is ready to a request for which none is held; from now on this one is.
     /// Takes no memory.
-    #[tactic(auto, using(crate::proofs::GoingOn::on_goes, crate::proofs::GoingOn::same_goes, crate::proofs::GoingOn::given_goes, crate::proofs::GoingOn::then_goes))]
+    #[tactic(auto, using(crate::proofs::GoingOn::tied_of, crate::proofs::GoingOn::on_goes, crate::proofs::GoingOn::same_goes, crate::proofs::GoingOn::given_goes, crate::proofs::GoingOn::then_goes))]
     pub fn give(&mut self, source: Endpoint, ready: ReadyAnswer) -> Sent
         requires ready { IsReady self.old.held }
         requires fresh { IsHeld source ready.request.items self.old.held.pairs → ⊥ }
@@ -132,7 +132,7 @@ impl Parts {
 
     /// Changes sessions and bearers, and answers a request for which no answer is held; from now on
     /// this one is.
-    #[tactic(auto, using(crate::proofs::GoingOn::on_goes, crate::proofs::GoingOn::same_goes, crate::proofs::GoingOn::given_goes, crate::proofs::GoingOn::then_goes))]
+    #[tactic(auto, using(crate::proofs::GoingOn::tied_of, crate::proofs::GoingOn::on_goes, crate::proofs::GoingOn::same_goes, crate::proofs::GoingOn::given_goes, crate::proofs::GoingOn::then_goes))]
     pub fn answer(
         &mut self,
         alloc: Global,

@@ -214,7 +214,7 @@ impl Parts {
     }
 
     /// Answers a request without bearer contexts.
-    #[tactic(auto, using(crate::proofs::GoingOn::on_goes, crate::proofs::GoingOn::same_goes, crate::proofs::GoingOn::given_goes, crate::proofs::GoingOn::then_goes))]
+    #[tactic(auto, using(crate::proofs::GoingOn::tied_of, crate::proofs::GoingOn::on_goes, crate::proofs::GoingOn::same_goes, crate::proofs::GoingOn::given_goes, crate::proofs::GoingOn::then_goes))]
     fn answer_removal(
         &mut self,
         alloc: Global,
@@ -331,7 +331,7 @@ impl Parts {
     }
 
     /// Ends the dedicated bearers with these identities. All that takes memory comes first.
-    #[tactic(auto, using(crate::proofs::GoingOn::on_goes, crate::proofs::GoingOn::same_goes, crate::proofs::GoingOn::given_goes, crate::proofs::GoingOn::then_goes))]
+    #[tactic(auto, using(crate::proofs::GoingOn::tied_of, crate::proofs::GoingOn::on_goes, crate::proofs::GoingOn::same_goes, crate::proofs::GoingOn::given_goes, crate::proofs::GoingOn::then_goes))]
     fn end_named(
         &mut self,
         alloc: Global,
@@ -363,7 +363,7 @@ impl Parts {
 
     /// Takes a Delete Bearer Request for the bearers in its list, which is counted before memory is
     /// taken for it.
-    #[tactic(auto, using(crate::proofs::GoingOn::on_goes, crate::proofs::GoingOn::same_goes, crate::proofs::GoingOn::given_goes, crate::proofs::GoingOn::then_goes))]
+    #[tactic(auto, using(crate::proofs::GoingOn::tied_of, crate::proofs::GoingOn::on_goes, crate::proofs::GoingOn::same_goes, crate::proofs::GoingOn::given_goes, crate::proofs::GoingOn::then_goes))]
     fn end_listed(
         &mut self,
         alloc: Global,
@@ -406,7 +406,7 @@ impl Parts {
     }
 
     /// Takes a Delete Bearer Request.
-    #[tactic(auto, using(crate::proofs::GoingOn::on_goes, crate::proofs::GoingOn::same_goes, crate::proofs::GoingOn::given_goes, crate::proofs::GoingOn::then_goes))]
+    #[tactic(auto, using(crate::proofs::GoingOn::tied_of, crate::proofs::GoingOn::on_goes, crate::proofs::GoingOn::same_goes, crate::proofs::GoingOn::given_goes, crate::proofs::GoingOn::then_goes))]
     pub fn take_removal_request(
         &mut self,
         alloc: Global,

@@ -90,6 +90,7 @@ impl Parts {
     }
 
     /// A tick passes. All that takes memory comes first, and what follows can't fail.
+    #[tactic(auto, using(crate::proofs::GoingOn::tied_of))]
     pub fn tick(&mut self, alloc: Global) -> Result<Ticked, Memory>
         ensures ticked { IfOk result (λ ticked.
             IsTicked (station_of self.old) ticked (station_of self.new)) }

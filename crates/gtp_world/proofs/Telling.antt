@@ -61,7 +61,7 @@ as_before old station out heard forgot made =
 asked : (old new : Station) (begun : Begun) (teid : Option ℕ) (sent : List Datagram) (outcome : Outcome) → outcome ≡ Asked teid → (datagram_by begun.out ∷ []) ≡ sent → AsksNext old begun new → AsksFor sent outcome old new
 asked old new begun teid sent outcome is out next =
     record {
-      asks = λ other same. (datagram_by begun.out, sym out, record { number = next.number; free = next.free; purpose = next.purpose; timing = next.timing });
+      asks = λ other same. (datagram_by begun.out, sym out, record { number = next.number; free = next.free; purpose = next.purpose; timing = next.timing; tied = next.tied });
       none = λ never. absurd (never teid is);
     }
 
@@ -142,7 +142,7 @@ heard_kept seen (Some c) = map-append (λ (k : Counter). k.0) seen (c ∷ [])
 -- what ticks go by, after a datagram
 keeps_on : (plane : Plane) (source : Endpoint) (octets : List ℕ) (sent : List Datagram) (outcome : Outcome) (step : Step) (old new : Station) → step.report.outcome ≡ outcome → KeepsTiming plane source octets step old new → KeepsOn plane source octets sent outcome old new
 keeps_on Control source octets sent outcome step old new is keeps = keeps
-keeps_on User source octets sent outcome step old new is keeps = (λ apart. keeps.0 (λ broken. apart (sym is ∙ broken)), keeps.1)
+keeps_on User source octets sent outcome step old new is keeps = (λ apart. keeps.0 (λ broken. apart (sym is ∙ broken)), keeps.1, keeps.2)
 
 -- what a datagram came to
 abbrev pub came_of_step : Step → Option LoggedEntry → Came

@@ -20,7 +20,7 @@ use Rattle.gtp_gateway.specs.Parts.{arrival_of}
 use Rattle.gtp_gateway.specs.Received.{coming}
 use Rattle.gtp_gateway.specs.Sent.{SendingReads}
 use Rattle.gtp_gateway.specs.Settings.{Settings}
-use Rattle.gtp_gateway.specs.Station.{Station, starting}
+use Rattle.gtp_gateway.specs.Station.{Station, starting, IsTied}
 use Rattle.gtp_gateway.specs.Ticked.{due_in, CountsOn}
 use Rattle.gtp_gateway.specs.UserTaken.{WaitOn}
 use Rattle.gtp_world.specs.Kept.{oldest_first, Half, Told, Log, Kept, half_in, with_half, counted}
@@ -56,12 +56,13 @@ sent_at half out = map (datagram_of half.station.node.config) out.sent
 abbrev pub AreReadable : Out → Type 0
 AreReadable out = All SendingReads out.sent
 
--- a request that was sent waits from now on, under the next free number
+-- a request that was sent waits from now on, under the next free number; and what ticks and draws go by is what the node keeps
 pub record WaitsFor (old : Station) (d : Datagram) (new : Station) : Type 0 where
   pub number : ℕ
   pub free : IsNextFree old.timing.next old.timing.waiting number
   pub purpose : Purpose
   pub timing : new.timing ≡ after_begun number purpose d.to d.octets old.timing
+  pub tied : IsTied new
 
 -- what ticks go by, after a command: a request that was begun waits from now on; where none was, nothing changes
 pub record AsksFor (sent : List Datagram) (outcome : Outcome) (old new : Station) : Type 0 where
@@ -69,10 +70,10 @@ pub record AsksFor (sent : List Datagram) (outcome : Outcome) (old new : Station
   pub none : ((teid : Option ℕ) → outcome ≢ Begun teid) → new.timing ≡ old.timing
 
 -- what ticks go by, after a datagram of that plane: the requests that are still pending wait on; one of the control plane may have been given an answer, which
--- is held from now on, and one of the user plane changes nothing, but where bearers go that the peer does not know
+-- is held from now on, and one of the user plane changes nothing, but where bearers go that the peer does not know; and it is what the node keeps
 abbrev pub KeepsOn : Plane → Endpoint → List ℕ → List Datagram → Outcome → Station → Station → Type 0
 KeepsOn Control source octets sent outcome old new = GoesOn source octets old new
-KeepsOn User source octets sent outcome old new = (outcome ≢ Broken → new.timing ≡ old.timing) × WaitOn old new
+KeepsOn User source octets sent outcome old new = (outcome ≢ Broken → new.timing ≡ old.timing) × WaitOn old new × IsTied new
 
 -- A gateway takes an input, by the rules of the machine; and what its ticks go by is as this says.
 pub record Takes (old : Kept) (role : Role) (input : Input) (Timed : List Datagram → Outcome → Station → Station → Type 0) (late : Bool) (new : Kept) : Type 0 where

@@ -16,6 +16,7 @@ use Rattle.gtp_gateway.specs.Sent.{ReadsBack}
 use Rattle.gtp_gateway.specs.Spelled.{is_for}
 use Rattle.gtp_gateway.specs.Station.{Timing, Station, station_of}
 use Rattle.gtp_gateway.specs.Wish.{request_of, purpose_of, change_of, teid_of, AsksFor}
+use Rattle.gtp_gateway.proofs.GoingOn.{tied_of}
 use Rattle.gtp_gateway.proofs.Refusals.{has_room, last_refused}
 use Rattle.gtp_gateway.proofs.Requests.{none_pending, small_number}
 use Rattle.gtp_gateway.proofs.SentBack.{one_sent}
@@ -84,4 +85,5 @@ returns-clause-next c =
       sent = ap request_number (c.in_ok-out.ensures.read ∙ c.in_ok-message.ensures.says) ∙ numbered wish seq _;
       purpose = c.purpose.result;
       timing = c.in_ok-out.ensures.timing ∙ (λ i. after_begun seq c.purpose.result out.to out.octets.items (same i).timing);
+      tied = tied_of c.ask.new.self;
     }

@@ -3,7 +3,7 @@ use Rattle.std.proofs.lemmas.List.Elements.{All-same, All-push}
 use Rattle.gtp_reliable.specs.Held.{HeldPair, just_kept}
 use Rattle.gtp_gateway.specs.Spelled.{AreSpelled}
 use Rattle.gtp_gateway.specs.Station.{station_of, timing_of}
-use Rattle.gtp_gateway.proofs.GoingOn.{given_goes}
+use Rattle.gtp_gateway.proofs.GoingOn.{tied_of, given_goes}
 use Rattle.gtp_gateway.proofs.parts.Parts.give.Goals as goal
 
 pub returns-clause-goes : goal.returns-clause-goes
@@ -11,7 +11,7 @@ returns-clause-goes c =
     let old = c.args.self.now in
     let ready = c.args.ready in
     given_goes c.args.source ready.request.items (station_of old) _ ready.answer.items
-    (λ i. record (timing_of old) { timers = record (timing_of old).timers { hold = c.keep.ensures.hold i }; held = c.keep.ensures.pairs i }) refl
+    (λ i. record (timing_of old) { timers = record (timing_of old).timers { hold = c.keep.ensures.hold i }; held = c.keep.ensures.pairs i }) (record { pending = refl; held = refl; drawn = (tied_of old).drawn })
 
 abbrev IsKept : HeldPair → Type 0
 IsKept p = AreSpelled p.answer

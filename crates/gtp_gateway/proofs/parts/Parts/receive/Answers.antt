@@ -5,6 +5,7 @@ use Rattle.gtp_gateway.specs.declared.step.Step.{Step}
 use Rattle.gtp_gateway.specs.Received.{IsReceived, KeepsTiming}
 use Rattle.gtp_gateway.specs.Station.{station_of}
 use Rattle.gtp_gateway.proofs.AcceptedStays.{accepted_stays}
+use Rattle.gtp_gateway.proofs.GoingOn.{tied_of}
 use Rattle.gtp_gateway.proofs.Needing.{on_err}
 use Rattle.gtp_gateway.proofs.Receiving.{control_received, user_received}
 use Rattle.gtp_gateway.specs.Received.{NeedsMemory}
@@ -38,7 +39,7 @@ returns-in_ok-step-in-User-clause-timing c =
     let new = station_of c.receive_user.new.self in
     let taken = c.in_ok-step-in-User.ensures.taken in
     subst (λ (p : Plane). KeepsTiming p c.args.source c.args.octets.now c.from-in-User.result old new) (sym c.in-User.is)
-    (subst (λ (r : Step). KeepsTiming User c.args.source c.args.octets.now r old new) (sym c.from-in-User.ensures) (taken.same, taken.waits))
+    (subst (λ (r : Step). KeepsTiming User c.args.source c.args.octets.now r old new) (sym c.from-in-User.ensures) (taken.same, taken.waits, tied_of c.receive_user.new.self))
 
 pub returns-in_ok-step-in-Control-clause-packet : goal.returns-in_ok-step-in-Control-clause-packet
 returns-in_ok-step-in-Control-clause-packet c =

@@ -14,7 +14,7 @@ use Rattle.gtp_gateway.specs.Station.{station_of}
 use Rattle.gtp_gateway.proofs.ByProcedure.{unheard, deletion_request_is, takes_deletion_request, echo_request_is, takes_echo_request, echo_response_is, takes_echo_response, deletion_response_is, takes_deletion_response, removal_response_is, removal_cause, takes_removal_response, takes_session_request}
 use Rattle.gtp_gateway.proofs.Endings.{delete_bearer_is, takes_removal_request}
 use Rattle.gtp_gateway.proofs.Giving.{wait_on}
-use Rattle.gtp_gateway.proofs.GoingOn.{on_goes}
+use Rattle.gtp_gateway.proofs.GoingOn.{tied_of, on_goes}
 use Rattle.gtp_gateway.proofs.InPlace.{type_is}
 use Rattle.gtp_gateway.proofs.Grants.{has_context, create_bearer_is, takes_bearer_request}
 use Rattle.gtp_gateway.proofs.BearerAnswers.{takes_bearer_response}
@@ -161,17 +161,17 @@ returns-in-BearerAnswered-clause-taken c =
 pub returns-in-EchoAnswered-clause-goes : goal.returns-in-EchoAnswered-clause-goes
 returns-in-EchoAnswered-clause-goes c =
     let heard = station_of c.hear.new.self in
-    on_goes c.args.source c.args.octets.now (station_of c.args.self.now) (station_of c.take_echo_response.new.self) (wait_on (station_of c.args.self.now) heard (station_of c.take_echo_response.new.self) c.hear.ensures.waits c.take_echo_response.ensures.waits)
+    on_goes c.args.source c.args.octets.now (station_of c.args.self.now) (station_of c.take_echo_response.new.self) (wait_on (station_of c.args.self.now) heard (station_of c.take_echo_response.new.self) c.hear.ensures.waits c.take_echo_response.ensures.waits) (tied_of c.take_echo_response.new.self)
 
 pub returns-in-DeletionAnswered-clause-goes : goal.returns-in-DeletionAnswered-clause-goes
 returns-in-DeletionAnswered-clause-goes c =
     let heard = station_of c.hear-in-DeletionAnswered.new.self in
-    on_goes c.args.source c.args.octets.now (station_of c.args.self.now) (station_of c.take_deletion_response.new.self) (wait_on (station_of c.args.self.now) heard (station_of c.take_deletion_response.new.self) c.hear-in-DeletionAnswered.ensures.waits c.take_deletion_response.ensures.waits)
+    on_goes c.args.source c.args.octets.now (station_of c.args.self.now) (station_of c.take_deletion_response.new.self) (wait_on (station_of c.args.self.now) heard (station_of c.take_deletion_response.new.self) c.hear-in-DeletionAnswered.ensures.waits c.take_deletion_response.ensures.waits) (tied_of c.take_deletion_response.new.self)
 
 pub returns-in-RemovalAnswered-clause-goes : goal.returns-in-RemovalAnswered-clause-goes
 returns-in-RemovalAnswered-clause-goes c =
     let heard = station_of c.hear-in-RemovalAnswered.new.self in
-    on_goes c.args.source c.args.octets.now (station_of c.args.self.now) (station_of c.take_removal_response.new.self) (wait_on (station_of c.args.self.now) heard (station_of c.take_removal_response.new.self) c.hear-in-RemovalAnswered.ensures.waits c.take_removal_response.ensures.waits)
+    on_goes c.args.source c.args.octets.now (station_of c.args.self.now) (station_of c.take_removal_response.new.self) (wait_on (station_of c.args.self.now) heard (station_of c.take_removal_response.new.self) c.hear-in-RemovalAnswered.ensures.waits c.take_removal_response.ensures.waits) (tied_of c.take_removal_response.new.self)
 
 pub returns-in-EchoAsked-clause-memory : goal.returns-in-EchoAsked-clause-memory
 returns-in-EchoAsked-clause-memory c =
