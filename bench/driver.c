@@ -10,6 +10,9 @@
 #include <stdlib.h>
 #include <string.h>
 #include <time.h>
+#ifdef COUNT_ALLOCATIONS
+#include <malloc.h>
+#endif
 
 struct packet_parts {
     uint32_t teid, seq, npdu, first;
@@ -32,6 +35,13 @@ uint64_t gtp_bench_change_bearer(uint32_t sessions, uint32_t times);
 uint64_t gtp_bench_look_up(uint32_t held, uint32_t times);
 uint64_t gtp_bench_tick(uint32_t held, uint32_t times);
 uint32_t gtp_bench_comparisons(uint32_t held);
+uint64_t gtp_bench_make_sessions(const uint8_t *request, size_t len, uint32_t sessions, uint32_t times);
+uint64_t gtp_bench_repeat_requests(const uint8_t *request, size_t len, uint32_t sessions, uint32_t times);
+uint64_t gtp_bench_take_packets(const uint8_t *request, size_t len, const uint8_t *packet, size_t packet_len,
+                                uint32_t sessions, uint32_t times);
+uint64_t gtp_bench_take_responses(const uint8_t *response, size_t len, uint32_t sessions, uint32_t times, bool come);
+uint64_t gtp_bench_run(uint32_t sessions, bool happen);
+uint64_t gtp_bench_deliver(uint32_t sessions, uint32_t times);
 
 uint64_t baseline_view(const uint8_t *octets, size_t len);
 uint64_t baseline_decode(const uint8_t *octets, size_t len);
@@ -391,16 +401,218 @@ static void measure_tables(int turns)
     printf("count|most comparisons of a look-up|10|4096|%u|%u\n", gtp_bench_comparisons(10), gtp_bench_comparisons(4096));
 }
 
+/* What a gateway receives, so many times, once it has so many sessions. */
+static uint64_t make_sessions(uint32_t sessions, uint32_t times)
+{
+    return gtp_bench_make_sessions(copies[SESSION_REQUEST].octets[0], copies[SESSION_REQUEST].len, sessions, times);
+}
+
+static uint64_t repeat_requests(uint32_t sessions, uint32_t times)
+{
+    return gtp_bench_repeat_requests(copies[SESSION_REQUEST].octets[0], copies[SESSION_REQUEST].len, sessions, times);
+}
+
+static uint64_t take_packets(uint32_t sessions, uint32_t times)
+{
+    return gtp_bench_take_packets(copies[SESSION_REQUEST].octets[0], copies[SESSION_REQUEST].len,
+                                  copies[PACKET].octets[0], copies[PACKET].len, sessions, times);
+}
+
+static uint64_t take_responses(uint32_t sessions, uint32_t times)
+{
+    return gtp_bench_take_responses(copies[SESSION_RESPONSE].octets[0], copies[SESSION_RESPONSE].len, sessions, times, true);
+}
+
+/* All but the answers, which do not come. */
+static uint64_t wait_for_responses(uint32_t sessions, uint32_t times)
+{
+    return gtp_bench_take_responses(copies[SESSION_RESPONSE].octets[0], copies[SESSION_RESPONSE].len, sessions, times, false);
+}
+
+/* A run has ten events a session, which send six datagrams. */
+enum { EVENTS = 10, DATAGRAMS_SENT = 6, FEW_SESSIONS = 1000, MOST_SESSIONS = 10000, MOST_KEPT = 16667 };
+
+/* At a number of sessions: so many stand before what is measured, which is done so many times. */
+struct size {
+    uint32_t sessions, before, times;
+};
+
+/* A further session is made at 0 to 19, and at 900 to 999: 10 and 950 in the middle. Answers open sessions that
+ * stand already, so they come at 10 and at 1,000. */
+static const struct {
+    const char *name;
+    many *function, *without; /* the same, without what is measured, where that is not to do it no times */
+    struct size few, most;
+} receives[] = {
+    { "receive a Create Session Request", make_sessions, NULL, { 10, 0, 20 }, { 950, 900, 100 } },
+    { "receive a Create Session Response", take_responses, wait_for_responses, { 10, 0, 10 }, { 1000, 900, 100 } },
+    { "receive a request once more", repeat_requests, NULL, { 10, 10, 20000 }, { 1000, 1000, 20000 } },
+    { "receive a user packet", take_packets, NULL, { 10, 10, 50000 }, { 1000, 1000, 50000 } },
+};
+enum { RECEIVES = sizeof receives / sizeof *receives };
+
+/* What is done before what is measured. */
+static uint64_t done_before(size_t row, struct size size)
+{
+    return receives[row].without ? receives[row].without(size.before, size.times) : receives[row].function(size.before, 0);
+}
+
+#ifdef COUNT_ALLOCATIONS
+/* What is asked of the C library, which the linker leads through here (--wrap): how often, and how many octets are
+ * in use, now and at most. */
+static uint64_t allocations;
+static size_t in_use, most_in_use;
+void *__real_malloc(size_t size);
+void *__real_realloc(void *old, size_t size);
+void __real_free(void *old);
+void *__wrap_malloc(size_t size);
+void *__wrap_realloc(void *old, size_t size);
+void __wrap_free(void *old);
+
+static void *used(void *block)
+{
+    allocations++;
+    in_use += malloc_usable_size(block);
+    if (in_use > most_in_use) most_in_use = in_use;
+    return block;
+}
+
+void *__wrap_malloc(size_t size)
+{
+    return used(__real_malloc(size));
+}
+
+void *__wrap_realloc(void *old, size_t size)
+{
+    in_use -= malloc_usable_size(old);
+    return used(__real_realloc(old, size));
+}
+
+void __wrap_free(void *old)
+{
+    in_use -= malloc_usable_size(old);
+    __real_free(old);
+}
+
+static uint64_t allocations_of(size_t row, struct size size)
+{
+    uint64_t start = allocations;
+    sink += done_before(row, size);
+    uint64_t between = allocations;
+    sink += receives[row].function(size.before, size.times);
+    return (allocations - between) - (between - start);
+}
+
+/* Prints how many allocations a call makes, on average. */
+static void count_allocations(void)
+{
+    for (size_t k = 0; k < RECEIVES; k++)
+        printf("allocations|%s|%u|%u|%.2f|%.2f\n", receives[k].name, receives[k].few.sessions, receives[k].most.sessions,
+               (double)allocations_of(k, receives[k].few) / receives[k].few.times,
+               (double)allocations_of(k, receives[k].most) / receives[k].most.times);
+}
+#endif
+
+#ifdef COUNT_ALLOCATIONS
+/* The most octets that a run has in use, beyond those that its events have, for each event. */
+static double octets_an_event(uint32_t sessions)
+{
+    most_in_use = in_use;
+    sink += gtp_bench_run(sessions, false);
+    size_t events = most_in_use;
+    most_in_use = in_use;
+    sink += gtp_bench_run(sessions, true);
+    return (double)(most_in_use - events) / (EVENTS * (double)sessions);
+}
+
+static void count_octets(void)
+{
+    printf("allocations|octets an event of a run|%d|%d|%.1f|%.1f\n", EVENTS * FEW_SESSIONS, EVENTS * MOST_SESSIONS,
+           octets_an_event(FEW_SESSIONS), octets_an_event(MOST_SESSIONS));
+}
+#endif
+
+/* The time of an event in a run of so many sessions, ten events each. */
+static double time_run(uint32_t sessions, int turns)
+{
+    double all = 1e18, none = 1e18;
+    if (gtp_bench_run(sessions, true) != sessions) stop("a packet of a run was not accepted");
+    for (int t = 0; t < turns; t++) {
+        double start = now();
+        sink += gtp_bench_run(sessions, false);
+        double between = now();
+        sink += gtp_bench_run(sessions, true);
+        none = least(none, between - start);
+        all = least(all, now() - between);
+    }
+    return (all - none) / (EVENTS * (double)sessions);
+}
+
+/* The time of a delivery after so many sessions. */
+static double time_deliveries(uint32_t sessions, int turns)
+{
+    enum { TIMES = 20000 };
+    double all = 1e18, none = 1e18;
+    if (gtp_bench_deliver(sessions, TIMES) != EVENTS * (uint64_t)sessions + TIMES) stop("an event of a run is missing");
+    for (int t = 0; t < turns; t++) {
+        double start = now();
+        sink += gtp_bench_deliver(sessions, 0);
+        double between = now();
+        sink += gtp_bench_deliver(sessions, TIMES);
+        none = least(none, between - start);
+        all = least(all, now() - between);
+    }
+    return (all - none) / TIMES;
+}
+
+static void measure_worlds(int turns)
+{
+    printf("world|an event of a run, by events|%d|%d|%.1f|%.1f\n", EVENTS * FEW_SESSIONS, EVENTS * MOST_SESSIONS,
+           time_run(FEW_SESSIONS, turns), time_run(MOST_SESSIONS, turns));
+    printf("world|a delivery, by datagrams that are kept|%d|%d|%.1f|%.1f\n", DATAGRAMS_SENT * 2, DATAGRAMS_SENT * MOST_KEPT,
+           time_deliveries(2, turns), time_deliveries(MOST_KEPT, turns));
+}
+
+/* The time of one of so many calls. */
+static double time_received(size_t row, struct size size, int turns)
+{
+    double all = 1e18, none = 1e18;
+    if (receives[row].function(size.before, size.times) != size.times) stop(receives[row].name);
+    for (int t = 0; t < turns; t++) {
+        double start = now();
+        sink += done_before(row, size);
+        double between = now();
+        sink += receives[row].function(size.before, size.times);
+        none = least(none, between - start);
+        all = least(all, now() - between);
+    }
+    return (all - none) / size.times;
+}
+
+static void measure_gateways(int turns)
+{
+    for (size_t k = 0; k < RECEIVES; k++)
+        printf("gateway|%s|%u|%u|%.2f|%.2f\n", receives[k].name, receives[k].few.sessions, receives[k].most.sessions,
+               time_received(k, receives[k].few, turns), time_received(k, receives[k].most, turns));
+}
+
 int main(int count, char **words)
 {
     if (count != 2 + DATAGRAMS) stop("driver TURNS HEX..");
     int turns = atoi(words[1]);
     long compared = 0;
     for (enum datagram d = 0; d < DATAGRAMS; d++) copy(d, words[2 + d]);
+#ifdef COUNT_ALLOCATIONS
+    count_allocations();
+    count_octets();
+    return sink == 1;
+#endif
     for (enum datagram d = 0; d < DATAGRAMS; d++) compared += compare_all(d);
     printf("alike|%ld\n", compared);
     measure_pairs(turns);
     measure_growth(turns / 4 + 1);
     measure_tables(turns / 4 + 1);
+    measure_gateways(turns);
+    measure_worlds(turns / 4 + 1);
     return sink == 1;
 }

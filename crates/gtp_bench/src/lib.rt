@@ -4,8 +4,10 @@
 
 mod answers;
 mod control;
+mod gateways;
 mod packets;
 mod tables;
+mod worlds;
 
 use packets::PacketParts;
 use std::alloc::Global;
@@ -109,4 +111,68 @@ pub extern "C" fn gtp_bench_comparisons(alloc: Global, count: u32) -> u32 {
 #[unsafe(no_mangle)]
 pub extern "C" fn gtp_bench_tick(alloc: Global, count: u32, times: u32) -> u64 {
     answers::tick_often(alloc, count, times)
+}
+
+/// Makes so many sessions at a packet gateway, by this Create Session Request under so many numbers, and
+/// then hands it so many further ones: how many sessions those made.
+#[unsafe(no_mangle)]
+pub extern "C" fn gtp_bench_make_sessions(
+    alloc: Global,
+    request: &[u8],
+    sessions: u32,
+    times: u32,
+) -> u64 {
+    gateways::make_sessions(alloc, request, sessions, times)
+}
+
+/// Makes so many sessions and then hands the packet gateway so many times a request that it has answered,
+/// each in turn: how many were answered again.
+#[unsafe(no_mangle)]
+pub extern "C" fn gtp_bench_repeat_requests(
+    alloc: Global,
+    request: &[u8],
+    sessions: u32,
+    times: u32,
+) -> u64 {
+    gateways::repeat_requests(alloc, request, sessions, times)
+}
+
+/// Makes so many sessions and then hands the packet gateway so many packets, one on each default bearer in
+/// turn: how many were accepted.
+#[unsafe(no_mangle)]
+pub extern "C" fn gtp_bench_take_packets(
+    alloc: Global,
+    request: &[u8],
+    packet: &[u8],
+    sessions: u32,
+    times: u32,
+) -> u64 {
+    gateways::take_packets(alloc, request, packet, sessions, times)
+}
+
+/// Opens so many sessions at a serving gateway and asks for so many others, and then hands it their
+/// answers, if they come: how many of these opened.
+#[unsafe(no_mangle)]
+pub extern "C" fn gtp_bench_take_responses(
+    alloc: Global,
+    response: &[u8],
+    sessions: u32,
+    times: u32,
+    come: bool,
+) -> u64 {
+    gateways::take_responses(alloc, response, sessions, times, come).unwrap_or(0)
+}
+
+/// Makes the events of so many sessions, ten a session, which then happen to a world, if they do: how many
+/// packets are accepted, one a session.
+#[unsafe(no_mangle)]
+pub extern "C" fn gtp_bench_run(alloc: Global, sessions: u32, happen: bool) -> u64 {
+    worlds::run_sessions(alloc, sessions, happen).unwrap_or(0)
+}
+
+/// The events of so many sessions happen to a world, and then one datagram comes again, so many times: how
+/// many events happened in all.
+#[unsafe(no_mangle)]
+pub extern "C" fn gtp_bench_deliver(alloc: Global, sessions: u32, times: u32) -> u64 {
+    worlds::deliver_often(alloc, sessions, times).unwrap_or(0)
 }

@@ -1,0 +1,649 @@
+"""A second account of both gateways and of their world, in plain Python, written after the standard and the
+protocol profile and not after the program. Reports of the program are compared with those of this account.
+
+It takes what a world can show: scenarios that are well formed, and datagrams that a gateway sent, whole or cut.
+The clauses named are those of TS 29.274 and, of the user plane, TS 29.281."""
+
+from dataclasses import dataclass, field, replace
+from typing import Optional
+
+SERVING, PACKET = "serving", "packet"
+PENDING, ACTIVE, CLOSING = "pending", "active", "closing"
+
+IMSI, CAUSE, RECOVERY, APN, AMBR, EBI, PAA, QOS = 1, 2, 3, 71, 72, 73, 79, 80
+RAT, SERVING_NETWORK, TFT, FTEID, CONTEXT, CHARGING_ID, PDN_TYPE, SELECTION = 82, 83, 84, 87, 93, 94, 99, 128
+
+ECHO_REQUEST, ECHO_RESPONSE = 1, 2
+CREATE_SESSION, DELETE_SESSION, CREATE_BEARER, DELETE_BEARER = 32, 36, 95, 99
+REQUESTS = (CREATE_SESSION, DELETE_SESSION, CREATE_BEARER, DELETE_BEARER)
+ERROR_INDICATION, END_MARKER, G_PDU = 26, 254, 255
+
+MOST_SESSIONS, MOST_PENDING, MOST_HELD, MOST_PAYLOAD, MOST_RESTARTS = 1000, 256, 4096, 65000, 127
+
+
+class Refused(Exception):
+    """A command that is refused, or a datagram that is dropped: the outcome as it is printed."""
+
+
+def accepts(cause):
+    return 16 <= cause <= 63
+
+
+def age(known, new):
+    """Whether a restart counter is the same, later or earlier (clause 7.7.0 leaves the window to us)."""
+    ahead = (new - known) % 256
+    return "same" if ahead == 0 else "later" if ahead < 128 else "earlier"
+
+
+# Elements (clause 8) and messages of the control plane (clause 5).
+
+
+def element(kind, instance, body):
+    return bytes([kind]) + len(body).to_bytes(2, "big") + bytes([instance]) + body
+
+
+def elements(octets):
+    """The elements of a list that is whole: their types, instances and bodies."""
+    found = []
+    while octets:
+        size = int.from_bytes(octets[1:3], "big")
+        found.append((octets[0], octets[3] & 15, octets[4 : 4 + size]))
+        octets = octets[4 + size :]
+    return found
+
+
+def first(found, kind, instance):
+    return next((body for k, i, body in found if (k, i) == (kind, instance)), None)
+
+
+def every(found, kind, instance):
+    return [body for k, i, body in found if (k, i) == (kind, instance)]
+
+
+def cause_of(value):
+    return element(CAUSE, 0, bytes([value, 0]))
+
+
+def number_of(kind, number, size=1, instance=0):
+    return element(kind, instance, number.to_bytes(size, "big"))
+
+
+def end_of(instance, interface, teid, address):
+    """An F-TEID of one IPv4 address (clause 8.22)."""
+    return element(FTEID, instance, bytes([128 | interface]) + teid.to_bytes(4, "big") + address)
+
+
+def teid_in(body):
+    return int.from_bytes(body[1:5], "big")
+
+
+def name_of(apn):
+    return b"".join(bytes([len(label)]) + label for label in apn.encode().split(b"."))
+
+
+def text_of(name):
+    labels = []
+    while name:
+        labels.append(name[1 : 1 + name[0]].decode())
+        name = name[1 + name[0] :]
+    return ".".join(labels)
+
+
+def packed(digits):
+    """Digits two an octet, the first in the low half (clause 8.3)."""
+    filled = digits + "f" * (len(digits) % 2)
+    return bytes(int(filled[k + 1] + filled[k], 16) for k in range(0, len(filled), 2))
+
+
+def unpacked(octets):
+    return "".join(f"{octet & 15:x}{octet >> 4:x}" for octet in octets).rstrip("f")
+
+
+RATES = element(AMBR, 0, (1000).to_bytes(4, "big") * 2)
+QUALITY = element(QOS, 0, bytes([0x20, 9]) + bytes(20))
+
+
+@dataclass
+class Message:
+    kind: int
+    teid: Optional[int]
+    number: int
+    found: list
+
+    @property
+    def cause(self):
+        body = first(self.found, CAUSE, 0)
+        return body[0] if body else None
+
+    @property
+    def contexts(self):
+        return [elements(body) for body in every(self.found, CONTEXT, 0)]
+
+
+def control(kind, teid, number, body):
+    """The octets of a message: the header has a TEID unless it is of an Echo (clause 5.1)."""
+    rest = number.to_bytes(3, "big") + b"\0" + body
+    if teid is not None:
+        rest = teid.to_bytes(4, "big") + rest
+    return bytes([64 if teid is None else 72, kind]) + len(rest).to_bytes(2, "big") + rest
+
+
+def read_control(octets):
+    """The message, or its fault where it was cut."""
+    if len(octets) < 4:
+        raise Refused("X1 H1")
+    if int.from_bytes(octets[2:4], "big") != len(octets) - 4:
+        raise Refused("X1 H3")
+    if octets[0] & 8:
+        teid, rest = int.from_bytes(octets[4:8], "big"), octets[8:]
+    else:
+        teid, rest = None, octets[4:]
+    return Message(octets[1], teid, int.from_bytes(rest[:3], "big"), elements(rest[4:]))
+
+
+def user(kind, teid, rest=b""):
+    return bytes([0x30, kind]) + len(rest).to_bytes(2, "big") + teid.to_bytes(4, "big") + rest
+
+
+def error_indication(teid, address):
+    """Clause 7.3.1 of TS 29.281: the TEID that is not known, and the address that it came to."""
+    rest = bytes(4) + bytes([16]) + teid.to_bytes(4, "big") + bytes([133, 0, 4]) + address
+    return bytes([0x32, ERROR_INDICATION]) + len(rest).to_bytes(2, "big") + bytes(4) + rest
+
+
+def read_user(octets):
+    """The type, the TEID and what follows, or the fault where it was cut. An Error Indication is about the TEID
+    in its first element."""
+    if len(octets) < 8:
+        raise Refused("X1 U1")
+    if int.from_bytes(octets[2:4], "big") != len(octets) - 8:
+        raise Refused("X1 U4")
+    if octets[1] == ERROR_INDICATION:
+        return octets[1], int.from_bytes(octets[13:17], "big"), b""
+    return octets[1], int.from_bytes(octets[4:8], "big"), octets[8:]
+
+
+# A gateway.
+
+
+@dataclass
+class Session:
+    imsi: str
+    apn: str
+    identity: int
+    state: str
+    remote: Optional[int] = None
+    address: Optional[int] = None
+
+
+@dataclass
+class Bearer:
+    session: int
+    default: bool
+    state: str
+    identity: Optional[int] = None
+    remote: Optional[int] = None
+    ended: bool = False
+
+
+@dataclass
+class Pending:
+    """A request that waits for its answer: what it is about, and how often and how long it waited."""
+
+    number: int
+    kind: int
+    octets: bytes
+    header: Optional[int]
+    session: Optional[int] = None
+    bearer: Optional[int] = None
+    ticks: int = 0
+    again: int = 0
+
+
+@dataclass
+class Held:
+    request: bytes
+    answer: bytes
+    ticks: int = 0
+
+
+@dataclass
+class Setup:
+    """What a gateway is set up with; the access points and addresses are the packet gateway's."""
+
+    role: str
+    control: bytes
+    user: bytes
+    counter: int
+    access_points: list = field(default_factory=list)
+    pool: int = 0
+    count: int = 0
+    t3: int = 3
+    n3: int = 3
+    hold: int = 60
+
+
+@dataclass
+class Told:
+    """What an event comes to."""
+
+    outcome: str = ""
+    restart: Optional[int] = None
+    sent: list = field(default_factory=list)
+    gave_up: list = field(default_factory=list)
+    forgot: list = field(default_factory=list)
+    accepted: Optional[tuple] = None
+    by: Optional[str] = None
+
+
+class Gateway:
+    def __init__(self, setup, counter):
+        self.setup, self.counter = setup, counter
+        self.drawn = self.next_number = 0
+        self.known = None
+        self.sessions, self.bearers = {}, {}
+        self.pending, self.held = [], []
+
+    # Tables.
+
+    def draw(self):
+        self.drawn += 1
+        return self.counter << 24 | self.drawn
+
+    def has_draws(self, count):
+        return self.drawn + count <= 0xFFFFFF
+
+    def bearers_of(self, session):
+        return {teid: b for teid, b in self.bearers.items() if b.session == session}
+
+    def with_identity(self, session, identity):
+        return next((t for t, b in self.bearers_of(session).items() if b.identity == identity), None)
+
+    def free_identity(self, session):
+        used = {b.identity for b in self.bearers_of(session).values()}
+        return next((k for k in range(5, 16) if k not in used), None)
+
+    def free_address(self):
+        used = {s.address for s in self.sessions.values()}
+        pool = range(self.setup.pool, self.setup.pool + self.setup.count)
+        return next((address for address in pool if address not in used), None)
+
+    def remove_session(self, session):
+        for bearer in self.bearers_of(session):
+            self.remove_bearer(bearer)
+        self.sessions.pop(session, None)
+        self.pending = [p for p in self.pending if p.session != session]
+
+    def remove_bearer(self, bearer):
+        self.bearers.pop(bearer, None)
+        self.pending = [p for p in self.pending if p.bearer != bearer]
+
+    def close(self, session):
+        self.sessions[session].state = CLOSING
+        for bearer in self.bearers_of(session).values():
+            bearer.state = CLOSING
+
+    # Commands. Each sends one datagram or is refused.
+
+    def ask(self, kind, header, body, session=None, bearer=None):
+        """Begins a request under the next free number."""
+        while any(p.number == self.next_number for p in self.pending):
+            self.next_number = (self.next_number + 1) % 8388608
+        number = self.next_number
+        self.next_number = (number + 1) % 8388608
+        octets = control(kind, header, number, body)
+        self.pending.append(Pending(number, kind, octets, header, session, bearer))
+        return Told(sent=[("control", octets)])
+
+    def room(self, draws=0):
+        if draws and not self.has_draws(draws):
+            raise Refused("G4 S4")
+        if len(self.pending) >= MOST_PENDING:
+            raise Refused("G4 B1")
+
+    def active_session(self, teid):
+        if teid not in self.sessions:
+            raise Refused("G1")
+        if self.sessions[teid].state != ACTIVE:
+            raise Refused("G2")
+        return self.sessions[teid]
+
+    def create_session(self, imsi, apn, identity, pdn):
+        if len(self.sessions) >= MOST_SESSIONS:
+            raise Refused("G4 S1")
+        self.room(draws=2)
+        session, bearer = self.draw(), self.draw()
+        self.sessions[session] = Session(imsi, apn, identity, PENDING)
+        self.bearers[bearer] = Bearer(session, True, PENDING, identity)
+        context = number_of(EBI, identity) + QUALITY + end_of(2, 4, bearer, self.setup.user)
+        body = element(IMSI, 0, packed(imsi)) + number_of(RAT, 6) + element(SERVING_NETWORK, 0, bytes.fromhex("00f110"))
+        body += end_of(0, 6, session, self.setup.control) + element(APN, 0, name_of(apn)) + number_of(SELECTION, 0)
+        body += number_of(PDN_TYPE, pdn) + element(PAA, 0, bytes([1, 0, 0, 0, 0])) + RATES
+        body += element(CONTEXT, 0, context) + number_of(RECOVERY, self.counter)
+        told = self.ask(CREATE_SESSION, 0, body, session, bearer)
+        return replace(told, outcome=f"begun {session:08x}")
+
+    def end_session(self, teid, kind):
+        """Deletes a session at the serving gateway, or releases it at the packet gateway."""
+        session = self.active_session(teid)
+        self.room()
+        self.close(teid)
+        told = self.ask(kind, session.remote, number_of(EBI, session.identity), teid)
+        return replace(told, outcome=f"begun {teid:08x}")
+
+    def create_bearer(self, teid, tft):
+        session = self.active_session(teid)
+        self.room(draws=1)
+        bearer = self.draw()
+        self.bearers[bearer] = Bearer(teid, False, PENDING)
+        context = number_of(EBI, 0) + element(TFT, 0, tft) + end_of(1, 5, bearer, self.setup.user)
+        context += QUALITY + number_of(CHARGING_ID, bearer, 4)
+        told = self.ask(CREATE_BEARER, session.remote, number_of(EBI, session.identity) + element(CONTEXT, 0, context), teid, bearer)
+        return replace(told, outcome=f"begun {bearer:08x}")
+
+    def delete_bearer(self, teid, identity):
+        bearer = self.with_identity(teid, identity)
+        if teid not in self.sessions or bearer is None or self.bearers[bearer].default:
+            raise Refused("G1")
+        if self.sessions[teid].state != ACTIVE or self.bearers[bearer].state != ACTIVE:
+            raise Refused("G2")
+        self.room()
+        self.bearers[bearer].state = CLOSING
+        told = self.ask(DELETE_BEARER, self.sessions[teid].remote, number_of(EBI, identity, instance=1), teid, bearer)
+        return replace(told, outcome=f"begun {bearer:08x}")
+
+    def sending(self, teid):
+        if teid not in self.bearers:
+            raise Refused("G1")
+        if self.bearers[teid].state != ACTIVE:
+            raise Refused("G2")
+        if self.setup.role == PACKET and self.bearers[teid].ended:
+            raise Refused("G5")
+        return self.bearers[teid]
+
+    def end_marker(self, teid):
+        bearer = self.sending(teid)
+        bearer.ended = True
+        return Told("sent", sent=[("user", user(END_MARKER, bearer.remote))])
+
+    def send(self, teid, payload):
+        bearer = self.sending(teid)
+        if len(payload) > MOST_PAYLOAD:
+            raise Refused("G7")
+        return Told("sent", sent=[("user", user(G_PDU, bearer.remote, payload))])
+
+    def echo(self):
+        self.room()
+        told = self.ask(ECHO_REQUEST, None, number_of(RECOVERY, self.counter))
+        return replace(told, outcome="begun")
+
+    # Datagrams of the control plane.
+
+    def receive_control(self, octets):
+        """What a datagram comes to. A later counter is told even where the message is then dropped."""
+        for held in self.held:
+            if held.request == octets:
+                return Told("repeated", sent=[("control", held.answer)])
+        told = Told()
+        try:
+            message = read_control(octets)
+            self.hear(message, told)
+            self.take(message, octets, told)
+        except Refused as dropped:
+            told.outcome = str(dropped)
+        return told
+
+    def hear(self, message, told):
+        """The restart counter of the peer (clause 7.1)."""
+        body = first(message.found, RECOVERY, 0)
+        if body is None:
+            return
+        counter = body[0]
+        heard = "first" if self.known is None else age(self.known, counter)
+        if heard == "earlier":
+            raise Refused("X2")
+        if heard == "later":
+            told.restart = counter
+            for session in [t for t, s in self.sessions.items() if s.state != PENDING]:
+                self.remove_session(session)
+        if heard != "same":
+            self.known = counter
+
+    def take(self, message, octets, told):
+        if message.kind == ECHO_REQUEST:
+            answer = control(ECHO_RESPONSE, None, message.number, number_of(RECOVERY, self.counter))
+            told.sent, told.outcome = [("control", answer)], "echoed"
+        elif message.kind in REQUESTS:
+            self.answer(message, octets, told)
+        else:
+            told.outcome = self.take_response(message)
+
+    # Requests (clauses 7.2.1 to 7.2.10). An answer is held under the request's octets.
+
+    def answer(self, message, octets, told):
+        if len(self.held) >= MOST_HELD:
+            raise Refused("X8")
+        rules = {
+            CREATE_SESSION: self.session_asked,
+            DELETE_SESSION: self.session_deleted,
+            CREATE_BEARER: self.bearer_asked,
+            DELETE_BEARER: self.bearers_deleted,
+        }
+        header, cause, rows = rules[message.kind](message)
+        body = cause_of(cause) + rows + number_of(RECOVERY, self.counter)
+        answer = control(message.kind + 1, header, message.number, body)
+        self.held.append(Held(octets, answer))
+        told.sent, told.outcome = [("control", answer)], f"answered {cause}"
+
+    def session_asked(self, message):
+        found = message.found
+        header = teid_in(first(found, FTEID, 0))
+        apn = text_of(first(found, APN, 0))
+        pdn = first(found, PDN_TYPE, 0)[0] & 7
+        context = message.contexts[0]
+        if apn not in self.setup.access_points:
+            return header, 78, b""
+        if pdn not in (1, 3):
+            return header, 83, b""
+        if len(self.sessions) >= MOST_SESSIONS or not self.has_draws(2):
+            return header, 73, b""
+        address = self.free_address()
+        if address is None:
+            return header, 84, b""
+        session, bearer = self.draw(), self.draw()
+        identity = first(context, EBI, 0)[0] & 15
+        imsi = unpacked(first(found, IMSI, 0))
+        self.sessions[session] = Session(imsi, apn, identity, ACTIVE, header, address)
+        self.bearers[bearer] = Bearer(session, True, ACTIVE, identity, teid_in(first(context, FTEID, 2)))
+        made = number_of(EBI, identity) + cause_of(16) + end_of(2, 5, bearer, self.setup.user)
+        made += element(QOS, 0, first(context, QOS, 0)) + number_of(CHARGING_ID, bearer, 4)
+        rows = end_of(1, 7, session, self.setup.control) + element(PAA, 0, b"\1" + address.to_bytes(4, "big"))
+        rows += element(AMBR, 0, first(found, AMBR, 0)) + element(CONTEXT, 0, made)
+        return header, 18 if pdn == 3 else 16, rows
+
+    def session_deleted(self, message):
+        session = self.sessions.get(message.teid)
+        if session is None:
+            return 0, 64, b""
+        linked = first(message.found, EBI, 0)
+        if linked is not None and linked[0] & 15 != session.identity:
+            return session.remote, 64, b""
+        self.remove_session(message.teid)
+        return session.remote, 16, b""
+
+    def bearer_asked(self, message):
+        session = self.sessions.get(message.teid)
+        if session is None:
+            return 0, 64, b""
+        if session.state != ACTIVE:
+            raise Refused("X5")
+        if first(message.found, EBI, 0)[0] & 15 != session.identity:
+            return session.remote, 64, b""
+        asked = first(message.contexts[0], FTEID, 1)
+        identity = self.free_identity(message.teid)
+        if identity is None or not self.has_draws(1):
+            refused = number_of(EBI, 0) + cause_of(73) + element(FTEID, 3, asked)
+            return session.remote, 73, element(CONTEXT, 0, refused)
+        bearer = self.draw()
+        self.bearers[bearer] = Bearer(message.teid, False, ACTIVE, identity, teid_in(asked))
+        made = number_of(EBI, identity) + cause_of(16) + end_of(2, 4, bearer, self.setup.user) + element(FTEID, 3, asked)
+        return session.remote, 16, element(CONTEXT, 0, made)
+
+    def bearers_deleted(self, message):
+        session = self.sessions.get(message.teid)
+        if session is None:
+            return 0, 64, b""
+        if session.state == PENDING:
+            raise Refused("X5")
+        linked = first(message.found, EBI, 0)
+        if linked is not None:
+            if linked[0] & 15 != session.identity:
+                return session.remote, 64, b""
+            self.remove_session(message.teid)
+            return session.remote, 16, number_of(EBI, session.identity)
+        causes, rows = [], b""
+        for body in every(message.found, EBI, 1):
+            bearer = self.with_identity(message.teid, body[0] & 15)
+            causes.append(64 if bearer is None or self.bearers[bearer].default else 16)
+            if causes[-1] == 16:
+                self.remove_bearer(bearer)
+            rows += element(CONTEXT, 0, number_of(EBI, body[0] & 15) + cause_of(causes[-1]))
+        cause = 16 if 64 not in causes else 17 if 16 in causes else 64
+        return session.remote, cause, rows
+
+    # Responses.
+
+    def take_response(self, message):
+        pending = next((p for p in self.pending if p.number == message.number), None)
+        if pending is None:
+            raise Refused("X3")
+        refusal = message.teid == 0 and message.cause == 64 and pending.header != 0
+        fits = message.kind == pending.kind + 1 and (pending.kind == ECHO_REQUEST or message.teid == pending.session or refusal)
+        if not fits:
+            raise Refused("X4")
+        rules = {
+            ECHO_REQUEST: lambda *_: "alive",
+            CREATE_SESSION: self.session_answered,
+            CREATE_BEARER: self.bearer_answered,
+            DELETE_SESSION: self.ended,
+            DELETE_BEARER: self.ended,
+        }
+        outcome = rules[pending.kind](message, pending)
+        self.pending = [p for p in self.pending if p.number != pending.number]
+        return outcome
+
+    def session_answered(self, message, pending):
+        session = self.sessions[pending.session]
+        if not accepts(message.cause):
+            self.remove_session(pending.session)
+            return f"rejected {message.cause}"
+        paa, contexts = first(message.found, PAA, 0), message.contexts
+        if len(contexts) != 1 or first(contexts[0], EBI, 0)[0] & 15 != session.identity or paa[0] & 7 != 1:
+            raise Refused("X4")
+        cause = first(contexts[0], CAUSE, 0)[0]
+        if not accepts(cause):
+            self.remove_session(pending.session)
+            return f"rejected {cause}"
+        session.remote, session.state = teid_in(first(message.found, FTEID, 1)), ACTIVE
+        session.address = int.from_bytes(paa[1:5], "big")
+        bearer = self.bearers[pending.bearer]
+        bearer.remote, bearer.state = teid_in(first(contexts[0], FTEID, 2)), ACTIVE
+        return "opened"
+
+    def bearer_answered(self, message, pending):
+        if not accepts(message.cause):
+            self.remove_bearer(pending.bearer)
+            return f"rejected {message.cause}"
+        if len(message.contexts) != 1:
+            raise Refused("X4")
+        context = message.contexts[0]
+        cause = first(context, CAUSE, 0)[0]
+        if not accepts(cause):
+            self.remove_bearer(pending.bearer)
+            return f"rejected {cause}"
+        if teid_in(first(context, FTEID, 3)) != pending.bearer:
+            raise Refused("X4")
+        identity = first(context, EBI, 0)[0] & 15
+        in_use = self.with_identity(pending.session, identity) is not None
+        if not 5 <= identity <= 15 or in_use or self.sessions[pending.session].state == CLOSING:
+            self.remove_bearer(pending.bearer)
+            return "clash"
+        bearer = self.bearers[pending.bearer]
+        bearer.identity, bearer.remote, bearer.state = identity, teid_in(first(context, FTEID, 2)), ACTIVE
+        return "opened"
+
+    def ended(self, message, pending):
+        self.end(pending)
+        return "closed"
+
+    def end(self, pending):
+        """Removes what a request was about: it was refused, given up, or answered by a deletion."""
+        if pending.kind in (CREATE_BEARER, DELETE_BEARER) and pending.bearer is not None:
+            self.remove_bearer(pending.bearer)
+        elif pending.kind != ECHO_REQUEST:
+            self.remove_session(pending.session)
+
+    # The user plane.
+
+    def receive_user(self, octets):
+        told = Told()
+        try:
+            kind, teid, payload = read_user(octets)
+            bearer = self.bearers.get(teid)
+            if kind == G_PDU:
+                self.take_packet(teid, bearer, payload, told)
+            elif kind == END_MARKER and self.setup.role == SERVING and bearer is not None:
+                if bearer.state != ACTIVE:
+                    raise Refused("X5")
+                bearer.ended, told.outcome = True, "ended"
+            elif kind == ERROR_INDICATION:
+                self.take_error(teid, told)
+            else:
+                raise Refused("X9")
+        except Refused as dropped:
+            told.outcome = str(dropped)
+        return told
+
+    def take_packet(self, teid, bearer, payload, told):
+        if bearer is None:
+            told.sent = [("user", error_indication(teid, self.setup.user))]
+            raise Refused("X6")
+        if bearer.state != ACTIVE:
+            raise Refused("X5")
+        if self.setup.role == SERVING and bearer.ended:
+            raise Refused("X7")
+        told.outcome, told.accepted = "accepted", (teid, payload)
+
+    def take_error(self, teid, told):
+        named = {t: b for t, b in self.bearers.items() if b.remote == teid}
+        if not named:
+            raise Refused("X9")
+        for bearer, context in named.items():
+            if context.default:
+                self.remove_session(context.session)
+            else:
+                self.remove_bearer(bearer)
+        told.outcome = "broken"
+
+    # Ticks (clause 7.6).
+
+    def tick(self):
+        told = Told("ticked")
+        due = []
+        for pending in self.pending:
+            pending.ticks += 1
+            if pending.ticks == self.setup.t3:
+                due.append(pending)
+        for pending in due:
+            if pending.again < self.setup.n3:
+                pending.again, pending.ticks = pending.again + 1, 0
+                told.sent.append(("control", pending.octets))
+            elif pending in self.pending:
+                told.gave_up.append(pending.number)
+                self.pending.remove(pending)
+                self.end(pending)
+        for held in self.held:
+            held.ticks += 1
+        told.forgot = [h.request for h in self.held if h.ticks >= self.setup.hold]
+        self.held = [h for h in self.held if h.ticks < self.setup.hold]
+        return told

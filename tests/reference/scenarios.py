@@ -1,0 +1,113 @@
+"""Random scenarios: a number always gives the same one. What happens next is chosen by what stands, so that most
+datagrams come at once and in order, and the others late, repeated, cut or never."""
+
+import random
+
+from gateways import ACTIVE, PACKET, SERVING
+from world import World
+
+
+def head(rng):
+    addresses = {"control": "10.0.0.1", "user": "10.0.0.3"}, {"control": "10.0.0.2", "user": "10.0.0.4"}
+    serving, packet = (dict(a, counter=rng.choice([0, 1, 7, 254, 255])) for a in addresses)
+    packet |= {"apns": ["internet", "ims.example"], "pool": "10.1.0.254", "count": rng.choice([0, 1, 2, 3, 5])}
+    timers = {"t3": rng.randint(1, 4), "n3": rng.randint(0, 3), "hold": rng.randint(1, 20)}
+    return {"serving": serving, "packet": packet, "events": []} | (timers if rng.random() < 0.8 else {})
+
+
+def teid(rng, contexts):
+    """Mostly one that is active, else any that stands, and seldom one at all."""
+    active = [t for t, context in contexts.items() if context.state == ACTIVE]
+    known = active if active and rng.random() < 0.8 else list(contexts)
+    if known and rng.random() < 0.95:
+        return f"{rng.choice(known):08x}"
+    return f"{rng.randint(0, 3) << 24 | rng.randint(0, 6):08x}"
+
+
+def create_session(rng, world):
+    event = {"imsi": rng.choice(["001010123456789", "262019876543", "123456"])}
+    event |= {"apn": rng.choice(["internet"] * 6 + ["ims.example"] * 2 + ["other"]), "ebi": rng.randint(5, 15)}
+    return event | ({"pdn": rng.choice([1, 1, 3, 2, 0])} if rng.random() < 0.3 else {})
+
+
+def of_session(role):
+    return lambda rng, world: {"teid": teid(rng, world.gateways[role].sessions)}
+
+
+def create_bearer(rng, world):
+    return of_session(PACKET)(rng, world) | {"tft": rng.choice(["21", "", "210a0b"])}
+
+
+def delete_bearer(rng, world):
+    dedicated = [b for b in world.gateways[PACKET].bearers.values() if b.identity and not b.default]
+    if dedicated and rng.random() < 0.8:
+        bearer = rng.choice(dedicated)
+        return {"teid": f"{bearer.session:08x}", "ebi": bearer.identity}
+    return of_session(PACKET)(rng, world) | {"ebi": rng.randint(5, 15)}
+
+
+def end_marker(rng, world):
+    return {"teid": teid(rng, world.gateways[PACKET].bearers)}
+
+
+def at_node(rng, world):
+    return {"node": rng.choice([SERVING, PACKET])}
+
+
+def tick(rng, world):
+    return at_node(rng, world) | {"times": rng.randint(1, 6)}
+
+
+def send(rng, world):
+    node = rng.choice([SERVING, PACKET])
+    payload = rng.choice(["", "00", "616263", "ff" * 40])
+    return {"node": node, "teid": teid(rng, world.gateways[node].bearers), "payload": payload}
+
+
+def deliver(rng, world):
+    count = len(world.datagrams)
+    recent = max(0, count - rng.choice([1, 1, 1, 1, 1, 2, 3, 8]))
+    return {"datagram": rng.choice([recent] * 12 + [rng.randint(0, count), rng.randint(0, max(0, count - 1))])}
+
+
+def cut(rng, world):
+    count = len(world.datagrams)
+    return {"datagram": rng.randint(0, count), "length": rng.randint(0, 160)}
+
+
+EVENTS = {
+    create_session: 12,
+    deliver: 60,
+    send: 12,
+    tick: 8,
+    create_bearer: 8,
+    delete_bearer: 3,
+    end_marker: 3,
+    at_node: 2,
+    cut: 2,
+}
+
+
+def random_event(rng, world):
+    make = rng.choices(list(EVENTS), EVENTS.values())[0]
+    name = make.__name__
+    if make is at_node:
+        name = rng.choice(["echo", "restart"])
+    if rng.random() < 0.03:
+        role, name = rng.choice([(SERVING, "delete_session"), (PACKET, "release_session")])
+        make = of_session(role)
+    return {"do": name} | make(rng, world)
+
+
+def scenario(number):
+    rng = random.Random(number)
+    made = head(rng)
+    world = World(made)
+    for _ in range(rng.choice([20, 60, 200])):
+        event = random_event(rng, world)
+        for _ in range(event.get("times", 1)):
+            told = world.step(event)
+        if rng.random() < 0.9:
+            event["expect"] = told.outcome.split()[0]
+        made["events"].append(event)
+    return made

@@ -1,0 +1,207 @@
+"""The world of both gateways: scenarios are run in it, and its report is written."""
+
+from gateways import ACTIVE, MOST_RESTARTS, PACKET, SERVING, Gateway, Refused, Setup, Told
+
+
+def other(role):
+    return PACKET if role == SERVING else SERVING
+
+
+def octets_of(address):
+    return bytes(int(part) for part in address.split("."))
+
+
+def setups(scenario):
+    timers = {key: scenario[key] for key in ("t3", "n3", "hold") if key in scenario}
+    for role in (SERVING, PACKET):
+        head = scenario[role]
+        setup = Setup(role, octets_of(head["control"]), octets_of(head["user"]), head["counter"], **timers)
+        if role == PACKET:
+            setup.access_points, setup.count = head["apns"], head["count"]
+            setup.pool = int.from_bytes(octets_of(head["pool"]), "big")
+        yield role, setup
+
+
+class World:
+    def __init__(self, scenario):
+        self.setups = dict(setups(scenario))
+        self.gateways = {role: Gateway(setup, setup.counter) for role, setup in self.setups.items()}
+        self.restarts = {SERVING: 0, PACKET: 0}
+        self.forgotten = {SERVING: [], PACKET: []}
+        self.datagrams = []  # the gateway that sent it, its plane, its octets
+        self.handed_in, self.accepted = [], []
+        self.late = 0
+
+    def entry(self, node, bearer, target, payload):
+        """A packet: for which TEID, subscriber, access point and bearer."""
+        gateway = self.gateways[node]
+        context = gateway.bearers[bearer]
+        session = gateway.sessions[context.session]
+        return (node, target, payload, session.imsi, session.apn, context.identity)
+
+    def step(self, event):
+        """An event as a scenario has it: what it comes to."""
+        node = event.get("node") or {"create_bearer": PACKET, "delete_bearer": PACKET, "release_session": PACKET, "end_marker": PACKET}.get(event["do"], SERVING)
+        try:
+            told = getattr(self, event["do"])(event, node)
+        except Refused as refused:
+            told = Told(str(refused))
+        self.datagrams += [(told.by or node, plane, octets) for plane, octets in told.sent]
+        return told
+
+    def create_session(self, event, node):
+        return self.gateways[node].create_session(event["imsi"], event["apn"], event["ebi"], event.get("pdn", 1))
+
+    def delete_session(self, event, node):
+        return self.gateways[node].end_session(int(event["teid"], 16), 36)
+
+    def release_session(self, event, node):
+        return self.gateways[node].end_session(int(event["teid"], 16), 99)
+
+    def create_bearer(self, event, node):
+        return self.gateways[node].create_bearer(int(event["teid"], 16), bytes.fromhex(event["tft"]))
+
+    def delete_bearer(self, event, node):
+        return self.gateways[node].delete_bearer(int(event["teid"], 16), event["ebi"])
+
+    def end_marker(self, event, node):
+        return self.gateways[node].end_marker(int(event["teid"], 16))
+
+    def echo(self, event, node):
+        return self.gateways[node].echo()
+
+    def send(self, event, node):
+        bearer, payload = int(event["teid"], 16), bytes.fromhex(event["payload"])
+        told = self.gateways[node].send(bearer, payload)
+        target = self.gateways[node].bearers[bearer].remote
+        self.handed_in.append(self.entry(node, bearer, target, payload))
+        return told
+
+    def tick(self, event, node):
+        told = self.gateways[node].tick()
+        self.forgotten[node] += told.forgot
+        return told
+
+    def restart(self, event, node):
+        if self.restarts[node] == MOST_RESTARTS:
+            raise Refused("N2")
+        self.restarts[node] += 1
+        counter = (self.gateways[node].counter + 1) % 256
+        self.gateways[node] = Gateway(self.setups[node], counter)
+        self.forgotten[node] = []
+        return Told(f"restarted {counter}")
+
+    def deliver(self, event, node):
+        if event["datagram"] >= len(self.datagrams):
+            raise Refused("N1")
+        sender, plane, octets = self.datagrams[event["datagram"]]
+        if plane == "control" and octets in self.forgotten[other(sender)]:
+            self.late += 1
+        return self.comes(sender, plane, octets)
+
+    def cut(self, event, node):
+        if event["datagram"] >= len(self.datagrams):
+            raise Refused("N1")
+        sender, plane, octets = self.datagrams[event["datagram"]]
+        if event["length"] >= len(octets):
+            raise Refused("N3")
+        return self.comes(sender, plane, octets[: event["length"]])
+
+    def comes(self, sender, plane, octets):
+        receiver = other(sender)
+        gateway = self.gateways[receiver]
+        told = gateway.receive_control(octets) if plane == "control" else gateway.receive_user(octets)
+        told.by = receiver
+        if told.accepted:
+            teid, payload = told.accepted
+            self.accepted.append(self.entry(receiver, teid, teid, payload))
+        return told
+
+    # What stands at the end.
+
+    def is_owed(self, entry):
+        node, *rest = entry
+        return any([other(node), *rest] == [*handed] for handed in self.handed_in)
+
+    def mutual(self, contexts):
+        """The pairs of contexts that name each other, in order of the serving gateway's TEIDs."""
+        serving, packet = (contexts(self.gateways[role]) for role in (SERVING, PACKET))
+        for teid, context in sorted(serving.items()):
+            peer = packet.get(context.remote)
+            if peer is not None and context.state == peer.state == ACTIVE and peer.remote == teid:
+                yield teid, context.remote
+
+    def sessions_agree(self, serving, packet):
+        a, b = self.gateways[SERVING].sessions[serving], self.gateways[PACKET].sessions[packet]
+        return (a.imsi, a.apn, a.identity, a.address) == (b.imsi, b.apn, b.identity, b.address)
+
+    def bearers_agree(self, serving, packet):
+        a, b = self.gateways[SERVING].bearers[serving], self.gateways[PACKET].bearers[packet]
+        return a.identity == b.identity and self.sessions_agree(a.session, b.session)
+
+
+# The report.
+
+
+def shown(number, form="{}"):
+    return "-" if number is None else form.format(number)
+
+
+def teid_text(teid):
+    return shown(teid, "{:08x}")
+
+
+def address_text(address):
+    return "-" if address is None else ".".join(str(octet) for octet in address.to_bytes(4, "big"))
+
+
+def event_lines(world, number, event, told, before):
+    later = "" if told.restart is None else f" restart {told.restart}"
+    yield f"event {number} {event['do']} {told.outcome}{later}"
+    for k, (_, plane, octets) in enumerate(world.datagrams[before:], before):
+        yield f"  sent {k} {plane} {octets.hex()}"
+    for number in told.gave_up:
+        yield f"  gave-up {number}"
+    for request in told.forgot:
+        yield f"  forgot {request.hex()}"
+
+
+def context_lines(node, gateway):
+    for teid, s in sorted(gateway.sessions.items()):
+        yield f"session {node} {teid:08x} {teid_text(s.remote)} {s.imsi} {s.apn} {s.identity} {address_text(s.address)} {s.state}"
+    for teid, b in sorted(gateway.bearers.items()):
+        ended = " ended" if b.ended else ""
+        yield f"bearer {node} {teid:08x} {teid_text(b.remote)} {b.session:08x} {shown(b.identity)} {b.state}{ended}"
+
+
+def end_lines(world):
+    for node in (SERVING, PACKET):
+        yield from context_lines(node, world.gateways[node])
+    for name, contexts, agree in (
+        ("session", lambda g: g.sessions, world.sessions_agree),
+        ("bearer", lambda g: g.bearers, world.bearers_agree),
+    ):
+        for serving, packet in world.mutual(contexts):
+            yield f"mutual {name} {serving:08x} {packet:08x} {'agree' if agree(serving, packet) else 'differ'}"
+    for entry in world.accepted:
+        node, target, payload = entry[:3]
+        yield f"taken {node} {target:08x} {payload.hex() or '-'} {'owed' if world.is_owed(entry) else 'unowed'}"
+    yield f"late {world.late}"
+
+
+def is_met(expect, outcome):
+    word = outcome.split()[0]
+    return word == expect if expect is not None else word[0] not in "GNX"
+
+
+def replay(scenario):
+    """The lines of the report, and whether each event came to what the scenario expects."""
+    world, lines, met, number = World(scenario), [], True, 0
+    for entry in scenario["events"]:
+        for _ in range(entry.get("times", 1)):
+            before = len(world.datagrams)
+            told = world.step(entry)
+            lines += event_lines(world, number, entry, told, before)
+            met = met and is_met(entry.get("expect"), told.outcome)
+            number += 1
+    return lines + list(end_lines(world)), met
