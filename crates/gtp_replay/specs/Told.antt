@@ -1,5 +1,5 @@
 -- What is written for what was read.
-use Rattle.std.specs.Prelude.{◌≡◌, ℕ, List, ◌++◌, MatchResult, codes, decimal, if◌then◌else◌, Option, Unit}
+use Rattle.std.specs.Prelude.{◌≡◌, ℕ, List, ◌++◌, MatchResult, codes, decimal, if◌then◌else◌, Option}
 use Rattle.std.specs.Io.KnownBytes.{Appends}
 use Rattle.std.specs.List.{flat_map}
 use Rattle.gtp_machine.specs.World.{Event}
