@@ -10,6 +10,8 @@ use Rattle.gtp_scenario.specs.declared.fault.Refusal.TheVariants as refusals
 use Rattle.gtp_scenario.specs.Entries.{events_in}
 use Rattle.gtp_scenario.specs.Scenarios.{Scenario, scenario_of}
 use Rattle.gtp_report.specs.Report.{IsReport}
+use Rattle.gtp_replay.specs.declared.replaying.Form.{Form}
+use Rattle.gtp_replay.specs.declared.replaying.Form.TheVariants.{Report, Diagram}
 use Rattle.gtp_replay.specs.declared.verdict.Verdict.{Verdict}
 use Rattle.gtp_replay.specs.declared.verdict.Verdict.TheVariants.{Expected, Unexpected, Bad}
 use Rattle.gtp_replay.specs.Expected.{all_met}
@@ -23,17 +25,16 @@ events_of scenario = flat_map events_in scenario.entries
 abbrev pub verdict_on : Scenario → Kept → Verdict
 verdict_on scenario world = if all_met scenario.entries world.log.notes then Expected else Unexpected
 
--- The verdict on a scenario says whether each event came to what is expected, in a world that a run of its events leaves.
-pub record IsJudgedScenario (scenario : Scenario) (verdict : Verdict) : Type 0 where
-  pub world : Kept
-  pub run : IsWhole scenario.setup (events_of scenario) world
-  pub verdict_is : verdict ≡ verdict_on scenario world
+-- a text of a world in which these events happened: its report, or a diagram, of which nothing is said
+abbrev pub IsText : Form → List Event → Kept → List ℕ → Type 0
+IsText Report events world text = IsReport events world text
+IsText Diagram events world text = Unit {0}
 
--- The text is the report of such a world, and the verdict is the one on it.
-pub record TellsScenario (scenario : Scenario) (text : List ℕ) (verdict : Verdict) : Type 0 where
+-- In a world that a run of the scenario's events leaves, the text is its report, or some diagram, and the verdict says whether each event came to what is expected.
+pub record TellsScenario (form : Form) (scenario : Scenario) (text : List ℕ) (verdict : Verdict) : Type 0 where
   pub world : Kept
   pub run : IsWhole scenario.setup (events_of scenario) world
-  pub report : IsReport (events_of scenario) world text
+  pub text_is : IsText form (events_of scenario) world text
   pub verdict_is : verdict ≡ verdict_on scenario world
 
 -- the line of a refusal
@@ -47,18 +48,28 @@ pub record TellsRefusal (refusal : Refusal) (text : List ℕ) (verdict : Verdict
   pub line : text ≡ refusal_line refusal
   pub verdict_is : verdict ≡ Bad
 
--- the text and the verdict for these octets: by the scenario that they are, or by the first thing that is wrong with them
-unfoldable pub Tells : List ℕ → List ℕ → Verdict → Type 0
-Tells octets text verdict = MatchResult (scenario_of octets) (λ scenario. TellsScenario scenario text verdict) (λ refusal. TellsRefusal refusal text verdict)
-
--- the verdict on these octets: on the scenario that they are, or that they are none
-unfoldable pub IsJudged : List ℕ → Verdict → Type 0
-IsJudged octets verdict = MatchResult (scenario_of octets) (λ scenario. IsJudgedScenario scenario verdict) (λ refusal. verdict ≡ Bad)
+-- the text and the verdict for these octets, in this form: by the scenario that they are, or by the first thing that is wrong with them
+unfoldable pub Tells : Form → List ℕ → List ℕ → Verdict → Type 0
+Tells form octets text verdict = MatchResult (scenario_of octets) (λ scenario. TellsScenario form scenario text verdict) (λ refusal. TellsRefusal refusal text verdict)
 
 -- a writer whose contents are known has such a text after what it had
-abbrev pub Told : List ℕ → Verdict → Option (List ℕ) → Option (List ℕ) → Type 0
-Told octets verdict before now = (text : List ℕ) × Tells octets text verdict × Appends before now text
+abbrev pub ToldAs : Form → List ℕ → Verdict → Option (List ℕ) → Option (List ℕ) → Type 0
+ToldAs form octets verdict before now = (text : List ℕ) × Tells form octets text verdict × Appends before now text
 
 -- or a beginning of one
+abbrev pub ToldFrontAs : Form → List ℕ → Option (List ℕ) → Option (List ℕ) → Type 0
+ToldFrontAs form octets before now = (text : List ℕ) × (verdict : Verdict) × Tells form octets text verdict × WritesFront before now text
+
+-- such a text with the report, or a beginning of one
+abbrev pub Told : List ℕ → Verdict → Option (List ℕ) → Option (List ℕ) → Type 0
+Told octets verdict before now = ToldAs Report octets verdict before now
+
 abbrev pub ToldFront : List ℕ → Option (List ℕ) → Option (List ℕ) → Type 0
-ToldFront octets before now = (text : List ℕ) × (verdict : Verdict) × Tells octets text verdict × WritesFront before now text
+ToldFront octets before now = ToldFrontAs Report octets before now
+
+-- such a text with a diagram, or a beginning of one
+abbrev pub Drawn : List ℕ → Verdict → Option (List ℕ) → Option (List ℕ) → Type 0
+Drawn octets verdict before now = ToldAs Diagram octets verdict before now
+
+abbrev pub DrawnFront : List ℕ → Option (List ℕ) → Option (List ℕ) → Type 0
+DrawnFront octets before now = ToldFrontAs Diagram octets before now

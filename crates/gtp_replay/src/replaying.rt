@@ -7,7 +7,7 @@ ghost use Rattle.gtp_scenario.specs.Views.{scenario as scenario_view};
 ghost use Rattle.gtp_replay.specs.Ran.{IsRan};
 ghost use Rattle.gtp_replay.specs.Counts.{inner_of, failures_of};
 ghost use Rattle.gtp_replay.specs.Streams.{ConsumesUpTo};
-ghost use Rattle.gtp_replay.specs.Told.{refusal_line, verdict_on, IsJudgedScenario, TellsScenario, Tells, IsJudged, Told, ToldFront};
+ghost use Rattle.gtp_replay.specs.Told.{refusal_line, verdict_on, IsText, TellsScenario, Tells, ToldAs, ToldFrontAs, Told, ToldFront, Drawn, DrawnFront};
 
 use crate::counted::Counted;
 use crate::expected::all_met;
@@ -16,6 +16,7 @@ use crate::verdict::{ReplayFault, Verdict};
 use gtp_lines::text::{put, put_number};
 use gtp_report::{diagram, report};
 use gtp_scenario::{ReadFault, Refusal, Scenario, events_of, read_scenario};
+use gtp_values::Memory;
 use gtp_world::{Event, World, WorldConfig};
 use std::alloc::Global;
 use std::io::{Read, Write};
@@ -40,6 +41,13 @@ fn refusal_text(alloc: Global, refusal: Refusal) -> Result<Vec<u8>, ReplayFault>
     }
     put(&mut text, b"\n")?;
     Ok(text)
+}
+
+/// What is written of a run.
+#[derive(Clone, Copy)]
+enum Form {
+    Report,
+    Diagram,
 }
 
 /// A run of a scenario: its events, and the world that they leave.
@@ -79,76 +87,82 @@ fn judged(scenario: &Scenario, world: &World) -> Verdict
     }
 }
 
-/// The report of a run of a scenario, and whether each event came to what it expects.
-fn report_of(
+/// The text of a run.
+fn text_of(alloc: Global, form: Form, ran: &Ran) -> Result<Vec<u8>, Memory>
+    ensures { IfOk result (λ text. IsText form
+        (map event_of ran.now.events.items) ran.now.world text.items) }
+{
+    match form {
+        Form::Report => report(alloc, &ran.events, &ran.world),
+        Form::Diagram => diagram(alloc, &ran.events, &ran.world),
+    }
+}
+
+/// The text of a run of a scenario, and whether each event came to what it expects.
+fn told_of(
     alloc: Global,
+    form: Form,
     scenario: &Scenario,
     ran: &Ran,
 ) -> Result<(Vec<u8>, Verdict), ReplayFault>
     ensures told { IsRan (scenario_view scenario.now) ran.now → IfOk result (λ p.
-        TellsScenario (scenario_view scenario.now) p.0.items p.1) }
+        TellsScenario form (scenario_view scenario.now) p.0.items p.1) }
     ensures err { IfErr result (λ e. e ≡ ReplayFault.Memory) }
 {
-    let text = report(alloc, &ran.events, &ran.world)?;
+    let text = text_of(alloc, form, ran)?;
     Ok((text, judged(scenario, &ran.world)))
 }
 
-/// The diagram of a run of a scenario, and whether each event came to what it expects.
-fn diagram_of(
-    alloc: Global,
-    scenario: &Scenario,
-    ran: &Ran,
-) -> Result<(Vec<u8>, Verdict), ReplayFault>
-    ensures judged { IsRan (scenario_view scenario.now) ran.now → IfOk result (λ p.
-        IsJudgedScenario (scenario_view scenario.now) p.1) }
-    ensures err { IfErr result (λ e. e ≡ ReplayFault.Memory) }
-{
-    let text = diagram(alloc, &ran.events, &ran.world)?;
-    Ok((text, judged(scenario, &ran.world)))
-}
-
-/// The report of a scenario, and whether each event came to what it expects.
-fn reported(alloc: Global, scenario: &Scenario) -> Result<(Vec<u8>, Verdict), ReplayFault>
-    ensures told { IfOk result (λ p. TellsScenario (scenario_view scenario.now) p.0.items p.1) }
+/// The text of a scenario, and whether each event came to what it expects.
+fn told(alloc: Global, form: Form, scenario: &Scenario) -> Result<(Vec<u8>, Verdict), ReplayFault>
+    ensures told { IfOk result (λ p.
+        TellsScenario form (scenario_view scenario.now) p.0.items p.1) }
     ensures err { IfErr result (λ e. e ≡ ReplayFault.Memory) }
 {
     let ran = run_scenario(alloc, scenario)?;
-    report_of(alloc, scenario, &ran)
-}
-
-/// The diagram of a scenario, and whether each event came to what it expects.
-fn drawn(alloc: Global, scenario: &Scenario) -> Result<(Vec<u8>, Verdict), ReplayFault>
-    ensures judged { IfOk result (λ p. IsJudgedScenario (scenario_view scenario.now) p.1) }
-    ensures err { IfErr result (λ e. e ≡ ReplayFault.Memory) }
-{
-    let ran = run_scenario(alloc, scenario)?;
-    diagram_of(alloc, scenario, &ran)
+    told_of(alloc, form, scenario, &ran)
 }
 
 /// What is written for these octets, and how the replay goes.
 #[tactic(auto, unfolding(crate::specs::Told::Tells))]
-fn answered(alloc: Global, octets: &[u8]) -> Result<(Vec<u8>, Verdict), ReplayFault>
-    ensures told { IfOk result (λ p. Tells octets.now p.0.items p.1) }
+fn answered(alloc: Global, form: Form, octets: &[u8]) -> Result<(Vec<u8>, Verdict), ReplayFault>
+    ensures told { IfOk result (λ p. Tells form octets.now p.0.items p.1) }
     ensures err { IfErr result (λ e. e ≡ ReplayFault.Memory) }
 {
     match read_scenario(alloc, octets) {
-        Ok(scenario) => reported(alloc, &scenario),
+        Ok(scenario) => told(alloc, form, &scenario),
         Err(ReadFault::Refused(refusal)) => Ok((refusal_text(alloc, refusal)?, Verdict::Bad)),
         Err(ReadFault::Memory) => Err(ReplayFault::Memory),
     }
 }
 
-/// The diagram of these octets, and how the replay goes.
-#[tactic(auto, unfolding(crate::specs::Told::IsJudged))]
-fn sketched(alloc: Global, octets: &[u8]) -> Result<(Vec<u8>, Verdict), ReplayFault>
-    ensures judged { IfOk result (λ p. IsJudged octets.now p.1) }
-    ensures err { IfErr result (λ e. e ≡ ReplayFault.Memory) }
+/// Reads a scenario, runs it, and writes the run in this form.
+fn replay_as<R: Read, W: Write>(
+    alloc: Global,
+    form: Form,
+    reader: &mut Counted<R>,
+    writer: &mut Counted<W>,
+) -> Result<Verdict, ReplayFault>
+    requires reads { failures_of reader.old < 2 ^ 64 - 1 }
+    requires writes { failures_of writer.old < 2 ^ 64 - 1 }
+    ensures written { IfOk result (λ verdict. IfSome (R.remaining (inner_of reader.old)) (λ octets.
+        ToldAs form octets verdict (W.contents (inner_of writer.old)) (W.contents (inner_of writer.new)))) }
+    ensures consumed { ConsumesUpTo 16777217
+        (R.remaining (inner_of reader.old)) (R.remaining (inner_of reader.new)) }
+    ensures read { result ≡ Err ReplayFault.Read
+        → failures_of reader.old < failures_of reader.new }
+    ensures write { result ≡ Err ReplayFault.Write
+        → failures_of writer.old < failures_of writer.new }
+    ensures front { result ≡ Err ReplayFault.Write
+        → IfSome (R.remaining (inner_of reader.old)) (λ octets. ToldFrontAs form octets
+        (W.contents (inner_of writer.old)) (W.contents (inner_of writer.new))) }
+    ensures unread { result ≡ Err ReplayFault.Read → writer.new ≡ writer.old }
+    ensures memory { result ≡ Err ReplayFault.Memory → writer.new ≡ writer.old }
 {
-    match read_scenario(alloc, octets) {
-        Ok(scenario) => drawn(alloc, &scenario),
-        Err(ReadFault::Refused(refusal)) => Ok((refusal_text(alloc, refusal)?, Verdict::Bad)),
-        Err(ReadFault::Memory) => Err(ReplayFault::Memory),
-    }
+    let octets = read_octets(alloc, reader, MOST_READ)?;
+    let (text, verdict) = answered(alloc, form, &octets)?;
+    write_octets(writer, &text)?;
+    Ok(verdict)
 }
 
 /// Reads a scenario, runs it, and writes the report of the world that its events leave; or, where
@@ -179,10 +193,7 @@ pub fn replay<R: Read, W: Write>(
     ensures unread { result ≡ Err ReplayFault.Read → writer.new ≡ writer.old }
     ensures memory { result ≡ Err ReplayFault.Memory → writer.new ≡ writer.old }
 {
-    let octets = read_octets(alloc, reader, MOST_READ)?;
-    let (text, verdict) = answered(alloc, &octets)?;
-    write_octets(writer, &text)?;
-    Ok(verdict)
+    replay_as(alloc, Form::Report, reader, writer)
 }
 
 /// Reads a scenario, runs it, and writes the run as a sequence diagram in plain text; or, where what
@@ -195,9 +206,10 @@ pub fn replay_diagram<R: Read, W: Write>(
 ) -> Result<Verdict, ReplayFault>
     requires reads { failures_of reader.old < 2 ^ 64 - 1 }
     requires writes { failures_of writer.old < 2 ^ 64 - 1 }
-    // The verdict is that on the octets that are read.
-    ensures judged { IfOk result (λ verdict.
-        IfSome (R.remaining (inner_of reader.old)) (λ octets. IsJudged octets verdict)) }
+    // What is written is some text, or the line of a refusal, and the verdict is that on the octets
+    // that are read.
+    ensures drawn { IfOk result (λ verdict. IfSome (R.remaining (inner_of reader.old)) (λ octets.
+        Drawn octets verdict (W.contents (inner_of writer.old)) (W.contents (inner_of writer.new)))) }
     ensures consumed { ConsumesUpTo 16777217
         (R.remaining (inner_of reader.old)) (R.remaining (inner_of reader.new)) }
     // A fault of a side is answered only where a call of it failed.
@@ -205,12 +217,12 @@ pub fn replay_diagram<R: Read, W: Write>(
         → failures_of reader.old < failures_of reader.new }
     ensures write { result ≡ Err ReplayFault.Write
         → failures_of writer.old < failures_of writer.new }
-    // Any fault but a failed write leaves the writer alone.
+    // A failed write leaves a beginning of such a text, and any other fault leaves the writer alone.
+    ensures front { result ≡ Err ReplayFault.Write
+        → IfSome (R.remaining (inner_of reader.old)) (λ octets. DrawnFront octets
+        (W.contents (inner_of writer.old)) (W.contents (inner_of writer.new))) }
     ensures unread { result ≡ Err ReplayFault.Read → writer.new ≡ writer.old }
     ensures memory { result ≡ Err ReplayFault.Memory → writer.new ≡ writer.old }
 {
-    let octets = read_octets(alloc, reader, MOST_READ)?;
-    let (text, verdict) = sketched(alloc, &octets)?;
-    write_octets(writer, &text)?;
-    Ok(verdict)
+    replay_as(alloc, Form::Diagram, reader, writer)
 }

@@ -338,11 +338,11 @@ fn one_more(quiet: Option<Quiet>, node: Role, place: usize) -> Quiet {
     }
 }
 
-/// Whether the event goes on with these ticks, in which nothing was done.
-fn goes_on(quiet: Option<Quiet>, event: &Event, note: &Note) -> bool {
+/// The gateway at which the event is a tick in which nothing was done.
+fn quiet_node(event: &Event, note: &Note) -> Option<Role> {
     match event {
-        Event::Tick(node) => is_quiet(note) && quiet.is_none_or(|before| before.node == *node),
-        _ => false,
+        Event::Tick(node) if is_quiet(note) => Some(*node),
+        _ => None,
     }
 }
 
@@ -360,24 +360,24 @@ pub fn diagram(alloc: Global, events: &[Event], world: &World) -> Result<Vec<u8>
         came: no_flags(alloc, datagrams.len())?,
     };
     let mut next = 0usize;
-    let mut quiet = None;
+    let mut quiet: Option<Quiet> = None;
     for (place, event) in events.iter().enumerate() {
         let Some(note) = notes.get(place) else {
             break;
         };
-        if goes_on(quiet, event, note) {
-            quiet = Some(one_more(quiet, place_of(event), place));
-            continue;
+        let node = quiet_node(event, note);
+        if node != quiet.map(|before| before.node) {
+            put_quiet(alloc, &mut out, quiet)?;
+            quiet = None;
         }
-        put_quiet(alloc, &mut out, quiet)?;
-        quiet = None;
-        if goes_on(quiet, event, note) {
-            quiet = Some(one_more(quiet, place_of(event), place));
-            continue;
+        match node {
+            Some(node) => quiet = Some(one_more(quiet, node, place)),
+            None => {
+                story.put_event(alloc, &mut out, place, event, note)?;
+                story.put_lost(alloc, &mut out, next, note.sent)?;
+                next = next.saturating_add(note.sent);
+            }
         }
-        story.put_event(alloc, &mut out, place, event, note)?;
-        story.put_lost(alloc, &mut out, next, note.sent)?;
-        next = next.saturating_add(note.sent);
     }
     put_quiet(alloc, &mut out, quiet)?;
     Ok(out)

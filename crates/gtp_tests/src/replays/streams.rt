@@ -1,0 +1,185 @@
+//! Readers and writers that do little in a call, or fail in one.
+
+use crate::scenarios::edited;
+use gtp_replay::{Counted, ReplayFault, Verdict, replay};
+use std::alloc::Global;
+use std::io;
+use std::io::{Read, Write};
+use std::process::Abort;
+use std::test::Fail;
+
+/// Gives one octet a call, and fails in the call with this number, from 1.
+#[derive(Clone, Copy)]
+struct Slow<'a> {
+    text: &'a [u8],
+    calls: u64,
+    fails_at: u64,
+}
+
+impl<'a> Read for Slow<'a> {
+    fn read(&mut self, buf: &mut [u8]) -> io::Result<usize> {
+        self.calls = self.calls.saturating_add(1);
+        if self.calls == self.fails_at {
+            return Err(io::Error::from(io::ErrorKind::BrokenPipe));
+        }
+        match (self.text.split_first(), buf.first_mut()) {
+            (Some((octet, rest)), Some(place)) => {
+                *place = *octet;
+                self.text = rest;
+                Ok(1)
+            }
+            _ => Ok(0),
+        }
+    }
+}
+
+/// Takes so many octets a call, and fails in the call with this number, from 1.
+#[derive(Drop)]
+pub(crate) struct Narrow {
+    pub taken: Vec<u8>,
+    pub width: usize,
+    pub calls: u64,
+    pub fails_at: u64,
+}
+
+impl Write for Narrow {
+    fn write(&mut self, buf: &[u8]) -> io::Result<usize> {
+        self.calls = self.calls.saturating_add(1);
+        if self.calls == self.fails_at {
+            return Err(io::Error::from(io::ErrorKind::BrokenPipe));
+        }
+        let (front, _) = buf.split_at(self.width.min(buf.len()));
+        self.taken.extend_from_slice(front)?;
+        Ok(front.len())
+    }
+
+    fn flush(&mut self) -> io::Result<()> {
+        Ok(())
+    }
+}
+
+/// A scenario of one event, whose report is short.
+fn scenario(alloc: Global) -> Result<String, Fail> {
+    edited(
+        alloc,
+        "[]",
+        r#"[{"do":"deliver","datagram":0,"expect":"N1"}]"#,
+    )
+}
+
+/// Its report.
+const REPORT: &[u8] = b"event 0 deliver N1\nlate 0\n";
+
+/// What a replay of the scenario comes to, how many calls failed, and what is written.
+type Done = (Result<Verdict, ReplayFault>, u64, Vec<u8>);
+
+/// Over a reader that fails in this call, or in none for 0.
+fn read_so(alloc: Global, text: &[u8], fails_at: u64) -> Done {
+    let mut reader = Counted::new(Slow {
+        text,
+        calls: 0,
+        fails_at,
+    });
+    let mut writer = Counted::new(Vec::new(alloc));
+    let result = replay(alloc, &mut reader, &mut writer);
+    (result, reader.failures(), writer.into_inner())
+}
+
+/// Over a writer of this width that fails in this call, or in none for 0.
+fn written_so(alloc: Global, text: &[u8], width: usize, fails_at: u64) -> Done {
+    let mut reader = Counted::new(text);
+    let mut writer = Counted::new(Narrow {
+        taken: Vec::new(alloc),
+        width,
+        calls: 0,
+        fails_at,
+    });
+    let result = replay(alloc, &mut reader, &mut writer);
+    (result, writer.failures(), writer.into_inner().taken)
+}
+
+/// No call fails, and all is written.
+fn is_whole(rt: &impl Abort, done: Done) {
+    let (result, failures, written) = done;
+    assert!(rt;
+        result == Ok(Verdict::Expected) && failures == 0,
+        "{result:?}, {failures}"
+    );
+    assert!(rt; written.as_slice() == REPORT, "{written:?}");
+}
+
+/// One call fails, so this is answered, and so many octets of the report are written.
+fn is_cut(rt: &impl Abort, done: Done, fault: ReplayFault, count: usize) {
+    let (result, failures, written) = done;
+    assert!(rt;
+        result == Err(fault) && failures == 1,
+        "{result:?}, {failures}"
+    );
+    assert!(rt;
+        written.len() == count && REPORT.starts_with(written.as_slice()),
+        "{written:?}"
+    );
+}
+
+#[test]
+fn a_reader_that_gives_an_octet_a_call(rt: HostRuntime) -> Result<(), Fail> {
+    let text = scenario(rt.alloc())?;
+    is_whole(&rt, read_so(rt.alloc(), text.as_bytes(), 0));
+    Ok(())
+}
+
+/// Whichever call fails, and be it the one that would tell of the end.
+#[test]
+fn a_reader_that_fails(rt: HostRuntime) -> Result<(), Fail> {
+    let text = scenario(rt.alloc())?;
+    for call in 0..=text.len() {
+        let done = read_so(rt.alloc(), text.as_bytes(), (call as u64).saturating_add(1));
+        is_cut(&rt, done, ReplayFault::Read, 0);
+    }
+    Ok(())
+}
+
+#[test]
+fn a_reader_that_never_ends(rt: HostRuntime) {
+    let mut reader = Counted::new(io::repeat(b' '));
+    let mut writer = Counted::new(Vec::new(rt.alloc()));
+    let result = replay(rt.alloc(), &mut reader, &mut writer);
+    let written = writer.into_inner();
+    assert!(rt; result == Ok(Verdict::Bad), "{result:?}");
+    assert!(rt;
+        written.as_slice() == b"bad json\n".as_slice(),
+        "{written:?}"
+    );
+}
+
+#[test]
+fn a_writer_that_takes_an_octet_a_call(rt: HostRuntime) -> Result<(), Fail> {
+    let text = scenario(rt.alloc())?;
+    is_whole(&rt, written_so(rt.alloc(), text.as_bytes(), 1, 0));
+    Ok(())
+}
+
+/// To take nothing is to fail.
+#[test]
+fn a_writer_that_takes_none(rt: HostRuntime) -> Result<(), Fail> {
+    let text = scenario(rt.alloc())?;
+    let done = written_so(rt.alloc(), text.as_bytes(), 0, 0);
+    is_cut(&rt, done, ReplayFault::Write, 0);
+    Ok(())
+}
+
+/// Whichever call fails. What it took before is there.
+#[test]
+fn a_writer_that_fails(rt: HostRuntime) -> Result<(), Fail> {
+    let text = scenario(rt.alloc())?;
+    for call in 0..REPORT.len() {
+        let done = written_so(
+            rt.alloc(),
+            text.as_bytes(),
+            1,
+            (call as u64).saturating_add(1),
+        );
+        is_cut(&rt, done, ReplayFault::Write, call);
+    }
+    Ok(())
+}
