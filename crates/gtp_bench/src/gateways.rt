@@ -1,8 +1,8 @@
 //! One gateway with so many sessions, and the datagrams that it receives.
 
 use gtp_gateway::{
-    Addresses, Ambr, Apn, Begun, Config, Counter, Ebi, Endpoint, Gateway, Ip, Outcome, PdnType,
-    Plane, Plmn, Pool, Qos, Rat, Role, Selection, SessionSpec, Subscriber, Teid, Timers,
+    Addresses, Ambr, Apn, Config, Counter, Ebi, Endpoint, Gateway, Ip, Outcome, PdnType, Plane,
+    Plmn, Pool, Qos, Rat, Role, Selection, SessionSpec, Subscriber, Timers,
 };
 use gtp_values::{Below, Imsi, Rate, Rates};
 use std::alloc::Global;
@@ -86,6 +86,12 @@ fn put_octet(octets: &mut [u8], at: usize, octet: u8) {
     }
 }
 
+/// The TEID that a gateway with the counter 1 draws for the session of this number, from 0; the next one is
+/// its default bearer's.
+pub(crate) fn session_teid(number: u32) -> u32 {
+    0x0100_0001u32.wrapping_add(number.wrapping_mul(2))
+}
+
 /// Hands a packet gateway requests with so many numbers: how many come to what is wanted.
 fn ask(
     alloc: Global,
@@ -94,8 +100,8 @@ fn ask(
     first: u32,
     times: u32,
     wanted: Outcome,
-) -> u64 {
-    let mut found = 0u64;
+) -> u32 {
+    let mut found = 0u32;
     for k in 0..times {
         put_number(request, NUMBER_AT, first.wrapping_add(k) << 8);
         let outcome = outcome_of(alloc, gateway, Role::Serving, Plane::Control, request);
@@ -106,43 +112,6 @@ fn ask(
     found
 }
 
-/// A packet gateway with so many sessions, made for this request.
-fn with_sessions(alloc: Global, request: &mut [u8], sessions: u32) -> Option<Gateway> {
-    let mut gateway = started(alloc, Role::Packet)?;
-    let made = ask(
-        alloc,
-        &mut gateway,
-        request,
-        0,
-        sessions,
-        Outcome::Answered(16),
-    );
-    if made == u64::from(sessions) {
-        Some(gateway)
-    } else {
-        None
-    }
-}
-
-/// Makes so many sessions and then hands the gateway so many requests for further ones: how many were made.
-pub fn make_sessions(alloc: Global, request: &[u8], sessions: u32, times: u32) -> u64 {
-    let Ok(mut request) = Vec::from_slice(alloc, request) else {
-        return 0;
-    };
-    let request = request.as_mut_slice();
-    let Some(mut gateway) = with_sessions(alloc, request, sessions) else {
-        return 0;
-    };
-    ask(
-        alloc,
-        &mut gateway,
-        request,
-        sessions,
-        times,
-        Outcome::Answered(16),
-    )
-}
-
 /// Hands a packet gateway with so many sessions requests that it has answered, each in turn, so many: how
 /// many are answered again.
 fn ask_again(
@@ -151,8 +120,8 @@ fn ask_again(
     request: &mut [u8],
     sessions: u32,
     times: u32,
-) -> u64 {
-    let mut repeated = 0u64;
+) -> u32 {
+    let mut repeated = 0u32;
     let mut number = 0u32;
     for _ in 0..times {
         let again = ask(alloc, gateway, request, number, 1, Outcome::Repeated);
@@ -165,82 +134,96 @@ fn ask_again(
     repeated
 }
 
-/// Makes so many sessions and then hands the gateway so many requests that it has answered: how many
-/// were answered again.
-pub fn repeat_requests(alloc: Global, request: &[u8], sessions: u32, times: u32) -> u64 {
-    let Ok(mut request) = Vec::from_slice(alloc, request) else {
-        return 0;
-    };
-    let request = request.as_mut_slice();
-    let Some(mut gateway) = with_sessions(alloc, request, sessions) else {
-        return 0;
-    };
-    ask_again(alloc, &mut gateway, request, sessions, times)
-}
-
-/// The TEIDs of all bearers.
-fn bearers_of(alloc: Global, gateway: &Gateway) -> Option<Vec<Teid>> {
-    let mut teids = Vec::new(alloc);
-    for (teid, _) in gateway.bearers() {
-        teids.push(teid).ok()?;
-    }
-    Some(teids)
-}
-
-/// Hands a gateway packets on its bearers in turn, so many: how many it accepts.
-fn take(
-    alloc: Global,
-    gateway: &mut Gateway,
-    packet: &mut [u8],
-    bearers: &[Teid],
-    times: u32,
-) -> u64 {
-    let mut accepted = 0u64;
-    let mut place = 0usize;
+/// Hands a packet gateway packets on its default bearers in turn, so many: how many it accepts.
+fn take(alloc: Global, gateway: &mut Gateway, packet: &mut [u8], sessions: u32, times: u32) -> u32 {
+    let mut accepted = 0u32;
+    let mut number = 0u32;
     for _ in 0..times {
-        if let Some(teid) = bearers.get(place) {
-            put_number(packet, TEID_AT, teid.0);
-        }
+        put_number(packet, TEID_AT, session_teid(number).wrapping_add(1));
         let outcome = outcome_of(alloc, gateway, Role::Serving, Plane::User, packet);
         if outcome == Some(Outcome::Accepted) {
             accepted = accepted.wrapping_add(1);
         }
-        place = place.wrapping_add(1);
-        if place >= bearers.len() {
-            place = 0;
+        number = number.wrapping_add(1);
+        if number >= sessions {
+            number = 0;
         }
     }
     accepted
 }
 
-/// Makes so many sessions and then hands the gateway so many packets, on each default bearer in turn: how
-/// many were accepted.
-pub fn take_packets(
+/// What a packet gateway is handed, once it has its sessions.
+#[derive(Clone, Copy)]
+pub enum Task<'a> {
+    /// Requests for further sessions.
+    Make,
+    /// Requests that it has answered.
+    Repeat,
+    /// This packet, on each default bearer in turn.
+    Take(&'a [u8]),
+}
+
+/// A copy of the packet is handed to the gateway.
+fn take_copies(
+    alloc: Global,
+    gateway: &mut Gateway,
+    packet: &[u8],
+    sessions: u32,
+    times: u32,
+) -> u32 {
+    let Ok(mut packet) = Vec::from_slice(alloc, packet) else {
+        return 0;
+    };
+    take(alloc, gateway, packet.as_mut_slice(), sessions, times)
+}
+
+/// Makes so many sessions, and then does this so many times: how often it came to what it should.
+fn perform(
+    alloc: Global,
+    gateway: &mut Gateway,
+    request: &mut [u8],
+    task: Task<'_>,
+    sessions: u32,
+    times: u32,
+) -> u32 {
+    let answered = Outcome::Answered(16);
+    if ask(alloc, gateway, request, 0, sessions, answered) != sessions {
+        return 0;
+    }
+    match task {
+        Task::Make => ask(alloc, gateway, request, sessions, times, answered),
+        Task::Repeat => ask_again(alloc, gateway, request, sessions, times),
+        Task::Take(packet) => take_copies(alloc, gateway, packet, sessions, times),
+    }
+}
+
+/// A packet gateway that has just started makes so many sessions for this request, and then does this so
+/// many times: how often it came to what it should.
+fn perform_afresh(
+    alloc: Global,
+    request: &mut [u8],
+    task: Task<'_>,
+    sessions: u32,
+    times: u32,
+) -> u32 {
+    let Some(mut gateway) = started(alloc, Role::Packet) else {
+        return 0;
+    };
+    perform(alloc, &mut gateway, request, task, sessions, times)
+}
+
+/// The same for a request that is copied first, since its number is changed.
+pub fn receive_often(
     alloc: Global,
     request: &[u8],
-    packet: &[u8],
+    task: Task<'_>,
     sessions: u32,
     times: u32,
 ) -> u64 {
     let Ok(mut request) = Vec::from_slice(alloc, request) else {
         return 0;
     };
-    let Ok(mut packet) = Vec::from_slice(alloc, packet) else {
-        return 0;
-    };
-    let Some(mut gateway) = with_sessions(alloc, request.as_mut_slice(), sessions) else {
-        return 0;
-    };
-    let Some(bearers) = bearers_of(alloc, &gateway) else {
-        return 0;
-    };
-    take(
-        alloc,
-        &mut gateway,
-        packet.as_mut_slice(),
-        bearers.as_slice(),
-        times,
-    )
+    u64::from(perform_afresh(alloc, request.as_mut_slice(), task, sessions, times))
 }
 
 /// No bit rate.
@@ -278,52 +261,24 @@ pub(crate) fn specification() -> Option<SessionSpec> {
     })
 }
 
-/// A session that waits for its answer.
-#[derive(Clone, Copy)]
-struct Waiting {
-    teid: u32,
-    number: u32,
-}
-
-/// The session that was begun: its TEID and the number of its request.
-fn waiting_of(begun: &Begun) -> Option<Waiting> {
-    let teid = begun.teid?;
-    let [_, a, b, c] = begun.out.octets.as_slice().get(7..11)? else {
-        return None;
-    };
-    Some(Waiting {
-        teid: teid.0,
-        number: u32::from_be_bytes([0, *a, *b, *c]),
-    })
-}
-
-/// Asks for so many sessions at a serving gateway, and adds them to those that wait.
-fn begin_sessions(
-    alloc: Global,
-    gateway: &mut Gateway,
-    spec: &SessionSpec,
-    waiting: &mut Vec<Waiting>,
-    times: u32,
-) -> Option<()> {
+/// Asks for so many sessions at a serving gateway: how many were begun.
+fn begin(alloc: Global, gateway: &mut Gateway, spec: &SessionSpec, times: u32) -> u32 {
+    let mut begun = 0u32;
     for _ in 0..times {
-        let begun = gateway.create_session(alloc, spec).ok()?;
-        let session = waiting_of(&begun)?;
-        waiting.push(session).ok()?;
+        if gateway.create_session(alloc, spec).is_ok() {
+            begun = begun.wrapping_add(1);
+        }
     }
-    Some(())
+    begun
 }
 
-/// Hands a serving gateway the answer for each session that waits: how many open.
-fn open_sessions(
-    alloc: Global,
-    gateway: &mut Gateway,
-    response: &mut [u8],
-    waiting: &[Waiting],
-) -> u64 {
-    let mut opened = 0u64;
-    for session in waiting {
-        put_number(response, TEID_AT, session.teid);
-        put_number(response, NUMBER_AT, session.number << 8);
+/// Hands a serving gateway the answers for so many sessions, from this number on: how many open.
+fn open(alloc: Global, gateway: &mut Gateway, response: &mut [u8], first: u32, times: u32) -> u32 {
+    let mut opened = 0u32;
+    for k in 0..times {
+        let number = first.wrapping_add(k);
+        put_number(response, TEID_AT, session_teid(number));
+        put_number(response, NUMBER_AT, number << 8);
         let outcome = outcome_of(alloc, gateway, Role::Packet, Plane::Control, response);
         if outcome == Some(Outcome::Opened) {
             opened = opened.wrapping_add(1);
@@ -332,42 +287,58 @@ fn open_sessions(
     opened
 }
 
-/// A serving gateway with so many open sessions.
-fn with_open_sessions(
+/// Opens so many sessions, one after the other: how many.
+fn open_each(
     alloc: Global,
+    gateway: &mut Gateway,
     spec: &SessionSpec,
     response: &mut [u8],
     sessions: u32,
-) -> Option<Gateway> {
-    let mut gateway = started(alloc, Role::Serving)?;
-    for _ in 0..sessions {
-        let mut waiting = Vec::new(alloc);
-        begin_sessions(alloc, &mut gateway, spec, &mut waiting, 1)?;
-        if open_sessions(alloc, &mut gateway, response, waiting.as_slice()) != 1 {
-            return None;
-        }
+) -> u32 {
+    let mut opened = 0u32;
+    for number in 0..sessions {
+        begin(alloc, gateway, spec, 1);
+        opened = opened.wrapping_add(open(alloc, gateway, response, number, 1));
     }
-    Some(gateway)
+    opened
 }
 
-/// So many sessions at a serving gateway are open, and so many others wait for their answers: how many of
-/// these open, where the answers come.
-pub fn take_responses(
+/// How many sessions stand, how many others wait for their answers, and whether these come.
+#[derive(Clone, Copy)]
+pub struct Answers {
+    pub sessions: u32,
+    pub times: u32,
+    pub come: bool,
+}
+
+/// Opens sessions and asks for others: how many of these open, where their answers come.
+fn answer(
     alloc: Global,
-    response: &[u8],
-    sessions: u32,
-    times: u32,
-    come: bool,
-) -> Option<u64> {
-    let spec = specification()?;
-    let mut response = Vec::from_slice(alloc, response).ok()?;
-    let response = response.as_mut_slice();
-    let mut gateway = with_open_sessions(alloc, &spec, response, sessions)?;
-    let mut waiting = Vec::new(alloc);
-    begin_sessions(alloc, &mut gateway, &spec, &mut waiting, times)?;
-    if come {
-        Some(open_sessions(alloc, &mut gateway, response, waiting.as_slice()))
-    } else {
-        Some(0)
+    gateway: &mut Gateway,
+    spec: &SessionSpec,
+    response: &mut [u8],
+    answers: Answers,
+) -> u32 {
+    if open_each(alloc, gateway, spec, response, answers.sessions) != answers.sessions {
+        return 0;
     }
+    if begin(alloc, gateway, spec, answers.times) != answers.times || !answers.come {
+        return 0;
+    }
+    open(alloc, gateway, response, answers.sessions, answers.times)
+}
+
+/// The same for a serving gateway that has just started.
+fn answer_afresh(alloc: Global, response: &mut [u8], answers: Answers) -> Option<u32> {
+    let spec = specification()?;
+    let mut gateway = started(alloc, Role::Serving)?;
+    Some(answer(alloc, &mut gateway, &spec, response, answers))
+}
+
+/// The same for an answer that is copied first, since its number and its TEID are changed.
+pub fn take_responses(alloc: Global, response: &[u8], answers: Answers) -> u64 {
+    let Ok(mut response) = Vec::from_slice(alloc, response) else {
+        return 0;
+    };
+    u64::from(answer_afresh(alloc, response.as_mut_slice(), answers).unwrap_or(0))
 }

@@ -9,8 +9,10 @@ mod packets;
 mod tables;
 mod worlds;
 
+use gateways::{Answers, Task};
 use packets::PacketParts;
 use std::alloc::Global;
+use worlds::Run;
 
 /// Views a control datagram: 0 for a fault.
 #[unsafe(no_mangle)]
@@ -122,7 +124,7 @@ pub extern "C" fn gtp_bench_make_sessions(
     sessions: u32,
     times: u32,
 ) -> u64 {
-    gateways::make_sessions(alloc, request, sessions, times)
+    gateways::receive_often(alloc, request, Task::Make, sessions, times)
 }
 
 /// Makes so many sessions and then hands the packet gateway so many times a request that it has answered,
@@ -134,7 +136,7 @@ pub extern "C" fn gtp_bench_repeat_requests(
     sessions: u32,
     times: u32,
 ) -> u64 {
-    gateways::repeat_requests(alloc, request, sessions, times)
+    gateways::receive_often(alloc, request, Task::Repeat, sessions, times)
 }
 
 /// Makes so many sessions and then hands the packet gateway so many packets, one on each default bearer in
@@ -147,7 +149,7 @@ pub extern "C" fn gtp_bench_take_packets(
     sessions: u32,
     times: u32,
 ) -> u64 {
-    gateways::take_packets(alloc, request, packet, sessions, times)
+    gateways::receive_often(alloc, request, Task::Take(packet), sessions, times)
 }
 
 /// Opens so many sessions at a serving gateway and asks for so many others, and then hands it their
@@ -160,19 +162,25 @@ pub extern "C" fn gtp_bench_take_responses(
     times: u32,
     come: bool,
 ) -> u64 {
-    gateways::take_responses(alloc, response, sessions, times, come).unwrap_or(0)
+    let answers = Answers {
+        sessions,
+        times,
+        come,
+    };
+    gateways::take_responses(alloc, response, answers)
 }
 
 /// Makes the events of so many sessions, ten a session, which then happen to a world, if they do: how many
 /// packets are accepted, one a session.
 #[unsafe(no_mangle)]
 pub extern "C" fn gtp_bench_run(alloc: Global, sessions: u32, happen: bool) -> u64 {
-    worlds::run_sessions(alloc, sessions, happen).unwrap_or(0)
+    let run = if happen { Run::Accept } else { Run::Nothing };
+    worlds::run_sessions(alloc, sessions, run).unwrap_or(0)
 }
 
 /// The events of so many sessions happen to a world, and then one datagram comes again, so many times: how
 /// many events happened in all.
 #[unsafe(no_mangle)]
 pub extern "C" fn gtp_bench_deliver(alloc: Global, sessions: u32, times: u32) -> u64 {
-    worlds::deliver_often(alloc, sessions, times).unwrap_or(0)
+    worlds::run_sessions(alloc, sessions, Run::Deliver(times)).unwrap_or(0)
 }
