@@ -3,6 +3,7 @@
  * which bench/run joins over several layouts of the program.
  *   driver TURNS HEX..   the datagrams, as hexadecimal digits, in the order of `enum datagram` */
 #define _POSIX_C_SOURCE 200809L
+#include <malloc.h>
 #include <stdbool.h>
 #include <stddef.h>
 #include <stdint.h>
@@ -10,9 +11,6 @@
 #include <stdlib.h>
 #include <string.h>
 #include <time.h>
-#ifdef COUNT_ALLOCATIONS
-#include <malloc.h>
-#endif
 
 struct packet_parts {
     uint32_t teid, seq, npdu, first;
@@ -532,14 +530,17 @@ static void count_octets(void)
 }
 #endif
 
-/* The time of an event in a run of so many sessions, ten events each. */
+/* The time of an event in a run of so many sessions, ten events each. Each run begins without the memory of the one
+ * before, so that a short one has no more of it at hand than a long one. */
 static double time_run(uint32_t sessions, int turns)
 {
     double all = 1e18, none = 1e18;
     if (gtp_bench_run(sessions, true) != sessions) stop("a packet of a run was not accepted");
     for (int t = 0; t < turns; t++) {
+        malloc_trim(0);
         double start = now();
         sink += gtp_bench_run(sessions, false);
+        malloc_trim(0);
         double between = now();
         sink += gtp_bench_run(sessions, true);
         none = least(none, between - start);
