@@ -1,7 +1,9 @@
 /* Measures the proved library beside the plain Rust baseline, both in this process and in turn: each turn takes
  * about a millisecond, and the best of all turns counts. Prints a line a measurement, its fields parted by '|',
  * which bench/run joins over several layouts of the program.
- *   driver TURNS HEX..   the datagrams, as hexadecimal digits, in the order of `enum datagram` */
+ *   driver TURNS HEX..     the datagrams, as hexadecimal digits, in the order of `enum datagram`
+ *   driver run SESSIONS    one run of so many sessions, ten events each, whose instructions are counted from outside
+ *   driver make SESSIONS   its events alone */
 #define _POSIX_C_SOURCE 200809L
 #include <malloc.h>
 #include <stdbool.h>
@@ -599,6 +601,7 @@ static void measure_gateways(int turns)
 
 int main(int count, char **words)
 {
+    if (count == 3) return gtp_bench_run((uint32_t)atoi(words[2]), strcmp(words[1], "run") == 0) == 1;
     if (count != 2 + DATAGRAMS) stop("driver TURNS HEX..");
     int turns = atoi(words[1]);
     long compared = 0;
