@@ -1,5 +1,7 @@
 """The world of both gateways: scenarios are run in it, and its report is written."""
 
+from dataclasses import dataclass
+
 from gateways import ACTIVE, MOST_RESTARTS, PACKET, SERVING, Gateway, Refused, Setup, Told
 
 
@@ -8,6 +10,11 @@ OF_THE_PACKET_GATEWAY = ("create_bearer", "delete_bearer", "release_session", "e
 
 def other(role):
     return PACKET if role == SERVING else SERVING
+
+
+def node_of(event):
+    """The gateway that a command, a tick or a restart concerns."""
+    return event.get("node") or (PACKET if event["do"] in OF_THE_PACKET_GATEWAY else SERVING)
 
 
 def octets_of(address):
@@ -44,7 +51,7 @@ class World:
 
     def step(self, event):
         """An event as a scenario has it: what it comes to."""
-        node = event.get("node") or (PACKET if event["do"] in OF_THE_PACKET_GATEWAY else SERVING)
+        node = node_of(event)
         try:
             told = getattr(self, event["do"])(event, node)
         except Refused as refused:
@@ -158,10 +165,14 @@ def address_text(address):
     return "-" if address is None else ".".join(str(octet) for octet in address.to_bytes(4, "big"))
 
 
-def event_lines(world, number, event, told, before):
-    later = "" if told.restart is None else f" restart {told.restart}"
-    yield f"event {number} {event['do']} {told.outcome}{later}"
-    for k, (_, plane, octets) in enumerate(world.datagrams[before:], before):
+def outcome_text(told):
+    return told.outcome + ("" if told.restart is None else f" restart {told.restart}")
+
+
+def event_lines(happened):
+    told = happened.told
+    yield f"event {happened.number} {happened.event['do']} {outcome_text(told)}"
+    for k, (plane, octets) in enumerate(told.sent, happened.before):
         yield f"  sent {k} {plane} {octets.hex()}"
     for number in told.gave_up:
         yield f"  gave-up {number}"
@@ -193,19 +204,38 @@ def end_lines(world):
     yield f"late {world.late}"
 
 
-def is_met(expect, outcome):
-    word = outcome.split()[0]
-    return word == expect if expect is not None else word[0] not in "GNX"
+def report_lines(world, story):
+    for happened in story:
+        yield from event_lines(happened)
+    yield from end_lines(world)
 
 
-def replay(scenario):
-    """The lines of the report, and whether each event came to what the scenario expects."""
-    world, lines, met, number = World(scenario), [], True, 0
+# Runs.
+
+
+@dataclass
+class Happened:
+    """An event, at which gateway it happened, what it came to, and how many datagrams had been sent before."""
+
+    number: int
+    event: dict
+    node: str
+    told: Told
+    before: int
+
+
+def run(scenario):
+    """The world that the events of a scenario leave, and what happened, event by event."""
+    world, story = World(scenario), []
     for entry in scenario["events"]:
         for _ in range(entry.get("times", 1)):
             before = len(world.datagrams)
             told = world.step(entry)
-            lines += event_lines(world, number, entry, told, before)
-            met = met and is_met(entry.get("expect"), told.outcome)
-            number += 1
-    return lines + list(end_lines(world)), met
+            story.append(Happened(len(story), entry, node_of(entry), told, before))
+    return world, story
+
+
+def is_met(happened):
+    """Whether an event came to what the scenario expects."""
+    word, expect = happened.told.outcome.split()[0], happened.event.get("expect")
+    return word == expect if expect is not None else word[0] not in "GNX"

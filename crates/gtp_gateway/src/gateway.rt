@@ -1,6 +1,6 @@
 //! One gateway.
 
-ghost use Rattle.std.specs.Prelude.{◌≡◌, ◌≤◌, length, IsOk, IsSome, IfOk, IfErr, OnOk, OnErr};
+ghost use Rattle.std.specs.Prelude.{◌≡◌, ◌≤◌, None, length, IsOk, IsSome, IfOk, IfErr, OnOk, OnErr};
 ghost use Rattle.std.specs.FinMap as map;
 ghost use Rattle.gtp_machine.specs.Input.{Create_session, Delete_session, Create_bearer, Delete_bearer, Release_session};
 ghost use Rattle.gtp_machine.specs.Input.{Mark_end, Send_echo, Send_user};
@@ -190,6 +190,8 @@ impl Gateway {
     /// Sends an End Marker on a bearer, at the packet gateway and once (TS 29.281 7.3.2).
     pub fn end_marker(&mut self, alloc: Global, bearer: Teid) -> Result<Begun, CommandFault>
         ensures done { IfOk result (λ begun. IsDone (Mark_end bearer.0) self.old begun self.new) }
+        // No request was sent, so no context is told.
+        ensures untold { IfOk result (λ begun. begun.teid ≡ None) }
         ensures timing { self.new.timing ≡ self.old.timing }
         ensures refused { IsRefusedWhere (Mark_end bearer.0) self.old result }
         ensures err { OnErr result (self.new ≡ self.old) }
@@ -206,6 +208,8 @@ impl Gateway {
     ) -> Result<Begun, CommandFault>
         ensures done { IfOk result (λ begun.
             IsDone (Send_user bearer.0 payload.now) self.now begun self.now) }
+        // No request was sent, so no context is told.
+        ensures untold { IfOk result (λ begun. begun.teid ≡ None) }
         ensures refused { IsRefusedWhere (Send_user bearer.0 payload.now) self.now result }
     {
         self.parts.send_user(alloc, bearer, payload)

@@ -95,6 +95,7 @@ impl Parts {
     }
 
     /// Takes a datagram of a plane.
+    #[inline(always)]
     pub fn receive<'a>(
         &mut self,
         alloc: Global,

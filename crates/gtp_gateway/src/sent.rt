@@ -15,7 +15,8 @@ pub struct Sent {
 /// A command that was carried out.
 #[derive(Debug, Drop)]
 pub struct Begun {
-    /// The session or bearer that a request was sent for, by the gateway's own TEID.
+    /// The session or bearer that a request was sent for, by the gateway's own TEID; none for an Echo
+    /// Request, a packet and an End Marker.
     pub teid: Option<Teid>,
     pub out: Sent,
 }

@@ -1,6 +1,6 @@
 //! The user plane, as a gateway sends on it (TS 29.281).
 
-ghost use Rattle.std.specs.Prelude.{◌≡◌, ◌↔◌, IsTrue, IfOk, OnErr};
+ghost use Rattle.std.specs.Prelude.{◌≡◌, ◌↔◌, None, IsTrue, IfOk, OnErr};
 ghost use Rattle.gtp_machine.specs.Command.{MayGo};
 ghost use Rattle.gtp_machine.specs.Config.{user_end};
 ghost use Rattle.gtp_machine.specs.Input.{Send_user, Mark_end};
@@ -118,6 +118,7 @@ impl Parts {
         requires whole { IsWhole (station_of self.now) }
         ensures done { IfOk result (λ begun. IsDone (Send_user bearer.0 payload.now)
             (station_of self.now) begun (station_of self.now)) }
+        ensures untold { IfOk result (λ begun. begun.teid ≡ None) }
         ensures refused { IsRefusedWhere (Send_user bearer.0 payload.now)
             (station_of self.now) result }
     {
@@ -142,6 +143,7 @@ impl Parts {
     pub fn end_marker(&mut self, alloc: Global, bearer: Teid) -> Result<Begun, CommandFault>
         ensures done { IfOk result (λ begun. IsDone (Mark_end bearer.0)
             (station_of self.old) begun (station_of self.new)) }
+        ensures untold { IfOk result (λ begun. begun.teid ≡ None) }
         ensures timing { timing_of self.new ≡ timing_of self.old }
         ensures refused { IsRefusedWhere (Mark_end bearer.0) (station_of self.old) result }
         ensures err { OnErr result (station_of self.new ≡ station_of self.old) }

@@ -2,3 +2,4 @@
 pub mod Held
 pub mod Nodes
 pub mod Made
+pub mod Possible

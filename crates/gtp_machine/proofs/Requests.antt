@@ -1,3 +1,4 @@
--- What one gateway makes for a request, and which answers it holds.
+-- What one gateway makes for a request, and which answers it holds and sends.
 pub mod Holding
 pub mod ActsOnce
+pub mod Replying

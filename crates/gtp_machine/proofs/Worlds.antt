@@ -4,6 +4,9 @@ pub mod Kept
 pub mod Ticking
 pub mod Runs
 pub mod Safety
+pub mod Beginning
 pub mod Possible
+pub mod Sendable
 pub mod Further
 pub mod Logs
+pub mod Answering

@@ -9,7 +9,7 @@ use Rattle.gtp_machine.specs.Input.{Specification, Create_session, Send_user, Be
 use Rattle.gtp_machine.specs.Choice.{HasDraws, HasFreeAddress, IsIdentity, HasSessionRoom, HasPendingRoom, HasHeldRoom}
 use Rattle.gtp_machine.specs.Spelling.{ReadsAs, spelled}
 use Rattle.gtp_machine.specs.World.{World, Event, Does, Deliver, Happens, Run, EventOutcome, Came_to, Note, HasSent, start}
-use Rattle.gtp_machine.specs.Laws.{MutualSessions, MutualBearers}
+use Rattle.gtp_machine.specs.Laws.{MutualSessions, MutualBearers, EachSendable}
 
 -- each gateway has the other's addresses for its peer's
 pub record IsOnePath (serving packet : Config) : Type 0 where
@@ -90,3 +90,35 @@ abbrev pub FairExchange : Type 0
 FairExchange =
     (serving packet : Config) (serving_counter packet_counter : ℕ) (events : List Event) (w begun answered opened : World) (spec : Specification) → Run (start serving packet serving_counter packet_counter) events w → IsOnePath w.serving.node.config w.packet.node.config → CanExchange w spec →
     Happens w (Does Serving (Create_session spec)) begun → Happens begun (Deliver (length w.history)) answered → Happens answered (Deliver (1 + length w.history)) opened → AllRead answered → Exchanged spec w begun answered opened
+
+-- Where each message that was sent can be sent, each reads as itself.
+abbrev pub SendableRead : Type 0
+SendableRead = (w : World) → EachSendable w → AllRead w
+
+-- An exchange for a session of this type, with all that `FairExchange` asks of one: two configurations, a run from a start with them, a specification and its
+-- three events. And each message that was sent up to then can be sent.
+pub record AnExchange (pdn : ℕ) : Type 0 where
+  pub serving : Config
+  pub packet : Config
+  pub serving_counter : ℕ
+  pub packet_counter : ℕ
+  pub events : List Event
+  pub w : World
+  pub begun : World
+  pub answered : World
+  pub opened : World
+  pub spec : Specification
+  pub type : spec.pdn ≡ pdn
+  pub run : Run (start serving packet serving_counter packet_counter) events w
+  pub path : IsOnePath w.serving.node.config w.packet.node.config
+  pub can : CanExchange w spec
+  pub begins : Happens w (Does Serving (Create_session spec)) begun
+  pub comes : Happens begun (Deliver (length w.history)) answered
+  pub opens : Happens answered (Deliver (1 + length w.history)) opened
+  pub reads : AllRead answered
+  pub sendable : EachSendable opened
+  pub made : Exchanged spec w begun answered opened
+
+-- There is such an exchange for each of the two types.
+abbrev pub ExchangesArePossible : Type 0
+ExchangesArePossible = (pdn : ℕ) → (pdn ≡ 1) ⊎ (pdn ≡ 3) → AnExchange pdn

@@ -1,20 +1,22 @@
 -- What holds of each run.
-use Rattle.std.specs.Prelude.{◌⊎◌, ◌≡◌, ◌≢◌, ℕ, ◌+◌, ◌%◌, ◌≤◌, List, [], ◌∷◌, Option, Some, None, ◌++◌, length}
+use Rattle.std.specs.Prelude.{◌⊎◌, ◌≡◌, ◌≢◌, ℕ, ◌+◌, ◌%◌, ◌≤◌, List, [], ◌∷◌, Option, Some, None, ◌++◌, length, take, slice_get}
 use Rattle.std.specs.FinMap.{get}
 use Rattle.gtp_values.specs.Counter.{age_of}
 use Rattle.gtp_values.specs.declared.counter.Age.TheVariants.{Later}
 use Rattle.gtp_values.specs.FiniteMap.{FiniteMap, Among}
-use Rattle.gtp_machine.specs.Config.{Config}
-use Rattle.gtp_machine.specs.Message.{Plane, Control, User, first_created, CreateSessionRequest, CreateSessionResponse, CreateBearerRequest, CreateBearerResponse, Message, Create_session_request, Create_session_response, Create_bearer_request, Create_bearer_response, Packet_data, End_marker, Error_indication, Owns, header_of, recovery_of, first_given, first_returned}
-use Rattle.gtp_machine.specs.Element.{teid_in}
+use Rattle.gtp_machine.specs.Config.{Config, control_end}
+use Rattle.gtp_machine.specs.Message.{Plane, Control, User, first_created, CreateSessionRequest, CreateSessionResponse, CreateBearerRequest, CreateBearerResponse, Message, Create_session_request, Create_session_response, Create_bearer_request, Create_bearer_response, Packet_data, End_marker, Error_indication, Owns, header_of, recovery_of, first_given, first_returned, first_identity}
+use Rattle.gtp_machine.specs.Element.{IsAccepting, Ipv4, teid_in}
 use Rattle.gtp_machine.specs.Node.{Node, fresh_node, Arrival, Role, Serving, Packet, Pending, Active, Closing, Session, Bearer, Dedicated}
 use Rattle.gtp_machine.specs.Input.{Entry, Effect, Repeated, messages}
 use Rattle.gtp_machine.specs.Choice.{counter_of}
-use Rattle.gtp_machine.specs.Serving.{BearerAsked}
-use Rattle.gtp_machine.specs.Packet.{SessionAsked}
+use Rattle.gtp_machine.specs.Recovery.{Hears}
+use Rattle.gtp_machine.specs.Serving.{granted_bearer, BearerAsked}
+use Rattle.gtp_machine.specs.Packet.{made_session, made_bearer, SessionAsked}
 use Rattle.gtp_machine.specs.Step.{Done, Steps}
 use Rattle.gtp_machine.specs.Once.{Makes, Takes, NeverForgets, IsOnce}
-use Rattle.gtp_machine.specs.World.{World, steps_of, Event, Deliver, Note, Came_to, Stands, signed, Run, start, other, side_of, Side, HasBy, Sent, HasSent}
+use Rattle.gtp_machine.specs.Spelling.{spelled, IsSendable}
+use Rattle.gtp_machine.specs.World.{World, steps_of, Event, Deliver, Cut, Note, Came_to, Stands, signed, arrival, Happens, Run, start, other, side_of, Side, HasBy, Sent, HasSent}
 
 -- P holds at the end of each run, however the gateways are configured
 abbrev pub Always : (World → Type 0) → Type 0
@@ -132,34 +134,97 @@ EachNamesBack history = (role : Role) (m : Message) → HasSent history role m �
 abbrev pub NamesGoBack : World → Type 0
 NamesGoBack w = EachNamesBack w.history
 
--- The message is what these rules give for a request at some gateway: what they make of it, or their refusal.
-pub record IsAnswerBy (Asked : Arrival → Node → Effect → Type 0) (answer : Message) : Type 0 where
-  pub request : Arrival
-  pub old : Node
+-- P holds of each run from a start, however the gateways are configured
+abbrev pub OfEachRun : (World → List Event → World → Type 0) → Type 0
+OfEachRun P = (serving packet : Config) (serving_counter packet_counter : ℕ) (events : List Event) (w : World) → Run (start serving packet serving_counter packet_counter) events w → P (start serving packet serving_counter packet_counter) events w
+
+-- a moment of a run: an event, the world before it and the one after, and the events of the run before and after it
+pub record Moment (first : World) (events : List Event) (last : World) : Type 0 where
+  pub before : World
+  pub event : Event
+  pub after : World
+  pub happens : Happens before event after
+  pub earlier : List Event
+  pub reached : Run first earlier before
+  pub later : List Event
+  pub goes_on : Run after later last
+  pub are : events ≡ earlier ++ (event ∷ later)
+
+-- what a gateway does by its rules with a request by which it makes a context, as it comes
+abbrev pub CreateAsked : Role → Message → Arrival → Node → Effect → Type 0
+CreateAsked Serving (Create_bearer_request r) request old e = BearerAsked request r old e
+CreateAsked Packet (Create_session_request q) request old e = Hears (SessionAsked request q) old q.recovery e
+CreateAsked role m request old e = ⊥
+
+-- The other gateway's request came as it had sent it, and this gateway, as it stood then, made or refused a context for it by its rules: the answer is all that it
+-- sent.
+pub record Gave (first : World) (events : List Event) (last : World) (role : Role) (request answer : Message) : Type 0 where
+  pub moment : Moment first events last
+  pub number : ℕ
+  pub came : moment.event ≡ Deliver number
+  pub sent : slice_get moment.before.history number ≡ Some (record { role = other role; what = request })
   pub effect : Effect
-  pub asked : Asked request old effect
-  pub answers : messages effect.out.sent ≡ answer ∷ []
+  pub asked : CreateAsked role request (arrival (side_of moment.before (other role)).node.config.own request) (side_of moment.before role).node effect
+  pub becomes : (side_of moment.after role).node ≡ effect.node
+  pub says : messages effect.out.sent ≡ answer ∷ []
 
--- the request that a Create Session Response answers, of its number, for the session that its header names
-pub record AnswersSession (history : List Sent) (a : CreateSessionResponse) : Type 0 where
+-- the event brings this gateway these octets from this address: those of a datagram of the other gateway, or its first ones
+abbrev pub Brings : World → Event → Role → Arrival → Type 0
+Brings before (Deliver number) role request = (message : Message) × (slice_get before.history number ≡ Some (record { role = other role; what = message })) × (request ≡ arrival (side_of before (other role)).node.config.own message)
+Brings before (Cut number count) role request =
+    (message : Message) × (slice_get before.history number ≡ Some (record { role = other role; what = message })) × (request ≡ record { source = control_end (side_of before (other role)).node.config.own.control; octets = take count (spelled message) })
+Brings before event role request = ⊥
+
+-- The datagram with this number is the answer to the request: it was sent as that came, or later, as the same octets came again from the same address.
+pub record GoesBackTo (first : World) (events : List Event) (last : World) (number : ℕ) (role : Role) (request answer : Message) : Type 0 where
+  pub gave : Gave first events last role request answer
+  pub moment : Moment first events last
+  pub again : Brings moment.before moment.event role (arrival (side_of gave.moment.before (other role)).node.config.own request)
+  pub sent : moment.after.history ≡ moment.before.history ++ signed role (answer ∷ [])
+  pub place : length moment.before.history ≡ number
+  pub since : length gave.moment.earlier ≤ length moment.earlier
+
+-- a session of this gateway, and its default bearer, which it made for the request: those that the response names, with what the request asked for
+pub record IsMadeFor (node : Node) (request : CreateSessionRequest) (a : CreateSessionResponse) : Type 0 where
+  pub control : ℕ
+  pub user : ℕ
+  pub address : ℕ
+  pub names_control : teid_in a.control ≡ Some control
+  pub names_user : first_created a.contexts ≡ Some user
+  pub names_address : a.address ≡ Some (Ipv4 address)
+  pub session : get node.sessions control ≡ Some (made_session request address)
+  pub bearer : get node.bearers user ≡ Some (made_bearer request control)
+
+-- a bearer of this gateway, which it made for the request: the one that the response names, with the identity that it gives and the request's TEID for its remote
+pub record IsGrantedFor (node : Node) (request : CreateBearerRequest) (x : CreateBearerResponse) : Type 0 where
+  pub user : ℕ
+  pub identity : ℕ
+  pub names_user : first_given x.contexts ≡ Some user
+  pub names_identity : first_identity x.contexts ≡ Some identity
+  pub bearer : get node.bearers user ≡ Some (granted_bearer request identity)
+
+-- the request that the Create Session Response with this number in the list answers, of its sequence number, for the session that its header names
+pub record AnswersSession (first : World) (events : List Event) (last : World) (number : ℕ) (a : CreateSessionResponse) : Type 0 where
   pub request : CreateSessionRequest
-  pub sent : HasSent history Serving (Create_session_request request)
-  pub number : a.number ≡ request.number
+  pub back : GoesBackTo first events last number Packet (Create_session_request request) (Create_session_response a)
+  pub numbered : a.number ≡ request.number
   pub header : a.header ≡ request.control.teid
-  pub given : IsAnswerBy (λ at. SessionAsked at request) (Create_session_response a)
+  pub accepted : IsAccepting a.cause → IsMadeFor back.gave.effect.node request a
+  pub refused : (IsAccepting a.cause → ⊥) → back.gave.effect.out.made ≡ []
 
--- the request that a Create Bearer Response answers, of its number; where it gives back a TEID, that is the request's
-pub record AnswersBearer (history : List Sent) (x : CreateBearerResponse) : Type 0 where
+-- the request that the Create Bearer Response with this number in the list answers, of its sequence number; where it gives back a TEID, that is the request's
+pub record AnswersBearer (first : World) (events : List Event) (last : World) (number : ℕ) (x : CreateBearerResponse) : Type 0 where
   pub request : CreateBearerRequest
-  pub sent : HasSent history Packet (Create_bearer_request request)
-  pub number : x.number ≡ request.number
+  pub back : GoesBackTo first events last number Serving (Create_bearer_request request) (Create_bearer_response x)
+  pub numbered : x.number ≡ request.number
   pub returned : (t : ℕ) → first_returned x.contexts ≡ Some t → t ≡ request.context.user.teid
-  pub given : IsAnswerBy (λ at. BearerAsked at request) (Create_bearer_response x)
+  pub accepted : IsAccepting x.cause → IsGrantedFor back.gave.effect.node request x
+  pub refused : (IsAccepting x.cause → ⊥) → back.gave.effect.out.made ≡ []
 
--- each response goes back to a request of the other gateway, to which the rules may give it as the answer
-pub record ResponsesGoBack (w : World) : Type 0 where
-  pub sessions : (a : CreateSessionResponse) → HasSent w.history Packet (Create_session_response a) → AnswersSession w.history a
-  pub bearers : (x : CreateBearerResponse) → HasSent w.history Serving (Create_bearer_response x) → AnswersBearer w.history x
+-- each datagram with a response goes back to that request of the other gateway for which its sender made or refused a context
+pub record ResponsesGoBack (first : World) (events : List Event) (last : World) : Type 0 where
+  pub sessions : (number : ℕ) (a : CreateSessionResponse) → slice_get last.history number ≡ Some (record { role = Packet; what = Create_session_response a }) → AnswersSession first events last number a
+  pub bearers : (number : ℕ) (x : CreateBearerResponse) → slice_get last.history number ≡ Some (record { role = Serving; what = Create_bearer_response x }) → AnswersBearer first events last number x
 
 -- the counter of some start of the gateway up to now
 pub record IsOfStart (side : Side) (counter : ℕ) : Type 0 where
@@ -231,7 +296,12 @@ EachClosesWhole w = (role : Role) → ClosesWhole (side_of w role).node.sessions
 abbrev pub HasNoBearer : World → Role → ℕ → Type 0
 HasNoBearer w role t = (b : Bearer) → get (side_of w role).node.bearers t ≡ Some b → ⊥
 
--- A run goes on from there: the serving gateway restarts, and that is heard: the packet gateway's session goes.
+-- each message that was sent can be sent: so its octets read as that message
+abbrev pub EachSendable : World → Type 0
+EachSendable w = (role : Role) (m : Message) → HasSent w.history role m → IsSendable m
+
+-- A run goes on from there: the serving gateway restarts, and that is heard: the packet gateway's session goes. And each message that was sent, from the beginning
+-- up to then, can be sent.
 pub record HearsRestart (before : World) (session_there : ℕ) : Type 0 where
   pub events : List Event
   pub world : World
@@ -239,6 +309,7 @@ pub record HearsRestart (before : World) (session_there : ℕ) : Type 0 where
   pub restarts : world.serving.restarts ≡ 1 + before.serving.restarts
   pub heard : Among world.serving.node.counter world.packet.seen
   pub gone : (s : Session) → get world.packet.node.sessions session_there ≡ Some s → ⊥
+  pub sendable : EachSendable world
 
 -- A run goes on from there: a request comes again and gets the answer that is held, that datagram is lost, two packets come in the other order, and a dedicated
 -- bearer is deleted at both gateways, where its session stays.

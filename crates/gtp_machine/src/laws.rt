@@ -15,6 +15,7 @@ ghost use Rattle.gtp_machine.specs.Laws.{
   NamesGoBack,
   NoneAhead,
   NoneOver,
+  OfEachRun,
   OneMessage,
   PlanesApart,
   ResponsesGoBack,
@@ -35,7 +36,7 @@ ghost use Rattle.gtp_machine.specs.Reading.{
 };
 ghost use Rattle.gtp_machine.specs.Spelling.{SpelledApart, SpelledReads};
 ghost use Rattle.gtp_machine.specs.Once.{ActsOnce, ActsOnceInTime, HeldUntilForgotten};
-ghost use Rattle.gtp_machine.specs.Exchange.{FairExchange};
+ghost use Rattle.gtp_machine.specs.Exchange.{ExchangesArePossible, FairExchange, SendableRead};
 ghost use Rattle.gtp_machine.specs.Sound.{
   AlwaysSteps,
   AlwaysTicks,
@@ -82,8 +83,9 @@ pub fn foundations()
     // messages.
     ensures names { Always NamesGoBack }
 
-    // Responses go back to requests.
-    ensures responses { Always ResponsesGoBack }
+    // Each response that is sent goes back to that request of the other gateway for which its
+    // sender made or refused a context.
+    ensures responses { OfEachRun ResponsesGoBack }
 
     // No counter in a message is ahead of its sender.
     ensures none_ahead { Always NoneAhead }
@@ -127,7 +129,7 @@ pub fn acts_once()
 {}
 
 /// No law of safety is empty: there is a run to sessions and dedicated bearers that name each other,
-/// and to an accepted packet.
+/// and to an accepted packet, in which each message can be sent.
 pub fn a_run_is_possible()
     ensures { ARunIsPossible }
 {}
@@ -208,5 +210,11 @@ pub fn fair_exchange()
     // Where nothing stands in the way, and each message that is sent reads as itself, the command
     // for a session, the delivery of its request and the delivery of its answer make it at both
     // gateways, as it was asked for, and its default bearer carries packets in both directions.
-    ensures { FairExchange }
+    ensures made { FairExchange }
+
+    // There is such an exchange, with all that is asked of one, for each of the two types.
+    ensures possible { ExchangesArePossible }
+
+    // Where each message that was sent can be sent, each reads as itself.
+    ensures reads { SendableRead }
 {}

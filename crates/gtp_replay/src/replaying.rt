@@ -1,6 +1,6 @@
 //! From octets to octets.
 
-ghost use Rattle.std.specs.Prelude.{◌≡◌, ◌-◌, ◌^◌, ◌<◌, map, IfOk, IfErr, IfSome};
+ghost use Rattle.std.specs.Prelude.{◌≡◌, ◌≢◌, ◌+◌, ◌-◌, ◌^◌, ◌<◌, map, IfOk, IfErr, IfSome};
 ghost use Rattle.gtp_world.specs.Events.{event_of};
 ghost use Rattle.gtp_world.specs.Runs.{IsWhole};
 ghost use Rattle.gtp_scenario.specs.Views.{scenario as scenario_view};
@@ -150,9 +150,13 @@ fn replay_as<R: Read, W: Write>(
     ensures consumed { ConsumesUpTo 16777217
         (R.remaining (inner_of reader.old)) (R.remaining (inner_of reader.new)) }
     ensures read { result ≡ Err ReplayFault.Read
-        → failures_of reader.old < failures_of reader.new }
+        → failures_of reader.new ≡ failures_of reader.old + 1 }
+    ensures reads_on { result ≢ Err ReplayFault.Read
+        → failures_of reader.new ≡ failures_of reader.old }
     ensures write { result ≡ Err ReplayFault.Write
-        → failures_of writer.old < failures_of writer.new }
+        → failures_of writer.new ≡ failures_of writer.old + 1 }
+    ensures writes_on { result ≢ Err ReplayFault.Write
+        → failures_of writer.new ≡ failures_of writer.old }
     ensures front { result ≡ Err ReplayFault.Write
         → IfSome (R.remaining (inner_of reader.old)) (λ octets. ToldFrontAs form octets
         (W.contents (inner_of writer.old)) (W.contents (inner_of writer.new))) }
@@ -181,11 +185,15 @@ pub fn replay<R: Read, W: Write>(
         Told octets verdict (W.contents (inner_of writer.old)) (W.contents (inner_of writer.new)))) }
     ensures consumed { ConsumesUpTo 16777217
         (R.remaining (inner_of reader.old)) (R.remaining (inner_of reader.new)) }
-    // A fault of a side is answered only where a call of it failed.
+    // The first call of a side that fails ends it with the fault of that side, which no other end has.
     ensures read { result ≡ Err ReplayFault.Read
-        → failures_of reader.old < failures_of reader.new }
+        → failures_of reader.new ≡ failures_of reader.old + 1 }
+    ensures reads_on { result ≢ Err ReplayFault.Read
+        → failures_of reader.new ≡ failures_of reader.old }
     ensures write { result ≡ Err ReplayFault.Write
-        → failures_of writer.old < failures_of writer.new }
+        → failures_of writer.new ≡ failures_of writer.old + 1 }
+    ensures writes_on { result ≢ Err ReplayFault.Write
+        → failures_of writer.new ≡ failures_of writer.old }
     // A failed write leaves a beginning of the text, and any other fault leaves the writer alone.
     ensures front { result ≡ Err ReplayFault.Write
         → IfSome (R.remaining (inner_of reader.old)) (λ octets. ToldFront octets
@@ -212,11 +220,15 @@ pub fn replay_diagram<R: Read, W: Write>(
         Drawn octets verdict (W.contents (inner_of writer.old)) (W.contents (inner_of writer.new)))) }
     ensures consumed { ConsumesUpTo 16777217
         (R.remaining (inner_of reader.old)) (R.remaining (inner_of reader.new)) }
-    // A fault of a side is answered only where a call of it failed.
+    // The first call of a side that fails ends it with the fault of that side, which no other end has.
     ensures read { result ≡ Err ReplayFault.Read
-        → failures_of reader.old < failures_of reader.new }
+        → failures_of reader.new ≡ failures_of reader.old + 1 }
+    ensures reads_on { result ≢ Err ReplayFault.Read
+        → failures_of reader.new ≡ failures_of reader.old }
     ensures write { result ≡ Err ReplayFault.Write
-        → failures_of writer.old < failures_of writer.new }
+        → failures_of writer.new ≡ failures_of writer.old + 1 }
+    ensures writes_on { result ≢ Err ReplayFault.Write
+        → failures_of writer.new ≡ failures_of writer.old }
     // A failed write leaves a beginning of such a text, and any other fault leaves the writer alone.
     ensures front { result ≡ Err ReplayFault.Write
         → IfSome (R.remaining (inner_of reader.old)) (λ octets. DrawnFront octets

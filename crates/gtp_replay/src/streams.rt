@@ -22,7 +22,8 @@ pub(crate) fn read_octets<R: Read>(
     requires { failures_of reader.old < 2 ^ 64 - 1 }
     ensures octets { IfOk result (λ v. IfSome (R.remaining (inner_of reader.old)) (λ all. v.items ≡ take most all)) }
     ensures consumed { ConsumesUpTo most (R.remaining (inner_of reader.old)) (R.remaining (inner_of reader.new)) }
-    ensures read { result ≡ Err ReplayFault.Read → failures_of reader.new ≡ failures_of reader.old + 1 }
+    ensures failed { result ≡ Err ReplayFault.Read → failures_of reader.new ≡ failures_of reader.old + 1 }
+    ensures unfailed { result ≢ Err ReplayFault.Read → failures_of reader.new ≡ failures_of reader.old }
     ensures kind { IfErr result (λ e. e ≢ ReplayFault.Write) }
 {
     let mut octets = Vec::new(alloc);
@@ -47,7 +48,8 @@ pub(crate) fn write_octets<W: Write>(
     requires { failures_of writer.old < 2 ^ 64 - 1 }
     ensures ok { OnOk result (Appends (W.contents (inner_of writer.old)) (W.contents (inner_of writer.new)) text.now) }
     ensures front { WritesFront (W.contents (inner_of writer.old)) (W.contents (inner_of writer.new)) text.now }
-    ensures err { OnErr result (failures_of writer.new ≡ failures_of writer.old + 1) }
+    ensures failed { OnErr result (failures_of writer.new ≡ failures_of writer.old + 1) }
+    ensures unfailed { OnOk result (failures_of writer.new ≡ failures_of writer.old) }
     ensures kind { IfErr result (λ e. e ≡ ReplayFault.Write) }
 {
     let mut rest = text;

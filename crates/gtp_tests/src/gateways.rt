@@ -65,6 +65,8 @@ pub(crate) enum Act {
     AsksOften(Role, u8, u32),
     /// So many sessions are opened.
     Opens(u32),
+    /// So many sessions are asked for, and each is refused before the next.
+    Refuses(u32),
 }
 
 /// What is told of a datagram that came, beside its outcome and what is sent for it.
@@ -302,7 +304,9 @@ fn told_by(act: Act, answer: Result<Begun, CommandFault>) -> Result<Told, Fail> 
 /// What a command comes to that was carried out for this context.
 fn outcome_of(act: Act, context: Option<Teid>) -> Outcome {
     match act {
-        Act::EndMarker(_) | Act::Send(_, _, _) | Act::SendZeros(_, _, _) => Outcome::GoneOut,
+        Act::EndMarker(_) | Act::Send(_, _, _) | Act::SendZeros(_, _, _) if context.is_none() => {
+            Outcome::GoneOut
+        }
         _ => Outcome::Begun(context.map(|teid| teid.0)),
     }
 }
@@ -328,6 +332,33 @@ const STRANGER: Endpoint = Endpoint {
 fn request_of(kind: u8, number: u32) -> [u8; 17] {
     let [_, a, b, c] = number.to_be_bytes();
     [0x48, kind, 0, 13, 1, 0, 0, 9, a, b, c, 0, 73, 0, 1, 0, 5]
+}
+
+/// A Create Session Response to the request of this number, from 0: the peer has no resources. Before each
+/// session, so many drew two TEIDs.
+fn refusal_of(number: u32) -> [u8; 23] {
+    let teid = 0x0100_0001u32.wrapping_add(number).wrapping_add(number);
+    let [h, i, j, k] = teid.to_be_bytes();
+    let [_, a, b, c] = number.to_be_bytes();
+    [
+        0x48, 33, 0, 19, h, i, j, k, a, b, c, 0, 2, 0, 2, 0, 73, 0, 3, 0, 1, 0, 1,
+    ]
+}
+
+/// A session is asked for, and its request, which has this number, is refused: what the answer comes to.
+fn refused(
+    alloc: Global,
+    serving: &mut Gateway,
+    spec: &SessionSpec,
+    number: u32,
+) -> Option<Outcome> {
+    serving.create_session(alloc, spec).ok()?;
+    let source = from_peer(Role::Serving, PORT);
+    let answer = refusal_of(number);
+    let step = serving
+        .receive(alloc, source, Plane::Control, &answer)
+        .ok()?;
+    Some(step.report.outcome)
 }
 
 impl Path {
@@ -501,6 +532,16 @@ impl Path {
         }
     }
 
+    /// So many sessions are asked for, and each is refused.
+    fn refuses(&mut self, rt: &impl Abort, alloc: Global, sessions: u32) -> Result<(), Fail> {
+        let spec = specification()?;
+        for number in 0..sessions {
+            let outcome = refused(alloc, &mut self.serving, &spec, number);
+            assert!(rt; outcome == Some(Outcome::Rejected(73)), "session {number}");
+        }
+        Ok(())
+    }
+
     /// The last datagram told this.
     fn tells(&self, rt: &impl Abort, tells: &Tells) {
         let (at, report) = (self.at, &self.report);
@@ -526,6 +567,7 @@ impl Path {
             Act::Restarts(role, counter) => {
                 *self.gateway(role) = started(alloc, role, self.pool, counter)?;
             }
+            Act::Refuses(sessions) => self.refuses(rt, alloc, sessions)?,
             Act::Told(tells) => self.tells(rt, &tells),
             Act::Ended(ended) => {
                 assert!(rt; self.ended == ended, "row {}: {:?}", self.at, self.ended);

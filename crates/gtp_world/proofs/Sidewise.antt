@@ -41,6 +41,7 @@ takes_by v role input Timed came half log late new t is becomes =
       station = half.station;
       node = t.node;
       role_stays = t.role_stays;
+      lowest = t.lowest;
       timed = t.timed;
       becomes = becomes ∙ (λ i. record (with_half v role (t.becomes i)) { log = logs i });
     }

@@ -16,6 +16,7 @@ use Rattle.gtp_machine.specs.declared.outcome.Outcome.{Outcome}
 use Rattle.gtp_machine.specs.declared.outcome.Outcome.TheVariants.{Begun as Asked, Refused, GoneOut}
 use Rattle.gtp_machine.specs.declared.outcome.Refusal.{Refusal}
 use Rattle.gtp_gateway.specs.Begun.{IsDone, AsksNext, outcome_by}
+use Rattle.gtp_gateway.specs.Choosing.{ChoosesLowest}
 use Rattle.gtp_gateway.specs.Parts.{arrival_of}
 use Rattle.gtp_gateway.specs.Received.{IsReceived, KeepsTiming, coming}
 use Rattle.gtp_gateway.specs.Sent.{datagram_by}
@@ -29,7 +30,7 @@ use Rattle.gtp_gateway.proofs.SentBack.{none_sent}
 use Rattle.gtp_world.specs.Commands.{IsTimed}
 use Rattle.gtp_world.specs.Kept.{oldest_first, Half}
 use Rattle.gtp_world.specs.Sides.{IsHanded, IsAccepted, IsInput}
-use Rattle.gtp_world.specs.Stepped.{AsksFor, KeepsOn, sent_at}
+use Rattle.gtp_world.specs.Stepped.{AsksFor, KeepsOn, TakesLowest, sent_at}
 use Rattle.gtp_world.specs.declared.log.Entry.{Entry as LoggedEntry}
 use Rattle.gtp_world.specs.declared.side.Came.{Came}
 use Rattle.gtp_world.proofs.Quiet.{IsQuiet, Handing, handing, plainly}
@@ -96,6 +97,7 @@ done node command old begun station handed d times is =
       readable = d.sent.read;
       node = d.becomes;
       role_stays = d.role;
+      lowest = λ makes. absurd (makes (ap (λ (o : Out). o.made) plain));
       timed = asks_for command old.station station begun (option_map (λ (t : Teid). t.0) begun.teid) (sent_at old d.effect.out) d.effect.outcome d.outcome d.sent.octets times;
       becomes = as_before old station d.effect.out (ap (λ (o : Out). o.heard) plain) (ap (λ (o : Out). o.forgot) plain) (ap (λ (o : Out). o.made) plain);
       tells = record {
@@ -121,6 +123,7 @@ turned_down node command old why step =
       readable = (none_sent old.station.node.config).read;
       node = refl;
       role_stays = refl;
+      lowest = λ makes. absurd (makes refl);
       timed = unasked old.station old.station [] (Refused why) (λ teid is. cc is) refl;
       becomes = as_before old old.station nothing refl refl refl;
       tells = record { sent = refl; outcome = refl; learned = refl; handed = refl; accepted = refl; gave_up = refl; forgot = refl };
@@ -144,6 +147,11 @@ keeps_on : (plane : Plane) (source : Endpoint) (octets : List ℕ) (sent : List 
 keeps_on Control source octets sent outcome step old new is keeps = keeps
 keeps_on User source octets sent outcome step old new is keeps = (λ apart. keeps.0 (λ broken. apart (sym is ∙ broken)), keeps.1, keeps.2)
 
+-- of what is free the lowest was taken, if anything was made
+lowest_made : (request : Arrival) (made : Bool) (role : Role) (out : Out) (old new : Node) → made_for request made ≡ out.made → ChoosesLowest made role old new → TakesLowest role out old new
+lowest_made request true role out old new is lowest = λ makes. lowest refl
+lowest_made request false role out old new is lowest = λ makes. absurd (makes (sym is))
+
 -- what a datagram came to
 abbrev pub came_of_step : Step → Option LoggedEntry → Came
 came_of_step step accepted = record { outcome = step.report.outcome; restart = step.report.restart; out = step.out; handed = None; accepted = accepted }
@@ -152,8 +160,8 @@ came_of_step step accepted = record { outcome = step.report.outcome; restart = s
 abbrev pub half_told : Half → Station → Step → Arrival → Half
 half_told old station step request = record old { station = station; seen = old.seen ++ option_to_list (option_map (λ (c : Counter). c.0) step.report.heard); made = old.made ++ made_for request step.report.made }
 
-pub taken : (node : Role) (plane : Plane) (source : Endpoint) (octets : List ℕ) (old : Half) (step : Step) (station : Station) (entry : Option LoggedEntry) → IsReceived plane source octets old.station step station → KeepsTiming plane source octets step old.station station → (IsSome step.accepted → station ≡ old.station) → IsAccepted node station.node step.accepted entry → IsInput node (coming plane source octets) (KeepsOn plane source octets) old (came_of_step step entry) (half_told old station step (arrival_of source octets))
-taken node plane source octets old step station entry r keeps stays is =
+pub taken : (node : Role) (plane : Plane) (source : Endpoint) (octets : List ℕ) (old : Half) (step : Step) (station : Station) (entry : Option LoggedEntry) → IsReceived plane source octets old.station step station → KeepsTiming plane source octets step old.station station → ChoosesLowest step.report.made old.station.role old.station.node station.node → (IsSome step.accepted → station ≡ old.station) → IsAccepted node station.node step.accepted entry → IsInput node (coming plane source octets) (KeepsOn plane source octets) old (came_of_step step entry) (half_told old station step (arrival_of source octets))
+taken node plane source octets old step station entry r keeps lowest stays is =
     let request = arrival_of source octets in
     let out = r.effect.out in
     let forgot = ap (λ (o : Out). o.forgot) r.tells.all in
@@ -166,6 +174,7 @@ taken node plane source octets old step station entry r keeps stays is =
       readable = r.tells.sent.read;
       node = r.becomes;
       role_stays = r.role;
+      lowest = lowest_made request step.report.made station.role out old.station.node station.node r.tells.made (subst (λ role. ChoosesLowest step.report.made role old.station.node station.node) (sym r.role) lowest);
       timed = keeps_on plane source octets (sent_at old r.effect.out) r.effect.outcome step old.station station r.tells.outcome keeps;
       becomes = λ i. record old { station = station; seen = seen i; forgotten = forgotten i; made = made i };
       tells = record {

@@ -18,7 +18,7 @@ use Rattle.gtp_gateway.specs.declared.tick.Ticked.{Ticked}
 use Rattle.gtp_gateway.specs.declared.user_step.Accepted.{Accepted}
 use Rattle.gtp_gateway.specs.UserTaken.{AreEntries}
 use Rattle.gtp_world.specs.Kept.{Half, entry_by}
-use Rattle.gtp_world.specs.Stepped.{half_after, sent_at, AreReadable}
+use Rattle.gtp_world.specs.Stepped.{half_after, sent_at, AreReadable, TakesLowest}
 use Rattle.gtp_world.specs.declared.log.Entry.{Entry as LoggedEntry}
 use Rattle.gtp_world.specs.declared.side.Came.{Came}
 
@@ -36,13 +36,14 @@ pub record TellsCame (role : Role) (old : Half) (came : Came) (e : Effect) : Typ
   pub gave_up : e.out.gave_up ≡ []
   pub forgot : e.out.forgot ≡ []
 
--- The gateway took an input, and what its ticks go by is as this says.
+-- The gateway took an input, of what is free it took the lowest, and what its ticks go by is as this says.
 pub record IsInput (role : Role) (input : Input) (Timed : List Datagram → Outcome → Station → Station → Type 0) (old : Half) (came : Came) (new : Half) : Type 0 where
   pub effect : Effect
   pub step : Step old.station.role old.station.node input effect
   pub readable : AreReadable effect.out
   pub node : new.station.node ≡ effect.node
   pub role_stays : new.station.role ≡ old.station.role
+  pub lowest : TakesLowest new.station.role effect.out old.station.node new.station.node
   pub timed : Timed (sent_at old effect.out) effect.outcome old.station new.station
   pub becomes : new ≡ half_after old new.station effect.out
   pub tells : TellsCame role old came effect

@@ -5,6 +5,7 @@ use Rattle.gtp_values.specs.declared.address.Endpoint.{Endpoint}
 use Rattle.gtp_reliable.specs.Pending.{IsNextFree}
 use Rattle.gtp_machine.specs.Input.{Input, Commanded, Out, Effect, nothing}
 use Rattle.gtp_machine.specs.Message.{Plane, Control, User}
+use Rattle.gtp_machine.specs.Node.{Node}
 use Rattle.gtp_machine.specs.declared.outcome.Outcome.{Outcome}
 use Rattle.gtp_machine.specs.declared.outcome.Outcome.TheVariants.{Begun, Broken}
 use Rattle.gtp_machine.specs.declared.role.Role.{Role}
@@ -15,6 +16,7 @@ use Rattle.gtp_machine.specs.Tick.{Ticks}
 use Rattle.gtp_machine.specs.World.{By, EventOutcome, Came_to, Ticked, Restarted, No_such_datagram, Restarts_used, Cut_too_long, Event, Does, Tick, Deliver, Cut, Restart, other, signed}
 use Rattle.gtp_gateway.specs.declared.purpose.Purpose.{Purpose}
 use Rattle.gtp_gateway.specs.Asking.{after_begun}
+use Rattle.gtp_gateway.specs.Choosing.{MakesLowest}
 use Rattle.gtp_gateway.specs.GoesOn.{GoesOn}
 use Rattle.gtp_gateway.specs.Parts.{arrival_of}
 use Rattle.gtp_gateway.specs.Received.{coming}
@@ -75,7 +77,11 @@ abbrev pub KeepsOn : Plane → Endpoint → List ℕ → List Datagram → Outco
 KeepsOn Control source octets sent outcome old new = GoesOn source octets old new
 KeepsOn User source octets sent outcome old new = (outcome ≢ Broken → new.timing ≡ old.timing) × WaitOn old new × IsTied new
 
--- A gateway takes an input, by the rules of the machine; and what its ticks go by is as this says.
+-- what is made on a request has the lowest address or identity that is free
+abbrev pub TakesLowest : Role → Out → Node → Node → Type 0
+TakesLowest role out old new = out.made ≢ [] → MakesLowest role old new
+
+-- A gateway takes an input, by the rules of the machine, and of what is free it takes the lowest; and what its ticks go by is as this says.
 pub record Takes (old : Kept) (role : Role) (input : Input) (Timed : List Datagram → Outcome → Station → Station → Type 0) (late : Bool) (new : Kept) : Type 0 where
   pub effect : Effect
   pub step : Step (half_in old role).station.role (half_in old role).station.node input effect
@@ -83,6 +89,7 @@ pub record Takes (old : Kept) (role : Role) (input : Input) (Timed : List Datagr
   pub station : Station
   pub node : station.node ≡ effect.node
   pub role_stays : station.role ≡ (half_in old role).station.role
+  pub lowest : TakesLowest station.role effect.out (half_in old role).station.node station.node
   pub timed : Timed (sent_at (half_in old role) effect.out) effect.outcome (half_in old role).station station
   pub becomes : new ≡ kept_after old role station effect.out (sent_at (half_in old role) effect.out) (Came_to effect.outcome) late
 

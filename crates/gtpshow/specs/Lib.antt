@@ -1,4 +1,5 @@
 pub mod Status
 pub mod Shown
+pub mod Replayed
 pub mod Watched
 pub mod Words

@@ -2,10 +2,11 @@
 
 ghost use Rattle.std.specs.Prelude.{◌≡◌, IfOk, Some};
 ghost use Rattle.clap.specs.Words.{app_of};
-ghost use Rattle.gtpshow.specs.Status.{status_of, failure_text};
+ghost use Rattle.gtpshow.specs.Status.{status_of, failure_by, failure_text};
 ghost use Rattle.gtpshow.specs.Words.{program_words};
 
 use clap::{Arg, ArgAction, Command};
+use gtp_replay::ReplayFault;
 use std::alloc::{AllocError, Global};
 use std::fmt;
 
@@ -88,6 +89,18 @@ impl Failure {
         match self {
             Failure::BadHex => 2,
             Failure::Memory | Failure::Read | Failure::Write => 3,
+        }
+    }
+}
+
+impl From<ReplayFault> for Failure {
+    ghost from_gives = { λ fault failure. failure ≡ failure_by fault };
+
+    fn from(fault: ReplayFault) -> Failure {
+        match fault {
+            ReplayFault::Memory => Failure::Memory,
+            ReplayFault::Read => Failure::Read,
+            ReplayFault::Write => Failure::Write,
         }
     }
 }

@@ -1,10 +1,12 @@
 //! Replaying a scenario.
 
-ghost use Rattle.std.specs.Prelude.{◌≡◌, ◌≤◌, IfOk};
-ghost use Rattle.gtpshow.specs.Status.{verdict_status, failure_by};
+ghost use Rattle.std.specs.Prelude.{◌≡◌, ◌+◌, ◌-◌, ◌^◌, ◌<◌, ◌≤◌, Err, IfOk, IfSome};
+ghost use Rattle.gtp_replay.specs.Counts.{inner_of, failures_of};
+ghost use Rattle.gtpshow.specs.Status.{verdict_status};
+ghost use Rattle.gtpshow.specs.Replayed.{IsReplayed};
 
 use crate::command::Failure;
-use gtp_replay::{Counted, ReplayFault, Verdict, replay, replay_diagram};
+use gtp_replay::{Counted, Verdict, replay, replay_diagram};
 use std::alloc::Global;
 use std::io::{Read, Write};
 use std::rt::Files;
@@ -21,17 +23,6 @@ fn status(verdict: Verdict) -> u8
     }
 }
 
-/// Why nothing was replayed.
-fn failure(fault: ReplayFault) -> Failure
-    ensures { result ≡ failure_by fault }
-{
-    match fault {
-        ReplayFault::Memory => Failure::Memory,
-        ReplayFault::Read => Failure::Read,
-        ReplayFault::Write => Failure::Write,
-    }
-}
-
 /// What a replay writes.
 #[derive(Clone, Copy, Debug, PartialEq, Eq)]
 pub enum Form {
@@ -40,23 +31,34 @@ pub enum Form {
 }
 
 /// Replays the scenario of a reader, and answers the exit status.
-fn replay_from<I: Read + Drop, W: Write + Drop>(
+fn replay_from<I: Read, W: Write>(
     alloc: Global,
     form: Form,
-    reader: I,
-    writer: W,
+    reader: &mut Counted<I>,
+    writer: &mut Counted<W>,
 ) -> Result<u8, Failure>
-    ensures { IfOk result (λ status. status ≤ 2) }
+    requires reads { failures_of reader.old < 2 ^ 64 - 1 }
+    requires writes { failures_of writer.old < 2 ^ 64 - 1 }
+    ensures replayed { IfOk result (λ status. IfSome (I.remaining (inner_of reader.old)) (λ octets.
+        IsReplayed form octets (W.contents (inner_of writer.old))
+        (W.contents (inner_of writer.new)) status)) }
+    ensures small { IfOk result (λ status. status ≤ 2) }
+    ensures read { result ≡ Err Failure.Read
+        → failures_of reader.new ≡ failures_of reader.old + 1 }
+    ensures write { result ≡ Err Failure.Write
+        → failures_of writer.new ≡ failures_of writer.old + 1 }
 {
-    let mut reader = Counted::new(reader);
-    let mut writer = Counted::new(writer);
-    let replayed = match form {
-        Form::Report => replay(alloc, &mut reader, &mut writer),
-        Form::Diagram => replay_diagram(alloc, &mut reader, &mut writer),
-    };
-    match replayed {
-        Ok(verdict) => Ok(status(verdict)),
-        Err(fault) => Err(failure(fault)),
+    match form {
+        Form::Report => Ok(status(replay(alloc, reader, writer)?)),
+        Form::Diagram => Ok(status(replay_diagram(alloc, reader, writer)?)),
+    }
+}
+
+/// Why a file cannot be opened.
+fn unopened(error: io::Error) -> Failure {
+    match error.kind() {
+        io::ErrorKind::OutOfMemory => Failure::Memory,
+        _ => Failure::Read,
     }
 }
 
@@ -69,9 +71,10 @@ pub fn replay_file<R: Print + Input + Files>(
 ) -> Result<u8, Failure>
     ensures { IfOk result (λ status. status ≤ 2) }
 {
+    let mut writer = Counted::new(io::writer(rt));
     if name == "-" {
-        return replay_from(alloc, form, rt.reader(), io::writer(rt));
+        return replay_from(alloc, form, &mut Counted::new(rt.reader()), &mut writer);
     }
-    let file = fs::open(rt, name).map_err(|_| Failure::Read)?;
-    replay_from(alloc, form, file, io::writer(rt))
+    let file = fs::open(rt, name).map_err(unopened)?;
+    replay_from(alloc, form, &mut Counted::new(file), &mut writer)
 }

@@ -1,10 +1,22 @@
 -- A message by what a gateway does with it: it is of one of the six kinds that the gateway takes, or it is dropped.
-use Rattle.std.proofs.Common.{◌≡◌}
+use Rattle.std.proofs.Common.{◌≡◌, Bool, true, false}
 use Rattle.gtp_machine.specs.Message.{Echo, CreateSessionRequest, CreateSessionResponse, DeleteSessionRequest, DeleteSessionResponse, CreateBearerRequest, CreateBearerResponse, DeleteBearerRequest, DeleteBearerResponse, Message, Echo_request, Echo_response, Create_session_request, Create_session_response, Delete_session_request, Delete_session_response, Create_bearer_request, Create_bearer_response, Delete_bearer_request, Delete_bearer_response, Other_control, Packet_data, End_marker, Error_indication, User_echo_request, User_echo_response, Supported_extensions, Other_user}
-use Rattle.gtp_machine.specs.Node.{Arrival, Node}
+use Rattle.gtp_machine.specs.Node.{Role, Serving, Packet, Arrival, Node}
 use Rattle.gtp_machine.specs.Input.{Effect, dropped, Unexpected}
 use Rattle.gtp_machine.specs.Serving.{ServingTakes}
 use Rattle.gtp_machine.specs.Packet.{PacketTakes}
+
+-- a request by which this gateway makes a session or a bearer
+abbrev pub creates : Role → Message → Bool
+creates Serving (Create_bearer_request r) = true
+creates Packet (Create_session_request q) = true
+creates role m = false
+
+-- the response to one
+abbrev pub is_create_answer : Message → Bool
+is_create_answer (Create_session_response a) = true
+is_create_answer (Create_bearer_response x) = true
+is_create_answer m = false
 
 -- the message is dropped, and nothing else is done with it
 pub record IsDropped (Takes : Arrival → Message → Node → Effect → Type 0) (m : Message) : Type 0 where

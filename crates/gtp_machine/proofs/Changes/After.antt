@@ -1,5 +1,5 @@
 -- What a step of a gateway leaves, and the steps by which sessions and bearers only go or close.
-use Rattle.std.proofs.Common.{◌≡◌, ◌≢◌, inl, inr, ⊎_elim, ℕ, List, [], ◌∷◌, ◌++◌, Option, Some, None, refl, sym, ◌∙◌, subst}
+use Rattle.std.proofs.Common.{◌≡◌, ◌≢◌, inl, inr, ⊎_elim, ℕ, List, [], ◌∷◌, ◌++◌, Option, Some, None, false, refl, sym, ◌∙◌, subst}
 use Rattle.std.specs.FinMap.{insert, get}
 use Rattle.gtp_values.specs.Counter.{age_of}
 use Rattle.gtp_values.specs.declared.counter.Age.{Age}
@@ -21,6 +21,7 @@ use Rattle.gtp_machine.proofs.Origins.Contexts.{ServingContexts, ServingContexts
 use Rattle.gtp_machine.proofs.Changes.Shrinking.{NodeShrinks, Shrunk, Shrunk-itself}
 use Rattle.gtp_machine.proofs.Changes.Matching.{IsMatched, IsMatched-shrinks, IsMatched-session, IsMatched-bearer}
 use Rattle.gtp_machine.proofs.Changes.Steps.{Logs, Logs-silent, Logs-plain, Logs-repeat, IsPlain, NothingOwns}
+use Rattle.gtp_machine.proofs.Basics.Kinds.{is_create_answer}
 use Rattle.gtp_values.proofs.Outcomes.{none_some}
 
 -- what holds of the sessions and bearers of a gateway
@@ -36,10 +37,11 @@ pub Contexts-shrinks : (role : Role) (history : List Sent) (old new : Node) → 
 Contexts-shrinks Serving history old new shrinks c = ServingContexts-shrinks history old.sessions old.bearers new.sessions new.bearers shrinks c
 Contexts-shrinks Packet history old new shrinks c = PacketContexts-shrinks history old.sessions old.bearers new.sessions new.bearers shrinks c
 
--- a pending request was sent, and names the session that it is about
+-- a pending request was sent, names the session that it is about, and is no response
 pub record IsPending (history : List Sent) (role : Role) (number : ℕ) (p : PendingRequest) : Type 0 where
   pub sent : HasSent history role p.request
   pub names : (q : CreateSessionRequest) → p.request ≡ Create_session_request q → p.session ≡ Some q.control.teid
+  pub asks : is_create_answer p.request ≡ false
 
 -- a session has a remote once it was opened, by the start of the peer that is known
 pub record IsStanding (known : Option ℕ) (t : ℕ) (s : Session) : Type 0 where
@@ -91,7 +93,7 @@ pub record After (role : Role) (history : List Sent) (taken : Arrival → Messag
   pub logs : Logs history role taken old e
 
 pub IsPending-later : (before after : List Sent) → Extends before after → (role : Role) (number : ℕ) (p : PendingRequest) → IsPending before role number p → IsPending after role number p
-IsPending-later before after extends role number p is = record { sent = extends.keeps role p.request is.sent; names = is.names }
+IsPending-later before after extends role number p is = record { sent = extends.keeps role p.request is.sent; names = is.names; asks = is.asks }
 
 -- a new TEID is that of no pending request
 module _ (history : List Sent) (role : Role) (node : Node) (unowned : NothingOwns history role node) (number : ℕ) (p : PendingRequest) (is : IsPending history role number p) (key : ℕ) (free : IsFree node key) where
@@ -205,8 +207,8 @@ module _ (role : Role) (history : List Sent) (taken : Arrival → Message → Ty
   }
 
   -- a pending request is added to what only shrinks
-  pub asks_plain : (number : ℕ) (p : PendingRequest) (teid : Option ℕ) (new : Node) → Shrunk old new → IsPlain p.request → IsMadeNow history old (record new { pending = insert old.pending number p }) p.request → IsMatched new.sessions new.bearers number p → ((q : CreateSessionRequest) → p.request ≡ Create_session_request q → p.session ≡ Some q.control.teid) → After role history taken old (asks old number p teid new)
-  asks_plain number p teid new s plain made matched names =
+  pub asks_plain : (number : ℕ) (p : PendingRequest) (teid : Option ℕ) (new : Node) → Shrunk old new → IsPlain p.request → IsMadeNow history old (record new { pending = insert old.pending number p }) p.request → IsMatched new.sessions new.bearers number p → ((q : CreateSessionRequest) → p.request ≡ Create_session_request q → p.session ≡ Some q.control.teid) → is_create_answer p.request ≡ false → After role history taken old (asks old number p teid new)
+  asks_plain number p teid new s plain made matched names asked =
       let m = p.request in
       let after = history ++ signed role (m ∷ []) in
       let k = knows_shrunk (m ∷ []) new s in
@@ -217,7 +219,7 @@ module _ (role : Role) (history : List Sent) (taken : Arrival → Message → Ty
           standing = k.standing;
           ready = k.ready;
           closed = k.closed;
-          pending = Each-insert (IsPending after role) old.pending number p (record { sent = by_now history role (m ∷ []) m (inl refl); names = names }) (later (m ∷ [])).pending;
+          pending = Each-insert (IsPending after role) old.pending number p (record { sent = by_now history role (m ∷ []) m (inl refl); names = names; asks = asked }) (later (m ∷ [])).pending;
           matched = Each-insert (IsMatched new.sessions new.bearers) old.pending number p matched (Each-weaker (IsMatched old.sessions old.bearers) (IsMatched new.sessions new.bearers) old.pending (IsMatched-shrinks old new s.shrinks) knows.matched);
           held = k.held;
         };

@@ -77,7 +77,7 @@ not_earlier peer role history known seen counter draws hearing same k is early =
     let before = earlier_start peer.first l.start peer.restarts k counter (omega (arith, l.by_now, draws.few)) draws.few l.is (same ∙ draws.counter) early in
     omega (arith, before, l.by_now)
 
-accepts_cause : (pdn : ℕ) → IsAccepting (cause_of (session_cause pdn))
+pub accepts_cause : (pdn : ℕ) → IsAccepting (cause_of (session_cause pdn))
 accepts_cause pdn = by (pdn == 3)
   where
     by : (b : Bool) → IsAccepting (cause_of (if b then 18 else 16))

@@ -7,7 +7,7 @@ use Rattle.gtp_machine.specs.Node.{Arrival, Role, Serving, Packet, Node}
 use Rattle.gtp_machine.specs.Input.{Effect, messages}
 use Rattle.gtp_machine.specs.Choice.{IsFree, counter_of}
 use Rattle.gtp_machine.specs.World.{other, By, Sent, Side, HasBy, HasSent, signed, restarted, stepped}
-use Rattle.gtp_machine.specs.Laws.{IsOfStart, AnswersSession, AnswersBearer}
+use Rattle.gtp_machine.specs.Laws.{IsOfStart}
 use Rattle.gtp_machine.proofs.Basics.FiniteMaps.{Among-left, Among-right, Among-cases}
 
 -- nothing that was sent is lost
@@ -26,24 +26,22 @@ TellsStart (Create_session_request q) = Unit {0}
 TellsStart (Create_session_response a) = Unit {0}
 TellsStart _ = ⊥
 
--- a Create Session Response answers a request, names both TEIDs where it accepts, and not one for both
-pub record ProperSession (history : List Sent) (a : CreateSessionResponse) : Type 0 where
-  pub answers : AnswersSession history a
+-- a Create Session Response names both TEIDs where it accepts, and not one for both
+pub record ProperSession (a : CreateSessionResponse) : Type 0 where
   pub control : IsAccepting a.cause → (t : ℕ) × (teid_in a.control ≡ Some t)
   pub user : IsAccepting a.cause → (t : ℕ) × (first_created a.contexts ≡ Some t)
   pub apart : (t : ℕ) → teid_in a.control ≡ Some t → first_created a.contexts ≡ Some t → ⊥
 
--- a Create Bearer Response answers a request, and names a TEID where both causes accept
-pub record ProperBearer (history : List Sent) (x : CreateBearerResponse) : Type 0 where
-  pub answers : AnswersBearer history x
+-- a Create Bearer Response names a TEID where both causes accept
+pub record ProperBearer (x : CreateBearerResponse) : Type 0 where
   pub user : (c : GivenBearer) → x.contexts ≡ c ∷ [] → IsAccepting x.cause → IsAccepting c.cause → (t : ℕ) × (first_given x.contexts ≡ Some t)
 
 -- what holds of each request for a session and of each response that a gateway makes
-abbrev pub IsProper : List Sent → Message → Type 0
-IsProper history (Create_session_request q) = q.control.teid ≢ q.context.user.teid
-IsProper history (Create_session_response a) = ProperSession history a
-IsProper history (Create_bearer_response x) = ProperBearer history x
-IsProper history _ = Unit {0}
+abbrev pub IsProper : Message → Type 0
+IsProper (Create_session_request q) = q.control.teid ≢ q.context.user.teid
+IsProper (Create_session_response a) = ProperSession a
+IsProper (Create_bearer_response x) = ProperBearer x
+IsProper _ = Unit {0}
 
 -- what holds of a gateway's draws and of the counters that it tells
 pub record Drawing (side : Side) (role : Role) (history : List Sent) : Type 0 where
@@ -54,7 +52,7 @@ pub record Drawing (side : Side) (role : Role) (history : List Sent) : Type 0 wh
   pub once : (m n : Message) (t : ℕ) → HasSent history role m → HasSent history role n → Owns m t → Owns n t → m ≡ n
   pub told : (m : Message) (r : ℕ) → HasSent history role m → recovery_of m ≡ Some r → IsOfStart side r
   pub dated : (m : Message) (t : ℕ) → HasSent history role m → TellsStart m → Owns m t → recovery_of m ≡ Some (counter_of t)
-  pub proper : (m : Message) → HasSent history role m → IsProper history m
+  pub proper : (m : Message) → HasSent history role m → IsProper m
 
 -- a message that is made in this step: its own TEIDs are drawn now, it tells the present counter, and it is proper
 pub record IsMadeNow (history : List Sent) (old new : Node) (m : Message) : Type 0 where
@@ -62,7 +60,7 @@ pub record IsMadeNow (history : List Sent) (old new : Node) (m : Message) : Type
   pub drawn : (t : ℕ) → Owns m t → Among t new.drawn
   pub told : (r : ℕ) → recovery_of m ≡ Some r → r ≡ old.counter
   pub tells : (t : ℕ) → TellsStart m → Owns m t → recovery_of m ≡ Some old.counter
-  pub proper : IsProper history m
+  pub proper : IsProper m
 
 -- what a step does with draws
 pub record Draws (history : List Sent) (role : Role) (old new : Node) (sent : List Message) : Type 0 where
@@ -107,13 +105,6 @@ not_other Packet e = cc
 pub by_other : {X : Type 0} (log : List (By X)) (role : Role) (list : List X) (x : X) → HasBy (log ++ signed (other role) list) role x → HasBy log role x
 by_other log role list x h = ⊎_elim (λ l. l) (λ r. absurd (not_other role r.0)) (by_cases log role (other role) list x h)
 
--- a proper response stays one
-pub IsProper-later : (before after : List Sent) → Extends before after → (m : Message) → IsProper before m → IsProper after m
-IsProper-later before after extends (Create_session_request q) p = p
-IsProper-later before after extends (Create_session_response a) p = record { answers = record { request = p.answers.request; sent = extends.keeps Serving _ p.answers.sent; number = p.answers.number; header = p.answers.header; given = p.answers.given }; control = p.control; user = p.user; apart = p.apart }
-IsProper-later before after extends (Create_bearer_response x) p = record { answers = record { request = p.answers.request; sent = extends.keeps Packet _ p.answers.sent; number = p.answers.number; returned = p.answers.returned; given = p.answers.given }; user = p.user }
-IsProper-later before after extends _ p = tt
-
 module _ (side : Side) (role : Role) (history : List Sent) (drawing : Drawing side role history) where
   -- nothing that was sent owns what may be drawn now
   pub unowned : (m : Message) (t : ℕ) → HasSent history role m → Owns m t → IsFree side.node t → ⊥
@@ -131,7 +122,7 @@ module _ (side : Side) (role : Role) (history : List Sent) (drawing : Drawing si
     once = λ m n t m_has n_has m_owns n_owns. same m n t m_owns n_owns (cases m m_has) (cases n n_has);
     told = λ m r has tells. ⊎_elim (λ was. at_start r (drawing.told m r was tells)) (λ now. record { start = side.restarts; by_now = omega arith; is = now.1.told r tells ∙ drawing.counter }) (cases m has);
     dated = λ m t has is owns. ⊎_elim (λ was. drawing.dated m t was is owns) (λ now. now.1.tells t is owns ∙ ap (λ c. Some c) (sym (now.1.free t owns).counted)) (cases m has);
-    proper = λ m has. IsProper-later history (history ++ signed role (messages e.out.sent)) (Extends-signed history role (messages e.out.sent)) m (⊎_elim (λ was. drawing.proper m was) (λ now. now.1.proper) (cases m has));
+    proper = λ m has. ⊎_elim (λ was. drawing.proper m was) (λ now. now.1.proper) (cases m has);
   }
     where
       at_start : (r : ℕ) → IsOfStart side r → IsOfStart (stepped side e) r
@@ -161,7 +152,7 @@ module _ (side : Side) (role : Role) (history : List Sent) (drawing : Drawing si
     once = λ m n t m_has n_has. drawing.once m n t (by_other history role sent m m_has) (by_other history role sent n n_has);
     told = λ m r has. drawing.told m r (by_other history role sent m has);
     dated = λ m t has. drawing.dated m t (by_other history role sent m has);
-    proper = λ m has. IsProper-later history (history ++ signed (other role) sent) (Extends-signed history (other role) sent) m (drawing.proper m (by_other history role sent m has));
+    proper = λ m has. drawing.proper m (by_other history role sent m has);
   }
 
   pub Drawing-restart : side.restarts < 127 → Drawing (restarted side) role history
@@ -236,5 +227,5 @@ Draws-new history role old new m config counter extends present is = record {
     only n (inr none) = absurd none
 
 -- a message that owns no TEID and tells the present counter, if any
-pub Made-plain : (history : List Sent) (old new : Node) (m : Message) → ((t : ℕ) → Owns m t → ⊥) → ((r : ℕ) → recovery_of m ≡ Some r → r ≡ old.counter) → IsProper history m → IsMadeNow history old new m
+pub Made-plain : (history : List Sent) (old new : Node) (m : Message) → ((t : ℕ) → Owns m t → ⊥) → ((r : ℕ) → recovery_of m ≡ Some r → r ≡ old.counter) → IsProper m → IsMadeNow history old new m
 Made-plain history old new m none told proper = record { free = λ t owns. absurd (none t owns); drawn = λ t owns. absurd (none t owns); told = told; tells = λ t is owns. absurd (none t owns); proper = proper }

@@ -1,5 +1,5 @@
 -- What each step does with the answers that are held.
-use Rattle.std.proofs.Common.{◌≡◌, ◌⊎◌, inl, inr, ⊎_elim, ℕ, List, [], ◌∷◌, ◌++◌, Option, Some, None, refl, ◌∙◌, ap}
+use Rattle.std.proofs.Common.{◌≡◌, ◌⊎◌, inl, inr, ⊎_elim, ℕ, Bool, true, false, not, ◌&&◌, List, [], ◌∷◌, ◌++◌, Option, Some, None, refl, ◌∙◌, ap}
 use Rattle.gtp_values.specs.Counter.{age_of}
 use Rattle.gtp_values.specs.declared.address.Endpoint.{Endpoint}
 use Rattle.gtp_values.specs.declared.counter.Age.{Age}
@@ -8,7 +8,7 @@ use Rattle.gtp_values.specs.declared.qos.Qos.{Qos}
 use Rattle.gtp_machine.specs.Element.{cause_of}
 use Rattle.gtp_machine.specs.Message.{Message, DeleteBearerRequest, Echo_request, Echo_response, Create_session_request, Create_session_response, Delete_session_request, Delete_session_response, Create_bearer_request, Create_bearer_response, Delete_bearer_request, Delete_bearer_response, Other_control, Packet_data, End_marker, Error_indication, User_echo_request, User_echo_response, Supported_extensions, Other_user, recovery_of}
 use Rattle.gtp_machine.specs.Node.{Role, Serving, Packet, Session, PendingRequest, Arrival, Held, Node, written}
-use Rattle.gtp_machine.specs.Input.{Command, Create_session, Delete_session, Create_bearer, Delete_bearer, Release_session, Mark_end, Send_echo, Send_user, RequestKind, Of_create_session, Of_delete_session, Of_create_bearer, Of_delete_bearer, FaultyRequest, ControlReading, Control_message, Faulty, Control_fault, UserReading, User_message, Extension_needed, User_fault, Outcome, Effect}
+use Rattle.gtp_machine.specs.Input.{Command, Create_session, Delete_session, Create_bearer, Delete_bearer, Release_session, Mark_end, Send_echo, Send_user, RequestKind, Of_create_session, Of_delete_session, Of_create_bearer, Of_delete_bearer, FaultyRequest, ControlReading, Control_message, Faulty, Control_fault, UserReading, User_message, Extension_needed, User_fault, Outcome, Effect, messages}
 use Rattle.gtp_machine.specs.Recovery.{Judges, Weighs, Hears}
 use Rattle.gtp_machine.specs.Response.{EchoAnswered, finishing}
 use Rattle.gtp_machine.specs.User.{PacketCame, EndCame, ErrorCame, UserTaken, UserRead, UserStep}
@@ -16,7 +16,7 @@ use Rattle.gtp_machine.specs.Command.{SessionBegun, SessionDeleted, BearerBegun,
 use Rattle.gtp_machine.specs.Serving.{SessionAnswered, DeletionAnswered, BearerAsked, RemovalTaken, RemovalAsked, removal_cause, ServingTakes, ServingFaulted, ServingReads}
 use Rattle.gtp_machine.specs.Packet.{SessionAsked, DeletionAsked, BearerAnswered, RemovalAnswered, PacketTakes, PacketFaulted, PacketReads}
 use Rattle.gtp_machine.proofs.Changes.Shrinking.{Shrunk-finished, removes_each}
-use Rattle.gtp_machine.proofs.Basics.Kinds.{by_serving, by_packet}
+use Rattle.gtp_machine.proofs.Basics.Kinds.{creates, is_create_answer, by_serving, by_packet}
 
 -- what is held after a step
 abbrev pub held_in : Effect → List Held
@@ -26,115 +26,137 @@ held_in e = e.node.held
 abbrev pub Keeps : Node → Effect → Type 0
 Keeps old e = e.node.held ≡ old.held
 
-session_begun_held : (role : Role) (spec : _) (old : Node) (e : Effect) → SessionBegun role spec old e → Keeps old e
-session_begun_held Packet spec old e r = ap held_in r
-session_begun_held Serving spec old e (inl f) = ap held_in f.1
-session_begun_held Serving spec old e (inr (a, inl f)) = ap held_in f.1
-session_begun_held Serving spec old e (inr (a, inr (b, inl f))) = ap held_in f.1
-session_begun_held Serving spec old e (inr (a, inr (b, inr (c, r)))) = ap held_in r.gives
+-- none of the messages is a Create Session or Create Bearer Response
+abbrev pub are_plain : List Message → Bool
+are_plain [] = true
+are_plain (m ∷ sent) = not (is_create_answer m) && are_plain sent
 
-session_deleted_held : (role : Role) (session : ℕ) (old : Node) (e : Effect) → SessionDeleted role session old e → Keeps old e
-session_deleted_held Packet session old e r = ap held_in r
-session_deleted_held Serving session old e (inl f) = ap held_in f.1
-session_deleted_held Serving session old e (inr (a, inl f)) = ap held_in f.1
-session_deleted_held Serving session old e (inr (a, inr (b, inl f))) = ap held_in f.1
-session_deleted_held Serving session old e (inr (a, inr (b, inr (c, r)))) = ap held_in r.gives
+-- what is held after a step, and that it sends no such response
+abbrev pub seen_in : Effect → List Held × Bool
+seen_in e = (e.node.held, are_plain (messages e.out.sent))
 
-bearer_begun_held : (role : Role) (session : ℕ) (tft : List ℕ) (qos : Qos) (old : Node) (e : Effect) → BearerBegun role session tft qos old e → Keeps old e
-bearer_begun_held Serving session tft qos old e r = ap held_in r
-bearer_begun_held Packet session tft qos old e (inl f) = ap held_in f.1
-bearer_begun_held Packet session tft qos old e (inr (a, inl f)) = ap held_in f.1
-bearer_begun_held Packet session tft qos old e (inr (a, inr (b, inl f))) = ap held_in f.1
-bearer_begun_held Packet session tft qos old e (inr (a, inr (b, inr (c, inl f)))) = ap held_in f.1
-bearer_begun_held Packet session tft qos old e (inr (a, inr (b, inr (c, inr (d, r))))) = ap held_in r.gives
+-- what is held stays as it is, and no such response is sent
+abbrev pub Calm : Node → Effect → Type 0
+Calm old e = seen_in e ≡ (old.held, true)
 
-bearer_deleted_held : (role : Role) (session identity : ℕ) (old : Node) (e : Effect) → BearerDeleted role session identity old e → Keeps old e
-bearer_deleted_held Serving session identity old e r = ap held_in r
-bearer_deleted_held Packet session identity old e (inl f) = ap held_in f.1
-bearer_deleted_held Packet session identity old e (inr (a, inl f)) = ap held_in f.1
-bearer_deleted_held Packet session identity old e (inr (a, inr (b, inl f))) = ap held_in f.1
-bearer_deleted_held Packet session identity old e (inr (a, inr (b, inr (c, inl f)))) = ap held_in f.1
-bearer_deleted_held Packet session identity old e (inr (a, inr (b, inr (c, inr (d, r))))) = ap held_in r.gives
+pub keeps_calm : (old : Node) (e : Effect) → Calm old e → Keeps old e
+keeps_calm old e calm = ap (λ (s : List Held × Bool). s.0) calm
 
-session_released_held : (role : Role) (session : ℕ) (old : Node) (e : Effect) → SessionReleased role session old e → Keeps old e
-session_released_held Serving session old e r = ap held_in r
-session_released_held Packet session old e (inl f) = ap held_in f.1
-session_released_held Packet session old e (inr (a, inl f)) = ap held_in f.1
-session_released_held Packet session old e (inr (a, inr (b, inl f))) = ap held_in f.1
-session_released_held Packet session old e (inr (a, inr (b, inr (c, r)))) = ap held_in r.gives
+session_begun_calm : (role : Role) (spec : _) (old : Node) (e : Effect) → SessionBegun role spec old e → Calm old e
+session_begun_calm Packet spec old e r = ap seen_in r
+session_begun_calm Serving spec old e (inl f) = ap seen_in f.1
+session_begun_calm Serving spec old e (inr (a, inl f)) = ap seen_in f.1
+session_begun_calm Serving spec old e (inr (a, inr (b, inl f))) = ap seen_in f.1
+session_begun_calm Serving spec old e (inr (a, inr (b, inr (c, r)))) = ap seen_in r.gives
 
-end_marked_held : (role : Role) (bearer : ℕ) (old : Node) (e : Effect) → EndMarked role bearer old e → Keeps old e
-end_marked_held Serving bearer old e r = ap held_in r
-end_marked_held Packet bearer old e (inl f) = ap held_in f.1
-end_marked_held Packet bearer old e (inr (a, inl f)) = ap held_in f.1
-end_marked_held Packet bearer old e (inr (a, inr (b, inl f))) = ap held_in f.1
-end_marked_held Packet bearer old e (inr (a, inr (b, inr (c, r)))) = ap held_in r
+session_deleted_calm : (role : Role) (session : ℕ) (old : Node) (e : Effect) → SessionDeleted role session old e → Calm old e
+session_deleted_calm Packet session old e r = ap seen_in r
+session_deleted_calm Serving session old e (inl f) = ap seen_in f.1
+session_deleted_calm Serving session old e (inr (a, inl f)) = ap seen_in f.1
+session_deleted_calm Serving session old e (inr (a, inr (b, inl f))) = ap seen_in f.1
+session_deleted_calm Serving session old e (inr (a, inr (b, inr (c, r)))) = ap seen_in r.gives
 
-packet_sent_held : (role : Role) (bearer : ℕ) (payload : List ℕ) (old : Node) (e : Effect) → PacketSent role bearer payload old e → Keeps old e
-packet_sent_held role bearer payload old e (inl f) = ap held_in f.1
-packet_sent_held role bearer payload old e (inr (a, inl f)) = ap held_in f.1
-packet_sent_held role bearer payload old e (inr (a, inr (b, inl f))) = ap held_in f.1
-packet_sent_held role bearer payload old e (inr (a, inr (b, inr (c, inl f)))) = ap held_in f.1
-packet_sent_held role bearer payload old e (inr (a, inr (b, inr (c, inr (d, r))))) = ap held_in r.gives
+bearer_begun_calm : (role : Role) (session : ℕ) (tft : List ℕ) (qos : Qos) (old : Node) (e : Effect) → BearerBegun role session tft qos old e → Calm old e
+bearer_begun_calm Serving session tft qos old e r = ap seen_in r
+bearer_begun_calm Packet session tft qos old e (inl f) = ap seen_in f.1
+bearer_begun_calm Packet session tft qos old e (inr (a, inl f)) = ap seen_in f.1
+bearer_begun_calm Packet session tft qos old e (inr (a, inr (b, inl f))) = ap seen_in f.1
+bearer_begun_calm Packet session tft qos old e (inr (a, inr (b, inr (c, inl f)))) = ap seen_in f.1
+bearer_begun_calm Packet session tft qos old e (inr (a, inr (b, inr (c, inr (d, r))))) = ap seen_in r.gives
 
-echo_begun_held : (old : Node) (e : Effect) → EchoBegun old e → Keeps old e
-echo_begun_held old e (inl f) = ap held_in f.1
-echo_begun_held old e (inr (a, r)) = ap held_in r.gives
+bearer_deleted_calm : (role : Role) (session identity : ℕ) (old : Node) (e : Effect) → BearerDeleted role session identity old e → Calm old e
+bearer_deleted_calm Serving session identity old e r = ap seen_in r
+bearer_deleted_calm Packet session identity old e (inl f) = ap seen_in f.1
+bearer_deleted_calm Packet session identity old e (inr (a, inl f)) = ap seen_in f.1
+bearer_deleted_calm Packet session identity old e (inr (a, inr (b, inl f))) = ap seen_in f.1
+bearer_deleted_calm Packet session identity old e (inr (a, inr (b, inr (c, inl f)))) = ap seen_in f.1
+bearer_deleted_calm Packet session identity old e (inr (a, inr (b, inr (c, inr (d, r))))) = ap seen_in r.gives
+
+session_released_calm : (role : Role) (session : ℕ) (old : Node) (e : Effect) → SessionReleased role session old e → Calm old e
+session_released_calm Serving session old e r = ap seen_in r
+session_released_calm Packet session old e (inl f) = ap seen_in f.1
+session_released_calm Packet session old e (inr (a, inl f)) = ap seen_in f.1
+session_released_calm Packet session old e (inr (a, inr (b, inl f))) = ap seen_in f.1
+session_released_calm Packet session old e (inr (a, inr (b, inr (c, r)))) = ap seen_in r.gives
+
+end_marked_calm : (role : Role) (bearer : ℕ) (old : Node) (e : Effect) → EndMarked role bearer old e → Calm old e
+end_marked_calm Serving bearer old e r = ap seen_in r
+end_marked_calm Packet bearer old e (inl f) = ap seen_in f.1
+end_marked_calm Packet bearer old e (inr (a, inl f)) = ap seen_in f.1
+end_marked_calm Packet bearer old e (inr (a, inr (b, inl f))) = ap seen_in f.1
+end_marked_calm Packet bearer old e (inr (a, inr (b, inr (c, r)))) = ap seen_in r
+
+packet_sent_calm : (role : Role) (bearer : ℕ) (payload : List ℕ) (old : Node) (e : Effect) → PacketSent role bearer payload old e → Calm old e
+packet_sent_calm role bearer payload old e (inl f) = ap seen_in f.1
+packet_sent_calm role bearer payload old e (inr (a, inl f)) = ap seen_in f.1
+packet_sent_calm role bearer payload old e (inr (a, inr (b, inl f))) = ap seen_in f.1
+packet_sent_calm role bearer payload old e (inr (a, inr (b, inr (c, inl f)))) = ap seen_in f.1
+packet_sent_calm role bearer payload old e (inr (a, inr (b, inr (c, inr (d, r))))) = ap seen_in r.gives
+
+echo_begun_calm : (old : Node) (e : Effect) → EchoBegun old e → Calm old e
+echo_begun_calm old e (inl f) = ap seen_in f.1
+echo_begun_calm old e (inr (a, r)) = ap seen_in r.gives
+
+pub command_calm : (role : Role) (command : Command) (old : Node) (e : Effect) → CommandStep role command old e → Calm old e
+command_calm role (Create_session spec) old e r = session_begun_calm role spec old e r
+command_calm role (Delete_session session) old e r = session_deleted_calm role session old e r
+command_calm role (Create_bearer session tft qos) old e r = bearer_begun_calm role session tft qos old e r
+command_calm role (Delete_bearer session identity) old e r = bearer_deleted_calm role session identity old e r
+command_calm role (Release_session session) old e r = session_released_calm role session old e r
+command_calm role (Mark_end bearer) old e r = end_marked_calm role bearer old e r
+command_calm role Send_echo old e r = echo_begun_calm old e r
+command_calm role (Send_user bearer payload) old e r = packet_sent_calm role bearer payload old e r
+
+packet_came_calm : (role : Role) (target : ℕ) (payload : List ℕ) (old : Node) (e : Effect) → PacketCame role target payload old e → Calm old e
+packet_came_calm role target payload old e (inl f) = ap seen_in f.1
+packet_came_calm role target payload old e (inr (a, inl f)) = ap seen_in f.1
+packet_came_calm role target payload old e (inr (a, inr (b, inl f))) = ap seen_in f.1
+packet_came_calm role target payload old e (inr (a, inr (b, inr (c, r)))) = ap seen_in r.gives
+
+end_came_calm : (role : Role) (target : ℕ) (old : Node) (e : Effect) → EndCame role target old e → Calm old e
+end_came_calm Serving target old e (inl f) = ap seen_in f.1
+end_came_calm Serving target old e (inr (a, inl f)) = ap seen_in f.1
+end_came_calm Serving target old e (inr (a, inr (b, r))) = ap seen_in r
+end_came_calm Packet target old e r = ap seen_in r
+
+error_came_calm : (remote : ℕ) (old : Node) (e : Effect) → ErrorCame remote old e → Calm old e
+error_came_calm remote old e (inl f) = ap seen_in f.1
+error_came_calm remote old e (inr (a, r)) = ap seen_in r
+
+user_taken_calm : (role : Role) (source : Endpoint) (m : Message) (old : Node) (e : Effect) → UserTaken role source m old e → Calm old e
+user_taken_calm role source (Packet_data target payload) old e r = packet_came_calm role target payload old e r
+user_taken_calm role source (End_marker target) old e r = end_came_calm role target old e r
+user_taken_calm role source (Error_indication remote address) old e r = error_came_calm remote old e r
+user_taken_calm role source (User_echo_request number) old e r = ap seen_in r
+user_taken_calm role source (User_echo_response number) old e r = ap seen_in r
+user_taken_calm role source (Supported_extensions types) old e r = ap seen_in r
+user_taken_calm role source (Other_user kind) old e r = ap seen_in r
+user_taken_calm role source (Other_control kind) old e r = ap seen_in r
+user_taken_calm role source (Echo_request q) old e r = ap seen_in r
+user_taken_calm role source (Echo_response q) old e r = ap seen_in r
+user_taken_calm role source (Create_session_request q) old e r = ap seen_in r
+user_taken_calm role source (Create_session_response q) old e r = ap seen_in r
+user_taken_calm role source (Delete_session_request q) old e r = ap seen_in r
+user_taken_calm role source (Delete_session_response q) old e r = ap seen_in r
+user_taken_calm role source (Create_bearer_request q) old e r = ap seen_in r
+user_taken_calm role source (Create_bearer_response q) old e r = ap seen_in r
+user_taken_calm role source (Delete_bearer_request q) old e r = ap seen_in r
+user_taken_calm role source (Delete_bearer_response q) old e r = ap seen_in r
+
+user_read_calm : (role : Role) (source : Endpoint) (reading : UserReading) (old : Node) (e : Effect) → UserRead role source reading old e → Calm old e
+user_read_calm role source (User_message m) old e r = user_taken_calm role source m old e r
+user_read_calm role source Extension_needed old e r = ap seen_in r
+user_read_calm role source (User_fault fault) old e r = ap seen_in r
+
+pub user_calm : (role : Role) (source : Endpoint) (reading : UserReading) (old : Node) (e : Effect) → UserStep role source reading old e → Calm old e
+user_calm role source reading old e (inl f) = ap seen_in f.1
+user_calm role source reading old e (inr (peer, r)) = user_read_calm role source reading old e r
 
 pub command_held : (role : Role) (command : Command) (old : Node) (e : Effect) → CommandStep role command old e → Keeps old e
-command_held role (Create_session spec) old e r = session_begun_held role spec old e r
-command_held role (Delete_session session) old e r = session_deleted_held role session old e r
-command_held role (Create_bearer session tft qos) old e r = bearer_begun_held role session tft qos old e r
-command_held role (Delete_bearer session identity) old e r = bearer_deleted_held role session identity old e r
-command_held role (Release_session session) old e r = session_released_held role session old e r
-command_held role (Mark_end bearer) old e r = end_marked_held role bearer old e r
-command_held role Send_echo old e r = echo_begun_held old e r
-command_held role (Send_user bearer payload) old e r = packet_sent_held role bearer payload old e r
-
-packet_came_held : (role : Role) (target : ℕ) (payload : List ℕ) (old : Node) (e : Effect) → PacketCame role target payload old e → Keeps old e
-packet_came_held role target payload old e (inl f) = ap held_in f.1
-packet_came_held role target payload old e (inr (a, inl f)) = ap held_in f.1
-packet_came_held role target payload old e (inr (a, inr (b, inl f))) = ap held_in f.1
-packet_came_held role target payload old e (inr (a, inr (b, inr (c, r)))) = ap held_in r.gives
-
-end_came_held : (role : Role) (target : ℕ) (old : Node) (e : Effect) → EndCame role target old e → Keeps old e
-end_came_held Serving target old e (inl f) = ap held_in f.1
-end_came_held Serving target old e (inr (a, inl f)) = ap held_in f.1
-end_came_held Serving target old e (inr (a, inr (b, r))) = ap held_in r
-end_came_held Packet target old e r = ap held_in r
-
-error_came_held : (remote : ℕ) (old : Node) (e : Effect) → ErrorCame remote old e → Keeps old e
-error_came_held remote old e (inl f) = ap held_in f.1
-error_came_held remote old e (inr (a, r)) = ap held_in r
-
-user_taken_held : (role : Role) (source : Endpoint) (m : Message) (old : Node) (e : Effect) → UserTaken role source m old e → Keeps old e
-user_taken_held role source (Packet_data target payload) old e r = packet_came_held role target payload old e r
-user_taken_held role source (End_marker target) old e r = end_came_held role target old e r
-user_taken_held role source (Error_indication remote address) old e r = error_came_held remote old e r
-user_taken_held role source (User_echo_request number) old e r = ap held_in r
-user_taken_held role source (User_echo_response number) old e r = ap held_in r
-user_taken_held role source (Supported_extensions types) old e r = ap held_in r
-user_taken_held role source (Other_user kind) old e r = ap held_in r
-user_taken_held role source (Other_control kind) old e r = ap held_in r
-user_taken_held role source (Echo_request q) old e r = ap held_in r
-user_taken_held role source (Echo_response q) old e r = ap held_in r
-user_taken_held role source (Create_session_request q) old e r = ap held_in r
-user_taken_held role source (Create_session_response q) old e r = ap held_in r
-user_taken_held role source (Delete_session_request q) old e r = ap held_in r
-user_taken_held role source (Delete_session_response q) old e r = ap held_in r
-user_taken_held role source (Create_bearer_request q) old e r = ap held_in r
-user_taken_held role source (Create_bearer_response q) old e r = ap held_in r
-user_taken_held role source (Delete_bearer_request q) old e r = ap held_in r
-user_taken_held role source (Delete_bearer_response q) old e r = ap held_in r
-
-user_read_held : (role : Role) (source : Endpoint) (reading : UserReading) (old : Node) (e : Effect) → UserRead role source reading old e → Keeps old e
-user_read_held role source (User_message m) old e r = user_taken_held role source m old e r
-user_read_held role source Extension_needed old e r = ap held_in r
-user_read_held role source (User_fault fault) old e r = ap held_in r
+command_held role command old e r = keeps_calm old e (command_calm role command old e r)
 
 pub user_held : (role : Role) (source : Endpoint) (reading : UserReading) (old : Node) (e : Effect) → UserStep role source reading old e → Keeps old e
-user_held role source reading old e (inl f) = ap held_in f.1
-user_held role source reading old e (inr (peer, r)) = user_read_held role source reading old e r
+user_held role source reading old e r = keeps_calm old e (user_calm role source reading old e r)
 
 -- a step that holds one more answer to the request
 pub record Adds (request : Arrival) (old : Node) (e : Effect) : Type 0 where
@@ -145,149 +167,173 @@ pub record Adds (request : Arrival) (old : Node) (e : Effect) : Type 0 where
 abbrev pub Holds : Arrival → Node → Effect → Type 0
 Holds request old e = Keeps old e ⊎ Adds request old e
 
+-- a step that sends one message and holds it as the answer to the request; it is a response to a create request, or it is none
+pub record Gives (request : Arrival) (create : Bool) (old : Node) (e : Effect) : Type 0 where
+  pub answer : Message
+  pub is : is_create_answer answer ≡ create
+  pub held : e.node.held ≡ old.held ++ (record { request = request; answer = answer } ∷ [])
+  pub sends : messages e.out.sent ≡ answer ∷ []
+
+-- what a control message gets
+abbrev pub Answers : Arrival → Bool → Node → Effect → Type 0
+Answers request create old e = Calm old e ⊎ Gives request create old e
+
+holds : (request : Arrival) (create : Bool) (old : Node) (e : Effect) → Answers request create old e → Holds request old e
+holds request create old e (inl calm) = inl (keeps_calm old e calm)
+holds request create old e (inr g) = inr (record { answer = g.answer; held = g.held })
+
 module _ (request : Arrival) (old : Node) (e : Effect) where
-  drops : (f : Effect) → e ≡ f → f.node.held ≡ old.held → Holds request old e
-  drops f gives same = inl (ap held_in gives ∙ same)
+  drops : {create : Bool} (f : Effect) → e ≡ f → seen_in f ≡ (old.held, true) → Answers request create old e
+  drops f gives same = inl (ap seen_in gives ∙ same)
 
-  ends : (number : ℕ) (p : PendingRequest) (outcome : Outcome) → e ≡ finishing old number p outcome → Holds request old e
-  ends number p outcome gives = inl (ap held_in gives ∙ (Shrunk-finished old number p.session p.bearer).held)
+  ends : {create : Bool} (number : ℕ) (p : PendingRequest) (outcome : Outcome) → e ≡ finishing old number p outcome → Answers request create old e
+  ends number p outcome gives = inl (ap seen_in gives ∙ ap (λ (hs : List Held). (hs, true)) (Shrunk-finished old number p.session p.bearer).held)
 
-  answers : (m : Message) (f : Effect) → e ≡ f → f.node.held ≡ old.held ++ (record { request = request; answer = m } ∷ []) → Holds request old e
-  answers m f gives same = inr (record { answer = m; held = ap held_in gives ∙ same })
+  answers : {create : Bool} (m : Message) (f : Effect) → e ≡ f → f.node.held ≡ old.held ++ (record { request = request; answer = m } ∷ []) → is_create_answer m ≡ create → messages f.out.sent ≡ m ∷ [] → Answers request create old e
+  answers m f gives same is sends = inr (record { answer = m; is = is; held = ap held_in gives ∙ same; sends = ap (λ (f : Effect). messages f.out.sent) gives ∙ sends })
 
-  echo_answered_holds : (a : _) → EchoAnswered a old e → Holds request old e
-  echo_answered_holds a (inl f) = drops _ f.1 refl
-  echo_answered_holds a (inr (b, inl f)) = drops _ f.1 refl
-  echo_answered_holds a (inr (b, inr (c, r))) = ends _ b.pending _ r
+  echo_answered_answers : (a : _) → EchoAnswered a old e → Answers request false old e
+  echo_answered_answers a (inl f) = drops _ f.1 refl
+  echo_answered_answers a (inr (b, inl f)) = drops _ f.1 refl
+  echo_answered_answers a (inr (b, inr (c, r))) = ends _ b.pending _ r
 
-  session_answered_holds : (a : _) → SessionAnswered a old e → Holds request old e
-  session_answered_holds a (inl f) = drops _ f.1 refl
-  session_answered_holds a (inr (b, inl f)) = drops _ f.1 refl
-  session_answered_holds a (inr (b, inr (c, inl f))) = ends _ b.pending _ f.1
-  session_answered_holds a (inr (b, inr (c, inr (d, inl f)))) = drops _ f.1 refl
-  session_answered_holds a (inr (b, inr (c, inr (d, inr (g, inl f))))) = ends _ b.pending _ f.1
-  session_answered_holds a (inr (b, inr (c, inr (d, inr (g, inr (h, r)))))) = drops _ r.gives refl
+  session_answered_answers : (a : _) → SessionAnswered a old e → Answers request false old e
+  session_answered_answers a (inl f) = drops _ f.1 refl
+  session_answered_answers a (inr (b, inl f)) = drops _ f.1 refl
+  session_answered_answers a (inr (b, inr (c, inl f))) = ends _ b.pending _ f.1
+  session_answered_answers a (inr (b, inr (c, inr (d, inl f)))) = drops _ f.1 refl
+  session_answered_answers a (inr (b, inr (c, inr (d, inr (g, inl f))))) = ends _ b.pending _ f.1
+  session_answered_answers a (inr (b, inr (c, inr (d, inr (g, inr (h, r)))))) = drops _ r.gives refl
 
-  deletion_answered_holds : (d : _) → DeletionAnswered d old e → Holds request old e
-  deletion_answered_holds d (inl f) = drops _ f.1 refl
-  deletion_answered_holds d (inr (b, inl f)) = drops _ f.1 refl
-  deletion_answered_holds d (inr (b, inr (c, r))) = ends _ b.pending _ r
+  deletion_answered_answers : (d : _) → DeletionAnswered d old e → Answers request false old e
+  deletion_answered_answers d (inl f) = drops _ f.1 refl
+  deletion_answered_answers d (inr (b, inl f)) = drops _ f.1 refl
+  deletion_answered_answers d (inr (b, inr (c, r))) = ends _ b.pending _ r
 
-  bearer_asked_holds : (q : _) → BearerAsked request q old e → Holds request old e
-  bearer_asked_holds q (inl f) = drops _ f.1 refl
-  bearer_asked_holds q (inr (a, inl f)) = answers _ _ f.1 refl
-  bearer_asked_holds q (inr (a, inr (b, inl f))) = drops _ f.1 refl
-  bearer_asked_holds q (inr (a, inr (b, inr (c, inl f)))) = answers _ _ f.1 refl
-  bearer_asked_holds q (inr (a, inr (b, inr (c, inr (d, inl f))))) = answers _ _ f.1 refl
-  bearer_asked_holds q (inr (a, inr (b, inr (c, inr (d, inr (g, inl f)))))) = answers _ _ f.1 refl
-  bearer_asked_holds q (inr (a, inr (b, inr (c, inr (d, inr (g, inr (h, r))))))) = answers _ _ r.gives refl
+  bearer_asked_answers : (q : _) → BearerAsked request q old e → Answers request true old e
+  bearer_asked_answers q (inl f) = drops _ f.1 refl
+  bearer_asked_answers q (inr (a, inl f)) = answers _ _ f.1 refl refl refl
+  bearer_asked_answers q (inr (a, inr (b, inl f))) = drops _ f.1 refl
+  bearer_asked_answers q (inr (a, inr (b, inr (c, inl f)))) = answers _ _ f.1 refl refl refl
+  bearer_asked_answers q (inr (a, inr (b, inr (c, inr (d, inl f))))) = answers _ _ f.1 refl refl refl
+  bearer_asked_answers q (inr (a, inr (b, inr (c, inr (d, inr (g, inl f)))))) = answers _ _ f.1 refl refl refl
+  bearer_asked_answers q (inr (a, inr (b, inr (c, inr (d, inr (g, inr (h, r))))))) = answers _ _ r.gives refl refl refl
 
-  removal_taken_holds : (d : DeleteBearerRequest) (linked : Option ℕ) (s : Session) → RemovalTaken request d linked old s e → Holds request old e
-  removal_taken_holds d (Some identity) s (inl f) = answers _ _ f.1 refl
-  removal_taken_holds d (Some identity) s (inr (a, r)) = answers _ _ r refl
-  removal_taken_holds d None s (inl f) = answers _ _ f.1 refl
-  removal_taken_holds d None s (inr (a, r)) =
+  removal_taken_answers : (d : DeleteBearerRequest) (linked : Option ℕ) (s : Session) → RemovalTaken request d linked old s e → Answers request false old e
+  removal_taken_answers d (Some identity) s (inl f) = answers _ _ f.1 refl refl refl
+  removal_taken_answers d (Some identity) s (inr (a, r)) = answers _ _ r refl refl refl
+  removal_taken_answers d None s (inl f) = answers _ _ f.1 refl refl refl
+  removal_taken_answers d None s (inr (a, r)) =
       let m = Delete_bearer_response (record { header = written s.remote; number = d.number; cause = cause_of (removal_cause r.contexts); linked = None; contexts = r.contexts; recovery = Some old.counter }) in
-      inr (record { answer = m; held = ap held_in r.gives ∙ ap (λ (hs : List Held). hs ++ (record { request = request; answer = m } ∷ [])) (removes_each d.header d.identities old r.contexts r.left r.removes).held })
+      inr (record { answer = m; is = refl; sends = ap (λ (f : Effect). messages f.out.sent) r.gives; held = ap held_in r.gives ∙ ap (λ (hs : List Held). hs ++ (record { request = request; answer = m } ∷ [])) (removes_each d.header d.identities old r.contexts r.left r.removes).held })
 
-  removal_asked_holds : (d : DeleteBearerRequest) → RemovalAsked request d old e → Holds request old e
-  removal_asked_holds d (inl f) = drops _ f.1 refl
-  removal_asked_holds d (inr (a, inl f)) = answers _ _ f.1 refl
-  removal_asked_holds d (inr (a, inr (b, inl f))) = drops _ f.1 refl
-  removal_asked_holds d (inr (a, inr (b, inr (c, r)))) = removal_taken_holds d d.linked b.session r
+  removal_asked_answers : (d : DeleteBearerRequest) → RemovalAsked request d old e → Answers request false old e
+  removal_asked_answers d (inl f) = drops _ f.1 refl
+  removal_asked_answers d (inr (a, inl f)) = answers _ _ f.1 refl refl refl
+  removal_asked_answers d (inr (a, inr (b, inl f))) = drops _ f.1 refl
+  removal_asked_answers d (inr (a, inr (b, inr (c, r)))) = removal_taken_answers d d.linked b.session r
 
-  session_asked_holds : (q : _) → SessionAsked request q old e → Holds request old e
-  session_asked_holds q (inl f) = drops _ f.1 refl
-  session_asked_holds q (inr (a, inl f)) = answers _ _ f.1 refl
-  session_asked_holds q (inr (a, inr (b, inl f))) = answers _ _ f.1 refl
-  session_asked_holds q (inr (a, inr (b, inr (c, inl f)))) = answers _ _ f.1 refl
-  session_asked_holds q (inr (a, inr (b, inr (c, inr (d, inl f))))) = answers _ _ f.1 refl
-  session_asked_holds q (inr (a, inr (b, inr (c, inr (d, inr (g, inl f)))))) = answers _ _ f.1 refl
-  session_asked_holds q (inr (a, inr (b, inr (c, inr (d, inr (g, inr (h, inl f))))))) = answers _ _ f.1 refl
-  session_asked_holds q (inr (a, inr (b, inr (c, inr (d, inr (g, inr (h, inr (i, r)))))))) = answers _ _ r.gives refl
+  session_asked_answers : (q : _) → SessionAsked request q old e → Answers request true old e
+  session_asked_answers q (inl f) = drops _ f.1 refl
+  session_asked_answers q (inr (a, inl f)) = answers _ _ f.1 refl refl refl
+  session_asked_answers q (inr (a, inr (b, inl f))) = answers _ _ f.1 refl refl refl
+  session_asked_answers q (inr (a, inr (b, inr (c, inl f)))) = answers _ _ f.1 refl refl refl
+  session_asked_answers q (inr (a, inr (b, inr (c, inr (d, inl f))))) = answers _ _ f.1 refl refl refl
+  session_asked_answers q (inr (a, inr (b, inr (c, inr (d, inr (g, inl f)))))) = answers _ _ f.1 refl refl refl
+  session_asked_answers q (inr (a, inr (b, inr (c, inr (d, inr (g, inr (h, inl f))))))) = answers _ _ f.1 refl refl refl
+  session_asked_answers q (inr (a, inr (b, inr (c, inr (d, inr (g, inr (h, inr (i, r)))))))) = answers _ _ r.gives refl refl refl
 
-  deletion_asked_holds : (d : _) → DeletionAsked request d old e → Holds request old e
-  deletion_asked_holds d (inl f) = drops _ f.1 refl
-  deletion_asked_holds d (inr (a, inl f)) = answers _ _ f.1 refl
-  deletion_asked_holds d (inr (a, inr (b, inl f))) = answers _ _ f.1 refl
-  deletion_asked_holds d (inr (a, inr (b, inr (c, r)))) = answers _ _ r refl
+  deletion_asked_answers : (d : _) → DeletionAsked request d old e → Answers request false old e
+  deletion_asked_answers d (inl f) = drops _ f.1 refl
+  deletion_asked_answers d (inr (a, inl f)) = answers _ _ f.1 refl refl refl
+  deletion_asked_answers d (inr (a, inr (b, inl f))) = answers _ _ f.1 refl refl refl
+  deletion_asked_answers d (inr (a, inr (b, inr (c, r)))) = answers _ _ r refl refl refl
 
-  bearer_answered_holds : (x : _) → BearerAnswered x old e → Holds request old e
-  bearer_answered_holds x (inl f) = drops _ f.1 refl
-  bearer_answered_holds x (inr (a, inl f)) = drops _ f.1 refl
-  bearer_answered_holds x (inr (a, inr (b, inl f))) = ends _ a.pending _ f.1
-  bearer_answered_holds x (inr (a, inr (b, inr (c, inl f)))) = drops _ f.1 refl
-  bearer_answered_holds x (inr (a, inr (b, inr (c, inr (d, inl f))))) = ends _ a.pending _ f.1
-  bearer_answered_holds x (inr (a, inr (b, inr (c, inr (d, inr (g, inl f)))))) = drops _ f.1 refl
-  bearer_answered_holds x (inr (a, inr (b, inr (c, inr (d, inr (g, inr (h, inl f))))))) = ends _ a.pending _ f.1
-  bearer_answered_holds x (inr (a, inr (b, inr (c, inr (d, inr (g, inr (h, inr (i, r)))))))) = drops _ r.gives refl
+  bearer_answered_answers : (x : _) → BearerAnswered x old e → Answers request false old e
+  bearer_answered_answers x (inl f) = drops _ f.1 refl
+  bearer_answered_answers x (inr (a, inl f)) = drops _ f.1 refl
+  bearer_answered_answers x (inr (a, inr (b, inl f))) = ends _ a.pending _ f.1
+  bearer_answered_answers x (inr (a, inr (b, inr (c, inl f)))) = drops _ f.1 refl
+  bearer_answered_answers x (inr (a, inr (b, inr (c, inr (d, inl f))))) = ends _ a.pending _ f.1
+  bearer_answered_answers x (inr (a, inr (b, inr (c, inr (d, inr (g, inl f)))))) = drops _ f.1 refl
+  bearer_answered_answers x (inr (a, inr (b, inr (c, inr (d, inr (g, inr (h, inl f))))))) = ends _ a.pending _ f.1
+  bearer_answered_answers x (inr (a, inr (b, inr (c, inr (d, inr (g, inr (h, inr (i, r)))))))) = drops _ r.gives refl
 
-  removal_answered_holds : (d : _) → RemovalAnswered d old e → Holds request old e
-  removal_answered_holds d (inl f) = drops _ f.1 refl
-  removal_answered_holds d (inr (b, inl f)) = drops _ f.1 refl
-  removal_answered_holds d (inr (b, inr (c, r))) = ends _ b.pending _ r
+  removal_answered_answers : (d : _) → RemovalAnswered d old e → Answers request false old e
+  removal_answered_answers d (inl f) = drops _ f.1 refl
+  removal_answered_answers d (inr (b, inl f)) = drops _ f.1 refl
+  removal_answered_answers d (inr (b, inr (c, r))) = ends _ b.pending _ r
 
-  serving_holds : (m : Message) → ServingTakes request m old e → Holds request old e
-  serving_holds =
-      by_serving (λ m. ServingTakes request m old e → Holds request old e)
+  serving_answers : (m : Message) → ServingTakes request m old e → Answers request (creates Serving m) old e
+  serving_answers =
+      by_serving (λ m. ServingTakes request m old e → Answers request (creates Serving m) old e)
       (λ q r. drops _ r refl)
-      echo_answered_holds
-      session_answered_holds
-      deletion_answered_holds
-      bearer_asked_holds
-      removal_asked_holds
+      echo_answered_answers
+      session_answered_answers
+      deletion_answered_answers
+      bearer_asked_answers
+      removal_asked_answers
       (λ m dropped r. drops _ (dropped.only request old e r) refl)
 
-  packet_holds : (m : Message) → PacketTakes request m old e → Holds request old e
-  packet_holds =
-      by_packet (λ m. PacketTakes request m old e → Holds request old e)
+  packet_answers : (m : Message) → PacketTakes request m old e → Answers request (creates Packet m) old e
+  packet_answers =
+      by_packet (λ m. PacketTakes request m old e → Answers request (creates Packet m) old e)
       (λ q r. drops _ r refl)
-      echo_answered_holds
-      session_asked_holds
-      deletion_asked_holds
-      bearer_answered_holds
-      removal_answered_holds
+      echo_answered_answers
+      session_asked_answers
+      deletion_asked_answers
+      bearer_answered_answers
+      removal_answered_answers
       (λ m dropped r. drops _ (dropped.only request old e r) refl)
 
-  serving_faulted_holds : (f : FaultyRequest) (kind : RequestKind) → ServingFaulted request f kind old e → Holds request old e
-  serving_faulted_holds f Of_create_session r = drops _ r refl
-  serving_faulted_holds f Of_delete_session r = drops _ r refl
-  serving_faulted_holds f Of_create_bearer r = drops _ r refl
-  serving_faulted_holds f Of_delete_bearer r = drops _ r refl
+  serving_faulted_keeps : (f : FaultyRequest) (kind : RequestKind) → ServingFaulted request f kind old e → Keeps old e
+  serving_faulted_keeps f Of_create_session r = ap held_in r
+  serving_faulted_keeps f Of_delete_session r = ap held_in r
+  serving_faulted_keeps f Of_create_bearer r = ap held_in r
+  serving_faulted_keeps f Of_delete_bearer r = ap held_in r
 
-  packet_faulted_holds : (f : FaultyRequest) (kind : RequestKind) → PacketFaulted request f kind old e → Holds request old e
-  packet_faulted_holds f Of_create_session r = drops _ r refl
-  packet_faulted_holds f Of_delete_session r = drops _ r refl
-  packet_faulted_holds f Of_create_bearer r = drops _ r refl
-  packet_faulted_holds f Of_delete_bearer r = drops _ r refl
+  packet_faulted_keeps : (f : FaultyRequest) (kind : RequestKind) → PacketFaulted request f kind old e → Keeps old e
+  packet_faulted_keeps f Of_create_session r = ap held_in r
+  packet_faulted_keeps f Of_delete_session r = ap held_in r
+  packet_faulted_keeps f Of_create_bearer r = ap held_in r
+  packet_faulted_keeps f Of_delete_bearer r = ap held_in r
 
 -- hearing the counter first changes nothing that is held
-module _ (request : Arrival) (Takes : Node → Effect → Type 0) (holds : (old : Node) (e : Effect) → Takes old e → Holds request old e) where
-  from : (old mid : Node) (e : Effect) → mid.held ≡ old.held → Holds request mid e → Holds request old e
-  from old mid e same (inl kept) = inl (kept ∙ same)
-  from old mid e same (inr adds) = inr (record { answer = adds.answer; held = adds.held ∙ ap (λ (hs : List Held). hs ++ (record { request = request; answer = adds.answer } ∷ [])) same })
+module _ (request : Arrival) (create : Bool) (Takes : Node → Effect → Type 0) (takes : (old : Node) (e : Effect) → Takes old e → Answers request create old e) where
+  from : (old mid : Node) (e : Effect) → mid.held ≡ old.held → Answers request create mid e → Answers request create old e
+  from old mid e same (inl calm) = inl (calm ∙ ap (λ (hs : List Held). (hs, true)) same)
+  from old mid e same (inr g) = inr (record { answer = g.answer; is = g.is; held = g.held ∙ ap (λ (hs : List Held). hs ++ (record { request = request; answer = g.answer } ∷ [])) same; sends = g.sends })
 
-  judged : (old : Node) (c : ℕ) (a : Age) (e : Effect) → Judges Takes old c a e → Holds request old e
-  judged old c Same e r = holds old e r
-  judged old c Later e r = from old _ e refl (holds _ e r)
-  judged old c Earlier e r = inl (ap held_in r)
+  judged : (old : Node) (c : ℕ) (a : Age) (e : Effect) → Judges Takes old c a e → Answers request create old e
+  judged old c Same e r = takes old e r
+  judged old c Later e r = from old _ e refl (takes _ e r)
+  judged old c Earlier e r = inl (ap seen_in r)
 
-  weighed : (old : Node) (c : ℕ) (known : Option ℕ) (e : Effect) → Weighs Takes old c known e → Holds request old e
-  weighed old c None e r = from old (record old { known = Some c }) e refl (holds (record old { known = Some c }) e r)
+  weighed : (old : Node) (c : ℕ) (known : Option ℕ) (e : Effect) → Weighs Takes old c known e → Answers request create old e
+  weighed old c None e r = from old (record old { known = Some c }) e refl (takes (record old { known = Some c }) e r)
   weighed old c (Some k) e r = judged old c (age_of k c) e r
 
-  pub heard_holds : (old : Node) (o : Option ℕ) (e : Effect) → Hears Takes old o e → Holds request old e
-  heard_holds old None e r = holds old e r
-  heard_holds old (Some c) e r = ⊎_elim (λ kept. inl (ap held_in r.2 ∙ kept)) (λ adds. inr (record { answer = adds.answer; held = ap held_in r.2 ∙ adds.held })) (weighed old c old.known r.0 r.1)
+  heard_answers : (old : Node) (o : Option ℕ) (e : Effect) → Hears Takes old o e → Answers request create old e
+  heard_answers old None e r = takes old e r
+  heard_answers old (Some c) e r = ⊎_elim
+      (λ calm. inl (ap seen_in r.2 ∙ calm))
+      (λ g. inr (record { answer = g.answer; is = g.is; held = ap held_in r.2 ∙ g.held; sends = ap (λ (f : Effect). messages f.out.sent) r.2 ∙ g.sends }))
+      (weighed old c old.known r.0 r.1)
+
+pub serving_heard_answers : (m : Message) (request : Arrival) (old : Node) (e : Effect) → Hears (ServingTakes request m) old (recovery_of m) e → Answers request (creates Serving m) old e
+serving_heard_answers m request old e r = heard_answers request (creates Serving m) (ServingTakes request m) (λ mid f rows. serving_answers request mid f m rows) old (recovery_of m) e r
+
+pub packet_heard_answers : (m : Message) (request : Arrival) (old : Node) (e : Effect) → Hears (PacketTakes request m) old (recovery_of m) e → Answers request (creates Packet m) old e
+packet_heard_answers m request old e r = heard_answers request (creates Packet m) (PacketTakes request m) (λ mid f rows. packet_answers request mid f m rows) old (recovery_of m) e r
 
 pub serving_reads_holds : (reading : ControlReading) (request : Arrival) (old : Node) (e : Effect) → ServingReads reading request old e → Holds request old e
 serving_reads_holds (Control_message m) request old e (inl f) = inl (ap held_in f.1)
-serving_reads_holds (Control_message m) request old e (inr (kind, r)) = heard_holds request (ServingTakes request m) (λ mid f rows. serving_holds request mid f m rows) old (recovery_of m) e r
-serving_reads_holds (Faulty f) request old e r = serving_faulted_holds request old e f f.kind r
+serving_reads_holds (Control_message m) request old e (inr (kind, r)) = holds request (creates Serving m) old e (serving_heard_answers m request old e r)
+serving_reads_holds (Faulty f) request old e r = inl (serving_faulted_keeps request old e f f.kind r)
 serving_reads_holds (Control_fault fault) request old e r = inl (ap held_in r)
 
 pub packet_reads_holds : (reading : ControlReading) (request : Arrival) (old : Node) (e : Effect) → PacketReads reading request old e → Holds request old e
 packet_reads_holds (Control_message m) request old e (inl f) = inl (ap held_in f.1)
-packet_reads_holds (Control_message m) request old e (inr (kind, r)) = heard_holds request (PacketTakes request m) (λ mid f rows. packet_holds request mid f m rows) old (recovery_of m) e r
-packet_reads_holds (Faulty f) request old e r = packet_faulted_holds request old e f f.kind r
+packet_reads_holds (Control_message m) request old e (inr (kind, r)) = holds request (creates Packet m) old e (packet_heard_answers m request old e r)
+packet_reads_holds (Faulty f) request old e r = inl (packet_faulted_keeps request old e f f.kind r)
 packet_reads_holds (Control_fault fault) request old e r = inl (ap held_in r)

@@ -1,5 +1,5 @@
 -- The steps that both gateways have keep what each knows.
-use Rattle.std.proofs.Common.{◌≡◌, ◌⊎◌, inl, inr, ⊎_elim, ℕ, List, [], ◌∷◌, Option, Some, None, refl, sym, ◌∙◌, ap, subst}
+use Rattle.std.proofs.Common.{◌≡◌, ◌⊎◌, inl, inr, ⊎_elim, ℕ, List, [], ◌∷◌, Option, Some, None, false, refl, sym, ◌∙◌, ap, subst}
 use Rattle.std.specs.FinMap.{get, insert}
 use Rattle.gtp_values.specs.Counter.{age_of}
 use Rattle.gtp_values.specs.declared.counter.Age.{Age}
@@ -18,6 +18,7 @@ use Rattle.gtp_machine.specs.User.{Accepts, PacketCame, ended_bearer, EndCame, d
 use Rattle.gtp_machine.specs.Command.{ClosesSession, ReleasesSession, ClosesBearer, SendsEcho, SendsPacket, SessionDeleted, SessionReleased, BearerDeleted, EndMarked, EchoBegun, PacketSent, asks}
 use Rattle.gtp_machine.specs.Answer.{Repeats, echoed}
 use Rattle.gtp_machine.specs.World.{other, Sent, HasSent}
+use Rattle.gtp_machine.proofs.Basics.Kinds.{is_create_answer}
 use Rattle.gtp_machine.proofs.Origins.Drawing.{Draws-nothing, Draws-one, Made-plain, IsProper}
 use Rattle.gtp_machine.proofs.Origins.Contexts.{closes-shrinks}
 use Rattle.gtp_machine.proofs.Changes.Shrinking.{Shrunk, Shrunk-itself, Shrunk-without, Shrunk-finished, Shrunk-bearer, Shrunk-closing, Shrinks-restart, restart_pending, restart_leaves_pending, closing_same, ended_same}
@@ -46,15 +47,16 @@ module _ (role : Role) (history : List Sent) (taken : Arrival → Message → Ty
   unchanged outcome e gives = at_result (After role history taken old) e _ gives (stays role history taken old knows outcome)
 
   -- a message that is made now, owns no TEID and changes nothing
-  tells_plain : (destination : Endpoint) (m : Message) (outcome : Outcome) (new : Node) → Shrunk old new → IsPlain m → ((t : ℕ) → Owns m t → ⊥) → ((r : ℕ) → recovery_of m ≡ Some r → r ≡ old.counter) → IsProper history m → After role history taken old (record { out = says destination m; outcome = outcome; node = new })
+  tells_plain : (destination : Endpoint) (m : Message) (outcome : Outcome) (new : Node) → Shrunk old new → IsPlain m → ((t : ℕ) → Owns m t → ⊥) → ((r : ℕ) → recovery_of m ≡ Some r → r ≡ old.counter) → IsProper m → After role history taken old (record { out = says destination m; outcome = outcome; node = new })
   tells_plain destination m outcome new s plain none told proper = speaks role history taken old knows destination m outcome new s plain (Made-plain history old new m none told proper)
 
   -- a request that makes nothing is sent, and what it is about closes or stays
-  asks_lesser : (number : ℕ) (p : PendingRequest) (teid : Option ℕ) (new : Node) → Shrunk old new → IsPlain p.request → IsLesser p.request → ((t : ℕ) → Owns p.request t → ⊥) → ((r : ℕ) → recovery_of p.request ≡ Some r → r ≡ old.counter) → IsProper history p.request → After role history taken old (asks old number p teid new)
-  asks_lesser number p teid new s plain lesser none told proper =
+  asks_lesser : (number : ℕ) (p : PendingRequest) (teid : Option ℕ) (new : Node) → Shrunk old new → IsPlain p.request → IsLesser p.request → is_create_answer p.request ≡ false → ((t : ℕ) → Owns p.request t → ⊥) → ((r : ℕ) → recovery_of p.request ≡ Some r → r ≡ old.counter) → IsProper p.request → After role history taken old (asks old number p teid new)
+  asks_lesser number p teid new s plain lesser asked none told proper =
       asks_plain role history taken old knows number p teid new s plain (Made-plain history old (record new { pending = insert old.pending number p }) p.request none told proper)
       (record { waits = λ q e. absurd (not_session q e); numbered = λ q e. absurd (not_session q e); names_bearer = λ r e. absurd (not_bearer r e); of_session = λ r e. absurd (not_bearer r e) })
       (λ q e. absurd (not_session q e))
+      asked
     where
       not_session : (q : CreateSessionRequest) → p.request ≡ Create_session_request q → ⊥
       not_session q e = subst IsLesser e lesser
@@ -63,16 +65,16 @@ module _ (role : Role) (history : List Sent) (taken : Arrival → Message → Ty
       not_bearer r e = subst IsLesser e lesser
 
   pub closes : (session : ℕ) (at : Session) (e : Effect) → get old.sessions session ≡ Some at → at.state ≡ Active → ClosesSession old session at e → After role history taken old e
-  closes session at e stands active r = at_result (After role history taken old) e _ r.gives (asks_lesser r.number _ _ (session_closing old session at) (Shrunk-closing old session at stands active) tt tt (λ t none. none) (λ c e. absurd (cc e)) tt)
+  closes session at e stands active r = at_result (After role history taken old) e _ r.gives (asks_lesser r.number _ _ (session_closing old session at) (Shrunk-closing old session at stands active) tt tt refl (λ t none. none) (λ c e. absurd (cc e)) tt)
 
   pub releases : (session : ℕ) (at : Session) (e : Effect) → get old.sessions session ≡ Some at → at.state ≡ Active → ReleasesSession old session at e → After role history taken old e
-  releases session at e stands active r = at_result (After role history taken old) e _ r.gives (asks_lesser r.number _ _ (session_closing old session at) (Shrunk-closing old session at stands active) tt tt (λ t none. none) (λ c e. absurd (cc e)) tt)
+  releases session at e stands active r = at_result (After role history taken old) e _ r.gives (asks_lesser r.number _ _ (session_closing old session at) (Shrunk-closing old session at stands active) tt tt refl (λ t none. none) (λ c e. absurd (cc e)) tt)
 
   pub closes_bearer : (session : ℕ) (at : Session) (identity bearer : ℕ) (b : Bearer) (e : Effect) → get old.bearers bearer ≡ Some b → ClosesBearer old session at identity bearer b e → After role history taken old e
-  closes_bearer session at identity bearer b e stands r = at_result (After role history taken old) e _ r.gives (asks_lesser r.number _ _ (record old { bearers = insert old.bearers bearer (record b { state = Closing }) }) (Shrunk-bearer old bearer b (record b { state = Closing }) stands (closing_same b)) tt tt (λ t none. none) (λ c e. absurd (cc e)) tt)
+  closes_bearer session at identity bearer b e stands r = at_result (After role history taken old) e _ r.gives (asks_lesser r.number _ _ (record old { bearers = insert old.bearers bearer (record b { state = Closing }) }) (Shrunk-bearer old bearer b (record b { state = Closing }) stands (closing_same b)) tt tt refl (λ t none. none) (λ c e. absurd (cc e)) tt)
 
   pub sends_echo : (e : Effect) → SendsEcho old e → After role history taken old e
-  sends_echo e r = at_result (After role history taken old) e _ r.gives (asks_lesser r.number _ _ old (Shrunk-itself old) tt tt (λ t none. none) (λ c e. cc e) tt)
+  sends_echo e r = at_result (After role history taken old) e _ r.gives (asks_lesser r.number _ _ old (Shrunk-itself old) tt tt refl (λ t none. none) (λ c e. cc e) tt)
 
   -- a packet that is handed in on an active bearer
   pub sends : (bearer : ℕ) (payload : List ℕ) (b : Bearer) (e : Effect) → get old.bearers bearer ≡ Some b → b.state ≡ Active → SendsPacket old b payload e → After role history taken old e

@@ -7,7 +7,7 @@ use Rattle.gtp_values.specs.FiniteMap.{FiniteMap, Each, Among}
 use Rattle.gtp_machine.specs.Element.{IsAccepting, cause_of, cause_at, teid_in}
 use Rattle.gtp_machine.specs.Message.{CreateSessionRequest, CreateSessionResponse, DeleteSessionRequest, DeleteSessionResponse, CreateBearerRequest, CreateBearerResponse, DeleteBearerResponse, Message, Create_session_request, Create_session_response, Delete_session_response, Create_bearer_request, Create_bearer_response, Packet_data, Owns, recovery_of, first_returned}
 use Rattle.gtp_machine.specs.Node.{Serving, Packet, State, Pending, Active, Closing, Session, Bearer, PendingRequest, Arrival, Held, Node, holding, written}
-use Rattle.gtp_machine.specs.Input.{messages, ControlReading, Control_message, Begun, Opened, Answered, Effect}
+use Rattle.gtp_machine.specs.Input.{ControlReading, Control_message, Begun, Opened, Answered, Effect}
 use Rattle.gtp_machine.specs.Choice.{IsFree, HasPending, counter_of}
 use Rattle.gtp_machine.specs.Removal.{without_session}
 use Rattle.gtp_machine.specs.Command.{bearer_request, pending_dedicated, BeginsBearer, BearerBegun}
@@ -80,7 +80,7 @@ module _ (history : List Sent) (taken : Arrival → Message → Type 0) (serving
           standing = knows.standing;
           ready = Each-insert IsReady old.bearers r.user (pending_dedicated session) (λ a. absurd (pending_not_active a)) knows.ready;
           closed = closes-bearer old.sessions old.bearers r.user (pending_dedicated session) (stands_active old.sessions session at stands active) knows.closed;
-          pending = Each-insert (IsPending after Packet) old.pending r.number p (record { sent = now; names = λ k e. absurd (not_session q k e) }) was.pending;
+          pending = Each-insert (IsPending after Packet) old.pending r.number p (record { sent = now; names = λ k e. absurd (not_session q k e); asks = refl }) was.pending;
           held = was.held;
         };
         known = refl;
@@ -110,9 +110,9 @@ module _ (history : List Sent) (taken : Arrival → Message → Type 0) (serving
   bearer_begun_here unowned session tft qos e (inr (at, inr (active, inr (draws, inl f)))) = unchanged Packet history taken serving_once packet_once old knows _ e f.1
   bearer_begun_here unowned session tft qos e (inr (at, inr (active, inr (draws, inr (few, r))))) = begins unowned session at.session tft qos e at.stands active r
 
-  module _ (dated : (m : Message) (t : ℕ) → HasSent history Serving m → TellsStart m → Owns m t → recovery_of m ≡ Some (counter_of t)) (proper : (m : Message) → HasSent history Serving m → IsProper history m) where
-    makes : (unowned : NothingOwns history Packet old) (request : Arrival) (q : CreateSessionRequest) (e : Effect) → HasSent history Serving (Create_session_request q) → taken request (Create_session_request q) → ((c : ℕ) → q.recovery ≡ Some c → old.known ≡ Some c) → SessionAsked request q old e → MakesSession request old q e → Took Packet history taken old e
-    makes unowned request q e came is_taken told asked_so r =
+  module _ (dated : (m : Message) (t : ℕ) → HasSent history Serving m → TellsStart m → Owns m t → recovery_of m ≡ Some (counter_of t)) (proper : (m : Message) → HasSent history Serving m → IsProper m) where
+    makes : (unowned : NothingOwns history Packet old) (request : Arrival) (q : CreateSessionRequest) (e : Effect) → HasSent history Serving (Create_session_request q) → taken request (Create_session_request q) → ((c : ℕ) → q.recovery ≡ Some c → old.known ≡ Some c) → MakesSession request old q e → Took Packet history taken old e
+    makes unowned request q e came is_taken told r =
         let a = session_response old q r.control r.user r.address in
         let m = Create_session_response a in
         let after = history ++ signed Packet (m ∷ []) in
@@ -140,7 +140,7 @@ module _ (history : List Sent) (taken : Arrival → Message → Type 0) (serving
           });
           known = refl;
           told = nothing_told history Serving;
-          draws = Draws-new history Packet old (holding request m new) m refl refl (λ t stood. inr (inr stood)) present (record { free = free; drawn = drawn; told = λ c e. cc e; tells = λ t is owns. refl; proper = record { answers = record { request = q; sent = came; number = refl; header = refl; given = record { request = request; old = old; effect = e; asked = asked_so; answers = ap (λ (f : Effect). messages f.out.sent) r.gives } }; control = λ accepts. (r.control, refl); user = λ accepts. (r.user, refl); apart = λ t control user. r.apart (same_some r.control t control ∙ sym (same_some r.user t user)) } });
+          draws = Draws-new history Packet old (holding request m new) m refl refl (λ t stood. inr (inr stood)) present (record { free = free; drawn = drawn; told = λ c e. cc e; tells = λ t is owns. refl; proper = record { control = λ accepts. (r.control, refl); user = λ accepts. (r.user, refl); apart = λ t control user. r.apart (same_some r.control t control ∙ sym (same_some r.user t user)) } });
           logs =
               let l = Logs-plain history Packet taken old (holding request m new) (Answered (session_cause q.pdn)) (λ h stood. Among-left h old.held _ stood) request.source m tt in record {
                 held_stays = l.held_stays;
@@ -172,9 +172,9 @@ module _ (history : List Sent) (taken : Arrival → Message → Type 0) (serving
         drawn t (inl is) = inr (inl (sym (same_some r.control t is)))
         drawn t (inr is) = inl (sym (same_some r.user t is))
 
-    refuses : (request : Arrival) (q : CreateSessionRequest) (cause : Cause) (e : Effect) → HasSent history Serving (Create_session_request q) → SessionAsked request q old e → 64 ≤ cause.value → e ≡ session_refused request q cause old → Took Packet history taken old e
-    refuses request q cause e came asked_so high gives = gives_answer Packet history taken old knows request _ cause.value old e gives (Shrunk-itself old) tt none (λ c e. cc e)
-        (record { answers = record { request = q; sent = came; number = refl; header = refl; given = record { request = request; old = old; effect = e; asked = asked_so; answers = ap (λ (f : Effect). messages f.out.sent) gives } }; control = λ accepts. absurd (impossible accepts.high); user = λ accepts. absurd (impossible accepts.high); apart = λ t control user. none_some t control })
+    refuses : (request : Arrival) (q : CreateSessionRequest) (cause : Cause) (e : Effect) → 64 ≤ cause.value → e ≡ session_refused request q cause old → Took Packet history taken old e
+    refuses request q cause e high gives = gives_answer Packet history taken old knows request _ cause.value old e gives (Shrunk-itself old) tt none (λ c e. cc e)
+        (record { control = λ accepts. absurd (impossible accepts.high); user = λ accepts. absurd (impossible accepts.high); apart = λ t control user. none_some t control })
       where
         none : (t : ℕ) → (None ≡ Some t) ⊎ (None ≡ Some t) → ⊥
         none t (inl e) = none_some t e
@@ -183,18 +183,15 @@ module _ (history : List Sent) (taken : Arrival → Message → Type 0) (serving
         impossible : cause.value < 64 → ⊥
         impossible low = omega (arith, high)
 
-    session_row : (unowned : NothingOwns history Packet old) (request : Arrival) (q : CreateSessionRequest) (e : Effect) → HasSent history Serving (Create_session_request q) → taken request (Create_session_request q) → ((c : ℕ) → q.recovery ≡ Some c → old.known ≡ Some c) → SessionAsked request q old e → SessionAsked request q old e → Took Packet history taken old e
-    session_row unowned request q e came is told whole (inl f) = drops Packet history taken old knows _ e f.1
-    session_row unowned request q e came is told whole (inr (room, inl f)) = refuses request q (cause_of 94) e came whole (omega arith) f.1
-    session_row unowned request q e came is told whole (inr (room, inr (one, inl f))) = refuses request q (cause_at 69 73 0) e came whole (omega arith) f.1
-    session_row unowned request q e came is told whole (inr (room, inr (one, inr (identity, inl f)))) = refuses request q (cause_of 78) e came whole (omega arith) f.1
-    session_row unowned request q e came is told whole (inr (room, inr (one, inr (identity, inr (configured, inl f))))) = refuses request q (cause_of 83) e came whole (omega arith) f.1
-    session_row unowned request q e came is told whole (inr (room, inr (one, inr (identity, inr (configured, inr (pdn, inl f)))))) = refuses request q (cause_of 73) e came whole (omega arith) f.1
-    session_row unowned request q e came is told whole (inr (room, inr (one, inr (identity, inr (configured, inr (pdn, inr (few, inl f))))))) = refuses request q (cause_of 84) e came whole (omega arith) f.1
-    session_row unowned request q e came is told whole (inr (room, inr (one, inr (identity, inr (configured, inr (pdn, inr (few, inr (address, r)))))))) = makes unowned request q e came is told whole r
-
     session_asked : (unowned : NothingOwns history Packet old) (request : Arrival) (q : CreateSessionRequest) (e : Effect) → HasSent history Serving (Create_session_request q) → taken request (Create_session_request q) → ((c : ℕ) → q.recovery ≡ Some c → old.known ≡ Some c) → SessionAsked request q old e → Took Packet history taken old e
-    session_asked unowned request q e came is told asked = session_row unowned request q e came is told asked asked
+    session_asked unowned request q e came is told (inl f) = drops Packet history taken old knows _ e f.1
+    session_asked unowned request q e came is told (inr (room, inl f)) = refuses request q (cause_of 94) e (omega arith) f.1
+    session_asked unowned request q e came is told (inr (room, inr (one, inl f))) = refuses request q (cause_at 69 73 0) e (omega arith) f.1
+    session_asked unowned request q e came is told (inr (room, inr (one, inr (identity, inl f)))) = refuses request q (cause_of 78) e (omega arith) f.1
+    session_asked unowned request q e came is told (inr (room, inr (one, inr (identity, inr (configured, inl f))))) = refuses request q (cause_of 83) e (omega arith) f.1
+    session_asked unowned request q e came is told (inr (room, inr (one, inr (identity, inr (configured, inr (pdn, inl f)))))) = refuses request q (cause_of 73) e (omega arith) f.1
+    session_asked unowned request q e came is told (inr (room, inr (one, inr (identity, inr (configured, inr (pdn, inr (few, inl f))))))) = refuses request q (cause_of 84) e (omega arith) f.1
+    session_asked unowned request q e came is told (inr (room, inr (one, inr (identity, inr (configured, inr (pdn, inr (few, inr (address, r)))))))) = makes unowned request q e came is told r
 
     -- an answer to a Delete Session Request
     says_deleted : (request : Arrival) (cause : ℕ) (new : Node) (d : DeleteSessionResponse) (e : Effect) → e ≡ answered request (Delete_session_response d) cause new → Shrunk old new → ((r : ℕ) → d.recovery ≡ Some r → r ≡ old.counter) → Took Packet history taken old e
@@ -316,7 +313,7 @@ module _ (history : List Sent) (taken : Arrival → Message → Type 0) (serving
         (λ m dropped e came is told r. drops Packet history taken old knows _ e (dropped.only request old e r))
 
 module _ (history : List Sent) (serving_once : Once history Serving) (packet_once : Once history Packet) (old : Node) (unowned : NothingOwns history Packet old)
-    (dated : (m : Message) (t : ℕ) → HasSent history Serving m → TellsStart m → Owns m t → recovery_of m ≡ Some (counter_of t)) (proper : (m : Message) → HasSent history Serving m → IsProper history m) (knows : Knows Packet history old) (request : Arrival) (taken : Arrival → Message → Type 0) where
+    (dated : (m : Message) (t : ℕ) → HasSent history Serving m → TellsStart m → Owns m t → recovery_of m ≡ Some (counter_of t)) (proper : (m : Message) → HasSent history Serving m → IsProper m) (knows : Knows Packet history old) (request : Arrival) (taken : Arrival → Message → Type 0) where
   pub packet_control : (reading : ControlReading) (e : Effect) → ControlCarried Packet history old reading → (IsNew old request → (m : Message) → reading ≡ Control_message m → taken request m) → ControlStep (PacketReads reading) request old e → After Packet history taken old e
   packet_control =
       control_came Packet history taken serving_once packet_once old knows packet_takes PacketTakes PacketFaulted request

@@ -6,7 +6,7 @@ use Rattle.gtp_values.specs.FiniteMap.{Each, Among}
 use Rattle.gtp_machine.specs.Element.{IsAccepting, cause_of, ipv4_of}
 use Rattle.gtp_machine.specs.Message.{CreateSessionRequest, CreateSessionResponse, DeleteSessionResponse, CreateBearerRequest, GivenBearer, CreateBearerResponse, DeleteBearerRequest, DeleteBearerResponse, Message, Create_session_request, Create_session_response, Create_bearer_request, Create_bearer_response, Delete_bearer_response, Packet_data, Owns, recovery_of, first_given}
 use Rattle.gtp_machine.specs.Node.{Serving, Packet, State, Pending, Active, Closing, Session, Bearer, PendingRequest, Arrival, Held, Node, holding, written}
-use Rattle.gtp_machine.specs.Input.{messages, Specification, ControlReading, Control_message, Of_create_bearer, Begun, Opened, Effect}
+use Rattle.gtp_machine.specs.Input.{Specification, ControlReading, Control_message, Of_create_bearer, Begun, Opened, Effect}
 use Rattle.gtp_machine.specs.Choice.{IsFree, HasPending, HasSession, counter_of}
 use Rattle.gtp_machine.specs.Removal.{without_session}
 use Rattle.gtp_machine.specs.Command.{session_request, pending_session, pending_bearer, session_begun, BeginsSession, SessionBegun}
@@ -69,7 +69,7 @@ module _ (history : List Sent) (taken : Arrival → Message → Type 0) (serving
           standing = Each-insert (IsStanding old.known) old.sessions r.control (pending_session q) (record { current = λ x none. absurd (none_some x none); blank = λ w. refl; named = λ h. absurd (h refl) }) knows.standing;
           ready = Each-insert IsReady old.bearers r.user (pending_bearer r.control q) (λ a. absurd (pending_not_active a)) knows.ready;
           closed = closes-bearer (insert old.sessions r.control (pending_session q)) old.bearers r.user (pending_bearer r.control q) (λ s stands closing. not_closing q s stands closing) (closes-session old.sessions old.bearers r.control (pending_session q) pending_not_closing knows.closed);
-          pending = Each-insert (IsPending after Serving) old.pending r.number p (record { sent = now; names = λ k e. let same : q ≡ k = cc e in ap (λ (k : CreateSessionRequest). Some k.control.teid) same }) was.pending;
+          pending = Each-insert (IsPending after Serving) old.pending r.number p (record { sent = now; names = λ k e. let same : q ≡ k = cc e in ap (λ (k : CreateSessionRequest). Some k.control.teid) same; asks = refl }) was.pending;
           held = was.held;
         };
         known = refl;
@@ -117,7 +117,7 @@ module _ (history : List Sent) (taken : Arrival → Message → Type 0) (serving
   session_begun_here unowned spec e (inr (room, inr (draws, inl f))) = unchanged Serving history taken serving_once packet_once old knows _ e f.1
   session_begun_here unowned spec e (inr (room, inr (draws, inr (few, r)))) = begins unowned spec e r
 
-  module _ (dated : (m : Message) (t : ℕ) → HasSent history Packet m → TellsStart m → Owns m t → recovery_of m ≡ Some (counter_of t)) (proper : (m : Message) → HasSent history Packet m → IsProper history m) where
+  module _ (dated : (m : Message) (t : ℕ) → HasSent history Packet m → TellsStart m → Owns m t → recovery_of m ≡ Some (counter_of t)) (proper : (m : Message) → HasSent history Packet m → IsProper m) where
     module _ (a : CreateSessionResponse) (came : HasSent history Packet (Create_session_response a)) (told : (c : ℕ) → a.recovery ≡ Some c → old.known ≡ Some c) (at : HasPending old a.number) (fits : FitsSession at.pending a) (accepts : IsAccepting a.cause) (new : DescribesSession old fits.session a) where
       q_sent : HasSent history Serving (Create_session_request fits.request)
       q_sent = subst (λ m. HasSent history Serving m) fits.asked (knows.pending a.number at.pending at.waits).sent
@@ -262,8 +262,8 @@ module _ (history : List Sent) (taken : Arrival → Message → Type 0) (serving
     deletion_answered d e (inr (at, inl f)) = drops Serving history taken old knows _ e f.1
     deletion_answered d e (inr (at, inr (fits, gives))) = ends Serving history taken old knows d.number at.pending _ e gives
 
-    makes : (unowned : NothingOwns history Serving old) (request : Arrival) (q : CreateBearerRequest) (at : HasSession old q.header) (e : Effect) → at.session.state ≡ Active → HasSent history Packet (Create_bearer_request q) → taken request (Create_bearer_request q) → BearerAsked request q old e → MakesBearer request old q at.session e → Took Serving history taken old e
-    makes unowned request q at e active came is_taken asked_so r =
+    makes : (unowned : NothingOwns history Serving old) (request : Arrival) (q : CreateBearerRequest) (at : HasSession old q.header) (e : Effect) → at.session.state ≡ Active → HasSent history Packet (Create_bearer_request q) → taken request (Create_bearer_request q) → MakesBearer request old q at.session e → Took Serving history taken old e
+    makes unowned request q at e active came is_taken r =
         let x = bearer_response old q at.session r.user r.identity in
         let m = Create_bearer_response x in
         let after = history ++ signed Serving (m ∷ []) in
@@ -311,7 +311,7 @@ module _ (history : List Sent) (taken : Arrival → Message → Type 0) (serving
             drawn = λ t is. inl (let same : t ≡ r.user = cc is in same);
             told = λ c e. cc e;
             tells = λ t none. absurd none;
-            proper = record { answers = record { request = q; sent = came; number = refl; returned = λ t is. cc is; given = record { request = request; old = old; effect = e; asked = asked_so; answers = ap (λ (f : Effect). messages f.out.sent) r.gives } }; user = λ c is low high. (r.user, refl) };
+            proper = record { user = λ c is low high. (r.user, refl) };
           });
           logs = record {
             held_stays = λ h stood. inl (Among-left h old.held _ stood);
@@ -347,31 +347,28 @@ module _ (history : List Sent) (taken : Arrival → Message → Type 0) (serving
         answers x new here y t (inr none) gives = absurd none
 
     -- a refusal of a Create Bearer Request with no bearer context
-    refuses : (request : Arrival) (q : CreateBearerRequest) (header cause : ℕ) (e : Effect) → HasSent history Packet (Create_bearer_request q) → BearerAsked request q old e → e ≡ answered request (refusing Of_create_bearer header q.number (cause_of cause) old.counter) cause old → Took Serving history taken old e
-    refuses request q header cause e came asked_so gives = gives_answer Serving history taken old knows request _ cause old e gives (Shrunk-itself old) refl (λ t none. none_some t none) (λ c e. cc e)
-        (record { answers = record { request = q; sent = came; number = refl; returned = λ t none. absurd (none_some t none); given = record { request = request; old = old; effect = e; asked = asked_so; answers = ap (λ (f : Effect). messages f.out.sent) gives } }; user = λ c is low high. absurd (impossible c is) })
+    refuses : (request : Arrival) (q : CreateBearerRequest) (header cause : ℕ) (e : Effect) → e ≡ answered request (refusing Of_create_bearer header q.number (cause_of cause) old.counter) cause old → Took Serving history taken old e
+    refuses request q header cause e gives = gives_answer Serving history taken old knows request _ cause old e gives (Shrunk-itself old) refl (λ t none. none_some t none) (λ c e. cc e)
+        (record { user = λ c is low high. absurd (impossible c is) })
       where
         impossible : (c : GivenBearer) → [] ≡ c ∷ [] → ⊥
         impossible c is = cc
 
-    lacks : (request : Arrival) (q : CreateBearerRequest) (header : ℕ) (e : Effect) → HasSent history Packet (Create_bearer_request q) → BearerAsked request q old e → e ≡ answered request (Create_bearer_response (no_resources old q header)) 73 old → Took Serving history taken old e
-    lacks request q header e came asked_so gives = gives_answer Serving history taken old knows request _ 73 old e gives (Shrunk-itself old) refl (λ t none. none_some t none) (λ c e. cc e)
-        (record { answers = record { request = q; sent = came; number = refl; returned = λ t is. cc is; given = record { request = request; old = old; effect = e; asked = asked_so; answers = ap (λ (f : Effect). messages f.out.sent) gives } }; user = λ c is both all. absurd (impossible both.high) })
+    lacks : (request : Arrival) (q : CreateBearerRequest) (header : ℕ) (e : Effect) → e ≡ answered request (Create_bearer_response (no_resources old q header)) 73 old → Took Serving history taken old e
+    lacks request q header e gives = gives_answer Serving history taken old knows request _ 73 old e gives (Shrunk-itself old) refl (λ t none. none_some t none) (λ c e. cc e)
+        (record { user = λ c is both all. absurd (impossible both.high) })
       where
         impossible : 73 < 64 → ⊥
         impossible h = omega arith
 
-    bearer_row : (unowned : NothingOwns history Serving old) (request : Arrival) (q : CreateBearerRequest) (e : Effect) → HasSent history Packet (Create_bearer_request q) → taken request (Create_bearer_request q) → BearerAsked request q old e → BearerAsked request q old e → Took Serving history taken old e
-    bearer_row unowned request q e came is whole (inl f) = drops Serving history taken old knows _ e f.1
-    bearer_row unowned request q e came is whole (inr (room, inl f)) = refuses request q 0 64 e came whole f.1
-    bearer_row unowned request q e came is whole (inr (room, inr (at, inl f))) = drops Serving history taken old knows _ e f.1
-    bearer_row unowned request q e came is whole (inr (room, inr (at, inr (active, inl f)))) = refuses request q (written at.session.remote) 94 e came whole f.1
-    bearer_row unowned request q e came is whole (inr (room, inr (at, inr (active, inr (one, inl f))))) = refuses request q (written at.session.remote) 64 e came whole f.1
-    bearer_row unowned request q e came is whole (inr (room, inr (at, inr (active, inr (one, inr (linked, inl f)))))) = lacks request q (written at.session.remote) e came whole f.1
-    bearer_row unowned request q e came is whole (inr (room, inr (at, inr (active, inr (one, inr (linked, inr (free, r))))))) = makes unowned request q at e active came is whole r
-
     bearer_asked : (unowned : NothingOwns history Serving old) (request : Arrival) (q : CreateBearerRequest) (e : Effect) → HasSent history Packet (Create_bearer_request q) → taken request (Create_bearer_request q) → BearerAsked request q old e → Took Serving history taken old e
-    bearer_asked unowned request q e came is asked = bearer_row unowned request q e came is asked asked
+    bearer_asked unowned request q e came is (inl f) = drops Serving history taken old knows _ e f.1
+    bearer_asked unowned request q e came is (inr (room, inl f)) = refuses request q 0 64 e f.1
+    bearer_asked unowned request q e came is (inr (room, inr (at, inl f))) = drops Serving history taken old knows _ e f.1
+    bearer_asked unowned request q e came is (inr (room, inr (at, inr (active, inl f)))) = refuses request q (written at.session.remote) 94 e f.1
+    bearer_asked unowned request q e came is (inr (room, inr (at, inr (active, inr (one, inl f))))) = refuses request q (written at.session.remote) 64 e f.1
+    bearer_asked unowned request q e came is (inr (room, inr (at, inr (active, inr (one, inr (linked, inl f)))))) = lacks request q (written at.session.remote) e f.1
+    bearer_asked unowned request q e came is (inr (room, inr (at, inr (active, inr (one, inr (linked, inr (free, r))))))) = makes unowned request q at e active came is r
 
     -- an answer to a Delete Bearer Request
     says_removed : (request : Arrival) (cause : ℕ) (new : Node) (d : DeleteBearerResponse) (e : Effect) → e ≡ answered request (Delete_bearer_response d) cause new → Shrunk old new → ((r : ℕ) → d.recovery ≡ Some r → r ≡ old.counter) → Took Serving history taken old e
@@ -401,7 +398,7 @@ module _ (history : List Sent) (taken : Arrival → Message → Type 0) (serving
         (λ m dropped e came is told r. drops Serving history taken old knows _ e (dropped.only request old e r))
 
 module _ (history : List Sent) (serving_once : Once history Serving) (packet_once : Once history Packet) (old : Node) (unowned : NothingOwns history Serving old)
-    (dated : (m : Message) (t : ℕ) → HasSent history Packet m → TellsStart m → Owns m t → recovery_of m ≡ Some (counter_of t)) (proper : (m : Message) → HasSent history Packet m → IsProper history m) (knows : Knows Serving history old) (request : Arrival) (taken : Arrival → Message → Type 0) where
+    (dated : (m : Message) (t : ℕ) → HasSent history Packet m → TellsStart m → Owns m t → recovery_of m ≡ Some (counter_of t)) (proper : (m : Message) → HasSent history Packet m → IsProper m) (knows : Knows Serving history old) (request : Arrival) (taken : Arrival → Message → Type 0) where
   pub serving_control : (reading : ControlReading) (e : Effect) → ControlCarried Serving history old reading → (IsNew old request → (m : Message) → reading ≡ Control_message m → taken request m) → ControlStep (ServingReads reading) request old e → After Serving history taken old e
   serving_control =
       control_came Serving history taken serving_once packet_once old knows serving_takes ServingTakes ServingFaulted request

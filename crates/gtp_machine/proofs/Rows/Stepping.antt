@@ -40,12 +40,12 @@ module _ (history : List Sent) (serving_once : Once history Serving) (packet_onc
   bearer_begun_by Packet unowned knows taken session tft qos e r = bearer_begun_here history taken serving_once packet_once old knows unowned session tft qos e r
 
   -- a datagram of the control plane
-  control_taken : (role : Role) → NothingOwns history role old → ((m : Message) (t : ℕ) → HasSent history (other role) m → TellsStart m → Owns m t → recovery_of m ≡ Some (counter_of t)) → ((m : Message) → HasSent history (other role) m → IsProper history m) → Knows role history old
+  control_taken : (role : Role) → NothingOwns history role old → ((m : Message) (t : ℕ) → HasSent history (other role) m → TellsStart m → Owns m t → recovery_of m ≡ Some (counter_of t)) → ((m : Message) → HasSent history (other role) m → IsProper m) → Knows role history old
       → (request : Arrival) (reading : ControlReading) (e : Effect) → ControlCarried role history old reading → Step role old (Control_came request reading) e → After role history (Taken old (Control_came request reading)) old e
   control_taken Serving unowned dated proper knows request reading e came r = serving_control history serving_once packet_once old unowned dated proper knows request (Taken old (Control_came request reading)) reading e came (λ new m is. (ap (λ k. Control_came request k) is, new)) r
   control_taken Packet unowned dated proper knows request reading e came r = packet_control history serving_once packet_once old unowned dated proper knows request (Taken old (Control_came request reading)) reading e came (λ new m is. (ap (λ k. Control_came request k) is, new)) r
 
-  module _ (role : Role) (unowned : NothingOwns history role old) (dated : (m : Message) (t : ℕ) → HasSent history (other role) m → TellsStart m → Owns m t → recovery_of m ≡ Some (counter_of t)) (proper : (m : Message) → HasSent history (other role) m → IsProper history m) (knows : Knows role history old) where
+  module _ (role : Role) (unowned : NothingOwns history role old) (dated : (m : Message) (t : ℕ) → HasSent history (other role) m → TellsStart m → Owns m t → recovery_of m ≡ Some (counter_of t)) (proper : (m : Message) → HasSent history (other role) m → IsProper m) (knows : Knows role history old) where
     commanded : (taken : Arrival → Message → Type 0) (command : Command) (e : Effect) → CommandStep role command old e → After role history taken old e
     commanded taken (Create_session spec) e r = session_begun_by role unowned knows taken spec e r
     commanded taken (Delete_session session) e r = session_deleted role history taken serving_once packet_once old knows role session e r

@@ -30,7 +30,7 @@ module _ (role : Role) (history : List Sent) (taken : Arrival → Message → Ty
   pub ends : (number : ℕ) (p : PendingRequest) (outcome : Outcome) (e : Effect) → e ≡ finishing old number p outcome → Took role history taken old e
   ends number p outcome e gives = took e _ gives refl (shrunk role history taken old knows (finished old number p) (Shrunk-finished old number p.session p.bearer) [] outcome)
 
-  pub gives_answer : (request : Arrival) (m : Message) (cause : ℕ) (new : Node) (e : Effect) → e ≡ answered request m cause new → Shrunk old new → IsPlain m → ((t : ℕ) → Owns m t → ⊥) → ((r : ℕ) → recovery_of m ≡ Some r → r ≡ old.counter) → IsProper history m → Took role history taken old e
+  pub gives_answer : (request : Arrival) (m : Message) (cause : ℕ) (new : Node) (e : Effect) → e ≡ answered request m cause new → Shrunk old new → IsPlain m → ((t : ℕ) → Owns m t → ⊥) → ((r : ℕ) → recovery_of m ≡ Some r → r ≡ old.counter) → IsProper m → Took role history taken old e
   gives_answer request m cause new e gives s plain none told proper = took e _ gives refl (answers role history taken old knows request m cause new s plain (Made-plain history old (holding request m new) m none told proper))
 
   pub takes_echo : (request : Arrival) (q : Echo) (e : Effect) → e ≡ echoed request q old → Took role history taken old e

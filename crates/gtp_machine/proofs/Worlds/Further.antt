@@ -15,7 +15,9 @@ use Rattle.gtp_machine.specs.World.{with_steps, World, Does, Deliver, Moves, Del
 use Rattle.gtp_machine.proofs.Basics.FiniteMaps.{get-insert_same, get-kept, found-kept}
 use Rattle.gtp_machine.specs.Laws.{GetsThrough, GoesOn, ARunIsPossible, HearsRestart}
 use Rattle.gtp_machine.proofs.Basics.Counting.{len-insert_most, len-remove_most}
-use Rattle.gtp_machine.proofs.Worlds.Possible.{from_serving, from_packet, serving_ip, packet_ip, serving_config, packet_config, spec, plain_qos, control, dedicated, none_pending, after, heard, q, asked, a, at_serving, at_packet, r, at_packet_bearer, entry, w1, w2, w3, w4, w5, w6, w7, w8, second, serving_stands, step1, step2, step3, step4, step5, step6, step7, step8}
+use Rattle.gtp_machine.proofs.Worlds.Beginning.{serving_ip, packet_ip, serving_config, packet_config, plain_qos, control, none_pending, after, from_serving, from_packet, heard}
+use Rattle.gtp_machine.proofs.Worlds.Possible.{spec, dedicated, q, asked, a, at_serving, at_packet, r, at_packet_bearer, entry, w1, w2, w3, w4, w5, w6, w7, w8, second, serving_stands, step1, step2, step3, step4, step5, step6, step7, step8}
+use Rattle.gtp_machine.proofs.Worlds.Sendable.{session_request, session_response, bearer_request, bearer_response, removal_request, removal_response, echo_request, echo_response, packet, AllSendable, among_sendable}
 use Rattle.gtp_values.specs.FiniteMap.{Among, FiniteMap, kept}
 use Rattle.gtp_machine.specs.User.{UserStep}
 use Rattle.gtp_machine.specs.Removal.{without_bearer, is_opened}
@@ -291,7 +293,23 @@ hears_restart = record {
   restarts = refl;
   heard = inl refl;
   gone = gone;
+  sendable = among_sendable w19.history all;
 }
+  where
+    all : AllSendable w19.history
+    all = (
+      session_request 1 (omega arith),
+      (
+        session_response 1 (omega arith) (inl refl),
+        (
+          bearer_request,
+          (
+            bearer_response,
+            (packet 120, (session_response 1 (omega arith) (inl refl), (packet 121, (packet 122, (removal_request, (removal_response, (echo_request 2, (echo_response 1, tt)))))))),
+          ),
+        ),
+      ),
+    )
 
 goes_on : GoesOn w8 control control dedicated dedicated
 goes_on = record {

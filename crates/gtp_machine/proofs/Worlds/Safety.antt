@@ -7,7 +7,7 @@ use Rattle.gtp_machine.specs.Node.{Role, Serving, Packet, Pending, Active, Sessi
 use Rattle.gtp_machine.specs.Config.{Addresses}
 use Rattle.gtp_machine.specs.Choice.{counter_of}
 use Rattle.gtp_machine.specs.World.{World, Side, Sent, HasSent, side_of}
-use Rattle.gtp_machine.specs.Laws.{Always, Agree, SessionsAgree, MutualBearers, AgreeBearers, BearersAgree, IsOver, NoneOver, EachOwed, OneMessage, OwnsOn, PlanesApart, GoesBack, EachGoesBack, NamesGoBack, ResponsesGoBack, IsOfStart, NoneAhead, IsLatestHeard, KnownIsLatest, BearersOnce, EachOpened, EachClosesWhole, MadeOnce}
+use Rattle.gtp_machine.specs.Laws.{Always, Agree, SessionsAgree, MutualBearers, AgreeBearers, BearersAgree, IsOver, NoneOver, EachOwed, OneMessage, OwnsOn, PlanesApart, GoesBack, EachGoesBack, NamesGoBack, IsOfStart, NoneAhead, IsLatestHeard, KnownIsLatest, BearersOnce, EachOpened, EachClosesWhole, MadeOnce}
 use Rattle.gtp_machine.proofs.Origins.Drawing.{Drawing}
 use Rattle.gtp_machine.proofs.Origins.Contexts.{IsAskedWith, IsGranted, IsMadeWith, IsWanted}
 use Rattle.gtp_machine.proofs.Origins.Entries.{Once, same_request, same_user_request, same_answer, same_user_answer, same_bearer_answer, answer_not_request}
@@ -183,14 +183,6 @@ always_planes_apart serving packet sc pc events w r Packet = planes_apart w.pack
 
 pub always_goes_back : Always EachGoesBack
 always_goes_back serving packet sc pc events w r = let inv = always serving packet sc pc events w r in record { sessions = session_goes_back packet.own w inv; bearers = bearer_goes_back packet.own w inv }
-
-pub always_responses : Always ResponsesGoBack
-always_responses serving packet sc pc events w r =
-    let inv = always serving packet sc pc events w r in
-    record {
-      sessions = λ a has. (inv.packet.draws.proper (Create_session_response a) has).answers;
-      bearers = λ x has. (inv.serving.draws.proper (Create_bearer_response x) has).answers;
-    }
 
 pub always_none_ahead : Always NoneAhead
 always_none_ahead serving packet sc pc events w r = record { told = told; drawn = drawn }

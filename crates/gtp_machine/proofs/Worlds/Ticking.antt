@@ -24,7 +24,7 @@ both_signed role (x ∷ first) rest = λ i. record { role = role; what = x } ∷
 log_twice : {X : Type 0} (role : Role) (log : List (By X)) (first rest : List X) → (log ++ signed role first) ++ signed role rest ≡ log ++ signed role (first ++ rest)
 log_twice role log first rest = append_assoc log (signed role first) (signed role rest) ∙ ap (λ k. log ++ k) (sym (both_signed role first rest))
 
-both_messages : (first rest : List Sending) → messages (first ++ rest) ≡ messages first ++ messages rest
+pub both_messages : (first rest : List Sending) → messages (first ++ rest) ≡ messages first ++ messages rest
 both_messages [] rest = refl
 both_messages (s ∷ first) rest = ap (λ k. s.message ∷ k) (both_messages first rest)
 

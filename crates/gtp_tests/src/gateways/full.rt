@@ -257,3 +257,30 @@ const MOST_SESSIONS: Scene = Scene {
 fn as_many_sessions_stand_as_can(rt: HostRuntime) -> Result<(), Fail> {
     plays(&rt, rt.alloc(), &MOST_SESSIONS)
 }
+
+/// A session draws two TEIDs, and a start has 16,777,215: there is one left after 8,388,607 sessions, which
+/// is not enough for another. That many requests have had all sequence numbers but the highest, so the next
+/// one has it, and the one after that has 0.
+const ALL_TEIDS: Scene = Scene {
+    rows: &[&[
+        (Refuses(8_388_607), Outcome::Moved, Nothing),
+        (CreateSession, Outcome::Refused(Refusal::TeidsUsed), Nothing),
+        (
+            Echo(Role::Serving),
+            Outcome::Begun(None),
+            Octets("400100097fffff000300010001"),
+        ),
+        (
+            Echo(Role::Serving),
+            Outcome::Begun(None),
+            Octets("40010009000000000300010001"),
+        ),
+    ]],
+    serving: &[Has(0, 0)],
+    ..IDLE
+};
+
+#[test]
+fn as_many_teids_are_drawn_as_can(rt: HostRuntime) -> Result<(), Fail> {
+    plays(&rt, rt.alloc(), &ALL_TEIDS)
+}

@@ -1,6 +1,13 @@
--- The law is proved in `Exchange`.
-use Rattle.gtp_machine.proofs.Exchange.Made as exchange
+-- The laws are proved in `Exchange`.
+use Rattle.gtp_machine.proofs.Exchange.Made.{fair_exchange}
+use Rattle.gtp_machine.proofs.Exchange.Possible.{exchanges_are_possible, sendable_read}
 use Rattle.gtp_machine.proofs.laws.fair_exchange.Goals as goal
 
-pub returns : goal.returns
-returns c = exchange.fair_exchange
+pub returns-clause-made : goal.returns-clause-made
+returns-clause-made c = fair_exchange
+
+pub returns-clause-possible : goal.returns-clause-possible
+returns-clause-possible c = exchanges_are_possible
+
+pub returns-clause-reads : goal.returns-clause-reads
+returns-clause-reads c = sendable_read

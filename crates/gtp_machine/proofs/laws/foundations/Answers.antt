@@ -1,5 +1,6 @@
 -- Each law is proved of all runs in `Safety`.
-use Rattle.gtp_machine.proofs.Worlds.Safety.{always_one_message, always_planes_apart, always_goes_back, always_names_back, always_responses, always_none_ahead, always_known, always_opened, always_closes_whole, always_made_once, always_once}
+use Rattle.gtp_machine.proofs.Worlds.Safety.{always_one_message, always_planes_apart, always_goes_back, always_names_back, always_none_ahead, always_known, always_opened, always_closes_whole, always_made_once, always_once}
+use Rattle.gtp_machine.proofs.Worlds.Answering.{each_response}
 use Rattle.gtp_machine.proofs.laws.foundations.Goals as goal
 
 pub returns-clause-one_message : goal.returns-clause-one_message
@@ -15,7 +16,7 @@ pub returns-clause-names : goal.returns-clause-names
 returns-clause-names c = always_names_back
 
 pub returns-clause-responses : goal.returns-clause-responses
-returns-clause-responses c = always_responses
+returns-clause-responses c = each_response
 
 pub returns-clause-none_ahead : goal.returns-clause-none_ahead
 returns-clause-none_ahead c = always_none_ahead

@@ -26,4 +26,4 @@ returns-clause-taken c =
     ∙ ap (λ l. arrivals_of old.made.items ++ made_for (arrival_of c.args.source l) step.report.made) c.in_ok-from_slice.ensures.items in
     let after = ap half_of both ∙ (λ i. record (half_of old) { station = c.receive.new.self; seen = seen i; made = made i }) in
     subst (λ (h : Half). IsInput c.args.node (coming c.args.plane c.args.source octets) (KeepsOn c.args.plane c.args.source octets) (half_of old) (came_of_step step c.in_ok-accepted.accepted) h) (sym after)
-    (taken c.args.node c.args.plane c.args.source octets (half_of old) step c.receive.new.self c.in_ok-accepted.accepted c.in_ok-step.ensures.received c.in_ok-step.ensures.timing c.in_ok-step.ensures.packet c.in_ok-accepted.ensures.accepted)
+    (taken c.args.node c.args.plane c.args.source octets (half_of old) step c.receive.new.self c.in_ok-accepted.accepted c.in_ok-step.ensures.received c.in_ok-step.ensures.timing c.in_ok-step.ensures.choices c.in_ok-step.ensures.packet c.in_ok-accepted.ensures.accepted)

@@ -1,0 +1,141 @@
+-- What each step does with the responses to create requests: which it sends, and which it holds.
+use Rattle.std.proofs.Common.{◌≡◌, ◌⊎◌, inl, inr, ⊎_elim, ℕ, Bool, true, false, not, List, [], ◌∷◌, ◌++◌, refl, sym, ◌∙◌, ap, subst}
+use Rattle.std.specs.Prelude.{◌&&◌}
+use Rattle.gtp_values.specs.FiniteMap.{FiniteMap, Each, Among}
+use Rattle.gtp_machine.specs.Message.{Message, Create_session_request, Create_bearer_request, recovery_of}
+use Rattle.gtp_machine.specs.Node.{Role, Serving, Packet, PendingRequest, Arrival, Held, Node}
+use Rattle.gtp_machine.specs.Input.{Control_message, Control_fault, Control_came, Move, Resend, Give_up, Forget, Out, Effect, messages}
+use Rattle.gtp_machine.specs.Recovery.{Hears}
+use Rattle.gtp_machine.specs.Move.{MoveStep}
+use Rattle.gtp_machine.specs.Tick.{TickStep, ticked}
+use Rattle.gtp_machine.specs.Step.{Step}
+use Rattle.gtp_machine.specs.Answer.{ControlStep}
+use Rattle.gtp_machine.specs.Serving.{ServingTakes, ServingReads}
+use Rattle.gtp_machine.specs.Packet.{PacketTakes, PacketReads}
+use Rattle.gtp_machine.specs.Laws.{CreateAsked}
+use Rattle.gtp_machine.proofs.Basics.FiniteMaps.{Among-one_more}
+use Rattle.gtp_machine.proofs.Basics.Kinds.{creates, is_create_answer}
+use Rattle.gtp_machine.proofs.Changes.Shrinking.{Shrunk-finished}
+use Rattle.gtp_machine.proofs.Changes.Forgetting.{leaves}
+use Rattle.gtp_machine.proofs.Requests.Holding.{held_in, seen_in, are_plain, Calm, Gives, Answers, serving_heard_answers, packet_heard_answers}
+use Rattle.gtp_machine.proofs.Worlds.Ticking.{both_messages}
+
+-- no such response is sent, and none comes to be held
+pub record IsLesser (old : Node) (e : Effect) : Type 0 where
+  pub plain : are_plain (messages e.out.sent) ≡ true
+  pub held : (h : Held) → Among h e.node.held → Among h old.held ⊎ (is_create_answer h.answer ≡ false)
+
+-- the request came before, and gets the answer that is held for it
+pub record IsRepeated (request : Arrival) (old : Node) (e : Effect) : Type 0 where
+  pub held : Held
+  pub stands : Among held old.held
+  pub same : held.request ≡ request
+  pub says : messages e.out.sent ≡ held.answer ∷ []
+  pub stays : e.node.held ≡ old.held
+
+-- the request is new, and its answer is given by the rules, and held
+pub record IsReplied (role : Role) (m : Message) (request : Arrival) (old : Node) (e : Effect) : Type 0 where
+  pub answer : Message
+  pub asked : CreateAsked role m request old e
+  pub says : messages e.out.sent ≡ answer ∷ []
+  pub held : e.node.held ≡ old.held ++ (record { request = request; answer = answer } ∷ [])
+
+-- what a step on a control message does with these responses
+abbrev pub Replies : Role → Message → Arrival → Node → Effect → Type 0
+Replies role m request old e = IsLesser old e ⊎ (IsRepeated request old e ⊎ IsReplied role m request old e)
+
+pub lesser_calm : (old : Node) (e : Effect) → Calm old e → IsLesser old e
+lesser_calm old e calm = record {
+  plain = ap (λ (s : List Held × Bool). s.1) calm;
+  held = λ h among. inl (subst (Among h) (ap (λ (s : List Held × Bool). s.0) calm) among);
+}
+
+lesser_given : (request : Arrival) (old : Node) (e : Effect) → Gives request false old e → IsLesser old e
+lesser_given request old e g = record {
+  plain = ap are_plain g.sends ∙ ap (λ (b : Bool). not b && true) g.is;
+  held = λ h among. ⊎_elim (λ was. inl was) (λ is. inr (ap (λ (k : Held). is_create_answer k.answer) is ∙ g.is)) (Among-one_more h (record { request = request; answer = g.answer }) old.held (subst (Among h) g.held among));
+}
+
+answered : (role : Role) (m : Message) (request : Arrival) (old : Node) (e : Effect) (create : Bool) → (create ≡ true → CreateAsked role m request old e) → Answers request create old e → Replies role m request old e
+answered role m request old e create asked (inl calm) = inl (lesser_calm old e calm)
+answered role m request old e true asked (inr g) = inr (inr (record { answer = g.answer; asked = asked refl; says = g.sends; held = g.held }))
+answered role m request old e false asked (inr g) = inl (lesser_given request old e g)
+
+serving_asked : (m : Message) → creates Serving m ≡ true → (request : Arrival) (old : Node) (e : Effect) → Hears (ServingTakes request m) old (recovery_of m) e → CreateAsked Serving m request old e
+serving_asked (Create_bearer_request r) is request old e heard = heard
+serving_asked m is request old e heard = absurd (cc is)
+
+packet_asked : (m : Message) → creates Packet m ≡ true → (request : Arrival) (old : Node) (e : Effect) → Hears (PacketTakes request m) old (recovery_of m) e → CreateAsked Packet m request old e
+packet_asked (Create_session_request q) is request old e heard = heard
+packet_asked m is request old e heard = absurd (cc is)
+
+serving_replies : (m : Message) (request : Arrival) (old : Node) (e : Effect) → ServingReads (Control_message m) request old e → Replies Serving m request old e
+serving_replies m request old e (inl f) = inl (lesser_calm old e (ap seen_in f.1))
+serving_replies m request old e (inr (kind, r)) = answered Serving m request old e (creates Serving m) (λ is. serving_asked m is request old e r) (serving_heard_answers m request old e r)
+
+packet_replies : (m : Message) (request : Arrival) (old : Node) (e : Effect) → PacketReads (Control_message m) request old e → Replies Packet m request old e
+packet_replies m request old e (inl f) = inl (lesser_calm old e (ap seen_in f.1))
+packet_replies m request old e (inr (kind, r)) = answered Packet m request old e (creates Packet m) (λ is. packet_asked m is request old e r) (packet_heard_answers m request old e r)
+
+module _ (Reads : Arrival → Node → Effect → Type 0) (request : Arrival) (old : Node) (e : Effect) (X : Type 0) where
+  control : (Reads request old e → IsLesser old e ⊎ (IsRepeated request old e ⊎ X)) → ControlStep Reads request old e → IsLesser old e ⊎ (IsRepeated request old e ⊎ X)
+  control reads (inl f) = inl (lesser_calm old e (ap seen_in f.1))
+  control reads (inr (peer, inl r)) = inr (inl (record { held = r.held; stands = r.stands; same = r.same; says = ap (λ (f : Effect). messages f.out.sent) r.gives; stays = ap held_in r.gives }))
+  control reads (inr (peer, inr r)) = reads r.1
+
+-- a message of the control plane comes
+pub message_replies : (role : Role) (m : Message) (request : Arrival) (old : Node) (e : Effect) → Step role old (Control_came request (Control_message m)) e → Replies role m request old e
+message_replies Serving m request old e r = control (ServingReads (Control_message m)) request old e (IsReplied Serving m request old e) (serving_replies m request old e) r
+message_replies Packet m request old e r = control (PacketReads (Control_message m)) request old e (IsReplied Packet m request old e) (packet_replies m request old e) r
+
+-- what reads as no message comes
+pub fault_replies : (role : Role) (fault : ℕ) (request : Arrival) (old : Node) (e : Effect) → Step role old (Control_came request (Control_fault fault)) e → IsLesser old e ⊎ (IsRepeated request old e ⊎ ⊥)
+fault_replies Serving fault request old e r = control (ServingReads (Control_fault fault)) request old e ⊥ (λ f. inl (lesser_calm old e (ap seen_in f))) r
+fault_replies Packet fault request old e r = control (PacketReads (Control_fault fault)) request old e ⊥ (λ f. inl (lesser_calm old e (ap seen_in f))) r
+
+-- no pending request is such a response
+abbrev pub AllAsk : FiniteMap PendingRequest → Type 0
+AllAsk pending = Each (λ number (p : PendingRequest). is_create_answer p.request ≡ false) pending
+
+move_lesser : (old : Node) → AllAsk old.pending → (move : Move) (e : Effect) → MoveStep old move e → IsLesser old e
+move_lesser old asks (Resend number) e r = record {
+  plain = ap (λ (f : Effect). are_plain (messages f.out.sent)) r.gives ∙ ap (λ (b : Bool). not b && true) (asks number r.at.pending r.at.waits);
+  held = λ h among. inl (subst (Among h) (ap held_in r.gives) among);
+}
+move_lesser old asks (Give_up number) e r = record {
+  plain = ap (λ (f : Effect). are_plain (messages f.out.sent)) r.gives;
+  held = λ h among. inl (subst (Among h) (ap held_in r.gives ∙ (Shrunk-finished old number r.at.pending.session r.at.pending.bearer).held) among);
+}
+move_lesser old asks (Forget request) e r = record {
+  plain = ap (λ (f : Effect). are_plain (messages f.out.sent)) r.gives;
+  held = λ h among. inl ((leaves request old.held r.rest r.left).only h (subst (Among h) (ap held_in r.gives) among));
+}
+
+move_asks : (old : Node) → AllAsk old.pending → (move : Move) (e : Effect) → MoveStep old move e → AllAsk e.node.pending
+move_asks old asks (Resend number) e r = subst (λ (f : Effect). AllAsk f.node.pending) (sym r.gives) asks
+move_asks old asks (Give_up number) e r = subst (λ (f : Effect). AllAsk f.node.pending) (sym r.gives) (λ k p stands. asks k p ((Shrunk-finished old number r.at.pending.session r.at.pending.bearer).pending k p stands))
+move_asks old asks (Forget request) e r = subst (λ (f : Effect). AllAsk f.node.pending) (sym r.gives) asks
+
+both_true : (b c : Bool) → (b && c) ≡ true → (b ≡ true) × (c ≡ true)
+both_true true c is = (refl, is)
+both_true false c is = absurd (cc is)
+
+plain_both : (first rest : List Message) → are_plain first ≡ true → are_plain rest ≡ true → are_plain (first ++ rest) ≡ true
+plain_both [] rest a b = b
+plain_both (m ∷ first) rest a b =
+    let s = both_true (not (is_create_answer m)) (are_plain first) a in
+    ap (λ (k : Bool). k && are_plain (first ++ rest)) s.0 ∙ plain_both first rest s.1 b
+
+-- a tick sends and holds none
+pub tick_lesser : (moves : List Move) (old : Node) → AllAsk old.pending → (out : Out) (new : Node) → TickStep old moves out new → IsLesser old (ticked out new)
+tick_lesser [] old asks out new (quiet, same) = record {
+  plain = ap (λ (o : Out). are_plain (messages o.sent)) quiet;
+  held = λ h among. inl (subst (λ (n : Node). Among h n.held) same among);
+}
+tick_lesser (move ∷ moves) old asks out new (e, rest, step, others, is) =
+    let first = move_lesser old asks move e step in
+    let later = tick_lesser moves e.node (move_asks old asks move e step) rest new others in
+    record {
+      plain = ap (λ (o : Out). are_plain (messages o.sent)) is ∙ ap are_plain (both_messages e.out.sent rest.sent) ∙ plain_both (messages e.out.sent) (messages rest.sent) first.plain later.plain;
+      held = λ h among. ⊎_elim (λ was. first.held h was) (λ lesser. inr lesser) (later.held h among);
+    }
