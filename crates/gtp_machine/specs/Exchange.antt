@@ -1,13 +1,21 @@
 -- The exchange that makes a session (TS 29.274, 7.2.1 and 7.2.2), on a path that brings each datagram at once.
-use Rattle.std.specs.Prelude.{◌≡◌, ◌⊎◌, ℕ, ◌+◌, ◌≤◌, List, ◌∷◌, Some, length}
+use Rattle.std.specs.Prelude.{◌≡◌, ◌⊎◌, ℕ, ◌+◌, ◌≤◌, ◌<◌, ◌^◌, List, ◌∷◌, Some, length}
 use Rattle.std.specs.FinMap.{get}
+use Rattle.gtp_values.specs.Address.{IsIp}
+use Rattle.gtp_values.specs.Apn.{IsApn}
 use Rattle.gtp_values.specs.FiniteMap.{Among}
+use Rattle.gtp_values.specs.Imsi.{IsImsi}
+use Rattle.gtp_values.specs.Plmn.{IsNetwork}
+use Rattle.gtp_values.specs.declared.qos.Ambr.{Ambr}
+use Rattle.gtp_values.specs.declared.qos.Qos.{Qos}
+use Rattle.gtp_ie.specs.Value.{AreRates}
+use Rattle.gtp_tables.specs.Pool.{IsPool}
 use Rattle.gtp_machine.specs.Config.{Config}
 use Rattle.gtp_machine.specs.Message.{Message, plane_of}
 use Rattle.gtp_machine.specs.Node.{Role, Serving, Packet, Session, Bearer, Default}
 use Rattle.gtp_machine.specs.Input.{Specification, Create_session, Send_user, Begun, Answered, Opened, Accepted}
 use Rattle.gtp_machine.specs.Choice.{HasDraws, HasFreeAddress, IsIdentity, HasSessionRoom, HasPendingRoom, HasHeldRoom}
-use Rattle.gtp_machine.specs.Spelling.{ReadsAs, spelled}
+use Rattle.gtp_machine.specs.Spelling.{ReadsAs, spelled, IsSendable}
 use Rattle.gtp_machine.specs.World.{World, Event, Does, Deliver, Happens, Run, EventOutcome, Came_to, Note, HasSent, start}
 use Rattle.gtp_machine.specs.Laws.{MutualSessions, MutualBearers, EachSendable}
 
@@ -15,6 +23,32 @@ use Rattle.gtp_machine.specs.Laws.{MutualSessions, MutualBearers, EachSendable}
 pub record IsOnePath (serving packet : Config) : Type 0 where
   pub there : serving.peer ≡ packet.own
   pub back : packet.peer ≡ serving.own
+
+-- the gateway's own addresses are addresses, and its pool is a pool
+pub record IsConfigured (config : Config) : Type 0 where
+  pub control : IsIp config.own.control
+  pub user : IsIp config.own.user
+  pub pool : IsPool (record { start = config.pool_start; count = config.pool_count })
+
+-- bit rates that have room in an AMBR (8.7)
+pub record IsAmbr (ambr : Ambr) : Type 0 where
+  pub up : ambr.up < 2 ^ 32
+  pub down : ambr.down < 2 ^ 32
+
+-- a priority level and bit rates that have room in a Bearer QoS (8.15)
+pub record IsQos (qos : Qos) : Type 0 where
+  pub level : qos.pl < 16
+  pub most : AreRates qos.mbr
+  pub guaranteed : AreRates qos.gbr
+
+-- what a session is to be made with has room in a Create Session Request
+pub record IsSpecified (spec : Specification) : Type 0 where
+  pub imsi : IsImsi spec.subscriber.imsi
+  pub access_point : IsApn spec.subscriber.access_point
+  pub network : IsNetwork spec.network
+  pub selection : spec.selection < 4
+  pub ambr : IsAmbr spec.ambr
+  pub qos : IsQos spec.qos
 
 -- each message that was sent reads as itself
 abbrev pub AllRead : World → Type 0
@@ -84,19 +118,32 @@ pub record Exchanged (spec : Specification) (w begun answered opened : World) : 
   pub both_versions : spec.pdn ≡ 3 → cause ≡ 18
   pub third : CameTo opened (Came_to Opened)
 
--- In each run, where nothing stands in the way and each message that is sent reads as itself: the command, the delivery of its request and the delivery of its
--- answer make the session.
+-- The three events of an exchange for the specification, on one path, where nothing stands in the way and all that is to be written has room.
+pub record IsExchange (w begun answered opened : World) (spec : Specification) : Type 0 where
+  pub path : IsOnePath w.serving.node.config w.packet.node.config
+  pub serving : IsConfigured w.serving.node.config
+  pub packet : IsConfigured w.packet.node.config
+  pub specified : IsSpecified spec
+  pub can : CanExchange w spec
+  pub begins : Happens w (Does Serving (Create_session spec)) begun
+  pub comes : Happens begun (Deliver (length w.history)) answered
+  pub opens : Happens answered (Deliver (1 + length w.history)) opened
+
+-- After each run the command, the delivery of its request and the delivery of its answer make the session.
 abbrev pub FairExchange : Type 0
-FairExchange =
-    (serving packet : Config) (serving_counter packet_counter : ℕ) (events : List Event) (w begun answered opened : World) (spec : Specification) → Run (start serving packet serving_counter packet_counter) events w → IsOnePath w.serving.node.config w.packet.node.config → CanExchange w spec →
-    Happens w (Does Serving (Create_session spec)) begun → Happens begun (Deliver (length w.history)) answered → Happens answered (Deliver (1 + length w.history)) opened → AllRead answered → Exchanged spec w begun answered opened
+FairExchange = (serving packet : Config) (serving_counter packet_counter : ℕ) (events : List Event) (w begun answered opened : World) (spec : Specification) → Run (start serving packet serving_counter packet_counter) events w → IsExchange w begun answered opened spec → Exchanged spec w begun answered opened
+
+-- And each message that is sent in them can be sent, so it reads as itself.
+abbrev pub ExchangeSendable : Type 0
+ExchangeSendable =
+    (serving packet : Config) (serving_counter packet_counter : ℕ) (events : List Event) (w begun answered opened : World) (spec : Specification) → Run (start serving packet serving_counter packet_counter) events w → IsExchange w begun answered opened spec → (role : Role) (m : Message) → HasSent opened.history role m → HasSent w.history role m ⊎ IsSendable m
 
 -- Where each message that was sent can be sent, each reads as itself.
 abbrev pub SendableRead : Type 0
 SendableRead = (w : World) → EachSendable w → AllRead w
 
--- An exchange for a session of this type, with all that `FairExchange` asks of one: two configurations, a run from a start with them, a specification and its
--- three events. And each message that was sent up to then can be sent.
+-- An exchange for a session of this type: two configurations, a run from a start with them, a specification and its three events, with all that `FairExchange` asks
+-- of them. And each message that was sent up to then can be sent.
 pub record AnExchange (pdn : ℕ) : Type 0 where
   pub serving : Config
   pub packet : Config
@@ -110,12 +157,7 @@ pub record AnExchange (pdn : ℕ) : Type 0 where
   pub spec : Specification
   pub type : spec.pdn ≡ pdn
   pub run : Run (start serving packet serving_counter packet_counter) events w
-  pub path : IsOnePath w.serving.node.config w.packet.node.config
-  pub can : CanExchange w spec
-  pub begins : Happens w (Does Serving (Create_session spec)) begun
-  pub comes : Happens begun (Deliver (length w.history)) answered
-  pub opens : Happens answered (Deliver (1 + length w.history)) opened
-  pub reads : AllRead answered
+  pub is : IsExchange w begun answered opened spec
   pub sendable : EachSendable opened
   pub made : Exchanged spec w begun answered opened
 

@@ -36,7 +36,12 @@ ghost use Rattle.gtp_machine.specs.Reading.{
 };
 ghost use Rattle.gtp_machine.specs.Spelling.{SpelledApart, SpelledReads};
 ghost use Rattle.gtp_machine.specs.Once.{ActsOnce, ActsOnceInTime, HeldUntilForgotten};
-ghost use Rattle.gtp_machine.specs.Exchange.{ExchangesArePossible, FairExchange, SendableRead};
+ghost use Rattle.gtp_machine.specs.Exchange.{
+  ExchangeSendable,
+  ExchangesArePossible,
+  FairExchange,
+  SendableRead,
+};
 ghost use Rattle.gtp_machine.specs.Sound.{
   AlwaysSteps,
   AlwaysTicks,
@@ -207,10 +212,13 @@ pub fn readings()
 
 /// An exchange on a path that brings each datagram at once.
 pub fn fair_exchange()
-    // Where nothing stands in the way, and each message that is sent reads as itself, the command
-    // for a session, the delivery of its request and the delivery of its answer make it at both
-    // gateways, as it was asked for, and its default bearer carries packets in both directions.
+    // Where nothing stands in the way, the command for a session, the delivery of its request and
+    // the delivery of its answer make it at both gateways, as it was asked for, and its default
+    // bearer carries packets in both directions.
     ensures made { FairExchange }
+
+    // Each message that is sent in it can be sent.
+    ensures sendable { ExchangeSendable }
 
     // There is such an exchange, with all that is asked of one, for each of the two types.
     ensures possible { ExchangesArePossible }

@@ -1,33 +1,36 @@
 -- The command, the delivery of its request and the delivery of its answer make the session.
-use Rattle.std.proofs.Common.{◌≡◌, ◌≢◌, inl, inr, ℕ, ◌+◌, ◌≤◌, ◌==◌, length, List, [], ◌∷◌, ◌++◌, Option, Some, Bool, true, false, if◌then◌else◌, slice_get, refl, sym, ◌∙◌, ap, subst, arith}
+use Rattle.std.proofs.Common.{◌≡◌, ◌≢◌, ◌⊎◌, inl, inr, ⊎_elim, ℕ, ◌+◌, ◌%◌, ◌^◌, ◌≤◌, ◌<◌, ◌==◌, length, List, [], ◌∷◌, ◌++◌, Option, Some, Bool, true, false, if◌then◌else◌, slice_get, refl, sym, ◌∙◌, ap, subst, arith}
 use Rattle.std.specs.FinMap.{get}
+use Rattle.std.proofs.lemmas.List.{append-nil}
 use Rattle.gtp_values.specs.Counter.{age_of}
 use Rattle.gtp_values.specs.FiniteMap.{Among}
 use Rattle.gtp_values.specs.declared.address.Endpoint.{Endpoint}
 use Rattle.gtp_values.specs.declared.counter.Age.TheVariants.{Earlier}
 use Rattle.gtp_machine.specs.Config.{Addresses, Config, user_end}
-use Rattle.gtp_machine.specs.Element.{IsAccepting, cause_of, tunnel_end}
+use Rattle.gtp_machine.specs.Element.{IsAccepting, cause_of, tunnel_end, teid_in}
 use Rattle.gtp_machine.specs.Message.{CreateSessionRequest, CreateSessionResponse, Message, Create_session_request, Create_session_response, Packet_data, plane_of, Control, User, Create_bearer_request, Create_bearer_response, Owns}
 use Rattle.gtp_machine.specs.Node.{Role, Serving, Packet, Active, Session, Bearer, Arrival, Node, holding, written}
 use Rattle.gtp_machine.specs.Input.{Specification, Create_session, Send_user, Input, Commanded, Control_came, User_came, Control_message, User_message, Accepted, Effect, messages}
-use Rattle.gtp_machine.specs.Choice.{IsFree}
+use Rattle.gtp_machine.specs.Choice.{IsFree, counter_of}
 use Rattle.gtp_machine.specs.Command.{BeginsSession, MayGo, PacketSent, asks, session_request, session_begun, pending_session, pending_bearer}
 use Rattle.gtp_machine.specs.User.{MayCome, UserStep}
 use Rattle.gtp_machine.specs.Answer.{IsNew}
 use Rattle.gtp_machine.specs.Serving.{opened_session, opened_bearer}
 use Rattle.gtp_machine.specs.Packet.{session_cause, session_response, session_made, made_session, made_bearer}
 use Rattle.gtp_machine.specs.Reading.{control_reading}
-use Rattle.gtp_machine.specs.Spelling.{ReadsAs, spelled}
+use Rattle.gtp_machine.specs.Spelling.{ReadsAs, spelled, IsSendable}
 use Rattle.gtp_machine.specs.Step.{Step}
 use Rattle.gtp_machine.specs.World.{World, Sent, HasSent, Side, Event, Does, Deliver, Happens, Delivers, Moves, Run, Came_to, other, side_of, signed, late_once, arrival, delivered_on, start}
-use Rattle.gtp_machine.specs.Exchange.{AllRead, IsOnePath, CanExchange, CameTo, Carries, IsMade, Exchanged, FairExchange}
+use Rattle.gtp_machine.specs.Exchange.{AllRead, IsOnePath, IsConfigured, IsSpecified, CanExchange, CameTo, Carries, IsMade, Exchanged, FairExchange, ExchangeSendable}
 use Rattle.gtp_machine.proofs.Basics.Ages.{earlier_start}
 use Rattle.gtp_machine.proofs.Basics.FiniteMaps.{get-insert_same, Among-left, Among-last}
-use Rattle.gtp_machine.proofs.Origins.Drawing.{Drawing, unowned}
+use Rattle.gtp_machine.proofs.Origins.Drawing.{Drawing, unowned, by_cases}
 use Rattle.gtp_machine.proofs.Worlds.Hearing.{Hearing}
 use Rattle.gtp_machine.proofs.Worlds.Runs.{Invariant, always}
 use Rattle.gtp_machine.proofs.Exchange.Held.{HeldOfSent, always_held}
 use Rattle.gtp_machine.proofs.Exchange.Nodes.{pass, begins, CanMake, IsAnswered, answers, opening, waiting_for, Waits, OpensBy, IsOpened, is_opened_by, same_in}
+use Rattle.gtp_machine.proofs.Exchange.Texts.{request_like, response_like, same_request_teid, same_response_teid}
+use Rattle.gtp_machine.proofs.Exchange.Ranges.{request_sendable, request_short, response_sendable, response_short}
 use Rattle.gtp_machine.specs.Laws.{OwnsOn, IsFromOn}
 use Rattle.gtp_machine.proofs.Changes.After.{Knows}
 use Rattle.gtp_machine.proofs.Worlds.Safety.{bearer_goes_back}
@@ -185,8 +188,23 @@ apart m n m_control n_control m_reads n_reads text =
     let same : Control_message m ≡ Control_message n = first ∙ ap control_reading text ∙ sym second in
     cc same
 
+-- a TEID of a start is below 2^32
+start_small : (t n : ℕ) → counter_of t ≡ n % 256 → t < 2 ^ 32
+start_small t n is = omega (arith, is)
+
+-- a TEID that may be drawn
+free_small : (side : Side) (role : Role) (history : List Sent) → Drawing side role history → (t : ℕ) → IsFree side.node t → t < 2 ^ 32
+free_small side role history draws t free = start_small t (side.first + side.restarts) (free.counted ∙ draws.counter)
+
+-- a TEID that stands as its sender's own
+owned_small : (side : Side) (role : Role) (history : List Sent) → Drawing side role history → (m : Message) (t : ℕ) → HasSent history role m → Owns m t → t < 2 ^ 32
+owned_small side role history draws m t sent owns = elim (draws.drawn m t sent owns) [
+  | inl drawn ↦ start_small t (side.first + side.restarts) (draws.present t drawn ∙ draws.counter)
+  | inr earlier ↦ start_small t (side.first + earlier.start) earlier.is
+]
+
 module _ (serving packet : Config) (serving_counter packet_counter : ℕ) (events : List Event) (w begun answered opened : World) (spec : Specification) (r : Run (start serving packet serving_counter packet_counter) events w) (path : IsOnePath w.serving.node.config w.packet.node.config) (can : CanExchange w spec)
-    (h1 : Happens w (Does Serving (Create_session spec)) begun) (h2 : Happens begun (Deliver (length w.history)) answered) (h3 : Happens answered (Deliver (1 + length w.history)) opened) (reads : AllRead answered) where
+    (h1 : Happens w (Does Serving (Create_session spec)) begun) (h2 : Happens begun (Deliver (length w.history)) answered) (h3 : Happens answered (Deliver (1 + length w.history)) opened) where
   inv : Invariant packet.own w
   inv = always serving packet serving_counter packet_counter events w r
 
@@ -231,167 +249,277 @@ module _ (serving packet : Config) (serving_counter packet_counter : ℕ) (event
   f2 : IsMoved d2.before Packet d2.moves.effect answered
   f2 = moved_is d2.before Packet _ answered d2.moves
 
-  -- what was sent before the answer reads as itself
-  reads_before : (role : Role) (m : Message) → HasSent begun.history role m → ReadsAs (plane_of m) (spelled m) m
-  reads_before role m sent = reads role m (subst (λ h. HasSent h role m) (sym (f2.history ∙ ap (λ h. h ++ signed Packet (messages d2.moves.effect.out.sent)) d2.history)) (Among-left _ begun.history _ sent))
+  -- no message with this text was sent before
+  abbrev IsUnsent : Role → Message → Type 0
+  IsUnsent role now = (m : Message) → HasSent w.history role m → plane_of m ≡ Control → spelled m ≡ spelled now → ⊥
 
-  reads_first : (role : Role) (m : Message) → HasSent w.history role m → ReadsAs (plane_of m) (spelled m) m
-  reads_first role m sent = reads_before role m (subst (λ h. HasSent h role m) (sym begun_history) (Among-left _ w.history _ sent))
+  module _ (request_new : IsUnsent Serving (Create_session_request q)) where
+    new2 : IsNew w.packet.node asked
+    new2 h among same =
+        let s = held Packet h among in
+        let octets : arrival w.serving.node.config.own s.message ≡ asked = sym s.is ∙ same in
+        request_new s.message s.sent s.control (ap (λ (a : Arrival). a.octets) octets)
 
-  request_reads : ReadsAs (plane_of (Create_session_request q)) (spelled (Create_session_request q)) (Create_session_request q)
-  request_reads = reads_before Serving (Create_session_request q) (subst (λ h. HasSent h Serving (Create_session_request q)) (sym begun_history) (Among-last _ w.history))
+    can_make : CanMake w.packet.node q
+    can_make = record { room = can.held_room; one = refl; identity = can.identity; configured = can.configured; pdn = can.pdn; few = can.packet_room; draws = can.packet_draws; address = can.address }
 
-  new2 : IsNew w.packet.node asked
-  new2 h among same =
-      let s = held Packet h among in
-      let octets : arrival w.serving.node.config.own s.message ≡ asked = sym s.is ∙ same in
-      let message = apart s.message (Create_session_request q) s.control refl (reads_first Serving s.message s.sent) request_reads (ap (λ (a : Arrival). a.octets) octets) in
-      unowned w.serving Serving w.history inv.serving.draws (Create_session_request q) r1.control (subst (λ m. HasSent w.history Serving m) message s.sent) (inl refl) r1.control_free
+    a2 : IsAnswered asked q w.packet.node d2.moves.effect
+    a2 = answers asked q w.serving.node.counter w.packet.node d2.moves.effect (ap (λ (k : Addresses). k.control) (serving_own ∙ sym path.back)) new2 refl (not_earlier w.serving Serving w.history w.packet.node.known w.packet.seen w.serving.node.counter inv.serving.draws inv.packet.hearing refl) can_make (subst (λ n. Step Packet n (Control_came asked (Control_message (Create_session_request q))) d2.moves.effect) same2 d2.moves.step)
 
-  can_make : CanMake w.packet.node q
-  can_make = record { room = can.held_room; one = refl; identity = can.identity; configured = can.configured; pdn = can.pdn; few = can.packet_room; draws = can.packet_draws; address = can.address }
+    abbrev a : CreateSessionResponse
+    a = session_response a2.mid q a2.made.control a2.made.user a2.made.address
 
-  a2 : IsAnswered asked q w.packet.node d2.moves.effect
-  a2 = answers asked q w.serving.node.counter w.packet.node d2.moves.effect (ap (λ (k : Addresses). k.control) (serving_own ∙ sym path.back)) new2 refl (not_earlier w.serving Serving w.history w.packet.node.known w.packet.seen w.serving.node.counter inv.serving.draws inv.packet.hearing refl) can_make (subst (λ n. Step Packet n (Control_came asked (Control_message (Create_session_request q))) d2.moves.effect) same2 d2.moves.step)
+    abbrev made_node : Node
+    made_node = holding asked (Create_session_response a) (session_made a2.mid q a2.made.control a2.made.user a2.made.address)
 
-  abbrev a : CreateSessionResponse
-  a = session_response a2.mid q a2.made.control a2.made.user a2.made.address
+    answered_node : answered.packet.node ≡ made_node
+    answered_node = f2.node ∙ a2.node ∙ ap (λ (f : Effect). f.node) a2.made.gives
 
-  abbrev made_node : Node
-  made_node = holding asked (Create_session_response a) (session_made a2.mid q a2.made.control a2.made.user a2.made.address)
+    answered_history : answered.history ≡ (w.history ++ signed Serving (Create_session_request q ∷ [])) ++ signed Packet (Create_session_response a ∷ [])
+    answered_history = f2.history ∙ (λ i. (d2.history ∙ begun_history) i ++ signed Packet ((a2.sent ∙ ap (λ (f : Effect). messages f.out.sent) a2.made.gives) i))
 
-  answered_node : answered.packet.node ≡ made_node
-  answered_node = f2.node ∙ a2.node ∙ ap (λ (f : Effect). f.node) a2.made.gives
+    -- the answer comes
+    d3 : IsBrought answered Packet (Create_session_response a) opened
+    d3 = brought answered Packet (Create_session_response a) (1 + length w.history) opened
+        (ap (λ n. slice_get answered.history n) (one_longer w.history _) ∙ ap (λ hs. slice_get hs (length (w.history ++ signed Serving (Create_session_request q ∷ [])))) answered_history ∙ at_end (w.history ++ signed Serving (Create_session_request q ∷ [])) _)
+        h3
 
-  answered_history : answered.history ≡ (w.history ++ signed Serving (Create_session_request q ∷ [])) ++ signed Packet (Create_session_response a ∷ [])
-  answered_history = f2.history ∙ (λ i. (d2.history ∙ begun_history) i ++ signed Packet ((a2.sent ∙ ap (λ (f : Effect). messages f.out.sent) a2.made.gives) i))
+    abbrev told : Arrival
+    told = arrival answered.packet.node.config.own (Create_session_response a)
 
-  -- the answer comes
-  d3 : IsBrought answered Packet (Create_session_response a) opened
-  d3 = brought answered Packet (Create_session_response a) (1 + length w.history) opened
-      (ap (λ n. slice_get answered.history n) (one_longer w.history _) ∙ ap (λ hs. slice_get hs (length (w.history ++ signed Serving (Create_session_request q ∷ [])))) answered_history ∙ at_end (w.history ++ signed Serving (Create_session_request q ∷ [])) _)
-      h3
+    same3 : d3.before.serving.node ≡ e1.node
+    same3 = d3.serving ∙ f2.elsewhere ∙ d2.serving ∙ begun_node
 
-  abbrev told : Arrival
-  told = arrival answered.packet.node.config.own (Create_session_response a)
+    packet_own : answered.packet.node.config.own ≡ w.packet.node.config.own
+    packet_own = ap (λ (n : Node). n.config.own) answered_node ∙ ap (λ (c : Config). c.own) a2.ready.config
 
-  same3 : d3.before.serving.node ≡ e1.node
-  same3 = d3.serving ∙ f2.elsewhere ∙ d2.serving ∙ begun_node
+    free_before : (t : ℕ) → IsFree a2.mid t → IsFree w.packet.node t
+    free_before t free = record { counted = free.counted ∙ a2.ready.counter; numbered = free.numbered; undrawn = subst (λ l. Among t l → ⊥) a2.ready.drawn free.undrawn }
 
-  packet_own : answered.packet.node.config.own ≡ w.packet.node.config.own
-  packet_own = ap (λ (n : Node). n.config.own) answered_node ∙ ap (λ (c : Config). c.own) a2.ready.config
+    module _ (answer_new : IsUnsent Packet (Create_session_response a)) where
+      new3 : IsNew e1.node told
+      new3 h among same =
+          let s = held Serving h among in
+          let octets : arrival w.packet.node.config.own s.message ≡ told = sym s.is ∙ same in
+          answer_new s.message s.sent s.control (ap (λ (k : Arrival). k.octets) octets)
 
-  free_before : (t : ℕ) → IsFree a2.mid t → IsFree w.packet.node t
-  free_before t free = record { counted = free.counted ∙ a2.ready.counter; numbered = free.numbered; undrawn = subst (λ l. Among t l → ⊥) a2.ready.drawn free.undrawn }
+      waits : Waits e1.node q
+      waits = record { request = get-insert_same w.serving.node.pending r1.number (waiting_for q); session = get-insert_same w.serving.node.sessions r1.control (pending_session q); bearer = get-insert_same w.serving.node.bearers r1.user (pending_bearer r1.control q) }
 
-  answer_reads : ReadsAs (plane_of (Create_session_response a)) (spelled (Create_session_response a)) (Create_session_response a)
-  answer_reads = reads Packet (Create_session_response a) (subst (λ h. HasSent h Packet (Create_session_response a)) (sym answered_history) (Among-last _ (w.history ++ signed Serving (Create_session_request q ∷ []))))
+      opens_by : OpensBy a q a2.made.address
+      opens_by = record { number = refl; header = refl; accepts = accepts_cause spec.pdn; context = record { identity = q.context.identity; cause = cause_of 16; user = Some (tunnel_end 5 a2.made.user a2.mid.config.own.user); qos = Some q.context.qos; charging = Some a2.made.user }; alone = refl; default = refl; both = record { low = omega arith; high = omega arith }; given = refl }
 
-  new3 : IsNew e1.node told
-  new3 h among same =
-      let s = held Serving h among in
-      let octets : arrival w.packet.node.config.own s.message ≡ told = sym s.is ∙ same in
-      let message = apart s.message (Create_session_response a) s.control refl (reads_first Packet s.message s.sent) answer_reads (ap (λ (k : Arrival). k.octets) octets) in
-      unowned w.packet Packet w.history inv.packet.draws (Create_session_response a) a2.made.control (subst (λ m. HasSent w.history Packet m) message s.sent) (inl refl) (free_before a2.made.control a2.made.control_free)
+      o3 : IsOpened a q a2.made.address e1.node d3.moves.effect
+      o3 = is_opened_by told a q a2.made.address a2.mid.counter e1.node d3.moves.effect (ap (λ (k : Addresses). k.control) (packet_own ∙ sym path.there)) new3 refl (not_earlier w.packet Packet w.history w.serving.node.known w.serving.seen a2.mid.counter inv.packet.draws inv.serving.hearing a2.ready.counter) waits opens_by (subst (λ n. Step Serving n (Control_came told (Control_message (Create_session_response a))) d3.moves.effect) same3 d3.moves.step)
 
-  waits : Waits e1.node q
-  waits = record { request = get-insert_same w.serving.node.pending r1.number (waiting_for q); session = get-insert_same w.serving.node.sessions r1.control (pending_session q); bearer = get-insert_same w.serving.node.bearers r1.user (pending_bearer r1.control q) }
+      f3 : IsMoved d3.before Serving d3.moves.effect opened
+      f3 = moved_is d3.before Serving _ opened d3.moves
 
-  opens_by : OpensBy a q a2.made.address
-  opens_by = record { number = refl; header = refl; accepts = accepts_cause spec.pdn; context = record { identity = q.context.identity; cause = cause_of 16; user = Some (tunnel_end 5 a2.made.user a2.mid.config.own.user); qos = Some q.context.qos; charging = Some a2.made.user }; alone = refl; default = refl; both = record { low = omega arith; high = omega arith }; given = refl }
+      opened_node : opened.serving.node ≡ (opening a q o3.mid a2.made.address).node
+      opened_node = f3.node ∙ o3.node
 
-  o3 : IsOpened a q a2.made.address e1.node d3.moves.effect
-  o3 = is_opened_by told a q a2.made.address a2.mid.counter e1.node d3.moves.effect (ap (λ (k : Addresses). k.control) (packet_own ∙ sym path.there)) new3 refl (not_earlier w.packet Packet w.history w.serving.node.known w.serving.seen a2.mid.counter inv.packet.draws inv.serving.hearing a2.ready.counter) waits opens_by (subst (λ n. Step Serving n (Control_came told (Control_message (Create_session_response a))) d3.moves.effect) same3 d3.moves.step)
+      packet_node : opened.packet.node ≡ made_node
+      packet_node = f3.elsewhere ∙ d3.packet ∙ answered_node
 
-  f3 : IsMoved d3.before Serving d3.moves.effect opened
-  f3 = moved_is d3.before Serving _ opened d3.moves
+      abbrev at_serving : Session
+      at_serving = opened_session (pending_session q) a a2.made.address
 
-  opened_node : opened.serving.node ≡ (opening a q o3.mid a2.made.address).node
-  opened_node = f3.node ∙ o3.node
+      abbrev at_packet : Session
+      at_packet = made_session q a2.made.address
 
-  packet_node : opened.packet.node ≡ made_node
-  packet_node = f3.elsewhere ∙ d3.packet ∙ answered_node
+      abbrev bearer_at_serving : Bearer
+      bearer_at_serving = opened_bearer (pending_bearer r1.control q) a
 
-  abbrev at_serving : Session
-  at_serving = opened_session (pending_session q) a a2.made.address
+      abbrev bearer_at_packet : Bearer
+      bearer_at_packet = made_bearer q a2.made.control
 
-  abbrev at_packet : Session
-  at_packet = made_session q a2.made.address
+      session_stands : get opened.serving.node.sessions r1.control ≡ Some at_serving
+      session_stands = ap (λ (n : Node). get n.sessions r1.control) opened_node ∙ get-insert_same o3.mid.sessions r1.control at_serving
 
-  abbrev bearer_at_serving : Bearer
-  bearer_at_serving = opened_bearer (pending_bearer r1.control q) a
+      bearer_stands : get opened.serving.node.bearers r1.user ≡ Some bearer_at_serving
+      bearer_stands = ap (λ (n : Node). get n.bearers r1.user) opened_node ∙ get-insert_same o3.mid.bearers r1.user bearer_at_serving
 
-  abbrev bearer_at_packet : Bearer
-  bearer_at_packet = made_bearer q a2.made.control
+      session_stands_there : get opened.packet.node.sessions a2.made.control ≡ Some at_packet
+      session_stands_there = ap (λ (n : Node). get n.sessions a2.made.control) packet_node ∙ get-insert_same a2.mid.sessions a2.made.control at_packet
 
-  session_stands : get opened.serving.node.sessions r1.control ≡ Some at_serving
-  session_stands = ap (λ (n : Node). get n.sessions r1.control) opened_node ∙ get-insert_same o3.mid.sessions r1.control at_serving
+      bearer_stands_there : get opened.packet.node.bearers a2.made.user ≡ Some bearer_at_packet
+      bearer_stands_there = ap (λ (n : Node). get n.bearers a2.made.user) packet_node ∙ get-insert_same a2.mid.bearers a2.made.user bearer_at_packet
 
-  bearer_stands : get opened.serving.node.bearers r1.user ≡ Some bearer_at_serving
-  bearer_stands = ap (λ (n : Node). get n.bearers r1.user) opened_node ∙ get-insert_same o3.mid.bearers r1.user bearer_at_serving
+      serving_config : opened.serving.node.config ≡ w.serving.node.config
+      serving_config = ap (λ (n : Node). n.config) opened_node ∙ o3.ready.config
 
-  session_stands_there : get opened.packet.node.sessions a2.made.control ≡ Some at_packet
-  session_stands_there = ap (λ (n : Node). get n.sessions a2.made.control) packet_node ∙ get-insert_same a2.mid.sessions a2.made.control at_packet
+      packet_config : opened.packet.node.config ≡ w.packet.node.config
+      packet_config = ap (λ (n : Node). n.config) packet_node ∙ a2.ready.config
 
-  bearer_stands_there : get opened.packet.node.bearers a2.made.user ≡ Some bearer_at_packet
-  bearer_stands_there = ap (λ (n : Node). get n.bearers a2.made.user) packet_node ∙ get-insert_same a2.mid.bearers a2.made.user bearer_at_packet
+      made : IsMade opened spec
+      made = record {
+        session = r1.control;
+        session_there = a2.made.control;
+        at_serving = at_serving;
+        at_packet = at_packet;
+        sessions = record { serving = session_stands; packet = session_stands_there; serving_active = refl; packet_active = refl; there = refl; back = refl };
+        subscriber = refl;
+        subscriber_there = refl;
+        bearer = r1.user;
+        bearer_there = a2.made.user;
+        bearer_at_serving = bearer_at_serving;
+        bearer_at_packet = bearer_at_packet;
+        bearers = record { serving = bearer_stands; packet = bearer_stands_there; serving_active = refl; packet_active = refl; there = refl; back = refl };
+        default = refl;
+        default_there = refl;
+        of = refl;
+        of_there = refl;
+        identity = refl;
+        up = carries opened Serving r1.user a2.made.user (record { here = bearer_at_serving; stands = bearer_stands; active = refl; unended = refl; remote = refl; at = bearer_at_packet; stands_there = bearer_stands_there; active_there = refl; unended_there = refl; path = ap (λ (c : Config). c.peer) packet_config ∙ path.back ∙ ap (λ (c : Config). c.own) (sym serving_config) });
+        down = carries opened Packet a2.made.user r1.user (record { here = bearer_at_packet; stands = bearer_stands_there; active = refl; unended = refl; remote = refl; at = bearer_at_serving; stands_there = bearer_stands; active_there = refl; unended_there = refl; path = ap (λ (c : Config). c.peer) serving_config ∙ path.there ∙ ap (λ (c : Config). c.own) (sym packet_config) });
+      }
 
-  serving_config : opened.serving.node.config ≡ w.serving.node.config
-  serving_config = ap (λ (n : Node). n.config) opened_node ∙ o3.ready.config
+      no_bearer : (role : Role) (t : ℕ) → IsFree (side_of w role).node t → (b : Bearer) → get (side_of w role).node.bearers t ≡ Some b → ⊥
+      no_bearer role t free b stands = own_on role t free (bearer_goes_back packet.own w inv role t b stands).here
+        where
+          own_on : (role : Role) (t : ℕ) → IsFree (side_of w role).node t → IsFromOn User w.history role t → ⊥
+          own_on Serving t free from = unowned w.serving Serving w.history inv.serving.draws from.message t from.sent (owns_user from.message t from.owns) free
+          own_on Packet t free from = unowned w.packet Packet w.history inv.packet.draws from.message t from.sent (owns_user from.message t from.owns) free
 
-  packet_config : opened.packet.node.config ≡ w.packet.node.config
-  packet_config = ap (λ (n : Node). n.config) packet_node ∙ a2.ready.config
+      free_no_session : (role : Role) (node : Node) → Knows role w.history node → (t : ℕ) → IsFree node t → (s : Session) → get node.sessions t ≡ Some s → ⊥
+      free_no_session role node knows t free s stands = free.undrawn (knows.drawn t s stands)
 
-  made : IsMade opened spec
-  made = record {
-    session = r1.control;
-    session_there = a2.made.control;
-    at_serving = at_serving;
-    at_packet = at_packet;
-    sessions = record { serving = session_stands; packet = session_stands_there; serving_active = refl; packet_active = refl; there = refl; back = refl };
-    subscriber = refl;
-    subscriber_there = refl;
-    bearer = r1.user;
-    bearer_there = a2.made.user;
-    bearer_at_serving = bearer_at_serving;
-    bearer_at_packet = bearer_at_packet;
-    bearers = record { serving = bearer_stands; packet = bearer_stands_there; serving_active = refl; packet_active = refl; there = refl; back = refl };
-    default = refl;
-    default_there = refl;
-    of = refl;
-    of_there = refl;
-    identity = refl;
-    up = carries opened Serving r1.user a2.made.user (record { here = bearer_at_serving; stands = bearer_stands; active = refl; unended = refl; remote = refl; at = bearer_at_packet; stands_there = bearer_stands_there; active_there = refl; unended_there = refl; path = ap (λ (c : Config). c.peer) packet_config ∙ path.back ∙ ap (λ (c : Config). c.own) (sym serving_config) });
-    down = carries opened Packet a2.made.user r1.user (record { here = bearer_at_packet; stands = bearer_stands_there; active = refl; unended = refl; remote = refl; at = bearer_at_serving; stands_there = bearer_stands; active_there = refl; unended_there = refl; path = ap (λ (c : Config). c.peer) serving_config ∙ path.there ∙ ap (λ (c : Config). c.own) (sym packet_config) });
-  }
+      exchanged : Exchanged spec w begun answered opened
+      unfolding made
+      exchanged = record {
+        new = record {
+          session = free_no_session Serving w.serving.node inv.serving.knows r1.control r1.control_free;
+          session_there = free_no_session Packet w.packet.node inv.packet.knows a2.made.control (free_before a2.made.control a2.made.control_free);
+          bearer = no_bearer Serving r1.user r1.user_free;
+          bearer_there = no_bearer Packet a2.made.user (free_before a2.made.user a2.made.user_free);
+        };
+        cause = session_cause spec.pdn;
+        one_version = λ one. ap session_cause one;
+        both_versions = λ both. ap session_cause both;
+        first = record { note = f1.note.note; before = f1.note.before; notes = f1.note.notes; is = f1.note.is ∙ ap (λ (f : Effect). Came_to f.outcome) r1.gives };
+        second = record { note = f2.note.note; before = f2.note.before; notes = f2.note.notes; is = f2.note.is ∙ ap (λ o. Came_to o) (a2.outcome ∙ ap (λ (f : Effect). f.outcome) a2.made.gives) };
+        third = record { note = f3.note.note; before = f3.note.before; notes = f3.note.notes; is = f3.note.is ∙ ap (λ o. Came_to o) o3.outcome };
+        made = made;
+      }
 
-  no_bearer : (role : Role) (t : ℕ) → IsFree (side_of w role).node t → (b : Bearer) → get (side_of w role).node.bearers t ≡ Some b → ⊥
-  no_bearer role t free b stands = own_on role t free (bearer_goes_back packet.own w inv role t b stands).here
-    where
-      own_on : (role : Role) (t : ℕ) → IsFree (side_of w role).node t → IsFromOn User w.history role t → ⊥
-      own_on Serving t free from = unowned w.serving Serving w.history inv.serving.draws from.message t from.sent (owns_user from.message t from.owns) free
-      own_on Packet t free from = unowned w.packet Packet w.history inv.packet.draws from.message t from.sent (owns_user from.message t from.owns) free
+      -- what was sent is what was sent before, the request and the answer
+      opened_history : opened.history ≡ answered.history
+      opened_history = f3.history ∙ (λ i. d3.history i ++ signed Serving (o3.sent i)) ∙ append-nil answered.history
 
-  free_no_session : (role : Role) (node : Node) → Knows role w.history node → (t : ℕ) → IsFree node t → (s : Session) → get node.sessions t ≡ Some s → ⊥
-  free_no_session role node knows t free s stands = free.undrawn (knows.drawn t s stands)
+      sent_now : (role : Role) (m : Message) → HasSent opened.history role m → HasSent w.history role m ⊎ ((m ≡ Create_session_request q) ⊎ (m ≡ Create_session_response a))
+      sent_now role m sent =
+          let now = by_cases (w.history ++ signed Serving (Create_session_request q ∷ [])) role Packet (Create_session_response a ∷ []) m (subst (λ h. HasSent h role m) (opened_history ∙ answered_history) sent) in
+          elim now [
+            | inl before ↦ ⊎_elim (λ was. inl was) (λ asked. inr (inl (only asked.1))) (by_cases w.history role Serving (Create_session_request q ∷ []) m before)
+            | inr told ↦ inr (inr (only told.1))
+          ]
+        where
+          only : {x : Message} → Among m (x ∷ []) → m ≡ x
+          only (inl is) = is
+          only (inr none) = absurd none
 
-  exchanged : Exchanged spec w begun answered opened
-  unfolding made
-  exchanged = record {
-    new = record {
-      session = free_no_session Serving w.serving.node inv.serving.knows r1.control r1.control_free;
-      session_there = free_no_session Packet w.packet.node inv.packet.knows a2.made.control (free_before a2.made.control a2.made.control_free);
-      bearer = no_bearer Serving r1.user r1.user_free;
-      bearer_there = no_bearer Packet a2.made.user (free_before a2.made.user a2.made.user_free);
-    };
-    cause = session_cause spec.pdn;
-    one_version = λ one. ap session_cause one;
-    both_versions = λ both. ap session_cause both;
-    first = record { note = f1.note.note; before = f1.note.before; notes = f1.note.notes; is = f1.note.is ∙ ap (λ (f : Effect). Came_to f.outcome) r1.gives };
-    second = record { note = f2.note.note; before = f2.note.before; notes = f2.note.notes; is = f2.note.is ∙ ap (λ o. Came_to o) (a2.outcome ∙ ap (λ (f : Effect). f.outcome) a2.made.gives) };
-    third = record { note = f3.note.note; before = f3.note.before; notes = f3.note.notes; is = f3.note.is ∙ ap (λ o. Came_to o) o3.outcome };
-    made = made;
-  }
+  -- where each message that was sent reads as itself
+  module _ (reads : AllRead answered) where
+    -- what was sent before the answer reads as itself
+    reads_before : (role : Role) (m : Message) → HasSent begun.history role m → ReadsAs (plane_of m) (spelled m) m
+    reads_before role m sent = reads role m (subst (λ h. HasSent h role m) (sym (f2.history ∙ ap (λ h. h ++ signed Packet (messages d2.moves.effect.out.sent)) d2.history)) (Among-left _ begun.history _ sent))
 
-pub fair_exchange : FairExchange
-fair_exchange serving packet sc pc events w begun answered opened spec r path can h1 h2 h3 reads = exchanged serving packet sc pc events w begun answered opened spec r path can h1 h2 h3 reads
+    reads_first : (role : Role) (m : Message) → HasSent w.history role m → ReadsAs (plane_of m) (spelled m) m
+    reads_first role m sent = reads_before role m (subst (λ h. HasSent h role m) (sym begun_history) (Among-left _ w.history _ sent))
+
+    request_reads : ReadsAs (plane_of (Create_session_request q)) (spelled (Create_session_request q)) (Create_session_request q)
+    request_reads = reads_before Serving (Create_session_request q) (subst (λ h. HasSent h Serving (Create_session_request q)) (sym begun_history) (Among-last _ w.history))
+
+    request_apart : IsUnsent Serving (Create_session_request q)
+    request_apart m sent control text =
+        let message = apart m (Create_session_request q) control refl (reads_first Serving m sent) request_reads text in
+        unowned w.serving Serving w.history inv.serving.draws (Create_session_request q) r1.control (subst (λ m. HasSent w.history Serving m) message sent) (inl refl) r1.control_free
+
+    answer_reads : ReadsAs (plane_of (Create_session_response (a request_apart))) (spelled (Create_session_response (a request_apart))) (Create_session_response (a request_apart))
+    answer_reads = reads Packet (Create_session_response (a request_apart)) (subst (λ h. HasSent h Packet (Create_session_response (a request_apart))) (sym (answered_history request_apart)) (Among-last _ (w.history ++ signed Serving (Create_session_request q ∷ []))))
+
+    answer_apart : IsUnsent Packet (Create_session_response (a request_apart))
+    answer_apart m sent control text =
+        let message = apart m (Create_session_response (a request_apart)) control refl (reads_first Packet m sent) answer_reads text in
+        let made = (a2 request_apart).made in
+        unowned w.packet Packet w.history inv.packet.draws (Create_session_response (a request_apart)) made.control (subst (λ m. HasSent w.history Packet m) message sent) (inl refl) (free_before request_apart made.control made.control_free)
+
+    by_reading : Exchanged spec w begun answered opened
+    by_reading = exchanged request_apart answer_apart
+
+  -- where what they carry has room in the request and in its answer
+  module _ (serving_is : IsConfigured w.serving.node.config) (packet_is : IsConfigured w.packet.node.config) (specified : IsSpecified spec) where
+    control_small : r1.control < 2 ^ 32
+    control_small = free_small w.serving Serving w.history inv.serving.draws r1.control r1.control_free
+
+    user_small : r1.user < 2 ^ 32
+    user_small = free_small w.serving Serving w.history inv.serving.draws r1.user r1.user_free
+
+    number_small : r1.number < 2 ^ 24
+    number_small = omega (arith, r1.number_free.small)
+
+    request_is : IsSendable (Create_session_request q)
+    request_is = request_sendable w.serving.node spec r1.control r1.user r1.number serving_is specified can.identity can.pdn control_small user_small number_small
+
+    request_differs : IsUnsent Serving (Create_session_request q)
+    request_differs m sent control text =
+        let like = request_like m q control text in
+        let was = subst (λ k. HasSent w.history Serving k) like.is sent in
+        let short = request_short w.serving.node spec r1.control r1.user r1.number serving_is specified can.identity can.pdn control_small user_small number_small in
+        let small = owned_small w.serving Serving w.history inv.serving.draws (Create_session_request like.request) like.request.control.teid was (inl refl) in
+        let same = same_request_teid like.request q (omega (arith, short)) small control_small like.after in
+        unowned w.serving Serving w.history inv.serving.draws (Create_session_request like.request) r1.control was (inl (sym same)) r1.control_free
+
+    abbrev now : CreateSessionResponse
+    now = a request_differs
+
+    abbrev at : IsAnswered asked q w.packet.node d2.moves.effect
+    at = a2 request_differs
+
+    mid_is : IsConfigured at.mid.config
+    mid_is = subst IsConfigured (sym at.ready.config) packet_is
+
+    control_free : IsFree w.packet.node at.made.control
+    control_free = free_before request_differs at.made.control at.made.control_free
+
+    control_there_small : at.made.control < 2 ^ 32
+    control_there_small = free_small w.packet Packet w.history inv.packet.draws at.made.control control_free
+
+    user_there_small : at.made.user < 2 ^ 32
+    user_there_small = free_small w.packet Packet w.history inv.packet.draws at.made.user (free_before request_differs at.made.user at.made.user_free)
+
+    address_small : at.made.address < 2 ^ 32
+    address_small = omega (arith, at.made.address_free.is, at.made.address_free.in_pool, mid_is.pool.within)
+
+    response_is : IsSendable (Create_session_response now)
+    response_is = response_sendable w.serving.node spec r1.control r1.user r1.number serving_is specified can.identity can.pdn control_small user_small number_small at.mid at.made.control at.made.user at.made.address mid_is control_there_small user_there_small address_small
+
+    response_differs : IsUnsent Packet (Create_session_response now)
+    response_differs m sent control text =
+        let like = response_like m now control text in
+        let was = subst (λ k. HasSent w.history Packet k) like.is sent in
+        let short = response_short w.serving.node spec r1.control r1.user r1.number serving_is specified can.identity can.pdn control_small user_small number_small at.mid at.made.control at.made.user at.made.address mid_is control_there_small user_there_small address_small in
+        let names = same_response_teid like.response now (tunnel_end 7 at.made.control at.mid.config.own.control) refl (omega (arith, short)) control_there_small like.after in
+        let owns = ap teid_in names.control in
+        let small = owned_small w.packet Packet w.history inv.packet.draws (Create_session_response like.response) names.end.teid was (inl owns) in
+        unowned w.packet Packet w.history inv.packet.draws (Create_session_response like.response) at.made.control was (inl (owns ∙ ap (λ t. Some t) (names.same small))) control_free
+
+    in_range : Exchanged spec w begun answered opened
+    in_range = exchanged request_differs response_differs
+
+    each_sendable : (role : Role) (m : Message) → HasSent opened.history role m → HasSent w.history role m ⊎ IsSendable m
+    each_sendable role m sent = elim (sent_now request_differs response_differs role m sent) [
+      | inl was ↦ inl was
+      | inr now ↦ inr (⊎_elim (λ is. subst IsSendable (sym is) request_is) (λ is. subst IsSendable (sym is) response_is) now)
+    ]
+
+-- where each message that was sent reads as itself, whatever it carries
+pub fair_exchange : (serving packet : Config) (serving_counter packet_counter : ℕ) (events : List Event) (w begun answered opened : World) (spec : Specification) → Run (start serving packet serving_counter packet_counter) events w → IsOnePath w.serving.node.config w.packet.node.config → CanExchange w spec
+    → Happens w (Does Serving (Create_session spec)) begun → Happens begun (Deliver (length w.history)) answered → Happens answered (Deliver (1 + length w.history)) opened → AllRead answered → Exchanged spec w begun answered opened
+fair_exchange serving packet sc pc events w begun answered opened spec r path can h1 h2 h3 reads = by_reading serving packet sc pc events w begun answered opened spec r path can h1 h2 h3 reads
+
+pub exchange_made : FairExchange
+exchange_made serving packet sc pc events w begun answered opened spec r x = in_range serving packet sc pc events w begun answered opened spec r x.path x.can x.begins x.comes x.opens x.serving x.packet x.specified
+
+pub exchange_sendable : ExchangeSendable
+exchange_sendable serving packet sc pc events w begun answered opened spec r x = each_sendable serving packet sc pc events w begun answered opened spec r x.path x.can x.begins x.comes x.opens x.serving x.packet x.specified

@@ -298,14 +298,14 @@ hears_restart = record {
   where
     all : AllSendable w19.history
     all = (
-      session_request 1 (omega arith),
+      session_request 1 (inl refl),
       (
-        session_response 1 (omega arith) (inl refl),
+        session_response 1 (inl refl),
         (
           bearer_request,
           (
             bearer_response,
-            (packet 120, (session_response 1 (omega arith) (inl refl), (packet 121, (packet 122, (removal_request, (removal_response, (echo_request 2, (echo_response 1, tt)))))))),
+            (packet 120, (session_response 1 (inl refl), (packet 121, (packet 122, (removal_request, (removal_response, (echo_request 2, (echo_response 1, tt)))))))),
           ),
         ),
       ),

@@ -1,0 +1,213 @@
+-- The request for a session and its answer can be sent, where what they carry has room in them.
+use Rattle.std.proofs.Common.{◌≡◌, ◌⊎◌, inl, inr, ⊎_elim, ℕ, ◌+◌, ◌^◌, ◌<◌, ◌≤◌, length, List, [], ◌∷◌, ◌++◌, Some, refl, sym, ap, subst, arith, rules}
+use Rattle.std.specs.Prelude.{All}
+use Rattle.std.proofs.lemmas.List.{length-append}
+use Rattle.std.proofs.lemmas.List.Elements.{All-nil, All-cons}
+use Rattle.gtp_values.specs.Address.{IsIp}
+use Rattle.gtp_values.specs.Numbers.{four}
+use Rattle.gtp_values.specs.declared.address.Ip.{Ip}
+use Rattle.gtp_values.specs.declared.address.Ip.TheVariants.{V4, V6}
+use Rattle.gtp_values.specs.declared.qos.Ambr.{Ambr}
+use Rattle.gtp_values.specs.declared.qos.Qos.{Qos}
+use Rattle.gtp_ie.specs.Digits.{packed}
+use Rattle.gtp_ie.specs.Text.{element_encoding}
+use Rattle.gtp_ie.specs.Value.{OfImsi, OfCause, OfRecovery, OfApn, OfAmbr, OfEbi, OfPaa, OfQos, OfRat, OfPlmn, OfFTeid, OfChargingId, OfPdnType, OfSelection, encoding_of}
+use Rattle.gtp_ie.proofs.Again.{recovery_again, ebi_again, charging_id_again, rat_again, pdn_type_again, selection_again, cause_again, ambr_again, qos_again}
+use Rattle.gtp_ie.proofs.AgainAddresses.{v4_again, fteid_again, plmn_again}
+use Rattle.gtp_ie.proofs.AgainNames.{imsi_again, apn_again}
+use Rattle.gtp_v2.specs.Encoding.{carried}
+use Rattle.gtp_v2.specs.Kinds.{HasKind, RowsHaveKinds}
+use Rattle.gtp_v2.specs.Marks.{MeetsMarks}
+use Rattle.gtp_v2.specs.Text.{value_encoding, groups_encoding, rows_encoding}
+use Rattle.gtp_v2.specs.CreateSessionRequest.{session_request_context_rows}
+use Rattle.gtp_v2.specs.CreateSessionResponse.{session_response_context_rows}
+use Rattle.gtp_machine.specs.Element.{Ipv4, cause_of, tunnel_end}
+use Rattle.gtp_machine.specs.Message.{CreateSessionRequest, CreatedBearer, CreateSessionResponse, Create_session_request, Create_session_response}
+use Rattle.gtp_machine.specs.Node.{Node}
+use Rattle.gtp_machine.specs.Input.{Specification}
+use Rattle.gtp_machine.specs.Choice.{IsIdentity}
+use Rattle.gtp_machine.specs.Command.{session_request}
+use Rattle.gtp_machine.specs.Packet.{session_cause, session_response}
+use Rattle.gtp_machine.specs.Spelling.{control_value, paa_of, requested_rows, created_rows, IsSendable}
+use Rattle.gtp_machine.specs.Exchange.{IsConfigured, IsAmbr, IsQos, IsSpecified}
+
+-- the values of its elements are spelled by what is written
+pub spelled_end : (interface teid : ℕ) (ip : Ip) → IsIp ip → interface < 64 → teid < 2 ^ 32 → HasKind 87 (OfFTeid (tunnel_end interface teid ip))
+spelled_end interface teid (V4 octets) is low small = fteid_again (tunnel_end interface teid (V4 octets)) (record { interface = low; teid = small; v4 = is.0; v6 = tt; some_address = refl })
+spelled_end interface teid (V6 octets) is low small = fteid_again (tunnel_end interface teid (V6 octets)) (record { interface = low; teid = small; v4 = tt; v6 = is.0; some_address = refl })
+
+pub spelled_cause : (value : ℕ) → HasKind 2 (OfCause (cause_of value))
+spelled_cause value = cause_again (cause_of value) tt
+
+spelled_ambr : (ambr : Ambr) → IsAmbr ambr → HasKind 72 (OfAmbr ambr)
+spelled_ambr ambr is = ambr_again ambr is.up is.down
+
+pub spelled_qos : (qos : Qos) → IsQos qos → HasKind 80 (OfQos qos)
+spelled_qos qos is = qos_again qos is.level is.most is.guaranteed
+
+identity_again : (identity : ℕ) → IsIdentity identity → identity < 16
+identity_again identity is = omega (arith, is.high)
+
+-- one bearer context
+pub alone : {X : Type 0} (P : X → Type 0) (x : X) → P x → All P (x ∷ [])
+alone P x p = All-cons P x [] p (All-nil P)
+
+-- a text of at most so many octets
+record IsAtMost (text : List ℕ) (most : ℕ) : Type 0 where
+  pub few : length text ≤ most
+
+-- an element, and what stands after it
+with_more : (kind instance most : ℕ) (body rest : List ℕ) (n : ℕ) → length body ≤ most → IsAtMost rest n → IsAtMost (element_encoding kind instance body ++ rest) (4 + most + n)
+with_more kind instance most body rest n short more = let long = length-append body rest in record { few = omega (arith, long, short, more.few) }
+
+-- a group of them, and what stands after it
+group_more : (kind instance most : ℕ) (body rest : List ℕ) (n : ℕ) → IsAtMost body most → IsAtMost rest n → IsAtMost ((element_encoding kind instance body ++ []) ++ rest) (4 + most + n)
+group_more kind instance most body rest n short more = let last = length-append body [] in let long = length-append (body ++ []) rest in record { few = omega (arith, last, long, short.few, more.few) }
+
+end_short : (interface teid : ℕ) (ip : Ip) → IsIp ip → length (encoding_of (OfFTeid (tunnel_end interface teid ip))) ≤ 100
+unfolding encoding_of
+end_short interface teid (V4 octets) is = let long = length-append octets [] in omega (arith, long, is.0)
+end_short interface teid (V6 octets) is = omega (arith, is.0)
+
+packed_short : (digits : List ℕ) → length (packed digits) ≤ length digits
+packed_short [] = omega arith
+packed_short (a ∷ []) = omega arith
+packed_short (a ∷ b ∷ digits) = let more = packed_short digits in omega (arith, more)
+
+module _ (node : Node) (spec : Specification) (control user number : ℕ) (configured : IsConfigured node.config) (specified : IsSpecified spec) (identity : IsIdentity spec.subscriber.identity) (known : (spec.pdn ≡ 1) ⊎ (spec.pdn ≡ 3)) (control_small : control < 2 ^ 32) (user_small : user < 2 ^ 32) (number_small : number < 2 ^ 24) where
+  abbrev q : CreateSessionRequest
+  q = session_request node spec control user number
+
+  type_small : spec.pdn < 8
+  type_small = ⊎_elim (λ is. omega (arith, is)) (λ is. omega (arith, is)) known
+
+  context_short : IsAtMost (rows_encoding session_request_context_rows (requested_rows q.context)) 312
+  unfolding encoding_of value_encoding
+  context_short =
+      with_more 73 0 100 (encoding_of (OfEbi spec.subscriber.identity)) _ 208 (omega arith)
+      (with_more 80 0 100 (encoding_of (OfQos spec.qos)) _ 104 (omega arith)
+      (with_more 87 2 100 (encoding_of (OfFTeid q.context.user)) [] 0 (end_short 4 user node.config.own.user configured.user) (record { few = omega arith })))
+
+  pub request_short : length (carried (control_value (Create_session_request q))) ≤ 65527
+  unfolding encoding_of value_encoding groups_encoding
+  request_short =
+      let imsi = packed_short spec.subscriber.imsi in
+      let last : IsAtMost (value_encoding 3 0 (OfRecovery node.counter ∷ []) ++ []) 5 = record { few = omega arith } in
+      let most = with_more 1 0 100 (encoding_of (OfImsi spec.subscriber.imsi)) _ 1153 (omega (arith, imsi, specified.imsi.most))
+      (with_more 82 0 100 (encoding_of (OfRat spec.rat)) _ 1049 (omega arith)
+      (with_more 83 0 100 (encoding_of (OfPlmn spec.network)) _ 945 (omega arith)
+      (with_more 87 0 100 (encoding_of (OfFTeid q.control)) _ 841 (end_short 6 control node.config.own.control configured.control)
+      (with_more 71 0 100 (encoding_of (OfApn spec.subscriber.access_point)) _ 737 (omega (arith, specified.access_point.most))
+      (with_more 128 0 100 (encoding_of (OfSelection spec.selection)) _ 633 (omega arith)
+      (with_more 99 0 100 (encoding_of (OfPdnType spec.pdn)) _ 529 (omega arith)
+      (with_more 79 0 100 (encoding_of (OfPaa (paa_of (Ipv4 0)))) _ 425 (omega arith)
+      (with_more 72 0 100 (encoding_of (OfAmbr spec.ambr)) _ 321 (omega arith)
+      (group_more 93 0 312 (rows_encoding session_request_context_rows (requested_rows q.context)) _ 5 context_short last))))))))) in
+      omega (arith, most.few)
+
+  pub request_sendable : IsSendable (Create_session_request q)
+  unfolding encoding_of value_encoding groups_encoding
+  request_sendable = record {
+    own = omega arith;
+    meets = record {
+      header = (omega arith, number_small);
+      kinds = (
+        imsi_again spec.subscriber.imsi specified.imsi,
+        (
+          rat_again spec.rat,
+          (
+            plmn_again spec.network specified.network,
+            (
+              spelled_end 6 control node.config.own.control configured.control (omega arith) control_small,
+              (
+                apn_again spec.subscriber.access_point specified.access_point,
+                (
+                  selection_again spec.selection specified.selection,
+                  (
+                    pdn_type_again spec.pdn type_small,
+                    (
+                      v4_again (four 0 []) refl,
+                      (
+                        spelled_ambr spec.ambr specified.ambr,
+                        (
+                          alone (RowsHaveKinds session_request_context_rows) _ (ebi_again spec.subscriber.identity (identity_again spec.subscriber.identity identity), (spelled_qos spec.qos specified.qos, (spelled_end 4 user node.config.own.user configured.user (omega arith) user_small, tt))),
+                          (recovery_again node.counter, tt),
+                        ),
+                      ),
+                    ),
+                  ),
+                ),
+              ),
+            ),
+          ),
+        ),
+      );
+      marks = search rules;
+      short = omega (arith, request_short);
+    };
+  }
+
+  -- the answer
+  module _ (there : Node) (control_there user_there address : ℕ) (configured_there : IsConfigured there.config) (control_there_small : control_there < 2 ^ 32) (user_there_small : user_there < 2 ^ 32) (address_small : address < 2 ^ 32) where
+    -- with a cause of this value
+    abbrev answer : ℕ → CreateSessionResponse
+    answer value = record (session_response there q control_there user_there address) { cause = cause_of value }
+
+    abbrev a : CreateSessionResponse
+    a = session_response there q control_there user_there address
+
+    abbrev created : CreatedBearer
+    created = record { identity = spec.subscriber.identity; cause = cause_of 16; user = Some (tunnel_end 5 user_there there.config.own.user); qos = Some spec.qos; charging = Some user_there }
+
+    created_short : IsAtMost (rows_encoding session_response_context_rows (created_rows created)) 520
+    unfolding encoding_of value_encoding
+    created_short =
+        with_more 73 0 100 (encoding_of (OfEbi spec.subscriber.identity)) _ 416 (omega arith)
+        (with_more 2 0 100 (encoding_of (OfCause (cause_of 16))) _ 312 (omega arith)
+        (with_more 87 2 100 (encoding_of (OfFTeid (tunnel_end 5 user_there there.config.own.user))) _ 208 (end_short 5 user_there there.config.own.user configured_there.user)
+        (with_more 80 0 100 (encoding_of (OfQos spec.qos)) _ 104 (omega arith)
+        (with_more 94 0 100 (encoding_of (OfChargingId user_there)) [] 0 (omega arith) (record { few = omega arith })))))
+
+    pub response_short : length (carried (control_value (Create_session_response a))) ≤ 65527
+    unfolding encoding_of value_encoding groups_encoding
+    response_short =
+        let last : IsAtMost (value_encoding 3 0 (OfRecovery there.counter ∷ []) ++ []) 5 = record { few = omega arith } in
+        let most = with_more 2 0 100 (encoding_of (OfCause (cause_of (session_cause spec.pdn)))) _ 841 (omega arith)
+        (with_more 87 1 100 (encoding_of (OfFTeid (tunnel_end 7 control_there there.config.own.control))) _ 737 (end_short 7 control_there there.config.own.control configured_there.control)
+        (with_more 79 0 100 (encoding_of (OfPaa (paa_of (Ipv4 address)))) _ 633 (omega arith)
+        (with_more 72 0 100 (encoding_of (OfAmbr spec.ambr)) _ 529 (omega arith)
+        (group_more 93 0 520 (rows_encoding session_response_context_rows (created_rows created)) _ 5 created_short last)))) in
+        omega (arith, most.few)
+
+    value_is : (session_cause spec.pdn ≡ 16) ⊎ (session_cause spec.pdn ≡ 18)
+    value_is = ⊎_elim (λ is. inl (ap session_cause is)) (λ is. inr (ap session_cause is)) known
+
+    pub response_sendable : IsSendable (Create_session_response a)
+    unfolding encoding_of value_encoding groups_encoding
+    response_sendable = record {
+      own = address_small;
+      meets = record {
+        header = (control_small, number_small);
+        kinds = (
+          spelled_cause (session_cause spec.pdn),
+          (
+            spelled_end 7 control_there there.config.own.control configured_there.control (omega arith) control_there_small,
+            (
+              v4_again (four address []) refl,
+              (
+                spelled_ambr spec.ambr specified.ambr,
+                (
+                  alone (RowsHaveKinds session_response_context_rows) _ (ebi_again spec.subscriber.identity (identity_again spec.subscriber.identity identity), (spelled_cause 16, (spelled_end 5 user_there there.config.own.user configured_there.user (omega arith) user_there_small, (spelled_qos spec.qos specified.qos, (charging_id_again user_there user_there_small, tt))))),
+                  (recovery_again there.counter, tt),
+                ),
+              ),
+            ),
+          ),
+        );
+        marks = ⊎_elim
+            (λ is. subst (λ value. MeetsMarks (control_value (Create_session_response (answer value)))) (sym is) (search rules))
+            (λ is. subst (λ value. MeetsMarks (control_value (Create_session_response (answer value)))) (sym is) (search rules))
+            value_is;
+        short = omega (arith, response_short);
+      };
+    }
