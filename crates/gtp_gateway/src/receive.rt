@@ -95,7 +95,6 @@ impl Parts {
     }
 
     /// Takes a datagram of a plane.
-    #[inline(always)]
     pub fn receive<'a>(
         &mut self,
         alloc: Global,

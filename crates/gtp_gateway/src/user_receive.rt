@@ -69,7 +69,6 @@ impl Parts {
 
     /// A user's packet (TS 29.281 5.1): for no bearer it is answered with an Error Indication
     /// (7.3.1).
-    #[inline(always)]
     fn judge_packet<'a>(&self, target: Teid, payload: &'a [u8]) -> Judged<'a>
         requires whole { IsWhole (station_of self.now) }
         ensures { IsJudgedBy (PacketCame self.now.role target.0 payload.now)
@@ -128,7 +127,6 @@ impl Parts {
     }
 
     /// A message of the user plane from the peer, with this sequence number.
-    #[inline(always)]
     fn judge_message<'a>(
         &mut self,
         source: Endpoint,
@@ -156,7 +154,6 @@ impl Parts {
     }
 
     /// Takes a datagram of the user plane, but for what is sent for it. Takes no memory.
-    #[inline(always)]
     fn judge_user<'a>(&mut self, source: Endpoint, octets: &'a [u8]) -> Judged<'a>
         requires whole { IsWhole (station_of self.old) }
         ensures { IsJudgedBy (UserComes source octets.now (station_of self.old))
@@ -172,7 +169,6 @@ impl Parts {
     }
 
     /// Takes a datagram of the user plane.
-    #[inline(always)]
     pub fn receive_user<'a>(
         &mut self,
         alloc: Global,
