@@ -3,3 +3,4 @@ pub mod ByName
 pub mod ByGrammar
 pub mod Readings
 pub mod Spelled
+pub mod AsOctets

@@ -1,5 +1,5 @@
 -- The exchange that makes a session (TS 29.274, 7.2.1 and 7.2.2), on a path that brings each datagram at once.
-use Rattle.std.specs.Prelude.{◌≡◌, ◌⊎◌, ℕ, ◌+◌, ◌≤◌, ◌<◌, ◌^◌, List, ◌∷◌, Some, length}
+use Rattle.std.specs.Prelude.{◌≡◌, ◌⊎◌, ℕ, ◌+◌, ◌≤◌, ◌<◌, ◌^◌, List, [], ◌∷◌, ◌++◌, Some, length}
 use Rattle.std.specs.FinMap.{get}
 use Rattle.gtp_values.specs.Address.{IsIp}
 use Rattle.gtp_values.specs.Apn.{IsApn}
@@ -11,12 +11,12 @@ use Rattle.gtp_values.specs.declared.qos.Qos.{Qos}
 use Rattle.gtp_ie.specs.Value.{AreRates}
 use Rattle.gtp_tables.specs.Pool.{IsPool}
 use Rattle.gtp_machine.specs.Config.{Config}
-use Rattle.gtp_machine.specs.Message.{Message, plane_of}
+use Rattle.gtp_machine.specs.Message.{CreateSessionResponse, Message, Create_session_response, plane_of}
 use Rattle.gtp_machine.specs.Node.{Role, Serving, Packet, Session, Bearer, Default}
-use Rattle.gtp_machine.specs.Input.{Specification, Create_session, Send_user, Begun, Answered, Opened, Accepted}
+use Rattle.gtp_machine.specs.Input.{Entry, Specification, Create_session, Send_user, Begun, Answered, Opened, Accepted}
 use Rattle.gtp_machine.specs.Choice.{HasDraws, HasFreeAddress, IsIdentity, HasSessionRoom, HasPendingRoom, HasHeldRoom}
 use Rattle.gtp_machine.specs.Spelling.{ReadsAs, spelled, IsSendable}
-use Rattle.gtp_machine.specs.World.{World, Event, Does, Deliver, Happens, Run, EventOutcome, Came_to, Note, HasSent, start}
+use Rattle.gtp_machine.specs.World.{World, Event, Does, Deliver, Happens, Run, EventOutcome, Came_to, Note, HasSent, signed, other, start}
 use Rattle.gtp_machine.specs.Laws.{MutualSessions, MutualBearers, EachSendable}
 
 -- each gateway has the other's addresses for its peer's
@@ -35,8 +35,9 @@ pub record IsAmbr (ambr : Ambr) : Type 0 where
   pub up : ambr.up < 2 ^ 32
   pub down : ambr.down < 2 ^ 32
 
--- a priority level and bit rates that have room in a Bearer QoS (8.15)
+-- a class, a priority level and bit rates that have room in a Bearer QoS (8.15)
 pub record IsQos (qos : Qos) : Type 0 where
+  pub class : qos.qci < 256
   pub level : qos.pl < 16
   pub most : AreRates qos.mbr
   pub guaranteed : AreRates qos.gbr
@@ -44,6 +45,7 @@ pub record IsQos (qos : Qos) : Type 0 where
 -- what a session is to be made with has room in a Create Session Request
 pub record IsSpecified (spec : Specification) : Type 0 where
   pub imsi : IsImsi spec.subscriber.imsi
+  pub technology : spec.rat < 256
   pub access_point : IsApn spec.subscriber.access_point
   pub network : IsNetwork spec.network
   pub selection : spec.selection < 4
@@ -74,9 +76,17 @@ pub record CameTo (w : World) (outcome : EventOutcome) : Type 0 where
   pub notes : w.notes ≡ note ∷ before
   pub is : note.outcome ≡ outcome
 
+-- the packet with this payload that was handed in at this gateway was accepted at the other
+pub record IsCarried (w sent came : World) (role : Role) (payload : List ℕ) : Type 0 where
+  pub outcome : CameTo came (Came_to Accepted)
+  pub packet : Entry
+  pub carries : packet.payload ≡ payload
+  pub handed : sent.handed ≡ w.handed ++ signed role (packet ∷ [])
+  pub accepted : came.accepted ≡ sent.accepted ++ signed (other role) (packet ∷ [])
+
 -- a packet of at most 65,000 octets that is sent on the bearer, and comes next, is accepted
 abbrev pub Carries : World → Role → ℕ → Type 0
-Carries w role bearer = (payload : List ℕ) (sent came : World) → length payload ≤ 65000 → Happens w (Does role (Send_user bearer payload)) sent → Happens sent (Deliver (length w.history)) came → CameTo came (Came_to Accepted)
+Carries w role bearer = (payload : List ℕ) (sent came : World) → length payload ≤ 65000 → Happens w (Does role (Send_user bearer payload)) sent → Happens sent (Deliver (length w.history)) came → IsCarried w sent came role payload
 
 -- There is a session for the specification at both gateways, and its default bearer carries packets in both directions.
 pub record IsMade (w : World) (spec : Specification) : Type 0 where
@@ -114,6 +124,9 @@ pub record Exchanged (spec : Specification) (w begun answered opened : World) : 
   pub first : CameTo begun (Came_to (Begun (Some made.session)))
   pub cause : ℕ
   pub second : CameTo answered (Came_to (Answered cause))
+  pub answer : CreateSessionResponse
+  pub told : answered.history ≡ begun.history ++ signed Packet (Create_session_response answer ∷ [])
+  pub says : answer.cause.value ≡ cause
   pub one_version : spec.pdn ≡ 1 → cause ≡ 16
   pub both_versions : spec.pdn ≡ 3 → cause ≡ 18
   pub third : CameTo opened (Came_to Opened)
@@ -142,24 +155,21 @@ ExchangeSendable =
 abbrev pub SendableRead : Type 0
 SendableRead = (w : World) → EachSendable w → AllRead w
 
--- An exchange for a session of this type: two configurations, a run from a start with them, a specification and its three events, with all that `FairExchange` asks
--- of them. And each message that was sent up to then can be sent.
+-- An exchange for a session of this type, right after a start: two configurations, a specification and its three events, with all that `FairExchange` asks of them.
+-- And each message that is sent in it can be sent.
 pub record AnExchange (pdn : ℕ) : Type 0 where
   pub serving : Config
   pub packet : Config
   pub serving_counter : ℕ
   pub packet_counter : ℕ
-  pub events : List Event
-  pub w : World
   pub begun : World
   pub answered : World
   pub opened : World
   pub spec : Specification
   pub type : spec.pdn ≡ pdn
-  pub run : Run (start serving packet serving_counter packet_counter) events w
-  pub is : IsExchange w begun answered opened spec
+  pub is : IsExchange (start serving packet serving_counter packet_counter) begun answered opened spec
   pub sendable : EachSendable opened
-  pub made : Exchanged spec w begun answered opened
+  pub made : Exchanged spec (start serving packet serving_counter packet_counter) begun answered opened
 
 -- There is such an exchange for each of the two types.
 abbrev pub ExchangesArePossible : Type 0

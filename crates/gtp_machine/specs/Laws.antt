@@ -5,7 +5,7 @@ use Rattle.gtp_values.specs.Counter.{age_of}
 use Rattle.gtp_values.specs.declared.counter.Age.TheVariants.{Later}
 use Rattle.gtp_values.specs.FiniteMap.{FiniteMap, Among}
 use Rattle.gtp_machine.specs.Config.{Config, control_end}
-use Rattle.gtp_machine.specs.Message.{Plane, Control, User, first_created, CreateSessionRequest, CreateSessionResponse, CreateBearerRequest, CreateBearerResponse, Message, Create_session_request, Create_session_response, Create_bearer_request, Create_bearer_response, Packet_data, End_marker, Error_indication, Owns, header_of, recovery_of, first_given, first_returned, first_identity}
+use Rattle.gtp_machine.specs.Message.{Plane, Control, User, first_created, created_identity, CreateSessionRequest, CreateSessionResponse, CreateBearerRequest, CreateBearerResponse, Message, Create_session_request, Create_session_response, Create_bearer_request, Create_bearer_response, Packet_data, End_marker, Error_indication, Owns, header_of, recovery_of, first_given, first_returned, first_identity}
 use Rattle.gtp_machine.specs.Element.{IsAccepting, Ipv4, teid_in}
 use Rattle.gtp_machine.specs.Node.{Node, fresh_node, Arrival, Role, Serving, Packet, Pending, Active, Closing, Session, Bearer, Dedicated}
 use Rattle.gtp_machine.specs.Input.{Entry, Effect, Repeated, messages}
@@ -16,7 +16,7 @@ use Rattle.gtp_machine.specs.Packet.{made_session, made_bearer, SessionAsked}
 use Rattle.gtp_machine.specs.Step.{Done, Steps}
 use Rattle.gtp_machine.specs.Once.{Makes, Takes, NeverForgets, IsOnce}
 use Rattle.gtp_machine.specs.Spelling.{spelled, IsSendable}
-use Rattle.gtp_machine.specs.World.{World, steps_of, Event, Deliver, Cut, Note, Came_to, Stands, signed, arrival, Happens, Run, start, other, side_of, Side, HasBy, Sent, HasSent}
+use Rattle.gtp_machine.specs.World.{World, steps_of, Event, Deliver, Cut, Note, Came_to, signed, arrival, Happens, Run, start, other, side_of, Side, HasBy, Sent, HasSent}
 
 -- P holds at the end of each run, however the gateways are configured
 abbrev pub Always : (World → Type 0) → Type 0
@@ -184,7 +184,8 @@ pub record GoesBackTo (first : World) (events : List Event) (last : World) (numb
   pub place : length moment.before.history ≡ number
   pub since : length gave.moment.earlier ≤ length moment.earlier
 
--- a session of this gateway, and its default bearer, which it made for the request: those that the response names, with what the request asked for
+-- a session of this gateway, and its default bearer, which it made for the request: those that the response names, with the identity and all else that the request
+-- asked for
 pub record IsMadeFor (node : Node) (request : CreateSessionRequest) (a : CreateSessionResponse) : Type 0 where
   pub control : ℕ
   pub user : ℕ
@@ -192,6 +193,7 @@ pub record IsMadeFor (node : Node) (request : CreateSessionRequest) (a : CreateS
   pub names_control : teid_in a.control ≡ Some control
   pub names_user : first_created a.contexts ≡ Some user
   pub names_address : a.address ≡ Some (Ipv4 address)
+  pub names_identity : created_identity a.contexts ≡ Some request.context.identity
   pub session : get node.sessions control ≡ Some (made_session request address)
   pub bearer : get node.bearers user ≡ Some (made_bearer request control)
 
@@ -209,6 +211,7 @@ pub record AnswersSession (first : World) (events : List Event) (last : World) (
   pub back : GoesBackTo first events last number Packet (Create_session_request request) (Create_session_response a)
   pub numbered : a.number ≡ request.number
   pub header : a.header ≡ request.control.teid
+  pub made : IsAccepting a.cause → back.gave.effect.out.made ≡ arrival (side_of back.gave.moment.before Serving).node.config.own (Create_session_request request) ∷ []
   pub accepted : IsAccepting a.cause → IsMadeFor back.gave.effect.node request a
   pub refused : (IsAccepting a.cause → ⊥) → back.gave.effect.out.made ≡ []
 
@@ -218,6 +221,7 @@ pub record AnswersBearer (first : World) (events : List Event) (last : World) (n
   pub back : GoesBackTo first events last number Serving (Create_bearer_request request) (Create_bearer_response x)
   pub numbered : x.number ≡ request.number
   pub returned : (t : ℕ) → first_returned x.contexts ≡ Some t → t ≡ request.context.user.teid
+  pub made : IsAccepting x.cause → back.gave.effect.out.made ≡ arrival (side_of back.gave.moment.before Packet).node.config.own (Create_bearer_request request) ∷ []
   pub accepted : IsAccepting x.cause → IsGrantedFor back.gave.effect.node request x
   pub refused : (IsAccepting x.cause → ⊥) → back.gave.effect.out.made ≡ []
 
@@ -260,9 +264,9 @@ AtMostOnce x (y ∷ ys) = (y ≡ x → Among x ys → ⊥) × AtMostOnce x ys
 abbrev pub MadeOnce : World → Type 0
 MadeOnce w = (role : Role) (request : Arrival) → (Among request (side_of w role).came_late → ⊥) → AtMostOnce request (side_of w role).made
 
--- the steps that are kept of each gateway lead from its start to what it is now
+-- the steps that are kept of each gateway lead from its start, configured as it is, to what it is now
 abbrev pub StepsAreKept : World → Type 0
-StepsAreKept w = (role : Role) → (config : Config) × Steps role (fresh_node config (((side_of w role).first + (side_of w role).restarts) % 256)) (steps_of w role) (side_of w role).node
+StepsAreKept w = (role : Role) → Steps role (fresh_node (side_of w role).node.config (((side_of w role).first + (side_of w role).restarts) % 256)) (steps_of w role) (side_of w role).node
 
 -- two of the steps, one after the other, and those between them
 pub record Follow (steps : List Done) (first second : Done) : Type 0 where
@@ -300,7 +304,7 @@ HasNoBearer w role t = (b : Bearer) → get (side_of w role).node.bearers t ≡ 
 abbrev pub EachSendable : World → Type 0
 EachSendable w = (role : Role) (m : Message) → HasSent w.history role m → IsSendable m
 
--- A run goes on from there: the serving gateway restarts, and that is heard: the packet gateway's session goes. And each message that was sent, from the beginning
+-- A run goes on from there: the serving gateway restarts, and that is heard: the packet gateway's session goes. No delivery was late up to then, and each message that was sent, from the beginning
 -- up to then, can be sent.
 pub record HearsRestart (before : World) (session_there : ℕ) : Type 0 where
   pub events : List Event
@@ -308,22 +312,29 @@ pub record HearsRestart (before : World) (session_there : ℕ) : Type 0 where
   pub run : Run before events world
   pub restarts : world.serving.restarts ≡ 1 + before.serving.restarts
   pub heard : Among world.serving.node.counter world.packet.seen
+  pub on_time : world.late ≡ 0
   pub gone : (s : Session) → get world.packet.node.sessions session_there ≡ Some s → ⊥
   pub sendable : EachSendable world
+
+-- A request comes again, and gets the answer that is held.
+pub record ComesAgain (before again : World) : Type 0 where
+  pub number : ℕ
+  pub comes : Happens before (Deliver number) again
+  pub note : Note
+  pub notes : again.notes ≡ note ∷ before.notes
+  pub repeated : note.outcome ≡ Came_to Repeated
+  pub answer : Sent
+  pub sent : again.history ≡ before.history ++ (answer ∷ [])
+  pub held : Among answer before.history
 
 -- A run goes on from there: a request comes again and gets the answer that is held, that datagram is lost, two packets come in the other order, and a dedicated
 -- bearer is deleted at both gateways, where its session stays.
 pub record GoesOn (before : World) (session session_there bearer bearer_there : ℕ) : Type 0 where
+  pub again : World
+  pub repeats : ComesAgain before again
   pub events : List Event
   pub world : World
-  pub run : Run before events world
-  pub later : List Note
-  pub notes : world.notes ≡ later ++ before.notes
-  pub note : Note
-  pub among : Among note later
-  pub repeated : note.outcome ≡ Came_to Repeated
-  pub lost : Stands world.history (length before.history)
-  pub never_comes : Among (Deliver (length before.history)) events → ⊥
+  pub run : Run again events world
   pub first : Entry
   pub second : Entry
   pub apart : first ≢ second
@@ -334,6 +345,7 @@ pub record GoesOn (before : World) (session session_there bearer bearer_there : 
   pub stays : (s : Session) × (get world.serving.node.sessions session ≡ Some s)
   pub stays_there : (s : Session) × (get world.packet.node.sessions session_there ≡ Some s)
   pub restart : HearsRestart world session_there
+  pub never_comes : Among (Deliver (length before.history)) (events ++ restart.events) → ⊥
 
 -- a run to sessions and dedicated bearers that name each other and to a packet that was accepted on them, with no late delivery
 pub record GetsThrough : Type 0 where

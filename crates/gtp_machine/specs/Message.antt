@@ -203,6 +203,11 @@ abbrev pub first_identity : List GivenBearer → Option ℕ
 first_identity [] = None
 first_identity (context ∷ contexts) = Some context.identity
 
+-- the EPS bearer identity of the bearer that a session was made with
+abbrev pub created_identity : List CreatedBearer → Option ℕ
+created_identity [] = None
+created_identity (context ∷ contexts) = Some context.identity
+
 -- t stands in the message as a TEID that its sender drew for it
 abbrev pub Owns : Message → ℕ → Type 0
 Owns (Create_session_request q) t = (t ≡ q.control.teid) ⊎ (t ≡ q.context.user.teid)

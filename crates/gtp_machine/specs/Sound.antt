@@ -208,7 +208,7 @@ AlwaysTicks = (node : Node) (due : Due) → CanTick node due → IsNotEmpty (λ 
 abbrev pub GivesUpDue : Type 0
 GivesUpDue = (old : Node) (due : Due) (out : Out) (new : Node) → Ticks old due out new → (number : ℕ) → Among number out.gave_up → Among number due.give_ups × HasPending old number
 
--- A session goes with an Error Indication exactly where one of the bearers is its default one and has that remote.
+-- The test by which a session goes with an Error Indication is true exactly where one of the bearers is its default one and has that remote.
 abbrev pub BreaksByDefault : Type 0
 BreaksByDefault = (remote session : ℕ) (bearers : FiniteMap Bearer) → (default_among remote session bearers ≡ true) ↔ ((t : ℕ) × (b : Bearer) × (get bearers t ≡ Some b) × (is_default_to remote session b ≡ true))
 

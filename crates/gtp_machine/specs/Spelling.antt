@@ -1,5 +1,5 @@
 -- The octets that a gateway sends for a message: the canonical encoding of what it says, field by field (TS 29.274, 5 to 8; TS 29.281, 5, 7 and 8).
-use Rattle.std.specs.Prelude.{◌≡◌, ℕ, ◌<◌, ◌^◌, List, [], ◌∷◌, map, Option, Some, None, option_map, option_to_list}
+use Rattle.std.specs.Prelude.{◌≡◌, ℕ, ◌<◌, ◌^◌, List, [], ◌∷◌, All, map, Option, Some, None, option_map, option_to_list}
 use Rattle.gtp_values.specs.Numbers.{four}
 use Rattle.gtp_values.specs.declared.address.Endpoint.{Endpoint}
 use Rattle.gtp_values.specs.declared.paa.Paa.{Paa}
@@ -143,10 +143,15 @@ abbrev pub MeetsOn : Plane → Message → Type 0
 MeetsOn Control m = Meets (control_value m)
 MeetsOn User m = user_encodings.Meets (user_value m)
 
+-- each number is one of an octet
+pub record AreOctets (numbers : List ℕ) : Type 0 where
+  pub each : All (λ octet. octet < 256) numbers
+
 -- a message that a gateway can send
 pub record IsSendable (m : Message) : Type 0 where
   pub own : IsOfOwnKind m
   pub meets : MeetsOn (plane_of m) m
+  pub octets : AreOctets (spelled m)
 
 -- the octets read as the message, on this plane
 abbrev pub ReadsAs : Plane → List ℕ → Message → Type 0

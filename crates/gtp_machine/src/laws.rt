@@ -88,8 +88,8 @@ pub fn foundations()
     // messages.
     ensures names { Always NamesGoBack }
 
-    // Each response that is sent goes back to that request of the other gateway for which its
-    // sender made or refused a context.
+    // Each Create Session Response of the packet gateway and each Create Bearer Response of the
+    // serving gateway goes back to that request of the other for which it made or refused a context.
     ensures responses { OfEachRun ResponsesGoBack }
 
     // No counter in a message is ahead of its sender.
@@ -114,12 +114,12 @@ pub fn foundations()
 
 /// What one gateway makes for a request: its steps alone, whatever comes to it.
 pub fn acts_once()
-    // Until its answer is given up, a Create Session or Create Bearer Request makes one context and
-    // has one answer, however often it comes.
+    // Until its answer is given up, a Create Session or Create Bearer Request makes at most one
+    // context and has one answer, however often it comes.
     ensures until_forgotten { ActsOnce }
 
-    // Where none of its deliveries is late, it makes one context in a start of the gateway and has
-    // one answer.
+    // Where none of its deliveries is late, it makes at most one context in a start of the gateway
+    // and has one answer.
     ensures in_time { ActsOnceInTime }
 
     // An answer that is held stays so until it is forgotten.
@@ -134,7 +134,8 @@ pub fn acts_once()
 {}
 
 /// No law of safety is empty: there is a run to sessions and dedicated bearers that name each other,
-/// and to an accepted packet, in which each message can be sent.
+/// and to an accepted packet, and on from there, in which no delivery is late and each message can
+/// be sent.
 pub fn a_run_is_possible()
     ensures { ARunIsPossible }
 {}
@@ -163,8 +164,8 @@ pub fn sound_nodes()
     // What a tick gives up was due to be given up, and waited when the tick began.
     ensures gives_up { GivesUpDue }
 
-    // A session goes with an Error Indication exactly where one of the bearers is its default one
-    // and has that remote.
+    // The test by which a session goes with an Error Indication is true exactly where one of the
+    // bearers is its default one and has that remote.
     ensures breaks { BreaksByDefault }
 
     // What is read from octets names the F-TEIDs that its table asks for.

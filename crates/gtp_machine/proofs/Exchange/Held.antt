@@ -74,12 +74,12 @@ stepped_held w Serving e note steps held config now Packet h among = later w.his
 stepped_held w Packet e note steps held config now Packet h among = later w.history Packet (messages e.out.sent) Serving w.serving.node.config.own w.serving.node.config.own h refl (⊎_elim (λ was. held Packet h was) (λ is. is) (now h among))
 stepped_held w Packet e note steps held config now Serving h among = later w.history Packet (messages e.out.sent) Packet w.packet.node.config.own e.node.config.own h (ap (λ (c : Config). c.own) config) (held Serving h among)
 
-move_config : (old : Node) (move : Move) (e : Effect) → MoveStep old move e → e.node.config ≡ old.config
+pub move_config : (old : Node) (move : Move) (e : Effect) → MoveStep old move e → e.node.config ≡ old.config
 move_config old (Resend number) e r = ap (λ (k : Effect). k.node.config) r.gives
 move_config old (Give_up number) e r = ap (λ (k : Effect). k.node.config) r.gives ∙ (Shrunk-finished old number r.at.pending.session r.at.pending.bearer).config
 move_config old (Forget request) e r = ap (λ (k : Effect). k.node.config) r.gives
 
-tick_config : (old : Node) (moves : List Move) (out : Out) (new : Node) → TickStep old moves out new → new.config ≡ old.config
+pub tick_config : (old : Node) (moves : List Move) (out : Out) (new : Node) → TickStep old moves out new → new.config ≡ old.config
 tick_config old [] out new t = ap (λ (k : Node). k.config) t.1
 tick_config old (move ∷ moves) out new (e, rest, step, others, is) = tick_config e.node moves rest new others ∙ move_config old move e step
 

@@ -10,10 +10,10 @@ use Rattle.gtp_machine.specs.Config.{Addresses, Config, user_end}
 use Rattle.gtp_machine.specs.Element.{IsAccepting, cause_of, tunnel_end, teid_in}
 use Rattle.gtp_machine.specs.Message.{CreateSessionRequest, CreateSessionResponse, Message, Create_session_request, Create_session_response, Packet_data, plane_of, Control, User, Create_bearer_request, Create_bearer_response, Owns}
 use Rattle.gtp_machine.specs.Node.{Role, Serving, Packet, Active, Session, Bearer, Arrival, Node, holding, written}
-use Rattle.gtp_machine.specs.Input.{Specification, Create_session, Send_user, Input, Commanded, Control_came, User_came, Control_message, User_message, Accepted, Effect, messages}
+use Rattle.gtp_machine.specs.Input.{Entry, Specification, Create_session, Send_user, entry_for, Input, Commanded, Control_came, User_came, Control_message, User_message, Effect, messages}
 use Rattle.gtp_machine.specs.Choice.{IsFree, counter_of}
-use Rattle.gtp_machine.specs.Command.{BeginsSession, MayGo, PacketSent, asks, session_request, session_begun, pending_session, pending_bearer}
-use Rattle.gtp_machine.specs.User.{MayCome, UserStep}
+use Rattle.gtp_machine.specs.Command.{BeginsSession, MayGo, SendsPacket, PacketSent, asks, session_request, session_begun, pending_session, pending_bearer}
+use Rattle.gtp_machine.specs.User.{MayCome, Accepts, UserStep}
 use Rattle.gtp_machine.specs.Answer.{IsNew}
 use Rattle.gtp_machine.specs.Serving.{opened_session, opened_bearer}
 use Rattle.gtp_machine.specs.Packet.{session_cause, session_response, session_made, made_session, made_bearer}
@@ -49,11 +49,13 @@ record IsMoved (old : World) (role : Role) (e : Effect) (new : World) : Type 0 w
   pub node : (side_of new role).node ≡ e.node
   pub elsewhere : (side_of new (other role)).node ≡ (side_of old (other role)).node
   pub history : new.history ≡ old.history ++ signed role (messages e.out.sent)
+  pub handed : new.handed ≡ old.handed ++ signed role e.out.handed
+  pub accepted : new.accepted ≡ old.accepted ++ signed role e.out.accepted
   pub note : CameTo new (Came_to e.outcome)
 
 moved_is : (old : World) (role : Role) (input : Input) (new : World) (m : Moves old role input new) → IsMoved old role m.effect new
-moved_is old Serving input new m = record { node = ap (λ (w : World). w.serving.node) m.becomes; elsewhere = ap (λ (w : World). w.packet.node) m.becomes; history = ap (λ (w : World). w.history) m.becomes; note = record { note = _; before = _; notes = ap (λ (w : World). w.notes) m.becomes; is = refl } }
-moved_is old Packet input new m = record { node = ap (λ (w : World). w.packet.node) m.becomes; elsewhere = ap (λ (w : World). w.serving.node) m.becomes; history = ap (λ (w : World). w.history) m.becomes; note = record { note = _; before = _; notes = ap (λ (w : World). w.notes) m.becomes; is = refl } }
+moved_is old Serving input new m = record { node = ap (λ (w : World). w.serving.node) m.becomes; elsewhere = ap (λ (w : World). w.packet.node) m.becomes; history = ap (λ (w : World). w.history) m.becomes; handed = ap (λ (w : World). w.handed) m.becomes; accepted = ap (λ (w : World). w.accepted) m.becomes; note = record { note = _; before = _; notes = ap (λ (w : World). w.notes) m.becomes; is = refl } }
+moved_is old Packet input new m = record { node = ap (λ (w : World). w.packet.node) m.becomes; elsewhere = ap (λ (w : World). w.serving.node) m.becomes; history = ap (λ (w : World). w.history) m.becomes; handed = ap (λ (w : World). w.handed) m.becomes; accepted = ap (λ (w : World). w.accepted) m.becomes; note = record { note = _; before = _; notes = ap (λ (w : World). w.notes) m.becomes; is = refl } }
 
 -- a delivery, on time or late
 record IsBrought (old : World) (sender : Role) (m : Message) (new : World) : Type 0 where
@@ -61,12 +63,13 @@ record IsBrought (old : World) (sender : Role) (m : Message) (new : World) : Typ
   pub serving : before.serving.node ≡ old.serving.node
   pub packet : before.packet.node ≡ old.packet.node
   pub history : before.history ≡ old.history
+  pub accepted : before.accepted ≡ old.accepted
   pub moves : Moves before (other sender) (delivered_on (plane_of m) (side_of old sender).node.config.own m) new
 
 delivered_is : (old : World) (sender : Role) (m : Message) (new : World) → Delivers old sender m new → IsBrought old sender m new
-delivered_is old sender m new (inl d) = record { before = old; serving = refl; packet = refl; history = refl; moves = d.1 }
-delivered_is old Serving m new (inr d) = record { before = late_once old Packet (arrival old.serving.node.config.own m); serving = refl; packet = refl; history = refl; moves = d.1 }
-delivered_is old Packet m new (inr d) = record { before = late_once old Serving (arrival old.packet.node.config.own m); serving = refl; packet = refl; history = refl; moves = d.1 }
+delivered_is old sender m new (inl d) = record { before = old; serving = refl; packet = refl; history = refl; accepted = refl; moves = d.1 }
+delivered_is old Serving m new (inr d) = record { before = late_once old Packet (arrival old.serving.node.config.own m); serving = refl; packet = refl; history = refl; accepted = refl; moves = d.1 }
+delivered_is old Packet m new (inr d) = record { before = late_once old Serving (arrival old.packet.node.config.own m); serving = refl; packet = refl; history = refl; accepted = refl; moves = d.1 }
 
 brought : (old : World) (sender : Role) (m : Message) (number : ℕ) (new : World) → slice_get old.history number ≡ Some (record { role = sender; what = m }) → Happens old (Deliver number) new → IsBrought old sender m new
 brought old sender m number new stands h =
@@ -87,8 +90,14 @@ accepts_cause pdn = by (pdn == 3)
     by true = record { low = omega arith; high = omega arith }
     by false = record { low = omega arith; high = omega arith }
 
-sent_so : (role : Role) (bearer : ℕ) (payload : List ℕ) (node : Node) (e : Effect) (b : Bearer) (there : ℕ) → get node.bearers bearer ≡ Some b → b.state ≡ Active → b.ended ≡ false → b.remote ≡ Some there → length payload ≤ 65000 → Step role node (Commanded (Send_user bearer payload)) e → messages e.out.sent ≡ Packet_data there payload ∷ []
-sent_so role bearer payload node e b there stands active unended remote short step = by (as_command role step)
+-- the node of either gateway before a delivery
+node_before : (old : World) (sender : Role) (m : Message) (new : World) (d : IsBrought old sender m new) (role : Role) → (side_of d.before role).node ≡ (side_of old role).node
+node_before old sender m new d Serving = d.serving
+node_before old sender m new d Packet = d.packet
+
+-- a packet that may go is sent
+sends_so : (role : Role) (bearer : ℕ) (payload : List ℕ) (node : Node) (e : Effect) (b : Bearer) → get node.bearers bearer ≡ Some b → b.state ≡ Active → b.ended ≡ false → length payload ≤ 65000 → Step role node (Commanded (Send_user bearer payload)) e → SendsPacket node b payload e
+sends_so role bearer payload node e b stands active unended short step = by (as_command role step)
   where
     as_command : (role : Role) → Step role node (Commanded (Send_user bearer payload)) e → PacketSent role bearer payload node e
     as_command Serving step = step
@@ -98,15 +107,16 @@ sent_so role bearer payload node e b there stands active unended remote short st
     may_go Serving = tt
     may_go Packet = unended
 
-    by : PacketSent role bearer payload node e → messages e.out.sent ≡ Packet_data there payload ∷ []
+    by : PacketSent role bearer payload node e → SendsPacket node b payload e
     by r =
         let at = pass (record { bearer = b; stands = stands }) r in
         let same : b ≡ at.0.bearer = same_in b at.0.bearer (sym stands ∙ at.0.stands) in
         let sends = (pass short (pass (subst (λ k. MayGo role k) same (may_go role)) (pass (ap (λ (k : Bearer). k.state) (sym same) ∙ active) at.1).1).1).1 in
-        ap (λ (f : Effect). messages f.out.sent) sends.gives ∙ ap (λ (k : Bearer). Packet_data (written k.remote) payload ∷ []) (sym same) ∙ ap (λ r. Packet_data (written r) payload ∷ []) remote
+        subst (λ k. SendsPacket node k payload e) (sym same) sends
 
-taken_so : (role : Role) (source : Endpoint) (bearer : ℕ) (payload : List ℕ) (node : Node) (e : Effect) (b : Bearer) → source.ip ≡ node.config.peer.user → get node.bearers bearer ≡ Some b → b.state ≡ Active → b.ended ≡ false → Step role node (User_came source (User_message (Packet_data bearer payload))) e → e.outcome ≡ Accepted
-taken_so role source bearer payload node e b peer stands active unended step = by (as_user role step)
+-- a packet that may come is accepted
+accepts_so : (role : Role) (source : Endpoint) (bearer : ℕ) (payload : List ℕ) (node : Node) (e : Effect) (b : Bearer) → source.ip ≡ node.config.peer.user → get node.bearers bearer ≡ Some b → b.state ≡ Active → b.ended ≡ false → Step role node (User_came source (User_message (Packet_data bearer payload))) e → Accepts node bearer payload b e
+accepts_so role source bearer payload node e b peer stands active unended step = by (as_user role step)
   where
     as_user : (role : Role) → Step role node (User_came source (User_message (Packet_data bearer payload))) e → UserStep role source (User_message (Packet_data bearer payload)) node e
     as_user Serving step = step
@@ -116,61 +126,58 @@ taken_so role source bearer payload node e b peer stands active unended step = b
     may_come Serving = unended
     may_come Packet = tt
 
-    by : UserStep role source (User_message (Packet_data bearer payload)) node e → e.outcome ≡ Accepted
+    by : UserStep role source (User_message (Packet_data bearer payload)) node e → Accepts node bearer payload b e
     by r =
         let at = pass (record { bearer = b; stands = stands }) (pass peer r).1 in
         let same : b ≡ at.0.bearer = same_in b at.0.bearer (sym stands ∙ at.0.stands) in
         let takes = (pass (subst (λ k. MayCome role k) same (may_come role)) (pass (ap (λ (k : Bearer). k.state) (sym same) ∙ active) at.1).1).1 in
-        ap (λ (f : Effect). f.outcome) takes.gives
+        subst (λ k. Accepts node bearer payload k e) (sym same) takes
 
--- a bearer that is ends at both ends carries packets
+-- a bearer that is ends at both ends, of sessions for one subscriber, carries packets
 record IsOpenBearer (w : World) (role : Role) (bearer there : ℕ) : Type 0 where
   pub here : Bearer
   pub stands : get (side_of w role).node.bearers bearer ≡ Some here
   pub active : here.state ≡ Active
   pub unended : here.ended ≡ false
   pub remote : here.remote ≡ Some there
+  pub session : Session
+  pub of : get (side_of w role).node.sessions here.session ≡ Some session
   pub at : Bearer
   pub stands_there : get (side_of w (other role)).node.bearers there ≡ Some at
   pub active_there : at.state ≡ Active
   pub unended_there : at.ended ≡ false
+  pub session_there : Session
+  pub of_there : get (side_of w (other role)).node.sessions at.session ≡ Some session_there
+  pub subscriber : session_there.subscriber ≡ session.subscriber
+  pub identity : at.identity ≡ here.identity
   pub path : (side_of w (other role)).node.config.peer ≡ (side_of w role).node.config.own
 
 carries : (w : World) (role : Role) (bearer there : ℕ) → IsOpenBearer w role bearer there → Carries w role bearer
-carries w Serving bearer there ends payload sent came short h1 h2 =
-    let m1 : Moves w Serving (Commanded (Send_user bearer payload)) sent = h1 in
-    let f1 = moved_is w Serving _ sent m1 in
-    let says = sent_so Serving bearer payload w.serving.node m1.effect ends.here there ends.stands ends.active ends.unended ends.remote short m1.step in
-    let kept : sent.serving.node.config ≡ w.serving.node.config = kept_config bearer payload w.serving.node m1.effect ends.here ends.stands ends.active short m1.step f1.node in
-    let d = brought sent Serving (Packet_data there payload) (length w.history) came (ap (λ hs. slice_get hs (length w.history)) (f1.history ∙ ap (λ ms. w.history ++ signed Serving ms) says) ∙ at_end w.history _) h2 in
-    let same : d.before.packet.node ≡ w.packet.node = d.packet ∙ f1.elsewhere in
-    let f2 = moved_is d.before Packet _ came d.moves in
-    let takes = taken_so Packet (user_end sent.serving.node.config.own.user) there payload w.packet.node d.moves.effect ends.at (ap (λ (c : Config). c.own.user) kept ∙ ap (λ (a : Addresses). a.user) (sym ends.path)) ends.stands_there ends.active_there ends.unended_there (subst (λ n. Step Packet n (User_came (user_end sent.serving.node.config.own.user) (User_message (Packet_data there payload))) d.moves.effect) same d.moves.step) in
-    record { note = f2.note.note; before = f2.note.before; notes = f2.note.notes; is = f2.note.is ∙ ap (λ o. Came_to o) takes }
-  where
-    kept_config : (bearer : ℕ) (payload : List ℕ) (node : Node) (e : Effect) (b : Bearer) → get node.bearers bearer ≡ Some b → b.state ≡ Active → length payload ≤ 65000 → PacketSent Serving bearer payload node e → sent.serving.node ≡ e.node → sent.serving.node.config ≡ node.config
-    kept_config bearer payload node e b stands active short r is =
-        let at = pass (record { bearer = b; stands = stands }) r in
-        let same : b ≡ at.0.bearer = same_in b at.0.bearer (sym stands ∙ at.0.stands) in
-        let sends = (pass short (pass tt (pass (ap (λ (k : Bearer). k.state) (sym same) ∙ active) at.1).1).1).1 in
-        ap (λ (n : Node). n.config) (is ∙ ap (λ (f : Effect). f.node) sends.gives)
-carries w Packet bearer there ends payload sent came short h1 h2 =
-    let m1 : Moves w Packet (Commanded (Send_user bearer payload)) sent = h1 in
-    let f1 = moved_is w Packet _ sent m1 in
-    let says = sent_so Packet bearer payload w.packet.node m1.effect ends.here there ends.stands ends.active ends.unended ends.remote short m1.step in
-    let kept : sent.packet.node.config ≡ w.packet.node.config = kept_config bearer payload w.packet.node m1.effect ends.here ends.stands ends.active ends.unended short m1.step f1.node in
-    let d = brought sent Packet (Packet_data there payload) (length w.history) came (ap (λ hs. slice_get hs (length w.history)) (f1.history ∙ ap (λ ms. w.history ++ signed Packet ms) says) ∙ at_end w.history _) h2 in
-    let same : d.before.serving.node ≡ w.serving.node = d.serving ∙ f1.elsewhere in
-    let f2 = moved_is d.before Serving _ came d.moves in
-    let takes = taken_so Serving (user_end sent.packet.node.config.own.user) there payload w.serving.node d.moves.effect ends.at (ap (λ (c : Config). c.own.user) kept ∙ ap (λ (a : Addresses). a.user) (sym ends.path)) ends.stands_there ends.active_there ends.unended_there (subst (λ n. Step Serving n (User_came (user_end sent.packet.node.config.own.user) (User_message (Packet_data there payload))) d.moves.effect) same d.moves.step) in
-    record { note = f2.note.note; before = f2.note.before; notes = f2.note.notes; is = f2.note.is ∙ ap (λ o. Came_to o) takes }
-  where
-    kept_config : (bearer : ℕ) (payload : List ℕ) (node : Node) (e : Effect) (b : Bearer) → get node.bearers bearer ≡ Some b → b.state ≡ Active → b.ended ≡ false → length payload ≤ 65000 → PacketSent Packet bearer payload node e → sent.packet.node ≡ e.node → sent.packet.node.config ≡ node.config
-    kept_config bearer payload node e b stands active unended short r is =
-        let at = pass (record { bearer = b; stands = stands }) r in
-        let same : b ≡ at.0.bearer = same_in b at.0.bearer (sym stands ∙ at.0.stands) in
-        let sends = (pass short (pass (ap (λ (k : Bearer). k.ended) (sym same) ∙ unended) (pass (ap (λ (k : Bearer). k.state) (sym same) ∙ active) at.1).1).1).1 in
-        ap (λ (n : Node). n.config) (is ∙ ap (λ (f : Effect). f.node) sends.gives)
+carries w role bearer there ends payload sent came short h1 h2 =
+    let m1 : Moves w role (Commanded (Send_user bearer payload)) sent = h1 in
+    let f1 = moved_is w role _ sent m1 in
+    let sends = sends_so role bearer payload (side_of w role).node m1.effect ends.here ends.stands ends.active ends.unended short m1.step in
+    let says : messages m1.effect.out.sent ≡ Packet_data there payload ∷ [] = ap (λ (f : Effect). messages f.out.sent) sends.gives ∙ ap (λ r. Packet_data (written r) payload ∷ []) ends.remote in
+    let kept : (side_of sent role).node.config ≡ (side_of w role).node.config = ap (λ (n : Node). n.config) (f1.node ∙ ap (λ (f : Effect). f.node) sends.gives) in
+    let d = brought sent role (Packet_data there payload) (length w.history) came (ap (λ hs. slice_get hs (length w.history)) (f1.history ∙ ap (λ ms. w.history ++ signed role ms) says) ∙ at_end w.history _) h2 in
+    let same : (side_of d.before (other role)).node ≡ (side_of w (other role)).node = node_before sent role _ came d (other role) ∙ f1.elsewhere in
+    let f2 = moved_is d.before (other role) _ came d.moves in
+    let source = user_end (side_of sent role).node.config.own.user in
+    let takes = accepts_so (other role) source there payload (side_of w (other role)).node d.moves.effect ends.at (ap (λ (c : Config). c.own.user) kept ∙ ap (λ (a : Addresses). a.user) (sym ends.path)) ends.stands_there ends.active_there ends.unended_there (subst (λ n. Step (other role) n (User_came source (User_message (Packet_data there payload))) d.moves.effect) same d.moves.step) in
+    let packet : Entry = entry_for there payload ends.session.subscriber ends.here.identity in
+    let handed : m1.effect.out.handed ≡ packet ∷ [] =
+    ap (λ (f : Effect). f.out.handed) sends.gives ∙ ap (λ r. entry_for (written r) payload sends.of.session.subscriber ends.here.identity ∷ []) ends.remote
+    ∙ ap (λ (s : Session). entry_for there payload s.subscriber ends.here.identity ∷ []) (same_in sends.of.session ends.session (sym sends.of.stands ∙ ends.of)) in
+    let accepted : d.moves.effect.out.accepted ≡ packet ∷ [] =
+    ap (λ (f : Effect). f.out.accepted) takes.gives ∙ ap (λ (s : Session). entry_for there payload s.subscriber ends.at.identity ∷ []) (same_in takes.of.session ends.session_there (sym takes.of.stands ∙ ends.of_there))
+    ∙ (λ i. entry_for there payload (ends.subscriber i) (ends.identity i) ∷ []) in
+    record {
+      outcome = record { note = f2.note.note; before = f2.note.before; notes = f2.note.notes; is = f2.note.is ∙ ap (λ (f : Effect). Came_to f.outcome) takes.gives };
+      packet = packet;
+      carries = refl;
+      handed = f1.handed ∙ ap (λ es. w.handed ++ signed role es) handed;
+      accepted = f2.accepted ∙ (λ i. d.accepted i ++ signed (other role) (accepted i));
+    }
 
 -- an F-TEID of the user plane stands as its sender's own
 owns_user : (m : Message) (t : ℕ) → OwnsOn User m t → Owns m t
@@ -370,8 +377,8 @@ module _ (serving packet : Config) (serving_counter packet_counter : ℕ) (event
         of = refl;
         of_there = refl;
         identity = refl;
-        up = carries opened Serving r1.user a2.made.user (record { here = bearer_at_serving; stands = bearer_stands; active = refl; unended = refl; remote = refl; at = bearer_at_packet; stands_there = bearer_stands_there; active_there = refl; unended_there = refl; path = ap (λ (c : Config). c.peer) packet_config ∙ path.back ∙ ap (λ (c : Config). c.own) (sym serving_config) });
-        down = carries opened Packet a2.made.user r1.user (record { here = bearer_at_packet; stands = bearer_stands_there; active = refl; unended = refl; remote = refl; at = bearer_at_serving; stands_there = bearer_stands; active_there = refl; unended_there = refl; path = ap (λ (c : Config). c.peer) serving_config ∙ path.there ∙ ap (λ (c : Config). c.own) (sym packet_config) });
+        up = carries opened Serving r1.user a2.made.user (record { here = bearer_at_serving; stands = bearer_stands; active = refl; unended = refl; remote = refl; session = at_serving; of = session_stands; at = bearer_at_packet; stands_there = bearer_stands_there; active_there = refl; unended_there = refl; session_there = at_packet; of_there = session_stands_there; subscriber = refl; identity = refl; path = ap (λ (c : Config). c.peer) packet_config ∙ path.back ∙ ap (λ (c : Config). c.own) (sym serving_config) });
+        down = carries opened Packet a2.made.user r1.user (record { here = bearer_at_packet; stands = bearer_stands_there; active = refl; unended = refl; remote = refl; session = at_packet; of = session_stands_there; at = bearer_at_serving; stands_there = bearer_stands; active_there = refl; unended_there = refl; session_there = at_serving; of_there = session_stands; subscriber = refl; identity = refl; path = ap (λ (c : Config). c.peer) serving_config ∙ path.there ∙ ap (λ (c : Config). c.own) (sym packet_config) });
       }
 
       no_bearer : (role : Role) (t : ℕ) → IsFree (side_of w role).node t → (b : Bearer) → get (side_of w role).node.bearers t ≡ Some b → ⊥
@@ -398,6 +405,9 @@ module _ (serving packet : Config) (serving_counter packet_counter : ℕ) (event
         both_versions = λ both. ap session_cause both;
         first = record { note = f1.note.note; before = f1.note.before; notes = f1.note.notes; is = f1.note.is ∙ ap (λ (f : Effect). Came_to f.outcome) r1.gives };
         second = record { note = f2.note.note; before = f2.note.before; notes = f2.note.notes; is = f2.note.is ∙ ap (λ o. Came_to o) (a2.outcome ∙ ap (λ (f : Effect). f.outcome) a2.made.gives) };
+        answer = a;
+        told = answered_history ∙ ap (λ h. h ++ signed Packet (Create_session_response a ∷ [])) (sym begun_history);
+        says = refl;
         third = record { note = f3.note.note; before = f3.note.before; notes = f3.note.notes; is = f3.note.is ∙ ap (λ o. Came_to o) o3.outcome };
         made = made;
       }
@@ -458,14 +468,18 @@ module _ (serving packet : Config) (serving_counter packet_counter : ℕ) (event
     number_small : r1.number < 2 ^ 24
     number_small = omega (arith, r1.number_free.small)
 
+    -- a counter of a start
+    counter_small : (side : Side) (role : Role) (history : List Sent) → Drawing side role history → side.node.counter < 256
+    counter_small side role history draws = omega (arith, draws.counter)
+
     request_is : IsSendable (Create_session_request q)
-    request_is = request_sendable w.serving.node spec r1.control r1.user r1.number serving_is specified can.identity can.pdn control_small user_small number_small
+    request_is = request_sendable w.serving.node spec r1.control r1.user r1.number serving_is specified can.identity can.pdn (counter_small w.serving Serving w.history inv.serving.draws) control_small user_small number_small
 
     request_differs : IsUnsent Serving (Create_session_request q)
     request_differs m sent control text =
         let like = request_like m q control text in
         let was = subst (λ k. HasSent w.history Serving k) like.is sent in
-        let short = request_short w.serving.node spec r1.control r1.user r1.number serving_is specified can.identity can.pdn control_small user_small number_small in
+        let short = request_short w.serving.node spec r1.control r1.user r1.number serving_is specified can.identity can.pdn (counter_small w.serving Serving w.history inv.serving.draws) control_small user_small number_small in
         let small = owned_small w.serving Serving w.history inv.serving.draws (Create_session_request like.request) like.request.control.teid was (inl refl) in
         let same = same_request_teid like.request q (omega (arith, short)) small control_small like.after in
         unowned w.serving Serving w.history inv.serving.draws (Create_session_request like.request) r1.control was (inl (sym same)) r1.control_free
@@ -478,6 +492,9 @@ module _ (serving packet : Config) (serving_counter packet_counter : ℕ) (event
 
     mid_is : IsConfigured at.mid.config
     mid_is = subst IsConfigured (sym at.ready.config) packet_is
+
+    mid_counter_small : at.mid.counter < 256
+    mid_counter_small = omega (arith, at.ready.counter, counter_small w.packet Packet w.history inv.packet.draws)
 
     control_free : IsFree w.packet.node at.made.control
     control_free = free_before request_differs at.made.control at.made.control_free
@@ -492,13 +509,13 @@ module _ (serving packet : Config) (serving_counter packet_counter : ℕ) (event
     address_small = omega (arith, at.made.address_free.is, at.made.address_free.in_pool, mid_is.pool.within)
 
     response_is : IsSendable (Create_session_response now)
-    response_is = response_sendable w.serving.node spec r1.control r1.user r1.number serving_is specified can.identity can.pdn control_small user_small number_small at.mid at.made.control at.made.user at.made.address mid_is control_there_small user_there_small address_small
+    response_is = response_sendable w.serving.node spec r1.control r1.user r1.number serving_is specified can.identity can.pdn (counter_small w.serving Serving w.history inv.serving.draws) control_small user_small number_small at.mid at.made.control at.made.user at.made.address mid_is mid_counter_small control_there_small user_there_small address_small
 
     response_differs : IsUnsent Packet (Create_session_response now)
     response_differs m sent control text =
         let like = response_like m now control text in
         let was = subst (λ k. HasSent w.history Packet k) like.is sent in
-        let short = response_short w.serving.node spec r1.control r1.user r1.number serving_is specified can.identity can.pdn control_small user_small number_small at.mid at.made.control at.made.user at.made.address mid_is control_there_small user_there_small address_small in
+        let short = response_short w.serving.node spec r1.control r1.user r1.number serving_is specified can.identity can.pdn (counter_small w.serving Serving w.history inv.serving.draws) control_small user_small number_small at.mid at.made.control at.made.user at.made.address mid_is mid_counter_small control_there_small user_there_small address_small in
         let names = same_response_teid like.response now (tunnel_end 7 at.made.control at.mid.config.own.control) refl (omega (arith, short)) control_there_small like.after in
         let owns = ap teid_in names.control in
         let small = owned_small w.packet Packet w.history inv.packet.draws (Create_session_response like.response) names.end.teid was (inl owns) in

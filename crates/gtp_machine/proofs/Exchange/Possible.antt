@@ -47,14 +47,11 @@ module _ (pdn : ℕ) (known : (pdn ≡ 1) ⊎ (pdn ≡ 3)) where
     packet = packet_config;
     serving_counter = 1;
     packet_counter = 1;
-    events = [];
-    w = w0;
     begun = w1 pdn;
     answered = w2 pdn;
     opened = w3 pdn;
     spec = spec pdn;
     type = refl;
-    run = refl;
     is = is;
     sendable = sendable;
     made = exchange_made serving_config packet_config 1 1 [] w0 (w1 pdn) (w2 pdn) (w3 pdn) (spec pdn) refl is;

@@ -312,15 +312,17 @@ module _ (serving packet : Config) (serving_counter packet_counter : ℕ) where
 -- ---- what the rules give is for the request
 
 -- the response has the request's number and gives back its TEID alone, and where it accepts a bearer was made for the request
-record NamesBearer (r : CreateBearerRequest) (e : Effect) (x : CreateBearerResponse) : Type 0 where
+record NamesBearer (request : Arrival) (r : CreateBearerRequest) (e : Effect) (x : CreateBearerResponse) : Type 0 where
   pub number : x.number ≡ r.number
   pub returned : (t : ℕ) → first_returned x.contexts ≡ Some t → t ≡ r.context.user.teid
+  pub made : IsAccepting x.cause → e.out.made ≡ request ∷ []
   pub accepted : IsAccepting x.cause → IsGrantedFor e.node r x
   pub refused : (IsAccepting x.cause → ⊥) → e.out.made ≡ []
 
-record NamesSession (q : CreateSessionRequest) (e : Effect) (a : CreateSessionResponse) : Type 0 where
+record NamesSession (request : Arrival) (q : CreateSessionRequest) (e : Effect) (a : CreateSessionResponse) : Type 0 where
   pub number : a.number ≡ q.number
   pub header : a.header ≡ q.control.teid
+  pub made : IsAccepting a.cause → e.out.made ≡ request ∷ []
   pub accepted : IsAccepting a.cause → IsMadeFor e.node q a
   pub refused : (IsAccepting a.cause → ⊥) → e.out.made ≡ []
 
@@ -337,42 +339,43 @@ one_session b a e = cc
 refuses : (cause : Cause) → 64 ≤ cause.value → IsAccepting cause → ⊥
 refuses cause high accepts = omega (arith, high, accepts.high)
 
-module _ (r : CreateBearerRequest) (e : Effect) (x : CreateBearerResponse) (says : messages e.out.sent ≡ Create_bearer_response x ∷ []) where
-  silent : (f : Effect) → e ≡ f → messages f.out.sent ≡ [] → NamesBearer r e x
+module _ (request : Arrival) (r : CreateBearerRequest) (e : Effect) (x : CreateBearerResponse) (says : messages e.out.sent ≡ Create_bearer_response x ∷ []) where
+  silent : (f : Effect) → e ≡ f → messages f.out.sent ≡ [] → NamesBearer request r e x
   silent f gives none = absurd (none_said (Create_bearer_response x) (sym none ∙ ap (λ (k : Effect). messages k.out.sent) (sym gives) ∙ says))
 
-  named : (y : CreateBearerResponse) (f : Effect) → e ≡ f → messages f.out.sent ≡ Create_bearer_response y ∷ [] → NamesBearer r f y → NamesBearer r e x
-  named y f gives said names = subst (λ k. NamesBearer r k x) (sym gives) (subst (NamesBearer r f) (one_bearer y x (sym said ∙ ap (λ (k : Effect). messages k.out.sent) (sym gives) ∙ says)) names)
+  named : (y : CreateBearerResponse) (f : Effect) → e ≡ f → messages f.out.sent ≡ Create_bearer_response y ∷ [] → NamesBearer request r f y → NamesBearer request r e x
+  named y f gives said names = subst (λ k. NamesBearer request r k x) (sym gives) (subst (NamesBearer request r f) (one_bearer y x (sym said ∙ ap (λ (k : Effect). messages k.out.sent) (sym gives) ∙ says)) names)
 
   -- a refusal
-  refusal : (y : CreateBearerResponse) (f : Effect) → e ≡ f → messages f.out.sent ≡ Create_bearer_response y ∷ [] → f.out.made ≡ [] → 64 ≤ y.cause.value → y.number ≡ r.number → ((t : ℕ) → first_returned y.contexts ≡ Some t → t ≡ r.context.user.teid) → NamesBearer r e x
-  refusal y f gives said none high number returned = named y f gives said (record { number = number; returned = returned; accepted = λ accepts. absurd (refuses y.cause high accepts); refused = λ no. none })
+  refusal : (y : CreateBearerResponse) (f : Effect) → e ≡ f → messages f.out.sent ≡ Create_bearer_response y ∷ [] → f.out.made ≡ [] → 64 ≤ y.cause.value → y.number ≡ r.number → ((t : ℕ) → first_returned y.contexts ≡ Some t → t ≡ r.context.user.teid) → NamesBearer request r e x
+  refusal y f gives said none high number returned = named y f gives said (record { number = number; returned = returned; made = λ accepts. absurd (refuses y.cause high accepts); accepted = λ accepts. absurd (refuses y.cause high accepts); refused = λ no. none })
 
-  bearer_named : (request : Arrival) (old : Node) → BearerAsked request r old e → NamesBearer r e x
-  bearer_named request old (inl f) = silent _ f.1 refl
-  bearer_named request old (inr (a, inl f)) = refusal _ _ f.1 refl refl (omega arith) refl (λ t none. absurd (none_some t none))
-  bearer_named request old (inr (a, inr (b, inl f))) = silent _ f.1 refl
-  bearer_named request old (inr (a, inr (b, inr (c, inl f)))) = refusal _ _ f.1 refl refl (omega arith) refl (λ t none. absurd (none_some t none))
-  bearer_named request old (inr (a, inr (b, inr (c, inr (d, inl f))))) = refusal _ _ f.1 refl refl (omega arith) refl (λ t none. absurd (none_some t none))
-  bearer_named request old (inr (a, inr (b, inr (c, inr (d, inr (g, inl f)))))) = refusal _ _ f.1 refl refl (omega arith) refl (λ t is. cc is)
-  bearer_named request old (inr (a, inr (b, inr (c, inr (d, inr (g, inr (h, k))))))) = named _ _ k.gives refl (record {
+  bearer_named : (old : Node) → BearerAsked request r old e → NamesBearer request r e x
+  bearer_named old (inl f) = silent _ f.1 refl
+  bearer_named old (inr (a, inl f)) = refusal _ _ f.1 refl refl (omega arith) refl (λ t none. absurd (none_some t none))
+  bearer_named old (inr (a, inr (b, inl f))) = silent _ f.1 refl
+  bearer_named old (inr (a, inr (b, inr (c, inl f)))) = refusal _ _ f.1 refl refl (omega arith) refl (λ t none. absurd (none_some t none))
+  bearer_named old (inr (a, inr (b, inr (c, inr (d, inl f))))) = refusal _ _ f.1 refl refl (omega arith) refl (λ t none. absurd (none_some t none))
+  bearer_named old (inr (a, inr (b, inr (c, inr (d, inr (g, inl f)))))) = refusal _ _ f.1 refl refl (omega arith) refl (λ t is. cc is)
+  bearer_named old (inr (a, inr (b, inr (c, inr (d, inr (g, inr (h, k))))))) = named _ _ k.gives refl (record {
     number = refl;
     returned = λ t is. cc is;
+    made = λ accepts. refl;
     accepted = λ accepts. record { user = k.user; identity = k.identity; names_user = refl; names_identity = refl; bearer = get-insert_same old.bearers k.user (granted_bearer r k.identity) };
     refused = λ no. absurd (no (record { low = omega arith; high = omega arith }));
   })
 
 module _ (request : Arrival) (q : CreateSessionRequest) (a : CreateSessionResponse) where
-  silent_session : (e f : Effect) → messages e.out.sent ≡ Create_session_response a ∷ [] → e ≡ f → messages f.out.sent ≡ [] → NamesSession q e a
+  silent_session : (e f : Effect) → messages e.out.sent ≡ Create_session_response a ∷ [] → e ≡ f → messages f.out.sent ≡ [] → NamesSession request q e a
   silent_session e f says gives none = absurd (none_said (Create_session_response a) (sym none ∙ ap (λ (k : Effect). messages k.out.sent) (sym gives) ∙ says))
 
-  named_session : (e f : Effect) (b : CreateSessionResponse) → messages e.out.sent ≡ Create_session_response a ∷ [] → e ≡ f → messages f.out.sent ≡ Create_session_response b ∷ [] → NamesSession q f b → NamesSession q e a
-  named_session e f b says gives said names = subst (λ k. NamesSession q k a) (sym gives) (subst (NamesSession q f) (one_session b a (sym said ∙ ap (λ (k : Effect). messages k.out.sent) (sym gives) ∙ says)) names)
+  named_session : (e f : Effect) (b : CreateSessionResponse) → messages e.out.sent ≡ Create_session_response a ∷ [] → e ≡ f → messages f.out.sent ≡ Create_session_response b ∷ [] → NamesSession request q f b → NamesSession request q e a
+  named_session e f b says gives said names = subst (λ k. NamesSession request q k a) (sym gives) (subst (NamesSession request q f) (one_session b a (sym said ∙ ap (λ (k : Effect). messages k.out.sent) (sym gives) ∙ says)) names)
 
-  refused_session : (old : Node) (e : Effect) (cause : Cause) → messages e.out.sent ≡ Create_session_response a ∷ [] → e ≡ session_refused request q cause old → 64 ≤ cause.value → NamesSession q e a
-  refused_session old e cause says gives high = named_session e (session_refused request q cause old) _ says gives refl (record { number = refl; header = refl; accepted = λ accepts. absurd (refuses cause high accepts); refused = λ no. refl })
+  refused_session : (old : Node) (e : Effect) (cause : Cause) → messages e.out.sent ≡ Create_session_response a ∷ [] → e ≡ session_refused request q cause old → 64 ≤ cause.value → NamesSession request q e a
+  refused_session old e cause says gives high = named_session e (session_refused request q cause old) _ says gives refl (record { number = refl; header = refl; made = λ accepts. absurd (refuses cause high accepts); accepted = λ accepts. absurd (refuses cause high accepts); refused = λ no. refl })
 
-  session_named : (old : Node) (e : Effect) → messages e.out.sent ≡ Create_session_response a ∷ [] → SessionAsked request q old e → NamesSession q e a
+  session_named : (old : Node) (e : Effect) → messages e.out.sent ≡ Create_session_response a ∷ [] → SessionAsked request q old e → NamesSession request q e a
   session_named old e says (inl f) = silent_session e _ says f.1 refl
   session_named old e says (inr (b, inl f)) = refused_session old e (cause_of 94) says f.1 (omega arith)
   session_named old e says (inr (b, inr (c, inl f))) = refused_session old e (cause_at 69 73 0) says f.1 (omega arith)
@@ -383,6 +386,7 @@ module _ (request : Arrival) (q : CreateSessionRequest) (a : CreateSessionRespon
   session_named old e says (inr (b, inr (c, inr (d, inr (g, inr (h, inr (k, inr (l, r)))))))) = named_session e _ _ says r.gives refl (record {
     number = refl;
     header = refl;
+    made = λ accepts. refl;
     accepted = λ accepts. record {
       control = r.control;
       user = r.user;
@@ -390,40 +394,41 @@ module _ (request : Arrival) (q : CreateSessionRequest) (a : CreateSessionRespon
       names_control = refl;
       names_user = refl;
       names_address = refl;
+      names_identity = refl;
       session = get-insert_same old.sessions r.control (made_session q r.address);
       bearer = get-insert_same old.bearers r.user (made_bearer q r.control);
     };
     refused = λ no. absurd (no (accepts_cause q.pdn));
   })
 
-  judged : (old : Node) (c : ℕ) (age : Age) (e : Effect) → messages e.out.sent ≡ Create_session_response a ∷ [] → Judges (SessionAsked request q) old c age e → NamesSession q e a
+  judged : (old : Node) (c : ℕ) (age : Age) (e : Effect) → messages e.out.sent ≡ Create_session_response a ∷ [] → Judges (SessionAsked request q) old c age e → NamesSession request q e a
   judged old c Same e says r = session_named old e says r
   judged old c Later e says r = session_named (peer_restarted old c) e says r
   judged old c Earlier e says r = silent_session e _ says r refl
 
-  weighed : (old : Node) (c : ℕ) (known : Option ℕ) (e : Effect) → messages e.out.sent ≡ Create_session_response a ∷ [] → Weighs (SessionAsked request q) old c known e → NamesSession q e a
+  weighed : (old : Node) (c : ℕ) (known : Option ℕ) (e : Effect) → messages e.out.sent ≡ Create_session_response a ∷ [] → Weighs (SessionAsked request q) old c known e → NamesSession request q e a
   weighed old c None e says r = session_named (record old { known = Some c }) e says r
   weighed old c (Some k) e says r = judged old c (age_of k c) e says r
 
   -- what is heard changes neither
-  with_heard : (taken : Effect) (h learned : Option ℕ) → NamesSession q taken a → NamesSession q (record taken { out = record taken.out { heard = h; learned = learned } }) a
-  with_heard taken h learned n = record { number = n.number; header = n.header; accepted = n.accepted; refused = n.refused }
+  with_heard : (taken : Effect) (h learned : Option ℕ) → NamesSession request q taken a → NamesSession request q (record taken { out = record taken.out { heard = h; learned = learned } }) a
+  with_heard taken h learned n = record { number = n.number; header = n.header; made = n.made; accepted = n.accepted; refused = n.refused }
 
-  heard : (old : Node) (o : Option ℕ) (e : Effect) → messages e.out.sent ≡ Create_session_response a ∷ [] → Hears (SessionAsked request q) old o e → NamesSession q e a
+  heard : (old : Node) (o : Option ℕ) (e : Effect) → messages e.out.sent ≡ Create_session_response a ∷ [] → Hears (SessionAsked request q) old o e → NamesSession request q e a
   heard old None e says r = session_named old e says r
-  heard old (Some c) e says r = subst (λ k. NamesSession q k a) (sym r.2) (with_heard r.0 _ _ (weighed old c old.known r.0 (sym (ap (λ (k : Effect). messages k.out.sent) r.2) ∙ says) r.1))
+  heard old (Some c) e says r = subst (λ k. NamesSession request q k a) (sym r.2) (with_heard r.0 _ _ (weighed old c old.known r.0 (sym (ap (λ (k : Effect). messages k.out.sent) r.2) ∙ says) r.1))
 
 module _ (first : World) (events : List Event) (last : World) (number : ℕ) where
   session_back : (a : CreateSessionResponse) (m : Message) → GoesBackTo first events last number Packet m (Create_session_response a) → AnswersSession first events last number a
   session_back a (Create_session_request q) b =
       let n = heard _ q a _ q.recovery b.gave.effect b.gave.says b.gave.asked in
-      record { request = q; back = b; numbered = n.number; header = n.header; accepted = n.accepted; refused = n.refused }
+      record { request = q; back = b; numbered = n.number; header = n.header; made = n.made; accepted = n.accepted; refused = n.refused }
   session_back a m b = absurd b.gave.asked
 
   bearer_back : (x : CreateBearerResponse) (m : Message) → GoesBackTo first events last number Serving m (Create_bearer_response x) → AnswersBearer first events last number x
   bearer_back x (Create_bearer_request r) b =
-      let n = bearer_named r b.gave.effect x b.gave.says _ _ b.gave.asked in
-      record { request = r; back = b; numbered = n.number; returned = n.returned; accepted = n.accepted; refused = n.refused }
+      let n = bearer_named _ r b.gave.effect x b.gave.says _ b.gave.asked in
+      record { request = r; back = b; numbered = n.number; returned = n.returned; made = n.made; accepted = n.accepted; refused = n.refused }
   bearer_back x m b = absurd b.gave.asked
 
 pub each_response : OfEachRun ResponsesGoBack

@@ -292,6 +292,7 @@ hears_restart = record {
   run = (w17, inr (omega arith, refl), (w18, step18, (w19, inr (record { sent = _; is = refl }, step19), refl)));
   restarts = refl;
   heard = inl refl;
+  on_time = refl;
   gone = gone;
   sendable = among_sendable w19.history all;
 }
@@ -305,52 +306,53 @@ hears_restart = record {
           bearer_request,
           (
             bearer_response,
-            (packet 120, (session_response 1 (inl refl), (packet 121, (packet 122, (removal_request, (removal_response, (echo_request 2, (echo_response 1, tt)))))))),
+            (packet 120 (omega arith), (session_response 1 (inl refl), (packet 121 (omega arith), (packet 122 (omega arith), (removal_request, (removal_response, (echo_request 2 (omega arith), (echo_response 1 (omega arith), tt)))))))),
           ),
         ),
       ),
     )
 
 goes_on : GoesOn w8 control control dedicated dedicated
+unfolding hears_restart
 goes_on = record {
-  events = Deliver 0 ∷ Does Serving (Send_user dedicated (121 ∷ [])) ∷ Does Serving (Send_user dedicated (122 ∷ [])) ∷ Deliver 7 ∷ Deliver 6 ∷ Does Packet (Delete_bearer control 6) ∷ Deliver 8 ∷ Deliver 9 ∷ [];
+  again = w9;
+  repeats = record {
+    number = 0;
+    comes = inr (record { sent = _; is = refl }, step9);
+    note = note_of (Came_to Repeated) e9.out;
+    notes = refl;
+    repeated = refl;
+    answer = _;
+    sent = refl;
+    held = inr (inl refl);
+  };
+  events = Does Serving (Send_user dedicated (121 ∷ [])) ∷ Does Serving (Send_user dedicated (122 ∷ [])) ∷ Deliver 7 ∷ Deliver 6 ∷ Does Packet (Delete_bearer control 6) ∷ Deliver 8 ∷ Deliver 9 ∷ [];
   world = w16;
   run = (
-    w9,
-    inr (record { sent = _; is = refl }, step9),
+    w10,
+    record { effect = sent_with 121; step = sends_with 121; becomes = refl },
     (
-      w10,
-      record { effect = sent_with 121; step = sends_with 121; becomes = refl },
+      w11,
+      record { effect = sent_with 122; step = sends_with 122; becomes = refl },
       (
-        w11,
-        record { effect = sent_with 122; step = sends_with 122; becomes = refl },
+        w12,
+        inr (record { sent = _; is = refl }, step12),
         (
-          w12,
-          inr (record { sent = _; is = refl }, step12),
+          w13,
+          inr (record { sent = _; is = refl }, step13),
           (
-            w13,
-            inr (record { sent = _; is = refl }, step13),
+            w14,
+            step14,
             (
-              w14,
-              step14,
-              (
-                w15,
-                inr (record { sent = _; is = refl }, step15),
-                (w16, inr (record { sent = _; is = refl }, step16), refl),
-              ),
+              w15,
+              inr (record { sent = _; is = refl }, step15),
+              (w16, inr (record { sent = _; is = refl }, step16), refl),
             ),
           ),
         ),
       ),
     ),
   );
-  later = _ ∷ _ ∷ _ ∷ _ ∷ _ ∷ _ ∷ _ ∷ note_of (Came_to Repeated) e9.out ∷ [];
-  notes = refl;
-  note = note_of (Came_to Repeated) e9.out;
-  among = inr (inr (inr (inr (inr (inr (inr (inl refl)))))));
-  repeated = refl;
-  lost = record { sent = _; is = refl };
-  never_comes = never;
   first = entry_with 121;
   second = entry_with 122;
   apart = apart;
@@ -361,6 +363,7 @@ goes_on = record {
   stays = (at_serving, get-kept (λ t (s : Session). true) w14.serving.node.sessions control at_serving serving_stands refl);
   stays_there = (at_packet, stands_before);
   restart = hears_restart;
+  never_comes = never;
 }
   where
     octet_of : List ℕ → ℕ
@@ -376,7 +379,8 @@ goes_on = record {
     not_kept : (bearers : FiniteMap Bearer) (b : Bearer) → get (kept (λ t (k : Bearer). not ((t == dedicated) || false)) bearers) dedicated ≡ Some b → ⊥
     not_kept bearers b e = not_so (found-kept (λ t (k : Bearer). not ((t == dedicated) || false)) bearers dedicated b e).0
 
-    never : Among (Deliver 5) (Deliver 0 ∷ Does Serving (Send_user dedicated (121 ∷ [])) ∷ Does Serving (Send_user dedicated (122 ∷ [])) ∷ Deliver 7 ∷ Deliver 6 ∷ Does Packet (Delete_bearer control 6) ∷ Deliver 8 ∷ Deliver 9 ∷ []) → ⊥
+    never : Among (Deliver 5)
+        (Does Serving (Send_user dedicated (121 ∷ [])) ∷ Does Serving (Send_user dedicated (122 ∷ [])) ∷ Deliver 7 ∷ Deliver 6 ∷ Does Packet (Delete_bearer control 6) ∷ Deliver 8 ∷ Deliver 9 ∷ Restart Serving ∷ Does Serving Send_echo ∷ Deliver 10 ∷ []) → ⊥
     never = search rules
 
 gets_through : GetsThrough

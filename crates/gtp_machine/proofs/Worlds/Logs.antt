@@ -9,11 +9,14 @@ use Rattle.gtp_machine.specs.Move.{MoveStep}
 use Rattle.gtp_machine.specs.Tick.{TickStep, ticked}
 use Rattle.gtp_machine.specs.Step.{Step, Done, Steps, tick_steps}
 use Rattle.gtp_machine.specs.Once.{Takes}
-use Rattle.gtp_machine.specs.World.{World, Side, Note, Event, Does, Tick, Deliver, Cut, Restart, Happens, Delivers, Moves, Run, other, side_of, with_side, steps_of, with_steps, logged, stepped, moved, noted, late_once, arrival, delivered_on, IsLateOn, restarted, begun, start, quiet_note, No_such_datagram, Cut_too_long, Restarts_used}
+use Rattle.gtp_machine.specs.World.{World, Side, Note, Event, Does, Tick, Deliver, Cut, Restart, Happens, Delivers, Moves, Run, other, side_of, with_side, steps_of, with_steps, logged, stepped, moved, noted, late_once, arrival, delivered_on, cut_on, IsLateOn, Sent, HasSent, restarted, begun, start, quiet_note, No_such_datagram, Cut_too_long, Restarts_used}
 use Rattle.gtp_machine.specs.Laws.{Always, StepsAreKept, EachActsOnce}
 use Rattle.gtp_machine.proofs.Basics.FiniteMaps.{Among-left, Among-right, Among-one_more}
 use Rattle.gtp_machine.proofs.Requests.ActsOnce.{acts_once_from, acts_once_in_time}
 use Rattle.gtp_machine.proofs.Worlds.Ticking.{side_twice, side_nothing, move_quiet}
+use Rattle.gtp_machine.proofs.Exchange.Held.{move_config}
+use Rattle.gtp_machine.proofs.Rows.Stepping.{Carried}
+use Rattle.gtp_machine.proofs.Worlds.Runs as run
 use Rattle.gtp_machine.proofs.Worlds.Runs.{IsMarked, quiet_marked, timely_marked, lately_marked, cut_quiet}
 
 -- a list that ends with x has y at a place: the last one, or one before it
@@ -34,16 +37,19 @@ steps_push : (role : Role) (old : Node) (steps : List Done) (mid : Node) (done :
 steps_push role old [] mid done is before step = (before ∙ is, subst (λ node. Step role node done.input done.effect) is step, refl)
 steps_push role old (first ∷ steps) mid done s before step = (s.0, s.1, steps_push role first.effect.node steps mid done s.2 before step)
 
--- what holds of the steps that are kept of a gateway: they lead from its start to it, what they gave up is known to the world, and what came late is marked
+-- what holds of the steps that are kept of a gateway: they lead from its start to it, as it is configured, what they gave up is known to the world, and what came
+-- late is marked
 pub record AreStepsOf (role : Role) (side : Side) (steps : List Done) : Type 0 where
   pub config : Config
+  pub same : side.node.config ≡ config
   pub reach : Steps role (fresh_node config ((side.first + side.restarts) % 256)) steps side.node
   pub forgets : (done : Done) (a : Arrival) → Among done steps → Among a done.effect.out.forgot → Among a side.forgotten
   pub late : (front back : List Done) (done earlier : Done) (request : Arrival) (message : Message) → steps ≡ front ++ (done ∷ back) → Takes done request message → Among earlier front → Among request earlier.effect.out.forgot → Among request side.came_late
 
-pushed : (role : Role) (side : Side) (steps : List Done) → AreStepsOf role side steps → (done : Done) → done.before ≡ side.node → Step role side.node done.input done.effect → ((a : Arrival) (m : Message) → done.input ≡ Control_came a (Control_message m) → Among a side.forgotten → Among a side.came_late) → AreStepsOf role (stepped side done.effect) (steps ++ (done ∷ []))
-pushed role side steps are done before step marked = record {
+pushed : (role : Role) (side : Side) (steps : List Done) → AreStepsOf role side steps → (done : Done) → done.before ≡ side.node → done.effect.node.config ≡ side.node.config → Step role side.node done.input done.effect → ((a : Arrival) (m : Message) → done.input ≡ Control_came a (Control_message m) → Among a side.forgotten → Among a side.came_late) → AreStepsOf role (stepped side done.effect) (steps ++ (done ∷ []))
+pushed role side steps are done before stays step marked = record {
   config = are.config;
+  same = stays ∙ are.same;
   reach = steps_push role _ steps side.node done are.reach before step;
   forgets = λ d a among gone. ⊎_elim (λ was. Among-left a side.forgotten done.effect.out.forgot (are.forgets d a was gone)) (λ is. Among-right a side.forgotten done.effect.out.forgot (subst (λ (k : Done). Among a k.effect.out.forgot) is gone)) (Among-one_more d done steps among);
   late = λ front back d earlier request message split takes among gone. ⊎_elim
@@ -54,13 +60,13 @@ pushed role side steps are done before step marked = record {
 
 -- one more late delivery
 with_late : (role : Role) (side : Side) (steps : List Done) (a : Arrival) → AreStepsOf role side steps → AreStepsOf role (record side { came_late = a ∷ side.came_late }) steps
-with_late role side steps a are = record { config = are.config; reach = are.reach; forgets = are.forgets; late = λ front back d earlier request message split takes among gone. inr (are.late front back d earlier request message split takes among gone) }
+with_late role side steps a are = record { config = are.config; same = are.same; reach = are.reach; forgets = are.forgets; late = λ front back d earlier request message split takes among gone. inr (are.late front back d earlier request message split takes among gone) }
 
 fresh_steps : (role : Role) (side : Side) → AreStepsOf role (restarted side) []
-fresh_steps role side = record { config = side.node.config; reach = refl; forgets = λ d a none. absurd none; late = λ front back d earlier request message split. absurd (not_empty front back d split) }
+fresh_steps role side = record { config = side.node.config; same = refl; reach = refl; forgets = λ d a none. absurd none; late = λ front back d earlier request message split. absurd (not_empty front back d split) }
 
 begun_steps : (role : Role) (config : Config) (first : ℕ) → AreStepsOf role (begun config first) []
-begun_steps role config first = record { config = config; reach = ap (λ n. fresh_node config (n % 256)) from; forgets = λ d a none. absurd none; late = λ front back d earlier request message split. absurd (not_empty front back d split) }
+begun_steps role config first = record { config = config; same = refl; reach = ap (λ n. fresh_node config (n % 256)) from; forgets = λ d a none. absurd none; late = λ front back d earlier request message split. absurd (not_empty front back d split) }
   where
     from : first ≡ first + 0
     from = omega arith
@@ -75,7 +81,7 @@ ticked_steps role side steps are [] out after tick =
     subst (λ k. AreStepsOf role k (steps ++ [])) (sym ((λ i. stepped side (ticked (tick.0 i) (tick.1 i))) ∙ side_nothing side)) (subst (λ k. AreStepsOf role side k) (sym (append-nil steps)) are)
 ticked_steps role side steps are (move ∷ moves) out after (e, rest, step, others, is) =
     let done : Done = record { before = side.node; input = Moves_on move; effect = e } in
-    let first = pushed role side steps are done refl (move_is role side.node move e step) (λ a m came. absurd (not_message move a m came)) in
+    let first = pushed role side steps are done refl (move_config side.node move e step) (move_is role side.node move e step) (λ a m came. absurd (not_message move a m came)) in
     let both = ticked_steps role (stepped side e) (steps ++ (done ∷ [])) first moves rest after others in
     subst (λ k. AreStepsOf role k (steps ++ (done ∷ tick_steps e.node moves rest after others))) (side_twice side e rest after (move_quiet side.node move e step) ∙ ap (λ o. stepped side (ticked o after)) (sym is))
     (subst (λ k. AreStepsOf role (stepped (stepped side e) (ticked rest after)) k) (append_assoc steps (done ∷ []) (tick_steps e.node moves rest after others)) both)
@@ -110,48 +116,68 @@ tick_moves w Packet moves out after tick note each Serving = each Serving
 tick_moves w Packet moves out after tick note each Packet = ticked_steps Packet w.packet w.packet_steps (each Packet) moves out after tick
 
 module _ (own : Addresses) where
-  one_step : (w : World) (role : Role) (input : Input) (e : Effect) (note : Note) → EachSteps w → IsMarked own (side_of w role) input → Step role (side_of w role).node input e → EachSteps (logged (noted (moved w role e) note) role (record { before = (side_of w role).node; input = input; effect = e } ∷ []))
-  one_step w Serving input e note each marked step Serving = pushed Serving w.serving w.serving_steps (each Serving) (record { before = w.serving.node; input = input; effect = e }) refl step marked
-  one_step w Serving input e note each marked step Packet = each Packet
-  one_step w Packet input e note each marked step Serving = each Serving
-  one_step w Packet input e note each marked step Packet = pushed Packet w.packet w.packet_steps (each Packet) (record { before = w.packet.node; input = input; effect = e }) refl step marked
+  one_step : (w : World) (role : Role) (input : Input) (e : Effect) (note : Note) → EachSteps w → IsMarked own (side_of w role) input → e.node.config ≡ (side_of w role).node.config → Step role (side_of w role).node input e → EachSteps (logged (noted (moved w role e) note) role (record { before = (side_of w role).node; input = input; effect = e } ∷ []))
+  one_step w Serving input e note each marked stays step Serving = pushed Serving w.serving w.serving_steps (each Serving) (record { before = w.serving.node; input = input; effect = e }) refl stays step marked
+  one_step w Serving input e note each marked stays step Packet = each Packet
+  one_step w Packet input e note each marked stays step Serving = each Serving
+  one_step w Packet input e note each marked stays step Packet = pushed Packet w.packet w.packet_steps (each Packet) (record { before = w.packet.node; input = input; effect = e }) refl stays step marked
 
-  moves_steps : (w : World) (role : Role) (input : Input) (new : World) → EachSteps w → IsMarked own (side_of w role) input → Moves w role input new → EachSteps new
-  moves_steps w role input new each marked m = subst EachSteps (sym m.becomes) (one_step w role input m.effect _ each marked m.step)
+  moves_steps : (w : World) → run.Invariant own w → (role : Role) (input : Input) (new : World) → EachSteps w → Carried role w.history (side_of w role).node input → IsMarked own (side_of w role) input → Moves w role input new → EachSteps new
+  moves_steps w inv role input new each carried marked m = subst EachSteps (sym m.becomes) (one_step w role input m.effect _ each marked (run.config_stays own w inv role input m.effect carried m.step) m.step)
 
-  late_comes : (w : World) (role : Role) (from : Addresses) (p : Plane) (m : Message) (new : World) → EachSteps w → IsLateOn p from (side_of w role) m → Moves (late_once w role (arrival from m)) role (delivered_on p from m) new → EachSteps new
-  late_comes w Serving from Control m new each late d = moves_steps (late_once w Serving (arrival from m)) Serving _ new (late_steps w Serving (arrival from m) each) (lately_marked own w.serving from m) d
-  late_comes w Packet from Control m new each late d = moves_steps (late_once w Packet (arrival from m)) Packet _ new (late_steps w Packet (arrival from m) each) (lately_marked own w.packet from m) d
-  late_comes w role from User m new each late d = absurd late
+  -- a datagram that the other gateway sent comes
+  comes : (w : World) → run.Invariant own w → EachSteps w → (role : Role) (m : Message) (new : World) → Carried role w.history (side_of w role).node (delivered_on (plane_of m) (side_of w (other role)).node.config.own m) → (IsLateOn (plane_of m) (side_of w (other role)).node.config.own (side_of w role) m → ⊥) → Moves w role (delivered_on (plane_of m) (side_of w (other role)).node.config.own m) new → EachSteps new
+  comes w inv each role m new carried timely d = moves_steps w inv role _ new each carried (timely_marked own (side_of w role) _ (plane_of m) m timely) d
 
-  delivers : (w : World) → EachSteps w → (sender : Role) (m : Message) (new : World) → Delivers w sender m new → EachSteps new
-  delivers w each sender m new (inl d) = moves_steps w (other sender) _ new each (timely_marked own (side_of w (other sender)) _ (plane_of m) m d.0) d.1
-  delivers w each sender m new (inr d) = late_comes w (other sender) _ (plane_of m) m new each d.0 d.1
+  -- it comes late
+  late_comes : (w : World) → run.Invariant own w → EachSteps w → (role : Role) (from : Addresses) (p : Plane) (m : Message) (new : World) → Carried role (late_once w role (arrival from m)).history (side_of (late_once w role (arrival from m)) role).node (delivered_on p from m) → IsLateOn p from (side_of w role) m → Moves (late_once w role (arrival from m)) role (delivered_on p from m) new → EachSteps new
+  late_comes w inv each Serving from Control m new carried late d =
+      moves_steps (late_once w Serving (arrival from m)) (run.late_keeps own w inv Serving (arrival from m)) Serving _ new (late_steps w Serving (arrival from m) each) carried (lately_marked own w.serving from m) d
+  late_comes w inv each Packet from Control m new carried late d =
+      moves_steps (late_once w Packet (arrival from m)) (run.late_keeps own w inv Packet (arrival from m)) Packet _ new (late_steps w Packet (arrival from m) each) carried (lately_marked own w.packet from m) d
+  late_comes w inv each role from User m new carried late d = absurd late
 
-  happens : (w : World) → EachSteps w → (event : Event) (new : World) → Happens w event new → EachSteps new
-  happens w each (Does role command) new m = moves_steps w role (Commanded command) new each (quiet_marked own (side_of w role) (Commanded command) tt) m
-  happens w each (Tick role) new t = subst EachSteps (sym t.becomes) (tick_moves w role t.moves t.out t.after t.tick _ each)
-  happens w each (Deliver number) new (inl none) = subst EachSteps (sym none.1) (noted_steps w (quiet_note No_such_datagram) each)
-  happens w each (Deliver number) new (inr (found, d)) = delivers w each found.sent.role found.sent.what new d
-  happens w each (Cut number count) new (inl none) = subst EachSteps (sym none.1) (noted_steps w (quiet_note No_such_datagram) each)
-  happens w each (Cut number count) new (inr (found, inl long)) = subst EachSteps (sym long.1) (noted_steps w (quiet_note Cut_too_long) each)
-  happens w each (Cut number count) new (inr (found, inr (short, c))) = moves_steps w (other found.sent.role) _ new each (quiet_marked own (side_of w (other found.sent.role)) _ (cut_quiet own (plane_of found.sent.what) _ found.sent.what count)) c
-  happens w each (Restart role) new (inl used) = subst EachSteps (sym used.1) (noted_steps w (quiet_note Restarts_used) each)
-  happens w each (Restart role) new (inr (few, is)) = subst EachSteps (sym is) (restarted_steps w role _ each)
+  delivers : (w : World) → run.Invariant own w → EachSteps w → (sender : Role) (m : Message) → HasSent w.history sender m → (new : World) → Delivers w sender m new → EachSteps new
+  delivers w inv each Packet m sent new (inl d) = comes w inv each Serving m new (run.serving_carried own w inv (plane_of m) m sent) d.0 d.1
+  delivers w inv each Serving m sent new (inl d) = comes w inv each Packet m new (run.packet_carried own w inv (plane_of m) m sent) d.0 d.1
+  delivers w inv each Packet m sent new (inr d) =
+      let a = arrival w.packet.node.config.own m in
+      late_comes w inv each Serving w.packet.node.config.own (plane_of m) m new (run.serving_carried own (late_once w Serving a) (run.late_keeps own w inv Serving a) (plane_of m) m sent) d.0 d.1
+  delivers w inv each Serving m sent new (inr d) =
+      let a = arrival w.serving.node.config.own m in
+      late_comes w inv each Packet w.serving.node.config.own (plane_of m) m new (run.packet_carried own (late_once w Packet a) (run.late_keeps own w inv Packet a) (plane_of m) m sent) d.0 d.1
 
-  run : (w : World) → EachSteps w → (events : List Event) (new : World) → Run w events new → EachSteps new
-  run w each [] new is = subst EachSteps (sym is) each
-  run w each (event ∷ events) new r = run r.0 (happens w each event r.0 r.1) events new r.2
+  cut_carried : (role : Role) (history : List Sent) (node : Node) (p : Plane) (from : Addresses) (m : Message) (count : ℕ) → Carried role history node (cut_on p from m count)
+  cut_carried role history node Control from m count = tt
+  cut_carried role history node User from m count = tt
+
+  happens : (w : World) → run.Invariant own w → EachSteps w → (event : Event) (new : World) → Happens w event new → EachSteps new
+  happens w inv each (Does role command) new m = moves_steps w inv role (Commanded command) new each tt (quiet_marked own (side_of w role) (Commanded command) tt) m
+  happens w inv each (Tick role) new t = subst EachSteps (sym t.becomes) (tick_moves w role t.moves t.out t.after t.tick _ each)
+  happens w inv each (Deliver number) new (inl none) = subst EachSteps (sym none.1) (noted_steps w (quiet_note No_such_datagram) each)
+  happens w inv each (Deliver number) new (inr (found, d)) = delivers w inv each found.sent.role found.sent.what (run.found_sent own w.history number found.sent found.is) new d
+  happens w inv each (Cut number count) new (inl none) = subst EachSteps (sym none.1) (noted_steps w (quiet_note No_such_datagram) each)
+  happens w inv each (Cut number count) new (inr (found, inl long)) = subst EachSteps (sym long.1) (noted_steps w (quiet_note Cut_too_long) each)
+  happens w inv each (Cut number count) new (inr (found, inr (short, c))) =
+      let receiver = other found.sent.role in
+      moves_steps w inv receiver _ new each (cut_carried receiver w.history (side_of w receiver).node (plane_of found.sent.what) _ found.sent.what count) (quiet_marked own (side_of w receiver) _ (cut_quiet own (plane_of found.sent.what) _ found.sent.what count)) c
+  happens w inv each (Restart role) new (inl used) = subst EachSteps (sym used.1) (noted_steps w (quiet_note Restarts_used) each)
+  happens w inv each (Restart role) new (inr (few, is)) = subst EachSteps (sym is) (restarted_steps w role _ each)
+
+  goes_on : (w : World) → run.Invariant own w → EachSteps w → (events : List Event) (new : World) → Run w events new → EachSteps new
+  goes_on w inv each [] new is = subst EachSteps (sym is) each
+  goes_on w inv each (event ∷ events) new r = goes_on r.0 (run.happens own w inv event r.0 r.1) (happens w inv each event r.0 r.1) events new r.2
 
 start_steps : (serving packet : Config) (serving_counter packet_counter : ℕ) → EachSteps (start serving packet serving_counter packet_counter)
 start_steps serving packet serving_counter packet_counter Serving = begun_steps Serving serving serving_counter
 start_steps serving packet serving_counter packet_counter Packet = begun_steps Packet packet packet_counter
 
 kept_in : (serving packet : Config) (serving_counter packet_counter : ℕ) (events : List Event) (w : World) → Run (start serving packet serving_counter packet_counter) events w → EachSteps w
-kept_in serving packet serving_counter packet_counter events w r = run packet.own (start serving packet serving_counter packet_counter) (start_steps serving packet serving_counter packet_counter) events w r
+kept_in serving packet serving_counter packet_counter events w r = goes_on packet.own (start serving packet serving_counter packet_counter) (run.begins serving packet serving_counter packet_counter) (start_steps serving packet serving_counter packet_counter) events w r
 
 pub always_kept : Always StepsAreKept
-always_kept serving packet sc pc events w r role = let are = kept_in serving packet sc pc events w r role in (are.config, are.reach)
+always_kept serving packet sc pc events w r role = let are = kept_in serving packet sc pc events w r role in
+    subst (λ config. Steps role (fresh_node config (((side_of w role).first + (side_of w role).restarts) % 256)) (steps_of w role) (side_of w role).node) (sym are.same) are.reach
 
 pub always_acts_once : Always EachActsOnce
 always_acts_once serving packet sc pc events w r role request message first second two makes first_takes second_takes cond =

@@ -1,5 +1,7 @@
 -- The messages of the possible run can be sent.
-use Rattle.std.proofs.Common.{◌≡◌, ◌⊎◌, inl, inr, ℕ, ◌<◌, ◌^◌, List, [], ◌∷◌, Some, None, refl, sym, subst, arith, rules}
+use Rattle.std.proofs.Common.{◌≡◌, ◌⊎◌, inl, inr, ℕ, ◌<◌, ◌^◌, true, List, [], ◌∷◌, ◌++◌, Some, None, refl, sym, subst, arith, rules}
+use Rattle.std.specs.Prelude.{nat_lt}
+use Rattle.std.specs.List.{list_all}
 use Rattle.std.proofs.lemmas.List.Elements.{All-from_recursion}
 use Rattle.gtp_ie.specs.Value.{OfQos, OfFTeid, encoding_of}
 use Rattle.gtp_ie.proofs.Again.{recovery_again, ebi_again, charging_id_again}
@@ -13,7 +15,7 @@ use Rattle.gtp_user.specs.Encoding.{content_encoding, options_encoding}
 use Rattle.gtp_machine.specs.Element.{cause_of, tunnel_end}
 use Rattle.gtp_machine.specs.Message.{Message, Echo_request, Echo_response, Create_session_request, Create_session_response, Create_bearer_request, Create_bearer_response, Delete_bearer_request, Delete_bearer_response, Packet_data}
 use Rattle.gtp_machine.specs.Node.{Role}
-use Rattle.gtp_machine.specs.Spelling.{IsSendable}
+use Rattle.gtp_machine.specs.Spelling.{AreOctets, IsSendable}
 use Rattle.gtp_machine.specs.World.{Sent, HasSent}
 use Rattle.gtp_machine.proofs.Worlds.Beginning as first
 use Rattle.gtp_machine.proofs.Worlds.Beginning.{plain_qos, control, user, serving_ip, packet_ip, serving_config, packet_config, packet_heard, w0}
@@ -23,6 +25,11 @@ use Rattle.gtp_machine.specs.Choice.{IsIdentity}
 use Rattle.gtp_values.specs.Address.{IsIp}
 use Rattle.gtp_values.specs.declared.address.Ip.TheVariants.{V4}
 use Rattle.gtp_machine.proofs.Worlds.Possible.{dedicated, r, x}
+use Rattle.gtp_machine.proofs.Octets.AsOctets.{none, and, joined, closed}
+
+-- octets that stand there, and one more
+ended : (octets : List ℕ) → list_all (λ octet. nat_lt octet 256) octets ≡ true → (last : ℕ) → last < 256 → AreOctets (octets ++ last ∷ [])
+ended octets are last small = joined octets (last ∷ []) (closed octets are) (and last [] small none)
 
 -- an address of the two gateways
 ip : (last : ℕ) → last < 256 → IsIp (V4 (10 ∷ 0 ∷ 0 ∷ last ∷ []))
@@ -35,11 +42,12 @@ pub packet_is : IsConfigured packet_config
 packet_is = record { control = ip 2 (omega arith); user = ip 2 (omega arith); pool = record { few = omega arith; within = omega arith } }
 
 quality : IsQos plain_qos
-quality = record { level = omega arith; most = record { up = omega arith; down = omega arith }; guaranteed = record { up = omega arith; down = omega arith } }
+quality = record { class = omega arith; level = omega arith; most = record { up = omega arith; down = omega arith }; guaranteed = record { up = omega arith; down = omega arith } }
 
 pub specified : (pdn : ℕ) → IsSpecified (first.spec pdn)
 specified pdn = record {
   imsi = record { least = omega arith; most = omega arith; decimal = All-from_recursion (λ digit. digit < 10) (0 ∷ 0 ∷ 1 ∷ 0 ∷ 1 ∷ 1 ∷ []) (search rules) };
+  technology = omega arith;
   access_point = record { least = omega arith; most = omega arith; labels = ((97 ∷ []) ∷ [], (record { least = omega arith; most = omega arith; octets = (refl, tt) }, tt), refl) };
   network = record {
     country = refl;
@@ -69,10 +77,10 @@ module _ (pdn : ℕ) (known : (pdn ≡ 1) ⊎ (pdn ≡ 3)) where
   identity = record { low = omega arith; high = omega arith }
 
   pub session_request : IsSendable (Create_session_request (first.q pdn))
-  session_request = request_sendable w0.serving.node (first.spec pdn) control user 0 serving_is (specified pdn) identity known (omega arith) (omega arith) (omega arith)
+  session_request = request_sendable w0.serving.node (first.spec pdn) control user 0 serving_is (specified pdn) identity known (omega arith) (omega arith) (omega arith) (omega arith)
 
   pub session_response : IsSendable (Create_session_response (first.a pdn))
-  session_response = response_sendable w0.serving.node (first.spec pdn) control user 0 serving_is (specified pdn) identity known (omega arith) (omega arith) (omega arith) (packet_heard pdn) control user 7 packet_is (omega arith) (omega arith) (omega arith)
+  session_response = response_sendable w0.serving.node (first.spec pdn) control user 0 serving_is (specified pdn) identity known (omega arith) (omega arith) (omega arith) (omega arith) (packet_heard pdn) control user 7 packet_is (omega arith) (omega arith) (omega arith) (omega arith)
 
 pub bearer_request : IsSendable (Create_bearer_request r)
 unfolding encoding_of value_encoding groups_encoding several_encoding
@@ -93,6 +101,7 @@ bearer_request = record {
     marks = search rules;
     short = omega arith;
   };
+  octets = closed _ refl;
 }
 
 pub bearer_response : IsSendable (Create_bearer_response x)
@@ -111,6 +120,7 @@ bearer_response = record {
     marks = search rules;
     short = omega arith;
   };
+  octets = closed _ refl;
 }
 
 pub removal_request : IsSendable (Delete_bearer_request (record { header = control; number = 0; linked = None; identities = 6 ∷ [] }))
@@ -123,6 +133,7 @@ removal_request = record {
     marks = search rules;
     short = omega arith;
   };
+  octets = closed _ refl;
 }
 
 pub removal_response : IsSendable (Delete_bearer_response (record { header = control; number = 0; cause = cause_of 16; linked = None; contexts = record { identity = 6; cause = cause_of 16 } ∷ []; recovery = Some 1 }))
@@ -135,19 +146,20 @@ removal_response = record {
     marks = search rules;
     short = omega arith;
   };
+  octets = closed _ refl;
 }
 
-pub echo_request : (counter : ℕ) → IsSendable (Echo_request (record { number = 0; recovery = counter }))
+pub echo_request : (counter : ℕ) → counter < 256 → IsSendable (Echo_request (record { number = 0; recovery = counter }))
 unfolding encoding_of value_encoding groups_encoding several_encoding
-echo_request counter = record { own = tt; meets = record { header = omega arith; kinds = (recovery_again counter, tt); marks = search rules; short = omega arith } }
+echo_request counter small = record { own = tt; meets = record { header = omega arith; kinds = (recovery_again counter, tt); marks = search rules; short = omega arith }; octets = ended (64 ∷ 1 ∷ 0 ∷ 9 ∷ 0 ∷ 0 ∷ 0 ∷ 0 ∷ 3 ∷ 0 ∷ 1 ∷ 0 ∷ []) refl counter small }
 
-pub echo_response : (counter : ℕ) → IsSendable (Echo_response (record { number = 0; recovery = counter }))
+pub echo_response : (counter : ℕ) → counter < 256 → IsSendable (Echo_response (record { number = 0; recovery = counter }))
 unfolding encoding_of value_encoding groups_encoding several_encoding
-echo_response counter = record { own = tt; meets = record { header = omega arith; kinds = (recovery_again counter, tt); marks = search rules; short = omega arith } }
+echo_response counter small = record { own = tt; meets = record { header = omega arith; kinds = (recovery_again counter, tt); marks = search rules; short = omega arith }; octets = ended (64 ∷ 2 ∷ 0 ∷ 9 ∷ 0 ∷ 0 ∷ 0 ∷ 0 ∷ 3 ∷ 0 ∷ 1 ∷ 0 ∷ []) refl counter small }
 
-pub packet : (octet : ℕ) → IsSendable (Packet_data dedicated (octet ∷ []))
+pub packet : (octet : ℕ) → octet < 256 → IsSendable (Packet_data dedicated (octet ∷ []))
 unfolding content_encoding options_encoding
-packet octet = record { own = tt; meets = record { encodable = tt; seq = tt; ext = tt; teid = omega arith; range = tt; short = omega arith } }
+packet octet small = record { own = tt; meets = record { encodable = tt; seq = tt; ext = tt; teid = omega arith; range = tt; short = omega arith }; octets = ended (48 ∷ 255 ∷ 0 ∷ 1 ∷ 1 ∷ 0 ∷ 0 ∷ 3 ∷ []) refl octet small }
 
 -- each message of the list can be sent
 abbrev pub AllSendable : List Sent → Type 0
