@@ -1,5 +1,5 @@
 -- A packet that was accepted changes nothing of its gateway.
-use Rattle.std.proofs.Common.{◌≡◌, inl, inr, ℕ, List, refl, sym, ◌∙◌, subst}
+use Rattle.std.proofs.Common.{◌≡◌, inl, inr, ℕ, List, refl, sym, ◌∙◌, ap, subst}
 use Rattle.std.specs.Prelude.{IsSome}
 use Rattle.gtp_values.specs.declared.address.Endpoint.{Endpoint}
 use Rattle.gtp_machine.specs.declared.role.Role.{Role}
@@ -11,7 +11,8 @@ use Rattle.gtp_machine.specs.Reading.{user_reading}
 use Rattle.gtp_machine.specs.User.{PacketCame, EndCame, ErrorCame, UserTaken, UserRead, UserStep}
 use Rattle.gtp_machine.specs.declared.outcome.Outcome.TheVariants.{Accepted, Broken, Ended}
 use Rattle.gtp_gateway.specs.Station.{Station}
-use Rattle.gtp_gateway.specs.declared.user_step.UserStep as steps
+use Rattle.gtp_gateway.specs.declared.step.Report.{Report}
+use Rattle.gtp_gateway.specs.declared.step.Step.{Step}
 use Rattle.gtp_gateway.specs.UserTaken.{IsUserTaken}
 
 ended_not : Ended ≡ Accepted → ⊥
@@ -74,9 +75,9 @@ module _ (old : Node) where
   step_leaves role source reading e (inr (peer, r)) = read role source reading e r
 
 -- where a packet was accepted, the gateway is as before
-pub accepted_stays : (source : Endpoint) (octets : List ℕ) (old : Station) (step : steps.UserStep) (new : Station) → IsUserTaken source octets old step new → IsSome step.accepted → new ≡ old
+pub accepted_stays : (source : Endpoint) (octets : List ℕ) (old : Station) (step : Step) (new : Station) → IsUserTaken source octets old step new → IsSome step.accepted → new ≡ old
 accepted_stays source octets old step new taken some =
     let accepted = taken.tells.packet.1 some in
-    let node = taken.becomes ∙ step_leaves old.node old.role source (user_reading octets) taken.effect taken.takes (sym taken.tells.outcome ∙ accepted) in
+    let node = taken.becomes ∙ step_leaves old.node old.role source (user_reading octets) taken.effect taken.takes (sym (ap (λ (r : Report). r.outcome) taken.tells.report) ∙ accepted) in
     let timing = taken.same (λ broken. broken_not (sym broken ∙ accepted)) in
     λ i. record { role = taken.role i; node = node i; timing = timing i }

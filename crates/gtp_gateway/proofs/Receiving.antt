@@ -1,6 +1,6 @@
 -- Datagrams of either plane that were taken, as datagrams that were received.
 use Rattle.std.proofs.Common.{◌≡◌, ℕ, List, Result, Ok, Err, refl, sym, ◌∙◌, ap, subst}
-use Rattle.std.specs.Prelude.{IfOk, OnErr}
+use Rattle.std.specs.Prelude.{IfOk, OnErr, IsSome, option_map}
 use Rattle.std.proofs.lemmas.Grind.{merely}
 use mathlib.Core.Logic.{∥∥₁_elim, ∥∥₁_prop}
 use Rattle.gtp_values.specs.declared.address.Endpoint.{Endpoint}
@@ -10,14 +10,15 @@ use Rattle.gtp_machine.specs.Sound.{IsSound, IsWellFormed}
 use Rattle.gtp_machine.specs.Reading.{control_reading}
 use Rattle.gtp_machine.proofs.Sound.Rows.{stays_sound}
 use Rattle.gtp_machine.proofs.Sound.Reads.{reads_whole}
+use Rattle.gtp_gateway.specs.declared.step.Report.{Report}
 use Rattle.gtp_gateway.specs.declared.step.Step.{Step}
 use Rattle.gtp_gateway.specs.declared.control_step.ControlStep.{ControlStep}
-use Rattle.gtp_gateway.specs.declared.user_step.UserStep.{UserStep}
 use Rattle.gtp_gateway.specs.Parts.{arrival_of}
-use Rattle.gtp_gateway.specs.Received.{coming, of_control, of_user, IsReceived}
-use Rattle.gtp_gateway.specs.Station.{Station, IsWhole}
-use Rattle.gtp_gateway.specs.Taken.{IsTaken}
+use Rattle.gtp_gateway.specs.Received.{coming, of_control, IsReceived, KeepsTiming}
+use Rattle.gtp_gateway.specs.Station.{Station, IsTied, IsWhole}
+use Rattle.gtp_gateway.specs.Taken.{made_for, IsTaken}
 use Rattle.gtp_gateway.specs.UserTaken.{IsUserTaken}
+use Rattle.gtp_gateway.proofs.AcceptedStays.{accepted_stays}
 
 pub control_received : (source : Endpoint) (octets : List ℕ) (old : Station) (step : ControlStep) (new : Station) → IsTaken source octets old step new → IsReceived Control source octets old (of_control step) new
 control_received source octets old step new taken =
@@ -30,7 +31,7 @@ control_received source octets old step new taken =
       role = taken.role;
     }
 
-pub user_received : (source : Endpoint) (octets : List ℕ) (old : Station) (step : UserStep) (new : Station) → IsUserTaken source octets old step new → IsReceived User source octets old (of_user step) new
+user_received : (source : Endpoint) (octets : List ℕ) (old : Station) (step : Step) (new : Station) → IsUserTaken source octets old step new → IsReceived User source octets old step new
 user_received source octets old step new taken =
     let t = taken.tells in
     let e = taken.effect in
@@ -39,16 +40,30 @@ user_received source octets old step new taken =
       takes = taken.takes;
       tells = record {
         sent = t.sent;
-        outcome = t.outcome;
-        heard = sym (ap (λ (o : Out). o.heard) t.all);
-        restart = sym (ap (λ (o : Out). o.learned) t.all);
-        made = sym (ap (λ (o : Out). o.made) t.all);
+        outcome = ap (λ (r : Report). r.outcome) t.report;
+        heard = ap (λ (r : Report). option_map (λ c. c.0) r.heard) t.report ∙ sym (ap (λ (o : Out). o.heard) t.all);
+        restart = ap (λ (r : Report). option_map (λ c. c.0) r.restart) t.report ∙ sym (ap (λ (o : Out). o.learned) t.all);
+        made = ap (λ (r : Report). made_for (arrival_of source octets) r.made) t.report ∙ sym (ap (λ (o : Out). o.made) t.all);
         accepted = t.accepted;
         all = t.all ∙ (λ i. record nothing { sent = e.out.sent; heard = ap (λ (o : Out). o.heard) (sym t.all) i; learned = ap (λ (o : Out). o.learned) (sym t.all) i; made = ap (λ (o : Out). o.made) (sym t.all) i; accepted = e.out.accepted });
       };
       becomes = taken.becomes;
       role = taken.role;
     }
+
+-- what is promised of a step that tells what this one tells, on the plane that is the user plane
+module _ (plane : Plane) (source : Endpoint) (octets : List ℕ) (old new : Station) (step given : Step) (is : plane ≡ User) (same : step ≡ given) (taken : IsUserTaken source octets old given new) where
+  as_taken : IsUserTaken source octets old step new
+  as_taken = subst (λ (s : Step). IsUserTaken source octets old s new) (sym same) taken
+
+  pub as_received : IsReceived plane source octets old step new
+  as_received = subst (λ (p : Plane). IsReceived p source octets old step new) (sym is) (user_received source octets old step new as_taken)
+
+  pub as_timed : IsTied new → KeepsTiming plane source octets step old new
+  as_timed tied = subst (λ (p : Plane). KeepsTiming p source octets step old new) (sym is) (as_taken.same, as_taken.waits, tied)
+
+  pub as_stays : IsSome step.accepted → new ≡ old
+  as_stays = accepted_stays source octets old step new as_taken
 
 formed : (plane : Plane) (source : Endpoint) (octets : List ℕ) → IsWellFormed (coming plane source octets)
 formed Control source octets = reads_whole (arrival_of source octets) (control_reading octets) refl

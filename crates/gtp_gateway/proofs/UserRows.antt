@@ -1,25 +1,21 @@
 -- Datagrams of the user plane for which nothing is sent.
-use Rattle.std.proofs.Common.{◌≡◌, ◌≢◌, ℕ, true, List, [], ◌∷◌, Option, Some, None, Result, Ok, Err, refl, sym, ◌∙◌, ap, subst}
-use Rattle.std.specs.Prelude.{filter, IsSome, IfOk, OnErr}
-use Rattle.std.proofs.lemmas.Grind.{merely}
-use mathlib.Core.Logic.{∥∥₁_elim, ∥∥₁_prop}
+use Rattle.std.proofs.Common.{◌≡◌, ◌≢◌, ℕ, true, List, [], ◌∷◌, Option, Some, None, refl, sym, ◌∙◌, ap, subst}
+use Rattle.std.specs.Prelude.{filter, IsSome}
 use Rattle.gtp_values.specs.declared.address.Endpoint.{Endpoint}
 use Rattle.gtp_reliable.specs.Waiting.{Waiting}
 use Rattle.gtp_machine.specs.Message.{User}
-use Rattle.gtp_machine.specs.Reading.{user_reading}
-use Rattle.gtp_machine.specs.Sound.{IsSound}
 use Rattle.gtp_machine.specs.User.{UserRead}
-use Rattle.gtp_machine.proofs.Sound.Rows.{stays_sound}
 use Rattle.std.specs.FinMap.{get}
 use Rattle.gtp_machine.specs.Choice.{HasBearer}
 use Rattle.gtp_machine.specs.Node.{Node}
-use Rattle.gtp_machine.specs.Input.{User_came, UserReading, User_fault, nothing, Effect, dropped, undecodable}
+use Rattle.gtp_machine.specs.Input.{UserReading, User_fault, nothing, Effect, dropped, undecodable}
 use Rattle.gtp_machine.specs.declared.outcome.DropReason.{DropReason}
 use Rattle.gtp_machine.specs.declared.outcome.Outcome.{Outcome}
 use Rattle.gtp_machine.specs.declared.outcome.Outcome.TheVariants.{Accepted, Broken, Dropped}
 use Rattle.gtp_gateway.specs.declared.purpose.Purpose.{Purpose}
-use Rattle.gtp_gateway.specs.declared.user_step.Accepted as packets
-use Rattle.gtp_gateway.specs.declared.user_step.UserStep.{UserStep}
+use Rattle.gtp_gateway.specs.declared.step.Accepted as packets
+use Rattle.gtp_gateway.specs.declared.step.Report.{Report}
+use Rattle.gtp_gateway.specs.declared.step.Step.{Step}
 use Rattle.gtp_gateway.specs.declared.user_reply.Reply.{Reply}
 use Rattle.gtp_gateway.specs.declared.user_reply.Reply.TheVariants.{ErrorIndication, Notification, EchoResponse}
 use Rattle.gtp_gateway.specs.declared.user_receive.Judged.{Judged}
@@ -27,9 +23,9 @@ use Rattle.gtp_gateway.specs.declared.user_receive.Judged.TheVariants as judged
 use Rattle.gtp_gateway.specs.Parts.{pending_in}
 use Rattle.gtp_gateway.specs.Replying.{sending_of, outcome_of, replied, IsReplyBy}
 use Rattle.gtp_gateway.specs.Sent.{AreSent}
-use Rattle.gtp_gateway.specs.Station.{Station, IsWhole}
+use Rattle.gtp_gateway.specs.Station.{Station}
 use Rattle.gtp_gateway.specs.Taken.{datagrams}
-use Rattle.gtp_gateway.specs.UserTaken.{plain_step, AreEntries, WaitOn, IsTakenBy, IsJudgedBy, IsFaultJudged, IsUserTaken}
+use Rattle.gtp_gateway.specs.UserTaken.{plain_step, accepted_step, AreEntries, WaitOn, IsTakenBy, IsJudgedBy, IsFaultJudged}
 use Rattle.gtp_gateway.proofs.SentBack.{none_sent}
 
 -- no bearer stands there
@@ -60,7 +56,7 @@ module _ (Takes : Node → Effect → Type 0) (old : Station) where
       record {
         effect = record { out = nothing; outcome = outcome; node = node };
         takes = takes;
-        tells = record { sent = none_sent old.node.config; outcome = refl; accepted = refl; packet = (λ is. absurd (other is), λ some. absurd cc); all = refl };
+        tells = record { sent = none_sent old.node.config; report = refl; accepted = refl; packet = (λ is. absurd (other is), λ some. absurd cc); all = refl };
         becomes = becomes;
         role = role;
         same = same;
@@ -75,16 +71,16 @@ module _ (Takes : Node → Effect → Type 0) (old : Station) where
   drops pending why takes = plain (Dropped why) old.node old (not_accepted why) takes refl refl (λ _. refl) (all_wait old old refl pending)
 
   -- the reply is sent, and nothing changes
-  pub replies : (reply : Reply) (step : UserStep) (new : Station) → IsPendingIn new → Takes old.node (replied reply old.node) → new ≡ old → IsReplyBy reply new.node.config step → IsTakenBy Takes old step new
+  pub replies : (reply : Reply) (step : Step) (new : Station) → IsPendingIn new → Takes old.node (replied reply old.node) → new ≡ old → IsReplyBy reply new.node.config step → IsTakenBy Takes old step new
   replies reply step new pending takes same sends =
       record {
         effect = replied reply old.node;
         takes = takes;
         tells = record {
           sent = subst (λ (s : Station). AreSent s.node.config (datagrams step.out) (sending_of reply s.node.config ∷ [])) same sends.sent;
-          outcome = sends.outcome;
+          report = sends.report;
           accepted = subst (λ (o : Option packets.Accepted). AreEntries old.node o []) (sym sends.none) refl;
-          packet = (λ is. absurd (not_taken reply (sym sends.outcome ∙ is)), λ some. absurd (none_some step.accepted sends.none some));
+          packet = (λ is. absurd (not_taken reply (sym (ap (λ (r : Report). r.outcome) sends.report) ∙ is)), λ some. absurd (none_some step.accepted sends.none some));
           all = refl;
         };
         becomes = ap (λ (s : Station). s.node) same;
@@ -103,21 +99,20 @@ module _ (Takes : Node → Effect → Type 0) (old : Station) where
       none_some (Some p) is some = cc
 
 -- what takes a datagram by one relation takes it by a wider one
+taken_wider : (Takes Wider : Node → Effect → Type 0) (old new : Station) (step : Step) → ((e : Effect) → Takes old.node e → Wider old.node e) → IsTakenBy Takes old step new → IsTakenBy Wider old step new
+taken_wider Takes Wider old new step wider taken = record { effect = taken.effect; takes = wider taken.effect taken.takes; tells = taken.tells; becomes = taken.becomes; role = taken.role; same = taken.same; waits = taken.waits }
+
 pub judged_wider : (Takes Wider : Node → Effect → Type 0) (old new : Station) (j : Judged) → ((e : Effect) → Takes old.node e → Wider old.node e) → IsJudgedBy Takes old j new → IsJudgedBy Wider old j new
-judged_wider Takes Wider old new (judged.Taken step) wider taken = record { effect = taken.effect; takes = wider taken.effect taken.takes; tells = taken.tells; becomes = taken.becomes; role = taken.role; same = taken.same; waits = taken.waits }
+judged_wider Takes Wider old new (judged.Accepted packet) wider taken = taken_wider Takes Wider old new (accepted_step packet) wider taken
+judged_wider Takes Wider old new (judged.Came outcome) wider taken = taken_wider Takes Wider old new (plain_step outcome) wider taken
 judged_wider Takes Wider old new (judged.Replies reply) wider (takes, same) = (wider (replied reply old.node) takes, same)
 
 -- a datagram at fault
 pub fault_judged : (source : Endpoint) (reading : UserReading) (old : Station) (j : Judged) → IsPendingIn old → IsFaultJudged reading j → IsJudgedBy (UserRead old.role source reading) old j old
-fault_judged source reading old (judged.Taken step) pending (number, is, shown) =
-    subst (λ (s : UserStep). IsTakenBy (UserRead old.role source reading) old s old) (sym shown)
+fault_judged source reading old (judged.Accepted packet) pending is = absurd is
+fault_judged source reading old (judged.Came outcome) pending (number, is, shown) =
+    subst (λ (o : Outcome). IsTakenBy (UserRead old.role source reading) old (plain_step o) old) (sym shown)
     (subst (λ (r : UserReading). IsTakenBy (UserRead old.role source r) old (plain_step (Dropped (undecodable User number))) old) (sym is)
     (drops (UserRead old.role source (User_fault number)) old pending (undecodable User number) refl))
 fault_judged source reading old (judged.Replies reply) pending (is, shown) =
     (subst (λ (r : UserReading). UserRead old.role source r old.node (replied reply old.node)) (sym is) (ap (λ (r : Reply). replied r old.node) shown), refl)
-
--- what a datagram of the user plane leaves is sound: it was a step, or changed nothing
-pub user_sound : {E : Type 0} (source : Endpoint) (octets : List ℕ) (r : Result UserStep E) (old new : Station) → IfOk r (λ step. IsUserTaken source octets old step new) → OnErr r (new ≡ old) → IsWhole old → IsWhole new
-user_sound source octets (Ok step) old new taken same whole =
-    ∥∥₁_elim whole ∥∥₁_prop (λ before. merely (subst (λ r. IsSound r new.node) (sym taken.role) (subst (IsSound old.role) (sym taken.becomes) (stays_sound old.role old.node (User_came source (user_reading octets)) taken.effect before tt taken.takes))))
-user_sound source octets (Err fault) old new taken same whole = subst IsWhole (sym same) whole

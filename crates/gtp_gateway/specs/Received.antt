@@ -9,13 +9,12 @@ use Rattle.gtp_machine.specs.Step.{Step as MachineStep}
 use Rattle.gtp_machine.specs.declared.outcome.Outcome.TheVariants.{Broken}
 use Rattle.gtp_gateway.specs.declared.step.Step.{Step}
 use Rattle.gtp_gateway.specs.declared.control_step.ControlStep.{ControlStep}
-use Rattle.gtp_gateway.specs.declared.user_step.UserStep.{UserStep}
 use Rattle.gtp_gateway.specs.GoesOn.{GoesOn}
 use Rattle.gtp_gateway.specs.Needing.{ControlSendsOrOpens}
 use Rattle.gtp_gateway.specs.Parts.{arrival_of}
 use Rattle.gtp_gateway.specs.Sent.{AreSent}
 use Rattle.gtp_gateway.specs.Station.{Station, IsTied}
-use Rattle.gtp_gateway.specs.Taken.{datagrams, made_for, plain_report}
+use Rattle.gtp_gateway.specs.Taken.{datagrams, made_for}
 use Rattle.gtp_gateway.specs.UserTaken.{AreEntries, IsAnswered, WaitOn}
 
 -- what comes with a datagram of a plane: what its octets read as
@@ -53,9 +52,6 @@ abbrev pub KeepsTiming : Plane → Endpoint → List ℕ → Step → Station �
 KeepsTiming Control source octets step old new = GoesOn source octets old new
 KeepsTiming User source octets step old new = (step.report.outcome ≢ Broken → new.timing ≡ old.timing) × WaitOn old new × IsTied new
 
--- what a datagram of the control plane comes to, or one of the user plane
+-- what a datagram of the control plane comes to
 abbrev pub of_control : ControlStep → Step
 of_control s = record { out = s.out; accepted = None; report = s.report }
-
-abbrev pub of_user : UserStep → Step
-of_user s = record { out = s.out; accepted = s.accepted; report = plain_report s.outcome }

@@ -11,9 +11,9 @@ use Rattle.gtp_machine.specs.declared.outcome.Outcome.{Outcome}
 use Rattle.gtp_machine.specs.declared.outcome.Outcome.TheVariants.{Dropped, Echoed}
 use Rattle.gtp_gateway.specs.declared.user_reply.Reply.{Reply}
 use Rattle.gtp_gateway.specs.declared.user_reply.Reply.TheVariants.{ErrorIndication, Notification, EchoResponse}
-use Rattle.gtp_gateway.specs.declared.user_step.UserStep.{UserStep}
+use Rattle.gtp_gateway.specs.declared.step.Step.{Step}
 use Rattle.gtp_gateway.specs.Sent.{AreSent}
-use Rattle.gtp_gateway.specs.Taken.{datagrams}
+use Rattle.gtp_gateway.specs.Taken.{datagrams, plain_report}
 
 -- a message of the user plane with this sequence number, no N-PDU number and no extension headers
 abbrev pub numbered_message : ℕ → UserBody → UserMessage
@@ -36,7 +36,7 @@ abbrev pub replied : Reply → Node → Effect
 replied reply old = record { out = record nothing { sent = sending_of reply old.config ∷ [] }; outcome = outcome_of reply; node = old }
 
 -- the reply is sent, and nothing else is told
-pub record IsReplyBy (reply : Reply) (config : Config) (step : UserStep) : Type 0 where
+pub record IsReplyBy (reply : Reply) (config : Config) (step : Step) : Type 0 where
   pub sent : AreSent config (datagrams step.out) (sending_of reply config ∷ [])
-  pub outcome : step.outcome ≡ outcome_of reply
+  pub report : step.report ≡ plain_report (outcome_of reply)
   pub none : step.accepted ≡ None

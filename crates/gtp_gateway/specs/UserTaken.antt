@@ -11,8 +11,8 @@ use Rattle.gtp_machine.specs.declared.outcome.Outcome.TheVariants as outcomes
 use Rattle.gtp_machine.specs.Reading.{user_reading}
 use Rattle.gtp_machine.specs.Step.{Step as MachineStep}
 use Rattle.gtp_gateway.specs.declared.purpose.Purpose.{Purpose}
-use Rattle.gtp_gateway.specs.declared.user_step.Accepted.{Accepted}
-use Rattle.gtp_gateway.specs.declared.user_step.UserStep.{UserStep}
+use Rattle.gtp_gateway.specs.declared.step.Accepted.{Accepted}
+use Rattle.gtp_gateway.specs.declared.step.Step.{Step}
 use Rattle.gtp_gateway.specs.declared.user_receive.Judged.{Judged}
 use Rattle.gtp_gateway.specs.declared.user_receive.Judged.TheVariants as judged
 use Rattle.gtp_gateway.specs.declared.user_reply.Reply.TheVariants.{Notification}
@@ -20,11 +20,15 @@ use Rattle.gtp_gateway.specs.Parts.{pending_in}
 use Rattle.gtp_gateway.specs.Replying.{replied}
 use Rattle.gtp_gateway.specs.Sent.{AreSent}
 use Rattle.gtp_gateway.specs.Station.{Station}
-use Rattle.gtp_gateway.specs.Taken.{datagrams}
+use Rattle.gtp_gateway.specs.Taken.{datagrams, plain_report}
 
 -- nothing but an outcome
-abbrev pub plain_step : Outcome → UserStep
-plain_step outcome = record { out = None; outcome = outcome; accepted = None }
+abbrev pub plain_step : Outcome → Step
+plain_step outcome = record { out = None; accepted = None; report = plain_report outcome }
+
+-- nothing but a packet that was accepted
+abbrev pub accepted_step : Accepted → Step
+accepted_step packet = record { out = None; accepted = Some packet; report = plain_report outcomes.Accepted }
 
 -- the entry of a packet on the bearer under this TEID: of that bearer, and of its session
 pub record IsEntryOf (node : Node) (bearer : ℕ) (payload : List ℕ) (entry : Entry) : Type 0 where
@@ -37,13 +41,13 @@ abbrev pub AreEntries : Node → Option Accepted → List Entry → Type 0
 AreEntries node None entries = entries ≡ []
 AreEntries node (Some accepted) entries = (entry : Entry) × IsEntryOf node accepted.bearer.0 accepted.payload.now entry × (entries ≡ entry ∷ [])
 
--- the step tells what the effect has: what is sent, the outcome, and the packet that was accepted, which there is with that outcome alone; the effect has
--- nothing else to tell
-pub record TellsUser (old : Node) (step : UserStep) (e : Effect) : Type 0 where
+-- the step tells what the effect has: what is sent, the outcome, and the packet that was accepted, which there is with that outcome alone; neither has
+-- anything else to tell
+pub record TellsUser (old : Node) (step : Step) (e : Effect) : Type 0 where
   pub sent : AreSent old.config (datagrams step.out) e.out.sent
-  pub outcome : step.outcome ≡ e.outcome
+  pub report : step.report ≡ plain_report e.outcome
   pub accepted : AreEntries old step.accepted e.out.accepted
-  pub packet : (step.outcome ≡ outcomes.Accepted) ↔ IsSome step.accepted
+  pub packet : (step.report.outcome ≡ outcomes.Accepted) ↔ IsSome step.accepted
   pub all : e.out ≡ record nothing { sent = e.out.sent; accepted = e.out.accepted }
 
 -- the requests that are pending in the node wait on as they did, and nothing else changes of what ticks go by
@@ -53,23 +57,25 @@ pub record WaitOn (old new : Station) : Type 0 where
   pub pending : new.node.pending ≡ pending_in new.timing.waiting
 
 -- a datagram was taken, by this relation of the machine; what ticks go by changes only where bearers go that the peer does not know
-pub record IsTakenBy (Takes : Node → Effect → Type 0) (old : Station) (step : UserStep) (new : Station) : Type 0 where
+pub record IsTakenBy (Takes : Node → Effect → Type 0) (old : Station) (step : Step) (new : Station) : Type 0 where
   pub effect : Effect
   pub takes : Takes old.node effect
   pub tells : TellsUser old.node step effect
   pub becomes : new.node ≡ effect.node
   pub role : new.role ≡ old.role
-  pub same : step.outcome ≢ outcomes.Broken → new.timing ≡ old.timing
+  pub same : step.report.outcome ≢ outcomes.Broken → new.timing ≡ old.timing
   pub waits : WaitOn old new
 
 -- a datagram was taken, by this relation; or it is answered, and nothing has changed
 abbrev pub IsJudgedBy : (Node → Effect → Type 0) → Station → Judged → Station → Type 0
-IsJudgedBy Takes old (judged.Taken step) new = IsTakenBy Takes old step new
+IsJudgedBy Takes old (judged.Accepted packet) new = IsTakenBy Takes old (accepted_step packet) new
+IsJudgedBy Takes old (judged.Came outcome) new = IsTakenBy Takes old (plain_step outcome) new
 IsJudgedBy Takes old (judged.Replies reply) new = Takes old.node (replied reply old.node) × (new ≡ old)
 
 -- a datagram at fault is dropped, or its extension header that is needed and not known is told of
 abbrev pub IsFaultJudged : UserReading → Judged → Type 0
-IsFaultJudged reading (judged.Taken step) = (number : ℕ) × (reading ≡ User_fault number) × (step ≡ plain_step (outcomes.Dropped (undecodable User number)))
+IsFaultJudged reading (judged.Accepted packet) = ⊥
+IsFaultJudged reading (judged.Came outcome) = (number : ℕ) × (reading ≡ User_fault number) × (outcome ≡ outcomes.Dropped (undecodable User number))
 IsFaultJudged reading (judged.Replies reply) = (reading ≡ Extension_needed) × (reply ≡ Notification)
 
 -- the steps of the machine on what the octets of a datagram of the user plane read as
@@ -77,7 +83,7 @@ abbrev pub UserComes : Endpoint → List ℕ → Station → Node → Effect →
 UserComes source octets old node effect = MachineStep old.role node (User_came source (user_reading octets)) effect
 
 -- a datagram of the user plane was taken: that is a step of the machine
-abbrev pub IsUserTaken : Endpoint → List ℕ → Station → UserStep → Station → Type 0
+abbrev pub IsUserTaken : Endpoint → List ℕ → Station → Step → Station → Type 0
 IsUserTaken source octets old step new = IsTakenBy (UserComes source octets old) old step new
 
 -- something is sent for the datagram

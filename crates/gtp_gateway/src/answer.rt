@@ -28,7 +28,7 @@ use gtp_values::{Endpoint, Memory};
 use std::alloc::Global;
 
 /// An answer that is ready to be given: nothing that it takes can fail.
-#[derive(Debug, Drop)]
+#[derive(Drop)]
 pub struct ReadyAnswer {
     pub octets: Vec<u8>,
     /// The same octets and those of the request, as they are held.

@@ -124,7 +124,7 @@ impl Parts {
 }
 
 /// A dedicated bearer, under the gateway's own user plane TEID.
-#[derive(Clone, Copy, Debug, PartialEq, Eq)]
+#[derive(Clone, Copy)]
 pub struct Dedicated {
     pub teid: Teid,
     pub bearer: Bearer,

@@ -28,7 +28,7 @@ use gtp_v2::DatagramView;
 use gtp_values::{Below, Ebi, Memory, Teid};
 
 /// What a Create Bearer Response says.
-#[derive(Clone, Copy, Debug, PartialEq, Eq)]
+#[derive(Clone, Copy)]
 pub struct BearerResponse {
     pub response: Response,
     /// The bearer context, where it is the only one.
@@ -36,7 +36,7 @@ pub struct BearerResponse {
 }
 
 /// The bearer that was asked for, with its session.
-#[derive(Clone, Copy, Debug, PartialEq, Eq)]
+#[derive(Clone, Copy)]
 pub struct AskedBearer {
     pub session: Teid,
     pub bearer: Teid,

@@ -13,7 +13,7 @@ use gtp_tables::{Bearer, Draws, Session, TablesFault};
 use gtp_values::{Memory, Teid};
 
 /// What a step changes of sessions and bearers.
-#[derive(Clone, Copy, Debug, PartialEq, Eq)]
+#[derive(Clone, Copy)]
 pub enum Change {
     Stays,
     /// A bearer is put in the place of one with the same remote.

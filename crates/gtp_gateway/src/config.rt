@@ -1,6 +1,6 @@
 //! What a gateway is set up with.
 
-ghost use Rattle.std.specs.Prelude.{◌≡◌, ◌↔◌, IsOk, IfOk, IfErr};
+ghost use Rattle.std.specs.Prelude.{◌≡◌, ◌↔◌, IsTrue, IsOk, IfOk, IfErr};
 ghost use Rattle.gtp_values.specs.declared.fault.ValueFault.TheVariants.{OutOfRange};
 ghost use Rattle.gtp_gateway.specs.Settings.{settings_of, AreSettings};
 
@@ -122,6 +122,13 @@ impl Config {
         ensures user { result.user ≡ self.now.config.peer.user }
     {
         self.peer
+    }
+
+    /// Whether this is the other gateway's address on the user plane.
+    pub(crate) fn is_user_peer(&self, address: &Ip) -> bool
+        ensures { IsTrue result ↔ (address.now ≡ self.now.config.peer.user) }
+    {
+        *address == self.peer.user
     }
 
     /// The access points, in the order in which they were given.

@@ -13,7 +13,7 @@ use gtp_v2::{ContextView, DatagramView, EbiValue};
 use gtp_values::{Below, Cause, FTeid, Paa};
 
 /// What a bearer context of a response says.
-#[derive(Clone, Copy, Debug, PartialEq, Eq)]
+#[derive(Clone, Copy)]
 pub struct ResponseContext {
     pub identity: Below<16>,
     pub cause: Cause,

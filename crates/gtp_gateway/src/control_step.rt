@@ -6,7 +6,7 @@ use crate::step::Report;
 use gtp_machine::{DropReason, Outcome};
 
 /// What a datagram of the control plane comes to.
-#[derive(Debug, Drop)]
+#[derive(Drop)]
 pub struct ControlStep {
     /// What is sent for it.
     pub out: Option<Sent>,

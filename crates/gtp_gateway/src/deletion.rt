@@ -25,7 +25,7 @@ use gtp_values::{Below, Endpoint, Memory, Seq, Teid};
 use std::alloc::Global;
 
 /// What a Delete Session Request says, and a Delete Bearer Request before its list of identities.
-#[derive(Clone, Copy, Debug, PartialEq, Eq)]
+#[derive(Clone, Copy)]
 pub struct DeletionRequest {
     pub seq: Seq,
     /// The TEID of its header.
@@ -35,7 +35,7 @@ pub struct DeletionRequest {
 }
 
 /// What the request comes to: the header and the cause of its answer, and what changes.
-#[derive(Clone, Copy, Debug, PartialEq, Eq)]
+#[derive(Clone, Copy)]
 pub struct DeletionVerdict {
     pub header: Teid,
     pub cause: u8,

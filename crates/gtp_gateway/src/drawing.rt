@@ -11,14 +11,14 @@ use gtp_tables::Draws;
 use gtp_values::Teid;
 
 /// A TEID that is drawn, and the draws after it.
-#[derive(Clone, Copy, Debug, PartialEq, Eq)]
+#[derive(Clone, Copy)]
 pub struct OneDrawn {
     pub draws: Draws,
     pub teid: Teid,
 }
 
 /// Two TEIDs that are drawn one after the other, and the draws after them.
-#[derive(Clone, Copy, Debug, PartialEq, Eq)]
+#[derive(Clone, Copy)]
 pub struct TwoDrawn {
     pub draws: Draws,
     pub control: Teid,

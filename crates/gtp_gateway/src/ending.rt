@@ -44,7 +44,7 @@ use std::alloc::Global;
 const MOST_IDENTITIES: usize = 11;
 
 /// An identity in the list of a request, and the session's dedicated bearer that goes for it.
-#[derive(Clone, Copy, Debug, PartialEq, Eq)]
+#[derive(Clone, Copy)]
 pub struct NamedBearer {
     pub identity: EbiValue,
     /// The bearer's own TEID; none where no bearer has the identity, or it goes for an earlier one.
@@ -52,7 +52,7 @@ pub struct NamedBearer {
 }
 
 /// An answer without bearer contexts, and what changes.
-#[derive(Clone, Copy, Debug, PartialEq, Eq)]
+#[derive(Clone, Copy)]
 pub struct RemovalAnswer {
     pub header: Teid,
     pub cause: u8,
@@ -62,7 +62,7 @@ pub struct RemovalAnswer {
 }
 
 /// What a Delete Bearer Request comes to, as far as its list is not looked at.
-#[derive(Clone, Copy, Debug, PartialEq, Eq)]
+#[derive(Clone, Copy)]
 pub enum RemovalVerdict {
     /// Its session was not opened yet, and it is dropped.
     NotOpened,

@@ -27,7 +27,7 @@ use gtp_values::{Below, Endpoint, FTeid, Memory, Seq, Teid};
 use std::alloc::Global;
 
 /// The requests whose faults are answered.
-#[derive(Clone, Copy, Debug, PartialEq, Eq)]
+#[derive(Clone, Copy)]
 pub enum Request {
     CreateSession,
     DeleteSession,
@@ -36,7 +36,7 @@ pub enum Request {
 }
 
 /// Why an element of a request can't be taken (TS 29.274 7.7.6 to 7.7.8).
-#[derive(Clone, Copy, Debug, PartialEq, Eq)]
+#[derive(Clone, Copy)]
 pub enum Defect {
     MandatoryMissing,
     ConditionalMissing,
@@ -45,7 +45,7 @@ pub enum Defect {
 }
 
 /// A request with a faulty element.
-#[derive(Clone, Copy, Debug, PartialEq, Eq)]
+#[derive(Clone, Copy)]
 pub struct FaultyRequest {
     pub kind: Request,
     /// The TEID of its header.
@@ -60,7 +60,7 @@ pub struct FaultyRequest {
 }
 
 /// What is wrong with a datagram.
-#[derive(Clone, Copy, Debug, PartialEq, Eq)]
+#[derive(Clone, Copy)]
 pub enum Flaw {
     /// A fault by its printed number, which is not answered.
     Plain(u8),

@@ -34,7 +34,7 @@ use gtp_values::{Below, Ebi, Endpoint, FTeid, Memory, Seq, Teid};
 use std::alloc::Global;
 
 /// What a Create Bearer Request says, as far as the serving gateway looks at it.
-#[derive(Clone, Copy, Debug, PartialEq, Eq)]
+#[derive(Clone, Copy)]
 pub struct BearerRequest {
     pub seq: Seq,
     /// The TEID of its header.
@@ -48,14 +48,14 @@ pub struct BearerRequest {
 }
 
 /// What a bearer is made with: its identity, and the TEID that is drawn for it.
-#[derive(Clone, Copy, Debug, PartialEq, Eq)]
+#[derive(Clone, Copy)]
 pub struct Grant {
     pub identity: Ebi,
     pub drawn: OneDrawn,
 }
 
 /// How a Create Bearer Request is answered.
-#[derive(Clone, Copy, Debug, PartialEq, Eq)]
+#[derive(Clone, Copy)]
 pub enum BearerAnswer {
     /// It is refused, with Cause and Recovery alone.
     Refused { cause: u8 },
@@ -66,7 +66,7 @@ pub enum BearerAnswer {
 }
 
 /// What the request comes to: its answer, and the TEID in the header of that.
-#[derive(Clone, Copy, Debug, PartialEq, Eq)]
+#[derive(Clone, Copy)]
 pub struct BearerVerdict {
     pub header: Teid,
     pub answer: BearerAnswer,

@@ -17,7 +17,7 @@ use gtp_tables::{Sessions, State, end_opened};
 use gtp_values::{Age, Counter};
 
 /// What the restart counter of a message says.
-#[derive(Clone, Copy, Debug, PartialEq, Eq)]
+#[derive(Clone, Copy)]
 pub enum Heard {
     /// The message has none.
     Nothing,

@@ -44,7 +44,6 @@ mod tick;
 mod user;
 mod user_receive;
 mod user_reply;
-mod user_step;
 mod wish;
 
 pub use config::{Addresses, Config, Timers};
@@ -53,9 +52,8 @@ pub use gateway::Gateway;
 pub use listing::{BearerList, SessionList};
 pub use sent::{Begun, Sent};
 pub use session::SessionSpec;
-pub use step::{Report, Step};
+pub use step::{Accepted, Report, Step};
 pub use tick::Ticked;
-pub use user_step::Accepted;
 
 /// What the signatures and contracts here name of the crates below.
 pub use gtp_machine::{DropReason, FaultName, Outcome, Plane, Refusal, Role};

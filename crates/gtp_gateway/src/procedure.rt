@@ -11,7 +11,7 @@ use gtp_v2::kinds::{
 };
 
 /// The procedures by which gateways take messages of the control plane, one a type of message.
-#[derive(Clone, Copy, Debug, PartialEq, Eq)]
+#[derive(Clone, Copy)]
 pub enum Procedure {
     EchoAsked,
     EchoAnswered,

@@ -4,7 +4,7 @@ use gtp_values::Teid;
 
 /// What a request that waits for its answer is about: a session by its own control plane TEID, a
 /// bearer by its own user plane TEID.
-#[derive(Clone, Copy, Debug, PartialEq, Eq)]
+#[derive(Clone, Copy)]
 pub enum Purpose {
     /// An Echo Request is about none.
     Echo,

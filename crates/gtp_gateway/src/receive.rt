@@ -17,13 +17,14 @@ use crate::parts::Parts;
 use crate::procedure::{Procedure, procedure_of};
 use crate::sent::Sent;
 use crate::step::Step;
+use crate::user_receive::Judged;
 use gtp_machine::{DropReason, Outcome, Plane};
 use gtp_v2::view;
 use gtp_values::{Endpoint, Memory};
 use std::alloc::Global;
 
 /// What is known of a datagram before it is read.
-#[derive(Debug, Drop)]
+#[derive(Drop)]
 pub enum Entrance {
     /// It is from elsewhere, or a request that was answered before: this is what it comes to.
     Settled(ControlStep),
@@ -113,16 +114,19 @@ impl Parts {
         ensures memory { IfErr result (λ _. NeedsMemory plane source octets.now (station_of self.old)) }
         ensures err { OnErr result (station_of self.new ≡ station_of self.old) }
     {
-        match plane {
+        // Each arm returns by itself, so that its step is written once and not moved again.
+        let reply = match plane {
             Plane::Control => {
                 let step = self.receive_control(alloc, source, octets)?;
-                Ok(Step::from(step))
+                return Ok(Step::from(step));
             }
-            Plane::User => {
-                let step = self.receive_user(alloc, source, octets)?;
-                Ok(Step::from(step))
-            }
-        }
+            Plane::User => match self.judge_user(&source, octets) {
+                Judged::Accepted(packet) => return Ok(Step::of_packet(packet)),
+                Judged::Came(outcome) => return Ok(Step::of(outcome)),
+                Judged::Replies(reply) => reply,
+            },
+        };
+        self.reply_user(alloc, reply)
     }
 
     /// The gateway's procedure for messages of a type, where it has one.

@@ -21,7 +21,7 @@ use gtp_v2::DatagramView;
 use gtp_values::{Cause, Seq, Teid};
 
 /// What a response says of the request that it answers.
-#[derive(Clone, Copy, Debug, PartialEq, Eq)]
+#[derive(Clone, Copy)]
 pub struct Response {
     pub seq: Seq,
     /// The TEID of its header.

@@ -39,7 +39,7 @@ use gtp_values::{Apn, Below, Cause, Ebi, Endpoint, Memory};
 use std::alloc::Global;
 
 /// What a Create Session Request comes to.
-#[derive(Clone, Copy, Debug, PartialEq, Eq)]
+#[derive(Clone, Copy)]
 pub enum SessionVerdict {
     /// It is refused with this cause.
     Refused(Cause),
@@ -47,7 +47,7 @@ pub enum SessionVerdict {
 }
 
 /// A session that is granted: what is drawn and chosen for it.
-#[derive(Clone, Copy, Debug, PartialEq, Eq)]
+#[derive(Clone, Copy)]
 pub struct Grant {
     pub drawn: TwoDrawn,
     /// The IPv4 address, as a number.

@@ -12,7 +12,7 @@ use gtp_v2::{DatagramView, EbiValue, PdnType};
 use gtp_values::{Ambr, Apn, Below, FTeid, Imsi, Qos, Seq};
 
 /// What a Create Session Request says of the session that it asks for.
-#[derive(Clone, Copy, Debug, PartialEq, Eq)]
+#[derive(Clone, Copy)]
 pub struct SessionRequest {
     pub seq: Seq,
     pub imsi: Imsi,
@@ -26,7 +26,7 @@ pub struct SessionRequest {
 }
 
 /// What it says of the default bearer.
-#[derive(Clone, Copy, Debug, PartialEq, Eq)]
+#[derive(Clone, Copy)]
 pub struct RequestedDefault {
     pub identity: Below<16>,
     pub qos: Qos,

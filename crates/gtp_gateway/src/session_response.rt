@@ -28,7 +28,7 @@ use gtp_v2::DatagramView;
 use gtp_values::{Below, Memory, Teid};
 
 /// What a Create Session Response says.
-#[derive(Clone, Copy, Debug, PartialEq, Eq)]
+#[derive(Clone, Copy)]
 pub struct SessionResponse {
     pub response: Response,
     /// The TEID of the packet gateway's F-TEID for the control plane.
@@ -40,14 +40,14 @@ pub struct SessionResponse {
 }
 
 /// The session that was asked for, with its default bearer.
-#[derive(Clone, Copy, Debug, PartialEq, Eq)]
+#[derive(Clone, Copy)]
 pub struct AskedSession {
     pub session: Teid,
     pub bearer: Teid,
 }
 
 /// A session that is pending, with what the response gives it.
-#[derive(Clone, Copy, Debug, PartialEq, Eq)]
+#[derive(Clone, Copy)]
 pub struct DescribedSession {
     pub session: Session,
     pub context: ResponseContext,

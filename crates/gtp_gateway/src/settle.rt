@@ -21,7 +21,7 @@ use gtp_tables::{Bearer, Session, Sessions, View};
 use gtp_values::{Cause, Memory, Seq, Teid};
 
 /// What a response comes to.
-#[derive(Clone, Copy, Debug, PartialEq, Eq)]
+#[derive(Clone, Copy)]
 pub enum Verdict {
     /// It is dropped.
     Drops(DropReason),

@@ -1,13 +1,21 @@
 //! What a datagram comes to.
 
 ghost use Rattle.std.specs.Prelude.{◌≡◌};
-ghost use Rattle.gtp_gateway.specs.Received.{of_control, of_user};
+ghost use Rattle.gtp_gateway.specs.Received.{of_control};
 
 use crate::control_step::ControlStep;
 use crate::sent::Sent;
-use crate::user_step::{Accepted, UserStep};
 use gtp_machine::Outcome;
-use gtp_values::Counter;
+use gtp_values::{Counter, Teid};
+
+/// A packet that was accepted.
+#[derive(Clone, Copy, Debug, PartialEq, Eq)]
+pub struct Accepted<'a> {
+    /// The bearer that it came on, by the gateway's own TEID.
+    pub bearer: Teid,
+    /// It lies in the datagram.
+    pub payload: &'a [u8],
+}
 
 /// What is told of a datagram that came.
 #[derive(Clone, Copy, Debug, PartialEq, Eq)]
@@ -48,6 +56,33 @@ impl Report {
     }
 }
 
+impl<'a> Step<'a> {
+    ghost use Rattle.std.specs.Prelude.{◌≡◌};
+    ghost use Rattle.gtp_gateway.specs.UserTaken.{plain_step, accepted_step};
+
+    /// Nothing but an outcome.
+    pub(crate) fn of(outcome: Outcome) -> Step<'a>
+        ensures { result ≡ plain_step outcome }
+    {
+        Step {
+            out: None,
+            accepted: None,
+            report: Report::of(outcome),
+        }
+    }
+
+    /// Nothing but a packet that was accepted.
+    pub(crate) fn of_packet(packet: Accepted<'a>) -> Step<'a>
+        ensures { result ≡ accepted_step packet.entry }
+    {
+        Step {
+            out: None,
+            accepted: Some(packet),
+            report: Report::of(Outcome::Accepted),
+        }
+    }
+}
+
 impl<'a> From<ControlStep> for Step<'a> {
     ghost from_gives = { λ step received. received ≡ of_control step };
 
@@ -56,18 +91,6 @@ impl<'a> From<ControlStep> for Step<'a> {
             out: step.out,
             accepted: None,
             report: step.report,
-        }
-    }
-}
-
-impl<'a> From<UserStep<'a>> for Step<'a> {
-    ghost from_gives = { λ step received. received ≡ of_user step };
-
-    fn from(step: UserStep<'a>) -> Step<'a> {
-        Step {
-            out: step.out,
-            accepted: step.accepted,
-            report: Report::of(step.outcome),
         }
     }
 }

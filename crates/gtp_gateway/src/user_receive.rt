@@ -1,31 +1,41 @@
 //! Datagrams of the user plane, as they come in (TS 29.281).
 
-ghost use Rattle.std.specs.Prelude.{◌≡◌, ◌↔◌, IsTrue, IfOk, IfSome, IfNone, IfErr, OnErr};
+ghost use Rattle.std.specs.Prelude.{◌≡◌, ◌↔◌, IsTrue, IfSome, IfNone};
 ghost use Rattle.gtp_machine.specs.Input.{User_fault, Extension_needed};
 ghost use Rattle.gtp_machine.specs.Reading.{user_fault, user_body_message};
 ghost use Rattle.gtp_machine.specs.User.{MayCome, PacketCame, EndCame, ErrorCame, UserTaken};
 ghost use Rattle.gtp_gateway.specs.Station.{IsWhole, station_of};
 ghost use Rattle.gtp_gateway.specs.UserTaken.{plain_step, IsTakenBy, IsJudgedBy, IsFaultJudged};
-ghost use Rattle.gtp_gateway.specs.UserTaken.{UserComes, IsUserTaken, IsAnswered};
+ghost use Rattle.gtp_gateway.specs.UserTaken.{UserComes};
 
 use crate::parts::Parts;
+use crate::step::Accepted;
 use crate::user::is_active;
 use crate::user_reply::Reply;
-use crate::user_step::{Accepted, UserStep};
 use gtp_machine::{DropReason, FaultName, Outcome, Plane, Role};
 use gtp_tables::Bearer;
 use gtp_user::{UserBody, UserFault, decode};
-use gtp_values::{Endpoint, Memory, Teid};
-use std::alloc::Global;
+use gtp_values::{Endpoint, Teid};
 
 /// What a datagram of the user plane comes to, before anything is sent for it. To judge takes no
-/// memory.
-#[derive(Debug, Drop)]
+/// memory. It has no room for what is sent, since it is moved for each packet.
+#[derive(Clone, Copy)]
 pub enum Judged<'a> {
-    /// It was taken, and nothing is sent.
-    Taken(UserStep<'a>),
+    /// This packet was accepted.
+    Accepted(Accepted<'a>),
+    /// It was taken, with this outcome and nothing else.
+    Came(Outcome),
     /// This is sent for it, and nothing changes.
     Replies(Reply),
+}
+
+impl<'a> Judged<'a> {
+    /// The datagram is dropped.
+    fn dropped(why: DropReason) -> Judged<'a>
+        ensures { result ≡ Judged.Came (Outcome.Dropped why) }
+    {
+        Judged::Came(Outcome::Dropped(why))
+    }
 }
 
 /// The number of a fault, none of an extension header that is needed and not known, which is told of
@@ -60,13 +70,6 @@ fn may_come(role: Role, bearer: &Bearer) -> bool
 }
 
 impl Parts {
-    /// Whether a datagram of the user plane comes from the peer's address, whatever the port.
-    fn is_from_user_peer(&self, source: Endpoint) -> bool
-        ensures { IsTrue result ↔ (source.ip ≡ self.now.config.config.peer.user) }
-    {
-        source.ip == self.config.peer().user
-    }
-
     /// A user's packet (TS 29.281 5.1): for no bearer it is answered with an Error Indication
     /// (7.3.1).
     fn judge_packet<'a>(&self, target: Teid, payload: &'a [u8]) -> Judged<'a>
@@ -78,18 +81,14 @@ impl Parts {
             return Judged::Replies(Reply::ErrorIndication { teid: target });
         };
         if !is_active(&at) {
-            return Judged::Taken(UserStep::dropped(DropReason::ContextNotActive));
+            return Judged::dropped(DropReason::ContextNotActive);
         }
         if !may_come(self.role, &at) {
-            return Judged::Taken(UserStep::dropped(DropReason::AfterEnd));
+            return Judged::dropped(DropReason::AfterEnd);
         }
-        Judged::Taken(UserStep {
-            out: None,
-            outcome: Outcome::Accepted,
-            accepted: Some(Accepted {
-                bearer: target,
-                payload,
-            }),
+        Judged::Accepted(Accepted {
+            bearer: target,
+            payload,
         })
     }
 
@@ -129,63 +128,42 @@ impl Parts {
     /// A message of the user plane from the peer, with this sequence number.
     fn judge_message<'a>(
         &mut self,
-        source: Endpoint,
+        source: &Endpoint,
         seq: Option<u16>,
         body: UserBody<'a>,
     ) -> Judged<'a>
         requires whole { IsWhole (station_of self.old) }
-        ensures { IsJudgedBy (UserTaken self.old.role source (user_body_message seq body.entry))
+        ensures { IsJudgedBy (UserTaken self.old.role source.now (user_body_message seq body.entry))
             (station_of self.old) result (station_of self.new) }
     {
         match body {
             UserBody::Packet { teid, payload } => self.judge_packet(teid, payload),
-            UserBody::EndMarker { teid } => Judged::Taken(UserStep::of(self.take_end_marker(teid))),
+            UserBody::EndMarker { teid } => Judged::Came(self.take_end_marker(teid)),
             UserBody::ErrorIndication { teid, .. } => {
-                Judged::Taken(UserStep::of(self.take_error_indication(teid)))
+                Judged::Came(self.take_error_indication(teid))
             }
             UserBody::EchoRequest => Judged::Replies(Reply::EchoResponse {
-                to: source,
+                to: *source,
                 number: seq.unwrap_or(0),
             }),
             UserBody::EchoResponse | UserBody::Notification { .. } | UserBody::Other { .. } => {
-                Judged::Taken(UserStep::dropped(DropReason::Unexpected))
+                Judged::dropped(DropReason::Unexpected)
             }
         }
     }
 
     /// Takes a datagram of the user plane, but for what is sent for it. Takes no memory.
-    fn judge_user<'a>(&mut self, source: Endpoint, octets: &'a [u8]) -> Judged<'a>
+    pub fn judge_user<'a>(&mut self, source: &Endpoint, octets: &'a [u8]) -> Judged<'a>
         requires whole { IsWhole (station_of self.old) }
-        ensures { IsJudgedBy (UserComes source octets.now (station_of self.old))
+        ensures { IsJudgedBy (UserComes source.now octets.now (station_of self.old))
             (station_of self.old) result (station_of self.new) }
     {
-        if !self.is_from_user_peer(source) {
-            return Judged::Taken(UserStep::dropped(DropReason::NotPeer));
+        if !self.config.is_user_peer(&source.ip) {
+            return Judged::dropped(DropReason::NotPeer);
         }
         match decode(octets) {
             Ok(message) => self.judge_message(source, message.seq, message.body),
             Err(fault) => judge_fault(&fault),
-        }
-    }
-
-    /// Takes a datagram of the user plane.
-    pub fn receive_user<'a>(
-        &mut self,
-        alloc: Global,
-        source: Endpoint,
-        octets: &'a [u8],
-    ) -> Result<UserStep<'a>, Memory>
-        requires whole { IsWhole (station_of self.old) }
-        ensures taken { IfOk result (λ step. IsUserTaken source octets.now
-            (station_of self.old) step (station_of self.new)) }
-        // An allocation is for what is sent.
-        ensures memory { IfErr result (λ _.
-            IsAnswered source octets.now (station_of self.old)) }
-        ensures err { OnErr result (station_of self.new ≡ station_of self.old) }
-    {
-        match self.judge_user(source, octets) {
-            Judged::Taken(step) => Ok(step),
-            Judged::Replies(reply) => self.reply_user(alloc, reply),
         }
     }
 }
@@ -195,10 +173,10 @@ fn judge_fault<'a>(fault: &UserFault) -> Judged<'a>
     ensures { IsFaultJudged (user_fault fault.now) result }
 {
     match fault_number(fault) {
-        Some(number) => Judged::Taken(UserStep::dropped(DropReason::Undecodable(FaultName {
+        Some(number) => Judged::dropped(DropReason::Undecodable(FaultName {
             plane: Plane::User,
             number,
-        }))),
+        })),
         None => Judged::Replies(Reply::Notification),
     }
 }

@@ -5,14 +5,16 @@ ghost use Rattle.gtp_user.specs.Encoding.{octets_of};
 ghost use Rattle.gtp_machine.specs.Message.{Error_indication, User_echo_response};
 ghost use Rattle.gtp_machine.specs.Message.{Supported_extensions};
 ghost use Rattle.gtp_machine.specs.Reading.{user_message};
+ghost use Rattle.gtp_machine.specs.Spelling.{datagram_of};
 ghost use Rattle.gtp_gateway.specs.Own.{IsUserOwn};
 ghost use Rattle.gtp_gateway.specs.Replying.{numbered_message, sending_of, outcome_of};
 ghost use Rattle.gtp_gateway.specs.Replying.{IsReplyBy};
+ghost use Rattle.gtp_gateway.specs.Sent.{datagram_by, SendingReads};
 
 use crate::parts::Parts;
 use crate::sent::Sent;
+use crate::step::{Report, Step};
 use crate::user::{encode_user_own, user_end_of};
-use crate::user_step::UserStep;
 use gtp_machine::{DropReason, Outcome, Plane};
 use gtp_user::{Extensions, UserBody, UserMessage};
 use gtp_values::{Endpoint, Ip, Memory, Teid};
@@ -22,7 +24,7 @@ use std::alloc::Global;
 const EXTENSIONS: &[u8] = &[64];
 
 /// What is sent for a datagram of the user plane.
-#[derive(Clone, Copy, Debug, PartialEq, Eq)]
+#[derive(Clone, Copy)]
 pub enum Reply {
     /// An Error Indication: a packet found no bearer under this TEID (7.3.1).
     ErrorIndication { teid: Teid },
@@ -119,22 +121,32 @@ impl Parts {
         }
     }
 
-    /// Sends a reply. Nothing changes.
-    pub fn reply_user(&self, alloc: Global, reply: Reply) -> Result<UserStep<'static>, Memory>
-        ensures { IfOk result (λ step. IsReplyBy reply self.now.config.config step) }
+    /// The datagram of a reply. Not inlined, since most datagrams have none.
+    #[inline(never)]
+    fn encode_reply(&self, alloc: Global, reply: Reply) -> Result<Sent, Memory>
+        ensures sent { IfOk result (λ sent. datagram_by sent
+            ≡ datagram_of self.now.config.config (sending_of reply self.now.config.config)) }
+        ensures back { IfOk result (λ _. SendingReads (sending_of reply self.now.config.config)) }
     {
         let message = self.reply_message(reply);
         let octets = encode_user_own(alloc, &message)?;
-        let out = Sent {
+        Ok(Sent {
             plane: Plane::User,
             from: user_end_of(self.config.own().user),
             to: self.reply_end(reply),
             octets,
-        };
-        Ok(UserStep {
+        })
+    }
+
+    /// Sends a reply. Nothing changes.
+    pub fn reply_user(&self, alloc: Global, reply: Reply) -> Result<Step<'static>, Memory>
+        ensures { IfOk result (λ step. IsReplyBy reply self.now.config.config step) }
+    {
+        let out = self.encode_reply(alloc, reply)?;
+        Ok(Step {
             out: Some(out),
-            outcome: reply.outcome(),
             accepted: None,
+            report: Report::of(reply.outcome()),
         })
     }
 }

@@ -29,7 +29,7 @@ use gtp_values::{Below, Ebi, Memory, Qos, Seq, Teid, Tft};
 use std::alloc::Global;
 
 /// What a gateway asks its peer for.
-#[derive(Clone, Copy, Debug, PartialEq, Eq)]
+#[derive(Clone, Copy)]
 pub enum Wish {
     /// To answer (TS 29.274 7.1.1).
     Echo,

@@ -4,25 +4,15 @@ use Rattle.gtp_machine.specs.Config.{Addresses}
 use Rattle.gtp_machine.specs.Message.{Message, plane_of}
 use Rattle.gtp_machine.specs.declared.role.Role.{Role}
 use Rattle.gtp_machine.specs.declared.role.Role.TheVariants.{Serving, Packet}
-use Rattle.gtp_machine.specs.Node.{Arrival, Node}
-use Rattle.gtp_machine.specs.Input.{Move, Resend, Give_up, Forget, Input, Commanded, Out, Effect}
-use Rattle.gtp_machine.specs.Tick.{TickStep, ticked}
+use Rattle.gtp_machine.specs.Node.{Arrival}
+use Rattle.gtp_machine.specs.Input.{Input, Commanded, Effect}
+use Rattle.gtp_machine.specs.Tick.{ticked}
 use Rattle.gtp_machine.specs.Step.{Done}
 use Rattle.gtp_machine.specs.World.{World, Note, Event, Does, Tick, Deliver, Cut, Restart, HasSent, Happens, Delivers, Moves, Run, other, side_of, with_side, with_steps, noted, moved, logged, late_once, arrival, restarted, start, quiet_note, next_counter, No_such_datagram, Cut_too_long, Restarts_used, Restarted}
-use Rattle.gtp_machine.specs.Move.{MoveStep}
-use Rattle.gtp_machine.proofs.Changes.Shrinking.{Shrunk-finished}
+use Rattle.gtp_machine.proofs.Exchange.Held.{tick_config}
 use Rattle.gtp_machine.proofs.Rows.Stepping.{Carried}
 use Rattle.gtp_machine.proofs.Worlds.Runs as run
 use Rattle.gtp_world.specs.Runs.{Setup, config_in}
-
-move_config : (old : Node) (move : Move) (e : Effect) → MoveStep old move e → e.node.config ≡ old.config
-move_config old (Resend number) e r = ap (λ (k : Effect). k.node.config) r.gives
-move_config old (Give_up number) e r = ap (λ (k : Effect). k.node.config) r.gives ∙ (Shrunk-finished old number r.at.pending.session r.at.pending.bearer).config
-move_config old (Forget request) e r = ap (λ (k : Effect). k.node.config) r.gives
-
-tick_config : (old : Node) (moves : List Move) (out : Out) (new : Node) → TickStep old moves out new → new.config ≡ old.config
-tick_config old [] out new t = ap (λ (k : Node). k.config) t.1
-tick_config old (move ∷ moves) out new (e, rest, step, others, is) = tick_config e.node moves rest new others ∙ move_config old move e step
 
 -- both gateways are set up as before
 abbrev SetUpAs : World → World → Type 0

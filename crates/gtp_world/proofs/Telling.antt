@@ -25,7 +25,7 @@ use Rattle.gtp_gateway.specs.Taken.{made_for}
 use Rattle.gtp_gateway.specs.UserTaken.{AreEntries}
 use Rattle.gtp_gateway.specs.declared.sent.Begun.{Begun}
 use Rattle.gtp_gateway.specs.declared.step.Step.{Step}
-use Rattle.gtp_gateway.specs.declared.user_step.Accepted.{Accepted}
+use Rattle.gtp_gateway.specs.declared.step.Accepted.{Accepted}
 use Rattle.gtp_gateway.proofs.SentBack.{none_sent}
 use Rattle.gtp_world.specs.Commands.{IsTimed}
 use Rattle.gtp_world.specs.Kept.{oldest_first, Half}

@@ -15,7 +15,7 @@ use Rattle.gtp_gateway.specs.Taken.{datagrams}
 use Rattle.gtp_gateway.specs.Station.{Station}
 use Rattle.gtp_gateway.specs.Ticked.{due_in, arrivals_of, CountsOn}
 use Rattle.gtp_gateway.specs.declared.tick.Ticked.{Ticked}
-use Rattle.gtp_gateway.specs.declared.user_step.Accepted.{Accepted}
+use Rattle.gtp_gateway.specs.declared.step.Accepted.{Accepted}
 use Rattle.gtp_gateway.specs.UserTaken.{AreEntries}
 use Rattle.gtp_world.specs.Kept.{Half, entry_by}
 use Rattle.gtp_world.specs.Stepped.{half_after, sent_at, AreReadable, TakesLowest}

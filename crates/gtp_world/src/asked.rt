@@ -8,7 +8,7 @@ use gtp_gateway::{Endpoint, Memory};
 use std::alloc::Global;
 
 /// A request: where it came from, and its octets.
-#[derive(Debug, Drop, PartialEq, Eq)]
+#[derive(Drop, PartialEq, Eq)]
 #[derive_where(Hash)]
 pub struct Asked {
     #[derive_where(skip(Hash))]

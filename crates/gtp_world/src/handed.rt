@@ -24,7 +24,7 @@ pub fn other_than(node: Role) -> Role
 
 /// A packet that is handed in, and the entry that it has where the other gateway accepts it.
 /// Contracts see the packet, and the gateway where it is handed in.
-#[derive(Debug, Drop)]
+#[derive(Drop)]
 pub struct HandedIn {
     entry: Entry,
     expected: Entry,

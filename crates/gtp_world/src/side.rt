@@ -48,7 +48,7 @@ pub struct Side {
 }
 
 /// What a command or a datagram came to at a gateway.
-#[derive(Debug, Drop)]
+#[derive(Drop)]
 pub struct Came {
     pub outcome: Outcome,
     pub restart: Option<Counter>,

@@ -5,9 +5,9 @@ use Rattle.gtp_machine.specs.User.{PacketCame}
 use Rattle.gtp_machine.specs.Input.{nothing, Entry, entry_for}
 use Rattle.gtp_machine.specs.declared.outcome.DropReason.TheVariants.{ContextNotActive, AfterEnd}
 use Rattle.gtp_machine.specs.declared.outcome.Outcome.TheVariants.{Accepted}
-use Rattle.gtp_gateway.specs.declared.user_step.UserStep.{UserStep}
+use Rattle.gtp_gateway.specs.declared.user_receive.Judged.{Judged}
 use Rattle.gtp_gateway.specs.Station.{station_of}
-use Rattle.gtp_gateway.specs.UserTaken.{IsTakenBy}
+use Rattle.gtp_gateway.specs.UserTaken.{IsJudgedBy}
 use Rattle.gtp_gateway.proofs.Columns.{yes, no, session_stands}
 use Rattle.gtp_gateway.proofs.SentBack.{none_sent}
 use Rattle.gtp_gateway.proofs.UserRows.{all_wait, drops}
@@ -18,7 +18,7 @@ returns-then-not-is_active c =
     let old = station_of c.args.self.now in
     let target = c.args.target.0 in
     let at : HasBearer old.node target = record { bearer = c.in-Some.at; stands = sym c.get.ensures ∙ c.in-Some.is } in
-    subst (λ (s : UserStep). IsTakenBy (PacketCame old.role target c.args.payload.now) old s old) (sym c.dropped.ensures)
+    subst (λ (j : Judged). IsJudgedBy (PacketCame old.role target c.args.payload.now) old j old) (sym c.dropped.ensures)
     (drops (PacketCame old.role target c.args.payload.now) old refl ContextNotActive (inr (at, inl (no c.is_active.ensures c.if-not-is_active.true, refl))))
 
 pub returns-then-not-may_come : goal.returns-then-not-may_come
@@ -26,7 +26,7 @@ returns-then-not-may_come c =
     let old = station_of c.args.self.now in
     let target = c.args.target.0 in
     let at : HasBearer old.node target = record { bearer = c.in-Some.at; stands = sym c.get.ensures ∙ c.in-Some.is } in
-    subst (λ (s : UserStep). IsTakenBy (PacketCame old.role target c.args.payload.now) old s old) (sym c.dropped-then-not-may_come.ensures)
+    subst (λ (j : Judged). IsJudgedBy (PacketCame old.role target c.args.payload.now) old j old) (sym c.dropped-then-not-may_come.ensures)
     (drops (PacketCame old.role target c.args.payload.now) old refl AfterEnd (inr (at, inr (yes c.is_active.ensures c.if-not-is_active.false, inl (no c.may_come.ensures c.if-not-may_come.true, refl)))))
 
 pub returns : goal.returns
@@ -42,7 +42,7 @@ returns c =
     record {
       effect = record { out = record nothing { accepted = entry ∷ [] }; outcome = Accepted; node = old.node };
       takes = inr (at, inr (yes c.is_active.ensures c.if-not-is_active.false, inr (yes c.may_come.ensures c.if-not-may_come.false, record { of = of; gives = refl })));
-      tells = record { sent = none_sent old.node.config; outcome = refl; accepted = (entry, record { at = at; of = of; is = refl }, refl); packet = (λ is. refl, λ some. refl); all = refl };
+      tells = record { sent = none_sent old.node.config; report = refl; accepted = (entry, record { at = at; of = of; is = refl }, refl); packet = (λ is. refl, λ some. refl); all = refl };
       becomes = refl;
       role = refl;
       same = λ _. refl;

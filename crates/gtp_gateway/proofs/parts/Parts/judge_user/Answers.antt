@@ -4,19 +4,19 @@ use Rattle.gtp_machine.specs.Reading.{user_fault, user_message, user_reading}
 use Rattle.gtp_machine.specs.User.{UserTaken, UserRead}
 use Rattle.gtp_machine.specs.declared.outcome.DropReason.TheVariants.{NotPeer}
 use Rattle.gtp_machine.proofs.Octets.ByGrammar.{user_by_grammar, user_decoded_reads}
-use Rattle.gtp_gateway.specs.declared.user_step.UserStep.{UserStep}
+use Rattle.gtp_gateway.specs.declared.user_receive.Judged.{Judged}
 use Rattle.gtp_gateway.specs.Station.{station_of}
-use Rattle.gtp_gateway.specs.UserTaken.{UserComes, IsTakenBy}
+use Rattle.gtp_gateway.specs.UserTaken.{UserComes, IsJudgedBy}
 use Rattle.gtp_gateway.proofs.Columns.{yes, no}
 use Rattle.gtp_gateway.proofs.UserRows.{drops, judged_wider, fault_judged}
 use Rattle.gtp_gateway.proofs.parts.Parts.judge_user.Goals as goal
 
-pub returns-then-not-is_from_user_peer : goal.returns-then-not-is_from_user_peer
-returns-then-not-is_from_user_peer c =
+pub returns-then-not-is_user_peer : goal.returns-then-not-is_user_peer
+returns-then-not-is_user_peer c =
     let old = station_of c.args.self.now in
-    let comes = UserComes c.args.source c.args.octets.now old in
-    subst (λ (s : UserStep). IsTakenBy comes old s old) (sym c.dropped.ensures)
-    (drops comes old refl NotPeer (inl (no c.is_from_user_peer.ensures c.if-not-is_from_user_peer.true, refl)))
+    let comes = UserComes c.args.source.now c.args.octets.now old in
+    subst (λ (j : Judged). IsJudgedBy comes old j old) (sym c.dropped.ensures)
+    (drops comes old refl NotPeer (inl (no c.is_user_peer.ensures c.if-not-is_user_peer.true, refl)))
 
 pub returns-in-Ok : goal.returns-in-Ok
 returns-in-Ok c =
@@ -24,8 +24,8 @@ returns-in-Ok c =
     let octets = c.args.octets.now in
     let m = c.in-Ok.message in
     let reads : User_message (user_message m) ≡ user_reading octets = user_decoded_reads octets m c.in-Ok.ensures.found in
-    judged_wider (UserTaken old.role c.args.source (user_message m)) (UserComes c.args.source octets old) old (station_of c.judge_message.new.self) c.judge_message.result
-    (λ e takes. inr (yes c.is_from_user_peer.ensures c.if-not-is_from_user_peer.false, subst (λ (r : UserReading). UserRead old.role c.args.source r old.node e) reads takes))
+    judged_wider (UserTaken old.role c.args.source.now (user_message m)) (UserComes c.args.source.now octets old) old (station_of c.judge_message.new.self) c.judge_message.result
+    (λ e takes. inr (yes c.is_user_peer.ensures c.if-not-is_user_peer.false, subst (λ (r : UserReading). UserRead old.role c.args.source.now r old.node e) reads takes))
     c.judge_message.ensures
 
 pub returns-in-Err : goal.returns-in-Err
@@ -34,6 +34,6 @@ returns-in-Err c =
     let octets = c.args.octets.now in
     let fault = c.in-Err.fault in
     let reads : user_fault fault ≡ user_reading octets = (user_by_grammar octets (user_fault fault)).1 (inr (fault, c.in-Err.ensures.fault, refl)) in
-    judged_wider (UserRead old.role c.args.source (user_fault fault)) (UserComes c.args.source octets old) old old c.judge_fault.result
-    (λ e takes. inr (yes c.is_from_user_peer.ensures c.if-not-is_from_user_peer.false, subst (λ (r : UserReading). UserRead old.role c.args.source r old.node e) reads takes))
-    (fault_judged c.args.source (user_fault fault) old c.judge_fault.result refl c.judge_fault.ensures)
+    judged_wider (UserRead old.role c.args.source.now (user_fault fault)) (UserComes c.args.source.now octets old) old old c.judge_fault.result
+    (λ e takes. inr (yes c.is_user_peer.ensures c.if-not-is_user_peer.false, subst (λ (r : UserReading). UserRead old.role c.args.source.now r old.node e) reads takes))
+    (fault_judged c.args.source.now (user_fault fault) old c.judge_fault.result refl c.judge_fault.ensures)
