@@ -5,3 +5,4 @@ pub mod Lists
 pub mod Pools
 pub mod Spelled
 pub mod Texts
+pub mod Written

@@ -98,3 +98,9 @@ IsEvent (Tick node) times = (1 ≤ times) × (times ≤ 1000)
 IsEvent (Deliver datagram) times = times ≡ 1
 IsEvent (Cut datagram size) times = times ≡ 1
 IsEvent (Restart node) times = times ≡ 1
+
+-- the numbers of an event that may be any have 64 bits, as those of the program
+abbrev pub FitsIn64Bits : Event → Type 0
+FitsIn64Bits (Deliver datagram) = datagram < 2 ^ 64
+FitsIn64Bits (Cut datagram size) = (datagram < 2 ^ 64) × (size < 2 ^ 64)
+FitsIn64Bits event = Unit {0}

@@ -8,7 +8,7 @@ ghost use Rattle.gtp_scenario.specs.Views.{entry as entry_view};
 
 use crate::event::event_named;
 use crate::fault::Fault;
-use crate::json::{number_or, text_at, text_if, within};
+use crate::members::{number_or, text_at, text_if, within};
 use gtp_world::Event;
 use serde_json::Value;
 use std::alloc::Global;

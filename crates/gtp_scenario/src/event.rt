@@ -10,7 +10,7 @@ ghost use Rattle.gtp_scenario.specs.Events.{lone_node_of, echo_of, restart_of, t
 
 use crate::fault::Fault;
 use crate::fixed::{qos, session_for};
-use crate::json::{has_only, number_at, number_or, text_at, within};
+use crate::members::{has_only, number_at, number_or, text_at, within};
 use crate::text::{apn_of, imsi_of, octets_of, teid_of};
 use gtp_gateway::{Ebi, PdnType, Role, Subscriber, Teid, Tft};
 use gtp_values::Below;

@@ -9,7 +9,7 @@ ghost use Rattle.gtp_scenario.specs.Heads.{pool_from, pool_at, no_pool, time_at,
 ghost use Rattle.gtp_scenario.specs.Views.{serving_head, packet_head};
 
 use crate::fault::Fault;
-use crate::json::{has_only, number_at, number_or, text_at, within};
+use crate::members::{has_only, number_at, number_or, text_at, within};
 use crate::text::{address_of, apn_of};
 use gtp_gateway::{Addresses, Apn, Config, Counter, Ip, Pool, Timers};
 use gtp_world::WorldConfig;

@@ -1,16 +1,21 @@
 //! The laws of scenarios. Their functions do nothing: each clause is a law.
 
-ghost use Rattle.std.specs.Prelude.{◌≡◌, ◌<◌, ◌≤◌, Ok, Some, ℕ, List, length, take};
+ghost use Rattle.std.specs.Prelude.{◌≡◌, ◌<◌, ◌≤◌, Ok, Some, ℕ, List, length, take, option_and_then};
 ghost use Rattle.std.specs.List.{flat_map};
+ghost use Rattle.serde_json.specs.Read.{read};
+ghost use Rattle.serde_json.specs.Written.{compact_text};
 ghost use Rattle.gtp_scenario.specs.Entries.{Entry, entry_of, events_in};
 ghost use Rattle.gtp_scenario.specs.Scenarios.{Scenario, most_octets, most_events, scenario_of};
-ghost use Rattle.gtp_scenario.specs.Spelling.{spelling, IsEvent};
+ghost use Rattle.gtp_scenario.specs.Spelling.{spelling, IsEvent, FitsIn64Bits};
 
 /// Each event is read again from what it is written as in JSON, with how often it happens and what
 /// it has to come to.
 pub fn entries_are_read_again()
     ensures again { (entry : Entry) → IsEvent entry.event entry.times →
         entry_of (spelling entry) ≡ Some entry }
+    // The same of the text with no space that JSON has for it.
+    ensures text { (entry : Entry) → IsEvent entry.event entry.times → FitsIn64Bits entry.event →
+        option_and_then entry_of (read (compact_text (spelling entry))) ≡ Some entry }
 {}
 
 /// What is read does not depend on what comes after the first octet past the limit.

@@ -2,7 +2,7 @@ use Rattle.std.proofs.Common.{false, ap, ◌∙◌, map}
 use Rattle.std.specs.Option.{option_map_or}
 use Rattle.gtp_scenario.specs.Json.{all_among}
 use Rattle.gtp_scenario.proofs.Keys.{all_among-members}
-use Rattle.gtp_scenario.proofs.json.has_only.Goals as goal
+use Rattle.gtp_scenario.proofs.members.has_only.Goals as goal
 
 pub returns-in-Some : goal.returns-in-Some
 returns-in-Some c =

@@ -1,6 +1,6 @@
 use Rattle.std.proofs.Common.{◌≡◌, map, drop}
 use Rattle.gtp_scenario.specs.Json.{is_among}
-use Rattle.gtp_scenario.proofs.json.is_among.Given as goal
+use Rattle.gtp_scenario.proofs.members.is_among.Given as goal
 
 -- what is left decides
 abbrev pub invariant-loop-known : goal.invariant-loop-known
