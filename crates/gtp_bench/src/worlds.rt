@@ -5,6 +5,7 @@ use gtp_gateway::{Memory, Role, SessionSpec, Teid};
 use gtp_values::Counter;
 use gtp_world::{Event, World, WorldConfig};
 use std::alloc::Global;
+use std::mem::forget;
 
 /// How many datagrams one session sends.
 const DATAGRAMS: u64 = 6;
@@ -75,10 +76,13 @@ fn add_sessions(alloc: Global, events: &mut Vec<Event>, sessions: u32) -> Option
     Some(())
 }
 
-/// How many packets are accepted in a run.
+/// How many packets are accepted in a run. Its world is never let go, so that the time is that of the run
+/// alone.
 fn accepted_in(alloc: Global, config: &WorldConfig, events: &[Event]) -> Option<u64> {
     let world = World::run(alloc, config, events).ok()?;
-    Some(world.accepted().len() as u64)
+    let accepted = world.accepted().len() as u64;
+    forget(world);
+    Some(accepted)
 }
 
 /// A datagram comes again, so many times: how many outcomes are told then.

@@ -44,24 +44,26 @@ fn written_again(alloc: Global, octets: &[u8]) -> Result<Vec<u8>, Fail> {
     }
 }
 
+const VECTORS: &[&str] = &[
+    "40010009000001000300010007",
+    "400200090000020003000100ff",
+    "4003000400000100",
+    SESSION_REQUEST,
+    SESSION_RESPONSE,
+    "4824000d01000001000001004900010005",
+    "4825001301000001000001000200020010000300010001",
+    BEARER_REQUEST,
+    BEARER_RESPONSE,
+    REMOVAL_REQUEST,
+    "4863000d01000001000001004900010106",
+    REMOVAL_RESPONSE,
+    "482200080100000100000700",
+    "4022000b0000070061626364656667",
+];
+
 #[test]
 fn vectors_stand(rt: HostRuntime) -> Result<(), Fail> {
-    for digits in [
-        "40010009000001000300010007",
-        "400200090000020003000100ff",
-        "4003000400000100",
-        SESSION_REQUEST,
-        SESSION_RESPONSE,
-        "4824000d01000001000001004900010005",
-        "4825001301000001000001000200020010000300010001",
-        BEARER_REQUEST,
-        BEARER_RESPONSE,
-        REMOVAL_REQUEST,
-        "4863000d01000001000001004900010106",
-        REMOVAL_RESPONSE,
-        "482200080100000100000700",
-        "4022000b0000070061626364656667",
-    ] {
+    for digits in VECTORS {
         let octets = octets_of(rt.alloc(), digits)?;
         assert!(rt;
             written_again(rt.alloc(), &octets)? == octets,
@@ -508,17 +510,19 @@ fn counter_of_echo(alloc: Global, octets: &[u8]) -> Result<u8, Fail> {
     }
 }
 
+const LONG_LISTS: &[(&str, &str, usize, usize)] = &[
+    ("4001ffff00000100c8fff200", "00", 0xfff2, 65_539),
+    ("4001fffd00000100", "c8000000", 16_381, 65_537),
+];
+
 /// Echo Requests, the one with the longest list that a header can state, whose 65,535 octets are four of the
 /// header's own and 65,531 of elements; the other with as many elements as there can be, 16,381 empty ones
 /// before the one that counts.
 #[test]
 fn lists_of_any_length(rt: HostRuntime) -> Result<(), Fail> {
-    for (header, digits, times, length) in [
-        ("4001ffff00000100c8fff200", "00", 0xfff2, 65_539),
-        ("4001fffd00000100", "c8000000", 16_381, 65_537),
-    ] {
-        let octets = echo_request(rt.alloc(), header, digits, times)?;
-        assert!(rt; octets.len() == length, "{times} times {digits}");
+    for (header, digits, times, length) in LONG_LISTS {
+        let octets = echo_request(rt.alloc(), header, digits, *times)?;
+        assert!(rt; octets.len() == *length, "{times} times {digits}");
         assert!(rt;
             counter_of_echo(rt.alloc(), &octets)? == 7,
             "{times} times {digits}"
@@ -554,11 +558,13 @@ fn length_of_octets(alloc: Global, count: usize) -> Result<Option<usize>, Fail> 
     length_of(alloc, &message)
 }
 
+const LENGTHS: &[(usize, Option<usize>)] = &[(65_531, Some(65_539)), (65_532, None)];
+
 #[test]
 fn encodings_of_any_length(rt: HostRuntime) -> Result<(), Fail> {
-    for (count, length) in [(65_531, Some(65_539)), (65_532, None)] {
+    for (count, length) in LENGTHS {
         assert!(rt;
-            length_of_octets(rt.alloc(), count)? == length,
+            length_of_octets(rt.alloc(), *count)? == *length,
             "{count} octets"
         );
     }

@@ -26,59 +26,67 @@ fn is_read<T: IeValue>(
 
 /// Bodies of one type: those that are read, with what is written again; those that are too short;
 /// those that are bad.
-fn bodies<T: IeValue>(
+struct Bodies {
+    read: &'static [(&'static str, &'static str)],
+    short: &'static [&'static str],
+    bad: &'static [&'static str],
+}
+
+/// The bodies of a type fail with this fault.
+fn fail<T: IeValue>(
     rt: &impl Abort,
     alloc: Global,
-    read: &[(&str, &str)],
-    short: &[&str],
-    bad: &[&str],
+    bodies: &[&str],
+    fault: ReadFault,
 ) -> Result<(), Fail> {
-    for (digits, again) in read {
-        is_read::<T>(rt, alloc, digits, again)?;
-    }
-    for digits in short {
-        let fault = T::read(&octets_of(alloc, digits)?).err();
-        assert!(rt; fault == Some(ReadFault::Short), "{digits} is short");
-    }
-    for digits in bad {
-        let fault = T::read(&octets_of(alloc, digits)?).err();
-        assert!(rt; fault == Some(ReadFault::Bad), "{digits} is bad");
+    for digits in bodies {
+        let found = T::read(&octets_of(alloc, digits)?).err();
+        assert!(rt; found == Some(fault), "{digits}");
     }
     Ok(())
 }
 
-#[test]
-fn subscribers(rt: HostRuntime) -> Result<(), Fail> {
-    let read = [
+/// The bodies of a type are read, or fail, as they are to.
+fn meet<T: IeValue>(rt: &impl Abort, alloc: Global, bodies: &Bodies) -> Result<(), Fail> {
+    for (digits, again) in bodies.read {
+        is_read::<T>(rt, alloc, digits, again)?;
+    }
+    fail::<T>(rt, alloc, bodies.short, ReadFault::Short)?;
+    fail::<T>(rt, alloc, bodies.bad, ReadFault::Bad)
+}
+
+const SUBSCRIBERS: Bodies = Bodies {
+    read: &[
         ("00010121436587f9", "00010121436587f9"),
         ("00010121436587", "00010121436587"),
         ("214365", "214365"),
-    ];
-    let bad = [
+    ],
+    short: &["", "2143"],
+    bad: &[
         "2143f5",
         "21436587092143ff",
         "2143658709214365",
         "214365870921436587",
         "2a4365",
         "f14365",
-    ];
-    bodies::<Imsi>(&rt, rt.alloc(), &read, &["", "2143"], &bad)
-}
+    ],
+};
 
-#[test]
-fn access_points(rt: HostRuntime) -> Result<(), Fail> {
-    let long = concat!(
-        "3f61616161616161616161616161616161616161616161616161616161616161",
-        "6161616161616161616161616161616161616161616161616161616161616161"
-    );
-    let read = [
+/// A label of 63 octets.
+const LONG_LABEL: &str = concat!(
+    "3f61616161616161616161616161616161616161616161616161616161616161",
+    "6161616161616161616161616161616161616161616161616161616161616161"
+);
+
+const ACCESS_POINTS: Bodies = Bodies {
+    read: &[
         ("08696e7465726e6574", "08696e7465726e6574"),
         ("03696d73036f7267", "03696d73036f7267"),
-        (long, long),
-    ];
-    let bad = ["00", "03696d", "03696d7300", "03692e73", "03692073"];
-    bodies::<Apn>(&rt, rt.alloc(), &read, &[""], &bad)
-}
+        (LONG_LABEL, LONG_LABEL),
+    ],
+    short: &[""],
+    bad: &["00", "03696d", "03696d7300", "03692e73", "03692073"],
+};
 
 #[test]
 fn long_access_points(rt: HostRuntime) {
@@ -93,53 +101,56 @@ fn long_access_points(rt: HostRuntime) {
     assert!(rt; Apn::read(&[1, b'a']).is_ok());
 }
 
-#[test]
-fn templates(rt: HostRuntime) -> Result<(), Fail> {
-    assert!(rt; matches!(Tft::read(&[0; 256]), Err(ReadFault::Bad)));
-    bodies::<Tft>(&rt, rt.alloc(), &[("", ""), ("21", "21")], &[], &[])
-}
+const TEMPLATES: Bodies = Bodies {
+    read: &[("", ""), ("21", "21")],
+    short: &[],
+    bad: &[],
+};
 
-#[test]
-fn recoveries(rt: HostRuntime) -> Result<(), Fail> {
-    bodies::<Recovery>(&rt, rt.alloc(), &[("07", "07"), ("ff00", "ff")], &[""], &[])
-}
+const RECOVERIES: Bodies = Bodies {
+    read: &[("07", "07"), ("ff00", "ff")],
+    short: &[""],
+    bad: &[],
+};
 
-#[test]
-fn bearer_identities(rt: HostRuntime) -> Result<(), Fail> {
-    bodies::<EbiValue>(&rt, rt.alloc(), &[("05", "05"), ("f6aa", "06")], &[""], &[])
-}
+const BEARER_IDENTITIES: Bodies = Bodies {
+    read: &[("05", "05"), ("f6aa", "06")],
+    short: &[""],
+    bad: &[],
+};
 
-#[test]
-fn radio_technologies(rt: HostRuntime) -> Result<(), Fail> {
-    bodies::<Rat>(&rt, rt.alloc(), &[("06", "06"), ("0600", "06")], &[""], &[])
-}
+const RADIO_TECHNOLOGIES: Bodies = Bodies {
+    read: &[("06", "06"), ("0600", "06")],
+    short: &[""],
+    bad: &[],
+};
 
-#[test]
-fn charging_identifiers(rt: HostRuntime) -> Result<(), Fail> {
-    let read = [("01000002", "01000002"), ("0100000200", "01000002")];
-    bodies::<ChargingId>(&rt, rt.alloc(), &read, &["", "010000"], &[])
-}
+const CHARGING_IDENTIFIERS: Bodies = Bodies {
+    read: &[("01000002", "01000002"), ("0100000200", "01000002")],
+    short: &["", "010000"],
+    bad: &[],
+};
 
-#[test]
-fn types_of_addresses(rt: HostRuntime) -> Result<(), Fail> {
-    let read = [("01", "01"), ("fb", "03"), ("01aa", "01")];
-    bodies::<PdnType>(&rt, rt.alloc(), &read, &[""], &[])
-}
+const TYPES_OF_ADDRESSES: Bodies = Bodies {
+    read: &[("01", "01"), ("fb", "03"), ("01aa", "01")],
+    short: &[""],
+    bad: &[],
+};
 
-#[test]
-fn numbers_of_procedures(rt: HostRuntime) -> Result<(), Fail> {
-    bodies::<Pti>(&rt, rt.alloc(), &[("09", "09"), ("0907", "09")], &[""], &[])
-}
+const NUMBERS_OF_PROCEDURES: Bodies = Bodies {
+    read: &[("09", "09"), ("0907", "09")],
+    short: &[""],
+    bad: &[],
+};
 
-#[test]
-fn selections(rt: HostRuntime) -> Result<(), Fail> {
-    let read = [("00", "00"), ("fe", "02"), ("01ff", "01")];
-    bodies::<Selection>(&rt, rt.alloc(), &read, &[""], &[])
-}
+const SELECTIONS: Bodies = Bodies {
+    read: &[("00", "00"), ("fe", "02"), ("01ff", "01")],
+    short: &[""],
+    bad: &[],
+};
 
-#[test]
-fn causes(rt: HostRuntime) -> Result<(), Fail> {
-    let read = [
+const CAUSES: Bodies = Bodies {
+    read: &[
         ("1000", "1000"),
         ("10fd", "1005"),
         ("460047", "4600"),
@@ -148,22 +159,22 @@ fn causes(rt: HostRuntime) -> Result<(), Fail> {
         ("460047000000", "460047000000"),
         ("4602490009f1", "460249000001"),
         ("46004700000000", "460047000000"),
-    ];
-    bodies::<Cause>(&rt, rt.alloc(), &read, &["", "10"], &[])
-}
+    ],
+    short: &["", "10"],
+    bad: &[],
+};
 
-#[test]
-fn aggregate_rates(rt: HostRuntime) -> Result<(), Fail> {
-    let read = [
+const AGGREGATE_RATES: Bodies = Bodies {
+    read: &[
         ("000003e8000007d0", "000003e8000007d0"),
         ("000003e8000007d0ff", "000003e8000007d0"),
-    ];
-    bodies::<Ambr>(&rt, rt.alloc(), &read, &["", "000003e8000007"], &[])
-}
+    ],
+    short: &["", "000003e8000007"],
+    bad: &[],
+};
 
-#[test]
-fn qualities_of_service(rt: HostRuntime) -> Result<(), Fail> {
-    let read = [
+const QUALITIES_OF_SERVICE: Bodies = Bodies {
+    read: &[
         (
             "20090000000001000000000200000000030000000004",
             "20090000000001000000000200000000030000000004",
@@ -172,14 +183,13 @@ fn qualities_of_service(rt: HostRuntime) -> Result<(), Fail> {
             "ff09ffffffffff000000000200000000030000000004aa",
             "7d09ffffffffff000000000200000000030000000004",
         ),
-    ];
-    let short = ["", "200900000000010000000002000000000300000000"];
-    bodies::<Qos>(&rt, rt.alloc(), &read, &short, &[])
-}
+    ],
+    short: &["", "200900000000010000000002000000000300000000"],
+    bad: &[],
+};
 
-#[test]
-fn tunnel_ends(rt: HostRuntime) -> Result<(), Fail> {
-    let read = [
+const TUNNEL_ENDS: Bodies = Bodies {
+    read: &[
         ("86010000010a000001", "86010000010a000001"),
         ("86010000010a000001ffff", "86010000010a000001"),
         (
@@ -190,26 +200,19 @@ fn tunnel_ends(rt: HostRuntime) -> Result<(), Fail> {
             "c7000000020a00000220010db8000000000000000000000001",
             "c7000000020a00000220010db8000000000000000000000001",
         ),
-    ];
-    let short = [
+    ],
+    short: &[
         "",
         "06010000",
         "86010000010a0000",
         "470000000220010db80000000000000000000000",
         "c7000000020a00000220010db80000000000000000000000",
-    ];
-    bodies::<FTeid>(
-        &rt,
-        rt.alloc(),
-        &read,
-        &short,
-        &["0601000001", "0601000001ff"],
-    )
-}
+    ],
+    bad: &["0601000001", "0601000001ff"],
+};
 
-#[test]
-fn addresses(rt: HostRuntime) -> Result<(), Fail> {
-    let read = [
+const ADDRESSES: Bodies = Bodies {
+    read: &[
         ("010a010001", "010a010001"),
         ("f90a010001ff", "010a010001"),
         (
@@ -225,25 +228,63 @@ fn addresses(rt: HostRuntime) -> Result<(), Fail> {
         ("05", "05"),
         ("06", "06"),
         ("ff", "07"),
-    ];
-    let short = [
+    ],
+    short: &[
         "",
         "010a0100",
         "024020010db80000000000000000000000",
         "034020010db80000000000000000000000010a0100",
-    ];
-    bodies::<Paa>(&rt, rt.alloc(), &read, &short, &[])
-}
+    ],
+    bad: &[],
+};
 
-#[test]
-fn networks(rt: HostRuntime) -> Result<(), Fail> {
-    let read = [
+const NETWORKS: Bodies = Bodies {
+    read: &[
         ("00f110", "00f110"),
         ("214365", "214365"),
         ("00f110ff", "00f110"),
-    ];
-    let bad = ["0af110", "00f1f0", "00fa10", "00a110"];
-    bodies::<Plmn>(&rt, rt.alloc(), &read, &["", "00f1"], &bad)
+    ],
+    short: &["", "00f1"],
+    bad: &["0af110", "00f1f0", "00fa10", "00a110"],
+};
+
+/// Names and networks.
+#[test]
+fn bodies_of_texts(rt: HostRuntime) -> Result<(), Fail> {
+    let alloc = rt.alloc();
+    meet::<Imsi>(&rt, alloc, &SUBSCRIBERS)?;
+    meet::<Apn>(&rt, alloc, &ACCESS_POINTS)?;
+    meet::<Tft>(&rt, alloc, &TEMPLATES)?;
+    meet::<Plmn>(&rt, alloc, &NETWORKS)
+}
+
+/// Values of one number.
+#[test]
+fn bodies_of_numbers(rt: HostRuntime) -> Result<(), Fail> {
+    let alloc = rt.alloc();
+    meet::<Recovery>(&rt, alloc, &RECOVERIES)?;
+    meet::<EbiValue>(&rt, alloc, &BEARER_IDENTITIES)?;
+    meet::<Rat>(&rt, alloc, &RADIO_TECHNOLOGIES)?;
+    meet::<ChargingId>(&rt, alloc, &CHARGING_IDENTIFIERS)?;
+    meet::<PdnType>(&rt, alloc, &TYPES_OF_ADDRESSES)?;
+    meet::<Pti>(&rt, alloc, &NUMBERS_OF_PROCEDURES)?;
+    meet::<Selection>(&rt, alloc, &SELECTIONS)
+}
+
+/// Values of several fields.
+#[test]
+fn bodies_of_several_fields(rt: HostRuntime) -> Result<(), Fail> {
+    let alloc = rt.alloc();
+    meet::<Cause>(&rt, alloc, &CAUSES)?;
+    meet::<Ambr>(&rt, alloc, &AGGREGATE_RATES)?;
+    meet::<Qos>(&rt, alloc, &QUALITIES_OF_SERVICE)?;
+    meet::<FTeid>(&rt, alloc, &TUNNEL_ENDS)?;
+    meet::<Paa>(&rt, alloc, &ADDRESSES)
+}
+
+#[test]
+fn long_templates(rt: HostRuntime) {
+    assert!(rt; matches!(Tft::read(&[0; 256]), Err(ReadFault::Bad)));
 }
 
 /// Recovery of instance 1, an unknown element, and Recovery of instance 0 twice.
@@ -297,16 +338,18 @@ fn place_of_cut(alloc: Global, digits: &str) -> Result<usize, Fail> {
     }
 }
 
+const CUT: &[(&str, usize)] = &[
+    ("03", 100),
+    ("030001", 100),
+    ("03000200", 100),
+    ("030001000703", 105),
+    ("0300010007030002ff", 105),
+];
+
 #[test]
 fn lists_that_are_cut(rt: HostRuntime) -> Result<(), Fail> {
-    for (digits, place) in [
-        ("03", 100),
-        ("030001", 100),
-        ("03000200", 100),
-        ("030001000703", 105),
-        ("0300010007030002ff", 105),
-    ] {
-        assert!(rt; place_of_cut(rt.alloc(), digits)? == place, "of {digits}");
+    for (digits, place) in CUT {
+        assert!(rt; place_of_cut(rt.alloc(), digits)? == *place, "of {digits}");
     }
     Ok(())
 }
@@ -346,23 +389,35 @@ fn the_longest_element(rt: HostRuntime) -> Result<(), Fail> {
     Ok(())
 }
 
+const FAULTS: &[(IeFault, &str)] = &[
+    (
+        IeFault::Truncated { at: 40 },
+        "the element at 40 is not whole",
+    ),
+    (
+        IeFault::ShortValue {
+            kind: 87,
+            instance: 1,
+            at: 40,
+        },
+        "the element 87/1 at 40 is too short",
+    ),
+    (
+        IeFault::BadValue {
+            kind: 87,
+            instance: 1,
+            at: 40,
+        },
+        "the element 87/1 at 40 has no value",
+    ),
+    (IeFault::Memory, "no memory"),
+    (IeFault::TooLong, "an element's body is above 65535 octets"),
+];
+
 #[test]
 fn faults_in_words(rt: HostRuntime) -> Result<(), Fail> {
-    let (kind, instance, at) = (87, 1, 40);
-    for (fault, words) in [
-        (IeFault::Truncated { at }, "the element at 40 is not whole"),
-        (
-            IeFault::ShortValue { kind, instance, at },
-            "the element 87/1 at 40 is too short",
-        ),
-        (
-            IeFault::BadValue { kind, instance, at },
-            "the element 87/1 at 40 has no value",
-        ),
-        (IeFault::Memory, "no memory"),
-        (IeFault::TooLong, "an element's body is above 65535 octets"),
-    ] {
-        is_told(&rt, rt.alloc(), &fault, words)?;
+    for (fault, words) in FAULTS {
+        is_told(&rt, rt.alloc(), fault, words)?;
     }
     is_told(&rt, rt.alloc(), &ReadFault::Short, "the body is too short")?;
     is_told(&rt, rt.alloc(), &ReadFault::Bad, "the body has no value")

@@ -289,20 +289,22 @@ fn keep_three(alloc: Global, held: &mut Held) -> Result<(), Fail> {
     keep(alloc, held, place(1), b"asks", 7)
 }
 
+const ASKED: &[(u16, &[u8], Option<u8>)] = &[
+    (1, b"ask", Some(9)),
+    (2, b"ask", Some(8)),
+    (1, b"asks", Some(7)),
+    (2, b"asks", None),
+    (1, b"as", None),
+    (1, b"aska", None),
+    (3, b"ask", None),
+];
+
 #[test]
 fn whole_requests(rt: HostRuntime) -> Result<(), Fail> {
     let mut held = Held::new(rt.alloc(), 1);
     keep_three(rt.alloc(), &mut held)?;
-    for (port, request, answer) in [
-        (1, b"ask".as_slice(), Some(9)),
-        (2, b"ask", Some(8)),
-        (1, b"asks", Some(7)),
-        (2, b"asks", None),
-        (1, b"as", None),
-        (1, b"aska", None),
-        (3, b"ask", None),
-    ] {
-        assert!(rt; answer_to(&held, place(port), request) == answer);
+    for (port, request, answer) in ASKED {
+        assert!(rt; answer_to(&held, place(*port), request) == *answer);
     }
     held.tick();
     assert!(rt; answer_to(&held, place(1), b"ask").is_none());
@@ -322,14 +324,16 @@ fn held_full(rt: HostRuntime) -> Result<(), Fail> {
     Ok(())
 }
 
+const FAULTS: &[(ReliableFault, &str)] = &[
+    (ReliableFault::PendingFull, "256 requests are pending"),
+    (ReliableFault::HeldFull, "4096 answers are held"),
+    (ReliableFault::Memory, "no memory"),
+];
+
 #[test]
 fn faults_in_words(rt: HostRuntime) -> Result<(), Fail> {
-    for (fault, words) in [
-        (ReliableFault::PendingFull, "256 requests are pending"),
-        (ReliableFault::HeldFull, "4096 answers are held"),
-        (ReliableFault::Memory, "no memory"),
-    ] {
-        is_told(&rt, rt.alloc(), &fault, words)?;
+    for (fault, words) in FAULTS {
+        is_told(&rt, rt.alloc(), fault, words)?;
     }
     Ok(())
 }
@@ -353,7 +357,7 @@ fn found_in_few_comparisons(rt: HostRuntime) -> Result<(), Fail> {
 }
 
 /// How often the calls in the tests below met what they are to meet.
-#[derive(Clone, Copy, Debug, Default)]
+#[derive(Clone, Copy, Default)]
 struct Met {
     found: u32,
     refused: u32,
@@ -464,7 +468,7 @@ fn held_as_by_lists(rt: HostRuntime) -> Result<(), Fail> {
             kind,
         )?;
     }
-    assert!(rt; met.found > 0 && met.refused > 0 && met.due > 0, "{met:?}");
+    assert!(rt; met.found > 0 && met.refused > 0 && met.due > 0);
     Ok(())
 }
 
@@ -575,7 +579,7 @@ fn pending_as_by_lists(rt: HostRuntime) -> Result<(), Fail> {
             seq,
         )?;
     }
-    assert!(rt; met.gave_up > 0 && met.found > 0, "{met:?}");
-    assert!(rt; met.refused > 0 && met.due > 0, "{met:?}");
+    assert!(rt; met.gave_up > 0 && met.found > 0);
+    assert!(rt; met.refused > 0 && met.due > 0);
     Ok(())
 }

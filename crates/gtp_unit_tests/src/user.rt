@@ -48,40 +48,48 @@ fn is_written_again(rt: &impl Abort, alloc: Global, octets: &[u8]) -> Result<(),
     Ok(())
 }
 
+/// The TEID in the headers of tunnels.
+const TEID: Teid = Teid(0x0100_0002);
+
+const NUMBERED: &[(&[u8], u16, UserBody<'static>)] = &[
+    (
+        b"\x32\x02\x00\x06\x00\x00\x00\x00\x00\x05\x00\x00\x0e\x00",
+        5,
+        UserBody::EchoResponse,
+    ),
+    (
+        b"\x32\x01\x00\x04\x00\x00\x00\x00\x00\x05\x00\x00",
+        5,
+        UserBody::EchoRequest,
+    ),
+    (
+        b"\x32\x1f\x00\x07\x00\x00\x00\x00\x00\x00\x00\x00\x8d\x01\x40",
+        0,
+        UserBody::Notification { types: b"\x40" },
+    ),
+    (
+        b"\x32\x1a\x00\x10\x00\x00\x00\x00\x00\x00\x00\x00\x10\x01\x00\x00\x02\x85\x00\x04\x0a\x00\x00\x02",
+        0,
+        UserBody::ErrorIndication {
+            teid: TEID,
+            peer: Ip::V4([10, 0, 0, 2]),
+        },
+    ),
+    (
+        b"\x32\x1a\x00\x1c\x00\x00\x00\x00\x00\x00\x00\x00\x10\x01\x00\x00\x02\x85\x00\x10\x20\x01\x0d\xb8\x00\x00\x00\x00\x00\x00\x00\x00\x00\x00\x00\x01",
+        0,
+        UserBody::ErrorIndication {
+            teid: TEID,
+            peer: Ip::V6([0x20, 1, 0x0d, 0xb8, 0, 0, 0, 0, 0, 0, 0, 0, 0, 0, 0, 1]),
+        },
+    ),
+];
+
 /// Messages of the path: each has a sequence number.
 #[test]
 fn numbered_messages(rt: HostRuntime) -> Result<(), Fail> {
-    let teid = Teid(0x0100_0002);
-    let v4 = Ip::V4([10, 0, 0, 2]);
-    let v6 = Ip::V6([0x20, 1, 0x0d, 0xb8, 0, 0, 0, 0, 0, 0, 0, 0, 0, 0, 0, 1]);
-    for (octets, seq, body) in [
-        (
-            b"\x32\x02\x00\x06\x00\x00\x00\x00\x00\x05\x00\x00\x0e\x00".as_slice(),
-            5,
-            UserBody::EchoResponse,
-        ),
-        (
-            b"\x32\x01\x00\x04\x00\x00\x00\x00\x00\x05\x00\x00",
-            5,
-            UserBody::EchoRequest,
-        ),
-        (
-            b"\x32\x1f\x00\x07\x00\x00\x00\x00\x00\x00\x00\x00\x8d\x01\x40",
-            0,
-            UserBody::Notification { types: b"\x40" },
-        ),
-        (
-            b"\x32\x1a\x00\x10\x00\x00\x00\x00\x00\x00\x00\x00\x10\x01\x00\x00\x02\x85\x00\x04\x0a\x00\x00\x02",
-            0,
-            UserBody::ErrorIndication { teid, peer: v4 },
-        ),
-        (
-            b"\x32\x1a\x00\x1c\x00\x00\x00\x00\x00\x00\x00\x00\x10\x01\x00\x00\x02\x85\x00\x10\x20\x01\x0d\xb8\x00\x00\x00\x00\x00\x00\x00\x00\x00\x00\x00\x01",
-            0,
-            UserBody::ErrorIndication { teid, peer: v6 },
-        ),
-    ] {
-        reads(&rt, octets, Some(seq), None, 0, body)?;
+    for (octets, seq, body) in NUMBERED {
+        reads(&rt, octets, Some(*seq), None, 0, *body)?;
         is_written_again(&rt, rt.alloc(), octets)?;
     }
     Ok(())
@@ -91,39 +99,50 @@ fn numbered_messages(rt: HostRuntime) -> Result<(), Fail> {
 const CHAINED: &[u8] =
     b"\x34\xff\x00\x0f\x01\x00\x00\x02\x00\x00\x00\x20\x01\xaa\xbb\x40\x01\x08\x68\x00abc";
 
+/// A packet of three octets.
+const ABC: UserBody<'static> = UserBody::Packet {
+    teid: TEID,
+    payload: b"abc",
+};
+
+const TUNNELS: &[(&[u8], Option<u16>, Option<u8>, usize, UserBody<'static>)] = &[
+    (
+        b"\x30\xfe\x00\x00\x01\x00\x00\x02",
+        None,
+        None,
+        0,
+        UserBody::EndMarker { teid: TEID },
+    ),
+    (b"\x30\xff\x00\x03\x01\x00\x00\x02abc", None, None, 0, ABC),
+    (
+        b"\x30\xff\x00\x00\x01\x00\x00\x02",
+        None,
+        None,
+        0,
+        UserBody::Packet {
+            teid: TEID,
+            payload: b"",
+        },
+    ),
+    (
+        b"\x33\x03\x00\x06\x01\x00\x00\x02\x00\x07\x09\x00xy",
+        Some(7),
+        Some(9),
+        0,
+        UserBody::Other {
+            kind: 3,
+            teid: TEID,
+            octets: b"xy",
+        },
+    ),
+    (CHAINED, None, None, 2, ABC),
+];
+
 /// Messages of a tunnel.
 #[test]
 fn tunnels(rt: HostRuntime) -> Result<(), Fail> {
-    let teid = Teid(0x0100_0002);
-    let (kind, payload, octets) = (3, b"abc".as_slice(), b"xy".as_slice());
-    let other = UserBody::Other { kind, teid, octets };
-    let empty = UserBody::Packet { teid, payload: b"" };
-    for (octets, seq, npdu, headers, body) in [
-        (
-            b"\x30\xfe\x00\x00\x01\x00\x00\x02".as_slice(),
-            None,
-            None,
-            0,
-            UserBody::EndMarker { teid },
-        ),
-        (
-            b"\x30\xff\x00\x03\x01\x00\x00\x02abc",
-            None,
-            None,
-            0,
-            UserBody::Packet { teid, payload },
-        ),
-        (b"\x30\xff\x00\x00\x01\x00\x00\x02", None, None, 0, empty),
-        (
-            b"\x33\x03\x00\x06\x01\x00\x00\x02\x00\x07\x09\x00xy",
-            Some(7),
-            Some(9),
-            0,
-            other,
-        ),
-        (CHAINED, None, None, 2, UserBody::Packet { teid, payload }),
-    ] {
-        reads(&rt, octets, seq, npdu, headers, body)?;
+    for (octets, seq, npdu, headers, body) in TUNNELS {
+        reads(&rt, octets, *seq, *npdu, *headers, *body)?;
         is_written_again(&rt, rt.alloc(), octets)?;
     }
     Ok(())
@@ -145,132 +164,140 @@ fn fails(rt: &impl Abort, octets: &[u8], fault: UserFault) {
     assert!(rt; decode(octets).err() == Some(fault), "{octets:?}");
 }
 
+const FAULTS_OF_HEADERS: &[(&[u8], UserFault)] = &[
+    (b"", UserFault::Short { held: 0 }),
+    (
+        b"\x30\xff\x00\x00\x01\x00\x00",
+        UserFault::Short { held: 7 },
+    ),
+    (
+        b"\x50\xff\x00\x00\x01\x00\x00\x02",
+        UserFault::Version { version: 2 },
+    ),
+    (b"\x20\xff\x00\x00\x01\x00\x00\x02", UserFault::Protocol),
+    (
+        b"\x30\xff\x00\x04\x01\x00\x00\x02abc",
+        UserFault::Length { stated: 4, held: 3 },
+    ),
+    (
+        b"\x30\xff\x00\x02\x01\x00\x00\x02abc",
+        UserFault::Length { stated: 2, held: 3 },
+    ),
+    (
+        b"\x32\xff\x00\x03\x01\x00\x00\x02\x00\x00\x00",
+        UserFault::Short { held: 11 },
+    ),
+];
+
 #[test]
 fn faults_of_headers(rt: HostRuntime) {
-    for (octets, fault) in [
-        (b"".as_slice(), UserFault::Short { held: 0 }),
-        (
-            b"\x30\xff\x00\x00\x01\x00\x00",
-            UserFault::Short { held: 7 },
-        ),
-        (
-            b"\x50\xff\x00\x00\x01\x00\x00\x02",
-            UserFault::Version { version: 2 },
-        ),
-        (b"\x20\xff\x00\x00\x01\x00\x00\x02", UserFault::Protocol),
-        (
-            b"\x30\xff\x00\x04\x01\x00\x00\x02abc",
-            UserFault::Length { stated: 4, held: 3 },
-        ),
-        (
-            b"\x30\xff\x00\x02\x01\x00\x00\x02abc",
-            UserFault::Length { stated: 2, held: 3 },
-        ),
-        (
-            b"\x32\xff\x00\x03\x01\x00\x00\x02\x00\x00\x00",
-            UserFault::Short { held: 11 },
-        ),
-    ] {
-        fails(&rt, octets, fault);
+    for (octets, fault) in FAULTS_OF_HEADERS {
+        fails(&rt, octets, *fault);
     }
 }
+
+const FAULTS_OF_CHAINS: &[(&[u8], UserFault)] = &[
+    (
+        b"\x34\xff\x00\x0b\x01\x00\x00\x02\x00\x00\x00\x20\x00\xaa\xbb\x00abc",
+        UserFault::ExtensionZero { at: 12 },
+    ),
+    (
+        b"\x34\xff\x00\x09\x01\x00\x00\x02\x00\x00\x00\x20\x01\xaa\xbb\x28\x00",
+        UserFault::ExtensionZero { at: 16 },
+    ),
+    (
+        b"\x34\xff\x00\x04\x01\x00\x00\x02\x00\x00\x00\x20",
+        UserFault::ExtensionPast { at: 12 },
+    ),
+    (
+        b"\x34\xff\x00\x07\x01\x00\x00\x02\x00\x00\x00\xc0\x01\xaa\xbb",
+        UserFault::ExtensionPast { at: 12 },
+    ),
+    (
+        b"\x34\xff\x00\x08\x01\x00\x00\x02\x00\x00\x00\x20\x01\xaa\xbb\x28",
+        UserFault::ExtensionPast { at: 16 },
+    ),
+    (
+        b"\x34\xff\x00\x0b\x01\x00\x00\x02\x00\x00\x00\xc0\x01\xaa\xbb\x00abc",
+        UserFault::ExtensionNeeded { kind: 0xc0 },
+    ),
+    (
+        b"\x34\xff\x00\x0b\x01\x00\x00\x02\x00\x00\x00\x80\x01\xaa\xbb\x00abc",
+        UserFault::ExtensionNeeded { kind: 0x80 },
+    ),
+];
 
 #[test]
 fn faults_of_chains(rt: HostRuntime) {
-    for (octets, fault) in [
-        (
-            b"\x34\xff\x00\x0b\x01\x00\x00\x02\x00\x00\x00\x20\x00\xaa\xbb\x00abc".as_slice(),
-            UserFault::ExtensionZero { at: 12 },
-        ),
-        (
-            b"\x34\xff\x00\x09\x01\x00\x00\x02\x00\x00\x00\x20\x01\xaa\xbb\x28\x00",
-            UserFault::ExtensionZero { at: 16 },
-        ),
-        (
-            b"\x34\xff\x00\x04\x01\x00\x00\x02\x00\x00\x00\x20",
-            UserFault::ExtensionPast { at: 12 },
-        ),
-        (
-            b"\x34\xff\x00\x07\x01\x00\x00\x02\x00\x00\x00\xc0\x01\xaa\xbb",
-            UserFault::ExtensionPast { at: 12 },
-        ),
-        (
-            b"\x34\xff\x00\x08\x01\x00\x00\x02\x00\x00\x00\x20\x01\xaa\xbb\x28",
-            UserFault::ExtensionPast { at: 16 },
-        ),
-        (
-            b"\x34\xff\x00\x0b\x01\x00\x00\x02\x00\x00\x00\xc0\x01\xaa\xbb\x00abc",
-            UserFault::ExtensionNeeded { kind: 0xc0 },
-        ),
-        (
-            b"\x34\xff\x00\x0b\x01\x00\x00\x02\x00\x00\x00\x80\x01\xaa\xbb\x00abc",
-            UserFault::ExtensionNeeded { kind: 0x80 },
-        ),
-    ] {
-        fails(&rt, octets, fault);
+    for (octets, fault) in FAULTS_OF_CHAINS {
+        fails(&rt, octets, *fault);
     }
 }
 
+const FAULTS_OF_ELEMENTS: &[(&[u8], UserFault)] = &[
+    (
+        b"\x32\x02\x00\x04\x00\x00\x00\x00\x00\x05\x00\x00",
+        UserFault::Missing { kind: 14 },
+    ),
+    (
+        b"\x32\x1a\x00\x0b\x00\x00\x00\x00\x00\x00\x00\x00\x85\x00\x04\x0a\x00\x00\x02",
+        UserFault::Missing { kind: 16 },
+    ),
+    (
+        b"\x32\x1a\x00\x09\x00\x00\x00\x00\x00\x00\x00\x00\x10\x01\x00\x00\x02",
+        UserFault::Missing { kind: 133 },
+    ),
+    (
+        b"\x32\x1f\x00\x06\x00\x00\x00\x00\x00\x00\x00\x00\x0e\x00",
+        UserFault::Missing { kind: 141 },
+    ),
+    (
+        b"\x32\x02\x00\x06\x00\x00\x00\x00\x00\x05\x00\x00\x0d\x00",
+        UserFault::Element { at: 12 },
+    ),
+    (
+        b"\x32\x02\x00\x05\x00\x00\x00\x00\x00\x05\x00\x00\x0e",
+        UserFault::Element { at: 12 },
+    ),
+    (
+        b"\x32\x02\x00\x0a\x00\x00\x00\x00\x00\x05\x00\x00\x0e\x00\x85\x00\x01\x0a",
+        UserFault::Element { at: 14 },
+    ),
+    (
+        b"\x32\x1f\x00\x07\x00\x00\x00\x00\x00\x00\x00\x00\x8d\x02\x40",
+        UserFault::Element { at: 12 },
+    ),
+];
+
 #[test]
 fn faults_of_elements(rt: HostRuntime) {
-    for (octets, fault) in [
-        (
-            b"\x32\x02\x00\x04\x00\x00\x00\x00\x00\x05\x00\x00".as_slice(),
-            UserFault::Missing { kind: 14 },
-        ),
-        (
-            b"\x32\x1a\x00\x0b\x00\x00\x00\x00\x00\x00\x00\x00\x85\x00\x04\x0a\x00\x00\x02",
-            UserFault::Missing { kind: 16 },
-        ),
-        (
-            b"\x32\x1a\x00\x09\x00\x00\x00\x00\x00\x00\x00\x00\x10\x01\x00\x00\x02",
-            UserFault::Missing { kind: 133 },
-        ),
-        (
-            b"\x32\x1f\x00\x06\x00\x00\x00\x00\x00\x00\x00\x00\x0e\x00",
-            UserFault::Missing { kind: 141 },
-        ),
-        (
-            b"\x32\x02\x00\x06\x00\x00\x00\x00\x00\x05\x00\x00\x0d\x00",
-            UserFault::Element { at: 12 },
-        ),
-        (
-            b"\x32\x02\x00\x05\x00\x00\x00\x00\x00\x05\x00\x00\x0e",
-            UserFault::Element { at: 12 },
-        ),
-        (
-            b"\x32\x02\x00\x0a\x00\x00\x00\x00\x00\x05\x00\x00\x0e\x00\x85\x00\x01\x0a",
-            UserFault::Element { at: 14 },
-        ),
-        (
-            b"\x32\x1f\x00\x07\x00\x00\x00\x00\x00\x00\x00\x00\x8d\x02\x40",
-            UserFault::Element { at: 12 },
-        ),
-    ] {
-        fails(&rt, octets, fault);
+    for (octets, fault) in FAULTS_OF_ELEMENTS {
+        fails(&rt, octets, *fault);
     }
 }
+
+const FLAGS: &[(u8, Option<u16>, Option<u8>)] = &[
+    (0x31, None, Some(9)),
+    (0x32, Some(7), None),
+    (0x33, Some(7), Some(9)),
+    (0x34, None, None),
+    (0x35, None, Some(9)),
+    (0x36, Some(7), None),
+    (0x37, Some(7), Some(9)),
+    (0x3c, None, None),
+];
 
 #[test]
 fn flags(rt: HostRuntime) -> Result<(), Fail> {
     let teid = Teid(0x0100_0002);
     let payload = b"ab".as_slice();
-    for (flags, seq, npdu) in [
-        (0x31, None, Some(9)),
-        (0x32, Some(7), None),
-        (0x33, Some(7), Some(9)),
-        (0x34, None, None),
-        (0x35, None, Some(9)),
-        (0x36, Some(7), None),
-        (0x37, Some(7), Some(9)),
-        (0x3c, None, None),
-    ] {
-        let octets = [flags, 255, 0, 6, 1, 0, 0, 2, 0, 7, 9, 0, 97, 98];
+    for (flags, seq, npdu) in FLAGS {
+        let octets = [*flags, 255, 0, 6, 1, 0, 0, 2, 0, 7, 9, 0, 97, 98];
         reads(
             &rt,
             &octets,
-            seq,
-            npdu,
+            *seq,
+            *npdu,
             0,
             UserBody::Packet { teid, payload },
         )?;
@@ -284,27 +311,30 @@ fn has_body(rt: &impl Abort, octets: &[u8], body: UserBody) -> Result<(), Fail> 
     Ok(())
 }
 
+/// An Echo Request without a sequence number.
+const NUMBERLESS: &[u8] = b"\x30\x01\x00\x03\x00\x00\x00\x09\x0d\x0d\x0d";
+
+const NOT_WALKED: &[(&[u8], UserBody<'static>)] = &[
+    (NUMBERLESS, UserBody::EchoRequest),
+    (
+        b"\x30\xfe\x00\x01\x01\x00\x00\x02\x0d",
+        UserBody::EndMarker { teid: TEID },
+    ),
+    (
+        b"\x32\x1f\x00\x0a\x00\x00\x00\x00\x00\x00\x00\x00\x8d\x01\x40\x8d\x01\x41",
+        UserBody::Notification { types: b"\x40" },
+    ),
+    (
+        b"\x32\x02\x00\x0b\x00\x00\x00\x00\x00\x05\x00\x00\xff\x00\x02\x01\x02\x0e\x00",
+        UserBody::EchoResponse,
+    ),
+];
+
 #[test]
 fn octets_that_are_not_walked(rt: HostRuntime) -> Result<(), Fail> {
-    let request = b"\x30\x01\x00\x03\x00\x00\x00\x09\x0d\x0d\x0d";
-    assert!(rt; decode(request)?.seq == Some(0));
-    let teid = Teid(0x0100_0002);
-    for (octets, body) in [
-        (request.as_slice(), UserBody::EchoRequest),
-        (
-            b"\x30\xfe\x00\x01\x01\x00\x00\x02\x0d",
-            UserBody::EndMarker { teid },
-        ),
-        (
-            b"\x32\x1f\x00\x0a\x00\x00\x00\x00\x00\x00\x00\x00\x8d\x01\x40\x8d\x01\x41",
-            UserBody::Notification { types: b"\x40" },
-        ),
-        (
-            b"\x32\x02\x00\x0b\x00\x00\x00\x00\x00\x05\x00\x00\xff\x00\x02\x01\x02\x0e\x00",
-            UserBody::EchoResponse,
-        ),
-    ] {
-        has_body(&rt, octets, body)?;
+    assert!(rt; decode(NUMBERLESS)?.seq == Some(0));
+    for (octets, body) in NOT_WALKED {
+        has_body(&rt, octets, *body)?;
     }
     Ok(())
 }
@@ -356,24 +386,26 @@ fn has_chain(
     Ok(())
 }
 
+const CHAINS: &[(u8, u8, u16)] = &[
+    (0, 1, 3),
+    (1, 1, 3),
+    (2, 1, 3),
+    (255, 1, 3),
+    (1, 255, 3),
+    (2, 255, 0),
+    (0, 1, 65_000),
+    (1, 1, 65_000),
+];
+
 #[test]
 fn chains(rt: HostRuntime) -> Result<(), Fail> {
-    for (headers, units, payload) in [
-        (0, 1, 3),
-        (1, 1, 3),
-        (2, 1, 3),
-        (255, 1, 3),
-        (1, 255, 3),
-        (2, 255, 0),
-        (0, 1, 65_000),
-        (1, 1, 65_000),
-    ] {
-        let tail = tail(rt.alloc(), headers, units, payload)?;
+    for (headers, units, payload) in CHAINS {
+        let tail = tail(rt.alloc(), *headers, *units, *payload)?;
         let octets = packet(rt.alloc(), &tail)?;
         let message = decode(&octets)?;
-        has_chain(&rt, &message, headers, units, payload)?;
+        has_chain(&rt, &message, *headers, *units, *payload)?;
         let again = written(rt.alloc(), &message)?;
-        assert!(rt; headers == 0 || again == octets, "{headers} headers");
+        assert!(rt; *headers == 0 || again == octets, "{headers} headers");
     }
     Ok(())
 }
@@ -406,16 +438,18 @@ fn length_of_packet(alloc: Global, size: usize) -> Result<Option<usize>, Fail> {
     }
 }
 
+const LENGTHS: &[(usize, Option<usize>)] = &[
+    (0, Some(8)),
+    (65_000, Some(65_008)),
+    (65_535, Some(65_543)),
+    (65_536, None),
+];
+
 #[test]
 fn lengths(rt: HostRuntime) -> Result<(), Fail> {
-    for (size, length) in [
-        (0, Some(8)),
-        (65_000, Some(65_008)),
-        (65_535, Some(65_543)),
-        (65_536, None),
-    ] {
+    for (size, length) in LENGTHS {
         assert!(rt;
-            length_of_packet(rt.alloc(), size)? == length,
+            length_of_packet(rt.alloc(), *size)? == *length,
             "{size} octets"
         );
     }
@@ -440,61 +474,66 @@ fn is_made(rt: &impl Abort, first: u8, octets: &[u8], fault: Option<UserFault>) 
     );
 }
 
+const MADE_CHAINS: &[(u8, &[u8], Option<UserFault>)] = &[
+    (0, b"", None),
+    (0x20, b"\x01\xaa\xbb\x40\x01\x08\x68\x00", None),
+    (0, b"\x01", Some(UserFault::Length { stated: 0, held: 1 })),
+    (
+        0x20,
+        b"\x01\xaa\xbb\x00\x01\x02",
+        Some(UserFault::Length { stated: 4, held: 6 }),
+    ),
+    (0x20, b"", Some(UserFault::ExtensionPast { at: 0 })),
+    (0x20, b"\x00", Some(UserFault::ExtensionZero { at: 0 })),
+    (
+        0x20,
+        b"\x01\xaa\xbb\x40\x02\x08",
+        Some(UserFault::ExtensionPast { at: 4 }),
+    ),
+    (
+        0xc1,
+        b"\x01\xaa\xbb\x00",
+        Some(UserFault::ExtensionNeeded { kind: 0xc1 }),
+    ),
+];
+
 #[test]
 fn made_chains(rt: HostRuntime) {
-    for (first, octets, fault) in [
-        (0, b"".as_slice(), None),
-        (0x20, b"\x01\xaa\xbb\x40\x01\x08\x68\x00", None),
-        (0, b"\x01", Some(UserFault::Length { stated: 0, held: 1 })),
-        (
-            0x20,
-            b"\x01\xaa\xbb\x00\x01\x02",
-            Some(UserFault::Length { stated: 4, held: 6 }),
-        ),
-        (0x20, b"", Some(UserFault::ExtensionPast { at: 0 })),
-        (0x20, b"\x00", Some(UserFault::ExtensionZero { at: 0 })),
-        (
-            0x20,
-            b"\x01\xaa\xbb\x40\x02\x08",
-            Some(UserFault::ExtensionPast { at: 4 }),
-        ),
-        (
-            0xc1,
-            b"\x01\xaa\xbb\x00",
-            Some(UserFault::ExtensionNeeded { kind: 0xc1 }),
-        ),
-    ] {
-        is_made(&rt, first, octets, fault);
+    for (first, octets, fault) in MADE_CHAINS {
+        is_made(&rt, *first, octets, *fault);
     }
 }
 
+const FAULTS: &[(UserFault, &str)] = &[
+    (UserFault::Short { held: 7 }, "only 7 octets"),
+    (UserFault::Version { version: 2 }, "version 2"),
+    (UserFault::Protocol, "not of the protocol GTP"),
+    (
+        UserFault::Length { stated: 3, held: 2 },
+        "the length is stated as 3 and is 2",
+    ),
+    (
+        UserFault::ExtensionZero { at: 12 },
+        "the extension header at 12 has length 0",
+    ),
+    (
+        UserFault::ExtensionPast { at: 12 },
+        "the extension header at 12 is not whole",
+    ),
+    (
+        UserFault::ExtensionNeeded { kind: 192 },
+        "the extension header of type 192 is not understood",
+    ),
+    (UserFault::Missing { kind: 14 }, "the element 14 is missing"),
+    (UserFault::Element { at: 12 }, "there is no element at 12"),
+    (UserFault::Memory, "no memory"),
+    (UserFault::TooLong, "the length is above 65535"),
+];
+
 #[test]
 fn faults_in_words(rt: HostRuntime) -> Result<(), Fail> {
-    let (at, kind) = (12, 192);
-    let length = UserFault::Length { stated: 3, held: 2 };
-    for (fault, words) in [
-        (UserFault::Short { held: 7 }, "only 7 octets"),
-        (UserFault::Version { version: 2 }, "version 2"),
-        (UserFault::Protocol, "not of the protocol GTP"),
-        (length, "the length is stated as 3 and is 2"),
-        (
-            UserFault::ExtensionZero { at },
-            "the extension header at 12 has length 0",
-        ),
-        (
-            UserFault::ExtensionPast { at },
-            "the extension header at 12 is not whole",
-        ),
-        (
-            UserFault::ExtensionNeeded { kind },
-            "the extension header of type 192 is not understood",
-        ),
-        (UserFault::Missing { kind: 14 }, "the element 14 is missing"),
-        (UserFault::Element { at }, "there is no element at 12"),
-        (UserFault::Memory, "no memory"),
-        (UserFault::TooLong, "the length is above 65535"),
-    ] {
-        is_told(&rt, rt.alloc(), &fault, words)?;
+    for (fault, words) in FAULTS {
+        is_told(&rt, rt.alloc(), fault, words)?;
     }
     Ok(())
 }

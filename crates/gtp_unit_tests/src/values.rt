@@ -16,19 +16,21 @@ fn has_age(rt: &impl Abort, known: u8, heard: u8, age: Age) {
     );
 }
 
+const AGES: &[(u8, u8, Age)] = &[
+    (1, 1, Age::Same),
+    (1, 2, Age::Later),
+    (1, 128, Age::Later),
+    (1, 129, Age::Earlier),
+    (255, 0, Age::Later),
+    (255, 126, Age::Later),
+    (255, 127, Age::Earlier),
+    (0, 255, Age::Earlier),
+];
+
 #[test]
 fn ages_of_counters(rt: HostRuntime) {
-    for (known, heard, age) in [
-        (1, 1, Age::Same),
-        (1, 2, Age::Later),
-        (1, 128, Age::Later),
-        (1, 129, Age::Earlier),
-        (255, 0, Age::Later),
-        (255, 126, Age::Later),
-        (255, 127, Age::Earlier),
-        (0, 255, Age::Earlier),
-    ] {
-        has_age(&rt, known, heard, age);
+    for (known, heard, age) in AGES {
+        has_age(&rt, *known, *heard, *age);
     }
 }
 
@@ -92,31 +94,35 @@ fn subscribers_as_texts(rt: HostRuntime) -> Result<(), Fail> {
     is_text_of(&rt, rt.alloc(), "001019", imsi)
 }
 
+const NO_SUBSCRIBERS: &[(&str, ValueFault)] = &[
+    ("", ValueFault::TooShort),
+    ("00101", ValueFault::TooShort),
+    ("0010101234567890", ValueFault::TooLong),
+    ("00101 9", ValueFault::BadDigit),
+    ("00101/9", ValueFault::BadDigit),
+    ("00101:9", ValueFault::BadDigit),
+    ("a", ValueFault::TooShort),
+];
+
 #[test]
 fn texts_of_no_subscriber(rt: HostRuntime) {
-    for (text, fault) in [
-        ("", ValueFault::TooShort),
-        ("00101", ValueFault::TooShort),
-        ("0010101234567890", ValueFault::TooLong),
-        ("00101 9", ValueFault::BadDigit),
-        ("00101/9", ValueFault::BadDigit),
-        ("00101:9", ValueFault::BadDigit),
-        ("a", ValueFault::TooShort),
-    ] {
-        is_refused(&rt, text, Imsi::from_text(text), fault);
+    for (text, fault) in NO_SUBSCRIBERS {
+        is_refused(&rt, text, Imsi::from_text(text), *fault);
     }
 }
 
+const ACCESS_POINTS: &[(&str, &[u8])] = &[
+    ("internet", b"\x08internet"),
+    (
+        "internet.mnc012.mcc345.gprs",
+        b"\x08internet\x06mnc012\x06mcc345\x04gprs",
+    ),
+    ("a.b", b"\x01a\x01b"),
+];
+
 #[test]
 fn access_points_as_texts(rt: HostRuntime) -> Result<(), Fail> {
-    for (text, octets) in [
-        ("internet", b"\x08internet".as_slice()),
-        (
-            "internet.mnc012.mcc345.gprs",
-            b"\x08internet\x06mnc012\x06mcc345\x04gprs",
-        ),
-        ("a.b", b"\x01a\x01b"),
-    ] {
+    for (text, octets) in ACCESS_POINTS {
         is_text_of(&rt, rt.alloc(), text, Apn::try_new(octets)?)?;
     }
     Ok(())
@@ -140,20 +146,22 @@ fn the_longest_access_point(rt: HostRuntime) -> Result<(), Fail> {
     Ok(())
 }
 
+const NO_ACCESS_POINTS: &[(&str, ValueFault)] = &[
+    ("", ValueFault::TooShort),
+    (".", ValueFault::BadLabel),
+    ("internet.", ValueFault::BadLabel),
+    (".internet", ValueFault::BadLabel),
+    ("ims..org", ValueFault::BadLabel),
+    ("inter net", ValueFault::BadLabel),
+    ("caf\u{e9}", ValueFault::BadLabel),
+];
+
 #[test]
 fn texts_of_no_access_point(rt: HostRuntime) -> Result<(), Fail> {
     let labels = format!(in rt.alloc(); "{LONG_LABEL}l.org")?;
-    for (text, fault) in [
-        ("", ValueFault::TooShort),
-        (labels.as_str(), ValueFault::BadLabel),
-        (".", ValueFault::BadLabel),
-        ("internet.", ValueFault::BadLabel),
-        (".internet", ValueFault::BadLabel),
-        ("ims..org", ValueFault::BadLabel),
-        ("inter net", ValueFault::BadLabel),
-        ("caf\u{e9}", ValueFault::BadLabel),
-    ] {
-        is_refused(&rt, text, Apn::from_text(text), fault);
+    is_refused(&rt, &labels, Apn::from_text(&labels), ValueFault::BadLabel);
+    for (text, fault) in NO_ACCESS_POINTS {
+        is_refused(&rt, text, Apn::from_text(text), *fault);
     }
     Ok(())
 }
@@ -161,62 +169,70 @@ fn texts_of_no_access_point(rt: HostRuntime) -> Result<(), Fail> {
 /// 2001:db8::1.
 const DOCUMENTATION: Ip = Ip::V6([0x20, 1, 0xd, 0xb8, 0, 0, 0, 0, 0, 0, 0, 0, 0, 0, 0, 1]);
 
+const ADDRESSES: &[(&str, Ip)] = &[
+    ("10.0.0.1", Ip::V4([10, 0, 0, 1])),
+    ("0.0.0.0", Ip::V4([0; 4])),
+    ("255.255.255.255", Ip::V4([255; 4])),
+    ("20010db8000000000000000000000001", DOCUMENTATION),
+];
+
 #[test]
 fn addresses_as_texts(rt: HostRuntime) -> Result<(), Fail> {
-    for (text, address) in [
-        ("10.0.0.1", Ip::V4([10, 0, 0, 1])),
-        ("0.0.0.0", Ip::V4([0; 4])),
-        ("255.255.255.255", Ip::V4([255; 4])),
-        ("20010db8000000000000000000000001", DOCUMENTATION),
-    ] {
-        is_text_of(&rt, rt.alloc(), text, address)?;
+    for (text, address) in ADDRESSES {
+        is_text_of(&rt, rt.alloc(), text, *address)?;
     }
     assert!(rt; Ip::from_text("20010DB8000000000000000000000001")? == DOCUMENTATION);
     Ok(())
 }
 
+const NO_ADDRESSES: &[(&str, ValueFault)] = &[
+    ("", ValueFault::TooShort),
+    ("10.0.0", ValueFault::TooShort),
+    ("200010db8000000000000000000000001", ValueFault::TooLong),
+    ("2001db8000000000000000000000001", ValueFault::BadDigit),
+    ("20010db800000000000000000000000g", ValueFault::BadDigit),
+    ("2001:db8::1", ValueFault::BadDigit),
+    ("10.0.0.256", ValueFault::BadDigit),
+    ("10.0.0.01", ValueFault::BadDigit),
+    ("10.0.0.1.1", ValueFault::BadDigit),
+    ("10.0.0.1 ", ValueFault::BadDigit),
+];
+
 #[test]
 fn texts_of_no_address(rt: HostRuntime) {
-    for (text, fault) in [
-        ("", ValueFault::TooShort),
-        ("10.0.0", ValueFault::TooShort),
-        ("200010db8000000000000000000000001", ValueFault::TooLong),
-        ("2001db8000000000000000000000001", ValueFault::BadDigit),
-        ("20010db800000000000000000000000g", ValueFault::BadDigit),
-        ("2001:db8::1", ValueFault::BadDigit),
-        ("10.0.0.256", ValueFault::BadDigit),
-        ("10.0.0.01", ValueFault::BadDigit),
-        ("10.0.0.1.1", ValueFault::BadDigit),
-        ("10.0.0.1 ", ValueFault::BadDigit),
-    ] {
-        is_refused(&rt, text, Ip::from_text(text), fault);
+    for (text, fault) in NO_ADDRESSES {
+        is_refused(&rt, text, Ip::from_text(text), *fault);
     }
 }
 
+const IDENTIFIERS: &[(&str, Teid)] = &[
+    ("00000000", Teid(0)),
+    ("01000002", Teid(16_777_218)),
+    ("fedcba98", Teid(4_275_878_552)),
+];
+
 #[test]
 fn identifiers_as_texts(rt: HostRuntime) -> Result<(), Fail> {
-    for (text, teid) in [
-        ("00000000", Teid(0)),
-        ("01000002", Teid(16_777_218)),
-        ("fedcba98", Teid(4_275_878_552)),
-    ] {
-        is_text_of(&rt, rt.alloc(), text, teid)?;
+    for (text, teid) in IDENTIFIERS {
+        is_text_of(&rt, rt.alloc(), text, *teid)?;
     }
     assert!(rt; Teid::from_text("FEDCBA98")? == Teid(4_275_878_552));
     Ok(())
 }
 
+const NO_IDENTIFIERS: &[(&str, ValueFault)] = &[
+    ("", ValueFault::TooShort),
+    ("1000002", ValueFault::TooShort),
+    ("001000002", ValueFault::TooLong),
+    ("0100000g", ValueFault::BadDigit),
+    ("0x000002", ValueFault::BadDigit),
+    ("+1000002", ValueFault::BadDigit),
+];
+
 #[test]
 fn texts_of_no_identifier(rt: HostRuntime) {
-    for (text, fault) in [
-        ("", ValueFault::TooShort),
-        ("1000002", ValueFault::TooShort),
-        ("001000002", ValueFault::TooLong),
-        ("0100000g", ValueFault::BadDigit),
-        ("0x000002", ValueFault::BadDigit),
-        ("+1000002", ValueFault::BadDigit),
-    ] {
-        is_refused(&rt, text, Teid::from_text(text), fault);
+    for (text, fault) in NO_IDENTIFIERS {
+        is_refused(&rt, text, Teid::from_text(text), *fault);
     }
 }
 
@@ -253,16 +269,18 @@ pub(crate) fn is_told(
     Ok(())
 }
 
+const FAULTS: &[(ValueFault, &str)] = &[
+    (ValueFault::TooShort, "too short"),
+    (ValueFault::TooLong, "too long"),
+    (ValueFault::BadDigit, "a digit that is none"),
+    (ValueFault::BadLabel, "a label that is none"),
+    (ValueFault::OutOfRange, "out of range"),
+];
+
 #[test]
 fn faults_in_words(rt: HostRuntime) -> Result<(), Fail> {
-    for (fault, words) in [
-        (ValueFault::TooShort, "too short"),
-        (ValueFault::TooLong, "too long"),
-        (ValueFault::BadDigit, "a digit that is none"),
-        (ValueFault::BadLabel, "a label that is none"),
-        (ValueFault::OutOfRange, "out of range"),
-    ] {
-        is_told(&rt, rt.alloc(), &fault, words)?;
+    for (fault, words) in FAULTS {
+        is_told(&rt, rt.alloc(), fault, words)?;
     }
     is_told(&rt, rt.alloc(), &Memory, "no memory")
 }

@@ -8,6 +8,17 @@ use std::io::{Read, Write};
 use std::process::Abort;
 use std::test::Fail;
 
+/// How the call with this number fails: of two kinds, in turn. One that was interrupted has failed like any
+/// other, and is not made again.
+fn failure(call: u64) -> io::Error {
+    let kind = if call % 2 == 0 {
+        io::ErrorKind::Interrupted
+    } else {
+        io::ErrorKind::BrokenPipe
+    };
+    io::Error::from(kind)
+}
+
 /// Gives one octet a call, and fails in the call with this number, from 1.
 #[derive(Clone, Copy)]
 struct Slow<'a> {
@@ -20,7 +31,7 @@ impl<'a> Read for Slow<'a> {
     fn read(&mut self, buf: &mut [u8]) -> io::Result<usize> {
         self.calls = self.calls.saturating_add(1);
         if self.calls == self.fails_at {
-            return Err(io::Error::from(io::ErrorKind::BrokenPipe));
+            return Err(failure(self.calls));
         }
         match (self.text.split_first(), buf.first_mut()) {
             (Some((octet, rest)), Some(place)) => {
@@ -46,7 +57,7 @@ impl Write for Narrow {
     fn write(&mut self, buf: &[u8]) -> io::Result<usize> {
         self.calls = self.calls.saturating_add(1);
         if self.calls == self.fails_at {
-            return Err(io::Error::from(io::ErrorKind::BrokenPipe));
+            return Err(failure(self.calls));
         }
         let (front, _) = buf.split_at(self.width.min(buf.len()));
         self.taken.extend_from_slice(front)?;

@@ -6,7 +6,7 @@ use gtp_reliable::{Endpoint, Request, Resend, Seq};
 use std::alloc::{AllocError, Global};
 
 /// Numbers that look drawn by lot, the same in each run.
-#[derive(Clone, Copy, Debug)]
+#[derive(Clone, Copy)]
 pub struct Draws {
     state: u64,
 }
@@ -29,7 +29,7 @@ impl Draws {
     }
 }
 
-#[derive(Debug, Drop)]
+#[derive(Drop)]
 struct ListedAnswer {
     source: Endpoint,
     request: Vec<u8>,
@@ -38,7 +38,7 @@ struct ListedAnswer {
 }
 
 /// Answers that are held, in order of keeping.
-#[derive(Debug, Drop)]
+#[derive(Drop)]
 pub struct ListedAnswers {
     hold: u32,
     pairs: Vec<ListedAnswer>,
@@ -103,7 +103,7 @@ impl ListedAnswers {
     }
 }
 
-#[derive(Debug, Drop)]
+#[derive(Drop)]
 struct ListedRequest {
     seq: Seq,
     to: Endpoint,
@@ -114,7 +114,7 @@ struct ListedRequest {
 }
 
 /// Requests that are pending, in order of beginning.
-#[derive(Debug, Drop)]
+#[derive(Drop)]
 pub struct ListedRequests {
     t3: u32,
     n3: u32,
