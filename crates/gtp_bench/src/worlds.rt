@@ -95,7 +95,8 @@ fn deliver_again(alloc: Global, world: &mut World, times: u32) -> u64 {
     world.outcomes().len() as u64
 }
 
-/// The events happen, and then the first answer comes again, so many times: how many events that were.
+/// The events happen, and then the first answer comes again, so many times: how many events that were. This
+/// world is never let go either.
 fn delivered_after(
     alloc: Global,
     config: &WorldConfig,
@@ -103,7 +104,9 @@ fn delivered_after(
     times: u32,
 ) -> Option<u64> {
     let mut world = World::run(alloc, config, events).ok()?;
-    Some(deliver_again(alloc, &mut world, times))
+    let events = deliver_again(alloc, &mut world, times);
+    forget(world);
+    Some(events)
 }
 
 /// What happens to a world.

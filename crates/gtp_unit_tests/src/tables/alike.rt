@@ -21,7 +21,7 @@ struct Both {
     bearers: Bearers,
     lists: Lists,
     seed: u64,
-    met: [u32; 16],
+    met: [u32; 17],
 }
 
 impl Both {
@@ -33,7 +33,7 @@ impl Both {
             bearers: Bearers::new(alloc),
             lists: Lists::new(alloc),
             seed,
-            met: [0; 16],
+            met: [0; 17],
         })
     }
 
@@ -47,7 +47,7 @@ impl Both {
     }
 
     fn met(&mut self, kind: usize) {
-        if kind < 16 {
+        if kind < 17 {
             self.met[kind] = self.met[kind].wrapping_add(1);
         }
     }
@@ -137,6 +137,9 @@ fn add_bearer(both: &mut Both, rt: &impl Abort) -> Result<(), Fail> {
     let remote = both.some_remote();
     let mut made = bearer(of, Some(remote), identity.number())?;
     if both.next() % 2 == 0 {
+        made.kind = Kind::Dedicated;
+    }
+    if both.next() % 2 == 0 {
         made.remote = None;
         made.state = State::Pending;
     }
@@ -211,17 +214,30 @@ fn remove_of_session(bearers: &mut Bearers, session: Teid) {
     bearers.remove_where(|bearer| bearer.session == session.0);
 }
 
-/// Removes a session with its bearers, or a bearer, or all bearers of a remote.
+/// Removes what stands under a TEID by a test of the TEIDs.
+fn remove_by_test(sessions: &mut Sessions, session: Teid) {
+    sessions.remove_keys_where(|teid| *teid == session.0);
+}
+
+/// Removes a session with its bearers, the session by its TEID or by a test, or a bearer, or all bearers of a
+/// remote.
 fn remove(both: &mut Both, rt: &impl Abort) {
-    match both.next() % 4 {
+    match both.next() % 8 {
         0 => {
+            let teid = both.some_session();
+            remove_by_test(&mut both.sessions, teid);
+            remove_of_session(&mut both.bearers, teid);
+            both.lists.remove_session(teid);
+            both.met(16);
+        }
+        1 => {
             let teid = both.some_session();
             both.sessions.remove(teid);
             remove_of_session(&mut both.bearers, teid);
             both.lists.remove_session(teid);
             both.met(9);
         }
-        1 => {
+        2 | 3 => {
             let remote = Teid(both.some_remote());
             for _ in 0..1000 {
                 let first = both.bearers.first_of_remote(remote);
@@ -264,6 +280,20 @@ fn open_session(both: &mut Both) {
     }
 }
 
+/// What is asked of the bearers of a remote.
+fn ask_of_remote(both: &mut Both, rt: &impl Abort) {
+    let remote = Teid(both.some_remote());
+    let after = both.some_bearer();
+    let next = both.bearers.next_of_remote(remote, after);
+    assert!(rt; next == both.lists.next_of_remote(remote, after));
+    let session = match both.bearers.get(after) {
+        Some(bearer) => Teid(bearer.session),
+        None => both.some_session(),
+    };
+    let has = both.bearers.has_default(remote, session);
+    assert!(rt; has == both.lists.has_default(remote, session));
+}
+
 /// What is asked of a view, and of the lists that it stands for.
 fn ask(
     rt: &impl Abort,
@@ -287,6 +317,7 @@ fn ask(
 
 /// Asks of all that stands, or of what a restart of the peer leaves.
 fn ask_of_both(both: &mut Both, rt: &impl Abort, alloc: Global) -> Result<(), Fail> {
+    ask_of_remote(both, rt);
     let session = both.some_session();
     let bearer = both.some_bearer();
     if both.next() % 10 == 0 {

@@ -45,6 +45,28 @@ impl Lists {
         None
     }
 
+    pub fn next_of_remote(&self, remote: Teid, after: Teid) -> Option<Teid> {
+        for entry in &self.bearers {
+            if entry.0.0 > after.0 && entry.1.remote == Some(remote.0) {
+                return Some(entry.0);
+            }
+        }
+        None
+    }
+
+    pub fn has_default(&self, remote: Teid, session: Teid) -> bool {
+        for entry in &self.bearers {
+            let bearer = entry.1;
+            if bearer.remote == Some(remote.0)
+                && bearer.session == session.0
+                && bearer.kind == Kind::Default
+            {
+                return true;
+            }
+        }
+        false
+    }
+
     pub fn with_identity(&self, session: Teid, identity: Ebi) -> Option<Teid> {
         for entry in &self.bearers {
             if entry.1.session == session.0 && entry.1.identity == Some(identity) {
