@@ -95,8 +95,7 @@ fn deliver_again(alloc: Global, world: &mut World, times: u32) -> u64 {
     world.outcomes().len() as u64
 }
 
-/// The events happen, and then the first answer comes again, so many times: how many events that were. This
-/// world is never let go either.
+/// The events happen, and then the first answer comes again, so many times: how many events that were.
 fn delivered_after(
     alloc: Global,
     config: &WorldConfig,
@@ -105,7 +104,7 @@ fn delivered_after(
 ) -> Option<u64> {
     let mut world = World::run(alloc, config, events).ok()?;
     let events = deliver_again(alloc, &mut world, times);
-    forget(world);
+    drop(world);
     Some(events)
 }
 

@@ -120,7 +120,9 @@ fn told(alloc: Global, form: Form, scenario: &Scenario) -> Result<(Vec<u8>, Verd
     ensures err { IfErr result (λ e. e ≡ ReplayFault.Memory) }
 {
     let ran = run_scenario(alloc, scenario)?;
-    told_of(alloc, form, scenario, &ran)
+    let told = told_of(alloc, form, scenario, &ran);
+    drop(ran);
+    told
 }
 
 /// What is written for these octets, and how the replay goes.
