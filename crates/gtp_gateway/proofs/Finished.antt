@@ -14,7 +14,7 @@ use Rattle.gtp_gateway.specs.declared.purpose.Purpose.{Purpose}
 use Rattle.gtp_gateway.specs.Parts.{pending_of, pending_in}
 use Rattle.gtp_gateway.proofs.Requests.{not_found}
 
-tied : (a b : ℕ) → eq_by_cmp nat_cmp a b ≡ true → a ≡ b
+pub tied : (a b : ℕ) → eq_by_cmp nat_cmp a b ≡ true → a ≡ b
 tied a b h = grind (arith, nat_tests)
 
 module _ (test : PendingRequest → Bool) where

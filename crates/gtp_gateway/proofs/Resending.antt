@@ -27,6 +27,7 @@ use Rattle.gtp_gateway.specs.Parts.{pending_of, pending_in}
 use Rattle.gtp_gateway.specs.Sent.{ReadsBack, SendingReads}
 use Rattle.gtp_gateway.specs.Spelled.{message_in, is_for, IsAsked, AreAsked}
 use Rattle.gtp_gateway.specs.Ticked.{datagram_again}
+use Rattle.gtp_gateway.proofs.Finished.{tied}
 use Rattle.gtp_gateway.proofs.Requests.{not_found}
 use Rattle.gtp_gateway.proofs.Taking.{kept_back}
 
@@ -56,9 +57,6 @@ of_waiting t3 n3 (w ∷ ws) m among = by (next_tick t3 n3 w) (of_waiting t3 n3 w
     by SentAgain later (inl is) = record { waiting = w; among = inl refl; is = is }
     by SentAgain later (inr there) = of_more w ws m (later there)
     by GivenUp later among = of_more w ws m (later among)
-
-tied : (a b : ℕ) → eq_by_cmp nat_cmp a b ≡ true → a ≡ b
-tied a b h = grind (arith, nat_tests)
 
 itself : (a : ℕ) → eq_by_cmp nat_cmp a a ≡ true
 itself a = grind (arith, nat_tests)

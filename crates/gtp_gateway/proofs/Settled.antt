@@ -1,8 +1,7 @@
 -- What stands once a counter was heard, by what stood before.
-use Rattle.std.proofs.Common.{◌≡◌, ℕ, Bool, true, false, cond, Some, None, Result, Ok, Err, refl, sym, ◌∙◌, ap, arith}
+use Rattle.std.proofs.Common.{◌≡◌, ℕ, Bool, true, false, cond, Some, None, Result, Ok, Err, refl, sym, ◌∙◌, ap}
 use Rattle.std.specs.Prelude.{◌||◌, not, IfOk, OnOk}
 use Rattle.gtp_values.specs.declared.fault.Memory.{Memory}
-use Rattle.std.proofs.lemmas.Bool.Decides.{nat_tests}
 use Rattle.std.specs.FinMap.{get, insert, get-insert, same_map, nat_cmp-IsAntisymmetric}
 use Rattle.std.specs.Ordering.{nat_cmp, eq_by_cmp}
 use Rattle.std.specs.Cmp.{nat_cmp_total}
@@ -31,6 +30,7 @@ use Rattle.gtp_gateway.specs.Settled.{goes_after, outcome_by, node_by, effect_by
 use Rattle.gtp_gateway.specs.Row.{IsRow}
 use Rattle.gtp_gateway.specs.Station.{Station}
 use Rattle.gtp_gateway.specs.Taken.{plain_report}
+use Rattle.gtp_gateway.proofs.Finished.{tied}
 use Rattle.gtp_gateway.proofs.Pendings.{one_request}
 use Rattle.gtp_gateway.proofs.Rows.{ends}
 
@@ -85,9 +85,6 @@ kept_insert {X} test m k x passes = same_map nat_cmp_total nat_cmp-IsAntisymmetr
     ∙ (ap (cond (eq_by_cmp nat_cmp q k) (Some x)) (sym (get_kept test m q))
     ∙ sym (get-insert nat_cmp_total (kept test m) k x q)))))
   where
-    tied : (a b : ℕ) → eq_by_cmp nat_cmp a b ≡ true → a ≡ b
-    tied a b h = grind (arith, nat_tests)
-
     at : (q : ℕ) (b : Bool) → eq_by_cmp nat_cmp q k ≡ b → passing test q (cond b (Some x) (get m q)) ≡ cond b (Some x) (passing test q (get m q))
     at q true is = let here : test q x ≡ true = ap (λ (i : ℕ). test i x) (tied q k is) ∙ passes in ap (λ (b : Bool). cond b (Some x) None) here
     at q false is = refl

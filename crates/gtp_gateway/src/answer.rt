@@ -118,7 +118,8 @@ impl Parts {
             (message_in ready.answer.items) (node_of self.old) }
         ensures held { self.new.held.pairs
             ≡ after_held source ready.request.items ready.answer.items self.old.held.pairs }
-        ensures goes { GoesOn source ready.request.items (station_of self.old) (station_of self.new) }
+        ensures goes { GoesOn source ready.request.items
+            (station_of self.old) (station_of self.new) }
         ensures role { self.new.role ≡ self.old.role }
     {
         self.held.keep(source, ready.request, ready.answer);
@@ -153,7 +154,8 @@ impl Parts {
             (changed_by change (node_of self.old))) }
         ensures held { IfOk result (λ sent. self.new.held.pairs
             ≡ after_held source request.now sent.octets.items self.old.held.pairs) }
-        ensures goes { OnOk result (GoesOn source request.now (station_of self.old) (station_of self.new)) }
+        ensures goes { OnOk result
+            (GoesOn source request.now (station_of self.old) (station_of self.new)) }
         ensures role { self.new.role ≡ self.old.role }
         ensures err { OnErr result (station_of self.new ≡ station_of self.old) }
     {

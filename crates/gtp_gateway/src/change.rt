@@ -66,7 +66,8 @@ impl Parts {
     /// Room for one more session.
     fn prepare_session(&mut self) -> Result<(), Memory>
         requires { map.len self.old.sessions.table < 1000 }
-        ensures ok { OnOk result (self.new.sessions ≡ record self.old.sessions { has_room = true }) }
+        ensures ok { OnOk result
+            (self.new.sessions ≡ record self.old.sessions { has_room = true }) }
         ensures same { station_of self.new ≡ station_of self.old }
         ensures pending { self.new.pending ≡ self.old.pending }
         ensures held { self.new.held ≡ self.old.held }

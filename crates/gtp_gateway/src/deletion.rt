@@ -112,7 +112,8 @@ impl Parts {
         requires fresh { IsFresh source octets.now (station_of self.old) self.old.held.pairs }
         ensures taken { IfOk result (λ step. TakesDeletionRequest source octets.now request.now
             (station_of self.old) step (station_of self.new)) }
-        ensures goes { OnOk result (GoesOn source octets.now (station_of self.old) (station_of self.new)) }
+        ensures goes { OnOk result
+            (GoesOn source octets.now (station_of self.old) (station_of self.new)) }
         ensures unmade { IfOk result (λ step. step.report.made ≡ false) }
         ensures memory { OnErr result ((arrival : Arrival) (d : messages.DeleteSessionRequest)
             → AlwaysSendsOrOpens (DeletionAsked arrival d) (node_of self.old)) }

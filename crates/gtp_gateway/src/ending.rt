@@ -228,7 +228,8 @@ impl Parts {
         requires can { CanChange answer.now.change (node_of self.old) }
         ensures taken { IfOk result (λ step. AnswersRemoval source octets.now seq answer.now
             (station_of self.old) step (station_of self.new)) }
-        ensures goes { OnOk result (GoesOn source octets.now (station_of self.old) (station_of self.new)) }
+        ensures goes { OnOk result
+            (GoesOn source octets.now (station_of self.old) (station_of self.new)) }
         ensures unmade { IfOk result (λ step. step.report.made ≡ false) }
         ensures err { OnErr result (station_of self.new ≡ station_of self.old) }
     {
@@ -348,7 +349,8 @@ impl Parts {
         requires short { length identities.now ≤ 11 }
         ensures taken { IfOk result (λ step. EndsNamed source octets.now request.now identities.now
             (station_of self.old) step (station_of self.new)) }
-        ensures goes { OnOk result (GoesOn source octets.now (station_of self.old) (station_of self.new)) }
+        ensures goes { OnOk result
+            (GoesOn source octets.now (station_of self.old) (station_of self.new)) }
         ensures unmade { IfOk result (λ step. step.report.made ≡ false) }
         ensures err { OnErr result (station_of self.new ≡ station_of self.old) }
     {
@@ -381,7 +383,8 @@ impl Parts {
         requires kind { view.now.message.kind ≡ 99 }
         ensures taken { IfOk result (λ step. TakesRemovalRequest source octets.now view.now.message
             request.now (station_of self.old) step (station_of self.new)) }
-        ensures goes { OnOk result (GoesOn source octets.now (station_of self.old) (station_of self.new)) }
+        ensures goes { OnOk result
+            (GoesOn source octets.now (station_of self.old) (station_of self.new)) }
         ensures unmade { IfOk result (λ step. step.report.made ≡ false) }
         ensures err { OnErr result (station_of self.new ≡ station_of self.old) }
     {
@@ -421,10 +424,12 @@ impl Parts {
         requires kind { view.now.message.kind ≡ 99 }
         ensures taken { IfOk result (λ step. TakesRemovalRequest source octets.now view.now.message
             request.now (station_of self.old) step (station_of self.new)) }
-        ensures goes { OnOk result (GoesOn source octets.now (station_of self.old) (station_of self.new)) }
+        ensures goes { OnOk result
+            (GoesOn source octets.now (station_of self.old) (station_of self.new)) }
         ensures unmade { IfOk result (λ step. step.report.made ≡ false) }
         ensures memory { OnErr result ((arrival : Arrival) (d : messages.DeleteBearerRequest)
-            → SaysRemoval request.now d → AlwaysSendsOrOpens (RemovalAsked arrival d) (node_of self.old)) }
+            → SaysRemoval request.now d
+            → AlwaysSendsOrOpens (RemovalAsked arrival d) (node_of self.old)) }
         ensures err { OnErr result (station_of self.new ≡ station_of self.old) }
     {
         if self.held.is_full() {

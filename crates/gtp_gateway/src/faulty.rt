@@ -234,7 +234,8 @@ impl Parts {
         faulty: &FaultyRequest,
     ) -> Result<ControlStep, Memory>
         requires { is_answered self.now.role faulty.now.kind ≡ true }
-        ensures taken { IfOk result (λ step. IsFaultTaken source (reading_of (flaws.Faulty faulty.now))
+        ensures taken { IfOk result (λ step.
+            IsFaultTaken source (reading_of (flaws.Faulty faulty.now))
             (station_of self.now) step) }
         ensures unmade { IfOk result (λ step. step.report.made ≡ false) }
     {
@@ -257,7 +258,8 @@ impl Parts {
         ensures taken { IfOk result (λ step.
             IsFaultTaken source (reading_of flaw.now) (station_of self.now) step) }
         ensures unmade { IfOk result (λ step. step.report.made ≡ false) }
-        ensures memory { OnErr result (FaultSendsOrOpens source (reading_of flaw.now) (station_of self.now)) }
+        ensures memory { OnErr result
+            (FaultSendsOrOpens source (reading_of flaw.now) (station_of self.now)) }
     {
         match flaw {
             Flaw::Plain(number) => Ok(undecodable(*number)),

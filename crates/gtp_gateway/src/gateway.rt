@@ -88,10 +88,7 @@ impl Gateway {
             arrivals_of requests.items ≡ (due_in self.now.timing).forgets) }
         ensures quiet { IsIdle self.now.timing → IsOk result }
     {
-        match self.parts.held.due() {
-            Ok(requests) => Ok(requests),
-            Err(_) => Err(Memory),
-        }
+        self.parts.held.due().map_err(|_| Memory)
     }
 
     /// The sessions, in order of the gateway's own TEIDs. Takes no memory.
@@ -127,7 +124,8 @@ impl Gateway {
         alloc: Global,
         spec: &SessionSpec,
     ) -> Result<Begun, CommandFault>
-        ensures done { IfOk result (λ begun. IsDone (Create_session (specification spec.now)) self.old begun self.new) }
+        ensures done { IfOk result (λ begun.
+            IsDone (Create_session (specification spec.now)) self.old begun self.new) }
         ensures next { IfOk result (λ begun. AsksNext self.old begun self.new) }
         ensures refused { IsRefusedWhere (Create_session (specification spec.now)) self.old result }
         ensures err { OnErr result (self.new ≡ self.old) }
@@ -137,7 +135,8 @@ impl Gateway {
 
     /// Deletes an active session, at the serving gateway (TS 29.274 7.2.9.1).
     pub fn delete_session(&mut self, alloc: Global, session: Teid) -> Result<Begun, CommandFault>
-        ensures done { IfOk result (λ begun. IsDone (Delete_session session.0) self.old begun self.new) }
+        ensures done { IfOk result (λ begun.
+            IsDone (Delete_session session.0) self.old begun self.new) }
         ensures next { IfOk result (λ begun. AsksNext self.old begun self.new) }
         ensures refused { IsRefusedWhere (Delete_session session.0) self.old result }
         ensures err { OnErr result (self.new ≡ self.old) }
@@ -153,7 +152,8 @@ impl Gateway {
         tft: &Tft,
         qos: &Qos,
     ) -> Result<Begun, CommandFault>
-        ensures done { IfOk result (λ begun. IsDone (Create_bearer session.0 tft.now qos.now) self.old begun self.new) }
+        ensures done { IfOk result (λ begun.
+            IsDone (Create_bearer session.0 tft.now qos.now) self.old begun self.new) }
         ensures next { IfOk result (λ begun. AsksNext self.old begun self.new) }
         ensures refused { IsRefusedWhere (Create_bearer session.0 tft.now qos.now) self.old result }
         ensures err { OnErr result (self.new ≡ self.old) }
@@ -169,7 +169,8 @@ impl Gateway {
         session: Teid,
         identity: Ebi,
     ) -> Result<Begun, CommandFault>
-        ensures done { IfOk result (λ begun. IsDone (Delete_bearer session.0 identity) self.old begun self.new) }
+        ensures done { IfOk result (λ begun.
+            IsDone (Delete_bearer session.0 identity) self.old begun self.new) }
         ensures next { IfOk result (λ begun. AsksNext self.old begun self.new) }
         ensures refused { IsRefusedWhere (Delete_bearer session.0 identity) self.old result }
         ensures err { OnErr result (self.new ≡ self.old) }
@@ -179,7 +180,8 @@ impl Gateway {
 
     /// Deletes an active session, at the packet gateway (TS 29.274 7.2.9.2).
     pub fn release_session(&mut self, alloc: Global, session: Teid) -> Result<Begun, CommandFault>
-        ensures done { IfOk result (λ begun. IsDone (Release_session session.0) self.old begun self.new) }
+        ensures done { IfOk result (λ begun.
+            IsDone (Release_session session.0) self.old begun self.new) }
         ensures next { IfOk result (λ begun. AsksNext self.old begun self.new) }
         ensures refused { IsRefusedWhere (Release_session session.0) self.old result }
         ensures err { OnErr result (self.new ≡ self.old) }
@@ -227,9 +229,11 @@ impl Gateway {
         ensures received { IfOk result (λ step.
             IsReceived plane source octets.now self.old step self.new) }
         // What ticks go by after it.
-        ensures timing { IfOk result (λ step. KeepsTiming plane source octets.now step self.old self.new) }
+        ensures timing { IfOk result (λ step.
+            KeepsTiming plane source octets.now step self.old self.new) }
         // Of the addresses and identities that are free it takes the lowest.
-        ensures choices { IfOk result (λ step. ChoosesLowest step.report.made self.old.role self.old.node self.new.node) }
+        ensures choices { IfOk result (λ step.
+            ChoosesLowest step.report.made self.old.role self.old.node self.new.node) }
         // A packet that is accepted changes nothing.
         ensures packet { IfOk result (λ step. IsSome step.accepted → self.new ≡ self.old) }
         // An allocation is made only to send something, or on the control plane to open a context.

@@ -255,11 +255,13 @@ impl Parts {
         requires fresh { IsFresh source octets.now (station_of self.old) self.old.held.pairs }
         ensures taken { IfOk result (λ step. TakesBearerRequest source octets.now request.now
             (station_of self.old) step (station_of self.new)) }
-        ensures goes { OnOk result (GoesOn source octets.now (station_of self.old) (station_of self.new)) }
+        ensures goes { OnOk result
+            (GoesOn source octets.now (station_of self.old) (station_of self.new)) }
         ensures choices { IfOk result (λ step.
             step.report.made ≡ true → MakesLowestBearer (node_of self.old) (node_of self.new)) }
         ensures memory { OnErr result ((arrival : Arrival) (q : messages.CreateBearerRequest)
-            → SaysBearer request.now q → AlwaysSendsOrOpens (BearerAsked arrival q) (node_of self.old)) }
+            → SaysBearer request.now q
+            → AlwaysSendsOrOpens (BearerAsked arrival q) (node_of self.old)) }
         ensures err { OnErr result (station_of self.new ≡ station_of self.old) }
     {
         if self.held.is_full() {

@@ -128,7 +128,8 @@ pub fn refusal(
 /// A Create Session Response that refuses.
 fn session_refusal(alloc: Global, header: Teid, seq: Seq, cause: Cause, counter: Counter) -> Message
     requires { is_accepting_value cause.value ≡ false }
-    ensures says { control_message result ≡ refusing Of_create_session header.0 seq cause counter.0 }
+    ensures says { control_message result
+        ≡ refusing Of_create_session header.0 seq cause counter.0 }
     ensures own { IsOwn result }
 {
     Message {
@@ -149,7 +150,8 @@ fn session_refusal(alloc: Global, header: Teid, seq: Seq, cause: Cause, counter:
 /// A Delete Session Response that refuses.
 fn deletion_refusal(header: Teid, seq: Seq, cause: Cause, counter: Counter) -> Message
     requires { is_accepting_value cause.value ≡ false }
-    ensures says { control_message result ≡ refusing Of_delete_session header.0 seq cause counter.0 }
+    ensures says { control_message result
+        ≡ refusing Of_delete_session header.0 seq cause counter.0 }
     ensures own { IsOwn result }
 {
     Message {

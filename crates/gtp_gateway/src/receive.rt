@@ -46,7 +46,8 @@ impl Parts {
         ensures entered { IfOk result (λ entrance. IsEntered source octets.now (station_of self.now)
             self.now.held.pairs entrance) }
         // An allocation is for the answer that is sent again.
-        ensures memory { OnErr result (ControlSendsOrOpens source octets.now (station_of self.now)) }
+        ensures memory { OnErr result
+            (ControlSendsOrOpens source octets.now (station_of self.now)) }
         ensures unmade { IfOk result MadeNothing }
     {
         if !self.is_from_peer(source) {
@@ -75,10 +76,12 @@ impl Parts {
         requires whole { IsWhole (station_of self.old) }
         ensures taken { IfOk result (λ step.
             IsTaken source octets.now (station_of self.old) step (station_of self.new)) }
-        ensures goes { OnOk result (GoesOn source octets.now (station_of self.old) (station_of self.new)) }
+        ensures goes { OnOk result
+            (GoesOn source octets.now (station_of self.old) (station_of self.new)) }
         ensures choices { IfOk result (λ step. ChoosesLowest step.report.made self.old.role
             (node_of self.old) (node_of self.new)) }
-        ensures memory { OnErr result (ControlSendsOrOpens source octets.now (station_of self.old)) }
+        ensures memory { OnErr result
+            (ControlSendsOrOpens source octets.now (station_of self.old)) }
         ensures err { OnErr result (station_of self.new ≡ station_of self.old) }
     {
         match self.enter(alloc, source, octets)? {
@@ -106,12 +109,14 @@ impl Parts {
         requires whole { IsWhole (station_of self.old) }
         ensures received { IfOk result (λ step.
             IsReceived plane source octets.now (station_of self.old) step (station_of self.new)) }
-        ensures timing { IfOk result (λ step. KeepsTiming plane source octets.now step (station_of self.old) (station_of self.new)) }
+        ensures timing { IfOk result (λ step.
+            KeepsTiming plane source octets.now step (station_of self.old) (station_of self.new)) }
         ensures choices { IfOk result (λ step. ChoosesLowest step.report.made self.old.role
             (node_of self.old) (node_of self.new)) }
         ensures packet { IfOk result (λ step.
             IsSome step.accepted → station_of self.new ≡ station_of self.old) }
-        ensures memory { IfErr result (λ _. NeedsMemory plane source octets.now (station_of self.old)) }
+        ensures memory { IfErr result (λ _.
+            NeedsMemory plane source octets.now (station_of self.old)) }
         ensures err { OnErr result (station_of self.new ≡ station_of self.old) }
     {
         // Each arm returns by itself, so that its step is written once and not moved again.

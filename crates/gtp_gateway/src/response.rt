@@ -138,7 +138,8 @@ impl Parts {
     /// memory.
     #[tactic(auto, using(crate::proofs::UserRows::all_wait, crate::proofs::Giving::wait_on))]
     pub fn take_deletion_response(&mut self, response: &Response) -> ControlStep
-        ensures taken { TakesDeletion response.now (station_of self.old) result (station_of self.new) }
+        ensures taken { TakesDeletion response.now
+            (station_of self.old) result (station_of self.new) }
         ensures waits { WaitOn (station_of self.old) (station_of self.new) }
         ensures unmade { result.report.made ≡ false }
     {
@@ -156,7 +157,8 @@ impl Parts {
     /// goes. Takes no memory.
     #[tactic(auto, using(crate::proofs::UserRows::all_wait, crate::proofs::Giving::wait_on))]
     pub fn take_removal_response(&mut self, response: &Response) -> ControlStep
-        ensures taken { TakesRemoval response.now (station_of self.old) result (station_of self.new) }
+        ensures taken { TakesRemoval response.now
+            (station_of self.old) result (station_of self.new) }
         ensures waits { WaitOn (station_of self.old) (station_of self.new) }
         ensures unmade { result.report.made ≡ false }
     {

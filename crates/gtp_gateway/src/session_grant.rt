@@ -223,7 +223,8 @@ impl Parts {
         requires fresh { IsFresh source octets.now (station_of self.old) self.old.held.pairs }
         ensures refused { IfOk result (λ step. IsRefusedSession source octets.now request.now cause
             heard (station_of self.old) step (station_of self.new)) }
-        ensures goes { OnOk result (GoesOn source octets.now (station_of self.old) (station_of self.new)) }
+        ensures goes { OnOk result
+            (GoesOn source octets.now (station_of self.old) (station_of self.new)) }
         ensures err { OnErr result (station_of self.new ≡ station_of self.old) }
     {
         let number = cause.value;
@@ -258,9 +259,11 @@ impl Parts {
         requires can { CanGrant grant.now (node_of self.old) }
         requires few { length self.old.held.pairs < 4096 }
         requires fresh { IsFresh source octets.now (station_of self.old) self.old.held.pairs }
-        ensures granted { IfOk result (λ step. IsGrantedSession source octets.now request.now grant.now
+        ensures granted { IfOk result (λ step.
+            IsGrantedSession source octets.now request.now grant.now
             heard (station_of self.old) step (station_of self.new)) }
-        ensures goes { OnOk result (GoesOn source octets.now (station_of self.old) (station_of self.new)) }
+        ensures goes { OnOk result
+            (GoesOn source octets.now (station_of self.old) (station_of self.new)) }
         ensures err { OnErr result (station_of self.new ≡ station_of self.old) }
     {
         let message = self.granting(alloc, request, grant)?;
@@ -285,7 +288,8 @@ impl Parts {
         requires fresh { IsFresh source octets.now (station_of self.old) self.old.held.pairs }
         ensures taken { IfOk result (λ step. TakesSessionRequest source octets.now request.now heard
             (station_of self.old) step (station_of self.new)) }
-        ensures goes { OnOk result (GoesOn source octets.now (station_of self.old) (station_of self.new)) }
+        ensures goes { OnOk result
+            (GoesOn source octets.now (station_of self.old) (station_of self.new)) }
         ensures choices { IfOk result (λ step.
             step.report.made ≡ true → MakesLowestSession (node_of self.old) (node_of self.new)) }
         ensures memory { OnErr result ((arrival : Arrival) (q : messages.CreateSessionRequest)

@@ -188,7 +188,8 @@ impl Parts {
             (station_of self.old) step (station_of self.new)) }
         ensures waits { OnOk result (WaitOn (station_of self.old) (station_of self.new)) }
         ensures unmade { IfOk result (λ step. step.report.made ≡ false) }
-        ensures memory { OnErr result ((a : messages.CreateSessionResponse) → SaysSession answer.now a
+        ensures memory { OnErr result ((a : messages.CreateSessionResponse)
+            → SaysSession answer.now a
             → AlwaysSendsOrOpens (SessionAnswered a) (node_heard heard (node_of self.old))) }
         ensures err { OnErr result (station_of self.new ≡ station_of self.old) }
     {

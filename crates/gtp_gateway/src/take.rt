@@ -52,7 +52,8 @@ impl Parts {
         ensures taken { IfOk result (λ step.
             IsHeardRow (arrival_of source octets.now) (message_of view.now.message) heard
             (station_of self.old) step (station_of self.new)) }
-        ensures goes { OnOk result (GoesOn source octets.now (station_of self.old) (station_of self.new)) }
+        ensures goes { OnOk result
+            (GoesOn source octets.now (station_of self.old) (station_of self.new)) }
         ensures choices { IfOk result (λ step. ChoosesLowest step.report.made self.old.role
             (node_of self.old) (node_of self.new)) }
         ensures memory { OnErr result (AlwaysSendsOrOpens
@@ -121,10 +122,12 @@ impl Parts {
         requires has { has self.old.role procedure ≡ true }
         ensures taken { IfOk result (λ step.
             IsTaken source octets.now (station_of self.old) step (station_of self.new)) }
-        ensures goes { OnOk result (GoesOn source octets.now (station_of self.old) (station_of self.new)) }
+        ensures goes { OnOk result
+            (GoesOn source octets.now (station_of self.old) (station_of self.new)) }
         ensures choices { IfOk result (λ step. ChoosesLowest step.report.made self.old.role
             (node_of self.old) (node_of self.new)) }
-        ensures memory { OnErr result (ControlSendsOrOpens source octets.now (station_of self.old)) }
+        ensures memory { OnErr result
+            (ControlSendsOrOpens source octets.now (station_of self.old)) }
         ensures err { OnErr result (station_of self.new ≡ station_of self.old) }
     {
         let heard = self.weigh(counter_in(view, procedure));

@@ -21,7 +21,7 @@ unfolding encoding_of Says
 ebi_again n small = record { long_enough = omega arith; says = ap OfEbi (omega arith) }
 
 -- a number is read from its octets
-number_again : (n : ℕ) (rest : List ℕ) → n < 2 ^ 32 → big_number 4 (big_bytes 4 n ++ rest) ≡ n
+pub number_again : (n : ℕ) (rest : List ℕ) → n < 2 ^ 32 → big_number 4 (big_bytes 4 n ++ rest) ≡ n
 number_again n rest small = big_from-bytes 4 n rest ∙ omega arith
 
 pub charging_id_again : (n : ℕ) → n < 2 ^ 32 → Spells 94 (encoding_of (OfChargingId n)) (OfChargingId n)

@@ -4,8 +4,6 @@ use Rattle.std.specs.Prelude.{◌==◌}
 use Rattle.std.proofs.lemmas.Bool.Decides.{nat_tests}
 use Rattle.std.proofs.lemmas.List.{take_at, drop_at, append-nil}
 use Rattle.std.proofs.lemmas.List.Elements.{All-head, All-tail}
-use Rattle.byteorder.specs.Endian.{big_bytes, big_number}
-use Rattle.byteorder.specs.Numbers.{big_from-bytes}
 use Rattle.gtp_values.specs.TunnelEnd.{TunnelEnd, IsTunnelEnd}
 use Rattle.gtp_values.specs.Plmn.{Network, IsNetwork}
 use Rattle.gtp_values.specs.Paa.{IsOtherPdnType}
@@ -13,6 +11,7 @@ use Rattle.gtp_values.specs.declared.paa.Paa.TheVariants as paas
 use Rattle.gtp_ie.specs.Value.{OfPaa, OfPlmn, OfFTeid, encoding_of, network_in}
 use Rattle.gtp_ie.specs.Digits.{network_encoding}
 use Rattle.gtp_ie.specs.Spelling.{Spells, Says}
+use Rattle.gtp_ie.proofs.Again.{number_again}
 
 -- the first octets of a list that has no others
 take_whole : (n : ℕ) (xs : List ℕ) → length xs ≡ n → take n xs ≡ xs
@@ -48,9 +47,6 @@ other_again pdn is =
 
 abbrev end_with : ℕ → ℕ → Option (List ℕ) → Option (List ℕ) → TunnelEnd
 end_with interface teid v4 v6 = record { interface = interface; teid = teid; v4 = v4; v6 = v6 }
-
-number_again : (n : ℕ) (rest : List ℕ) → n < 2 ^ 32 → big_number 4 (big_bytes 4 n ++ rest) ≡ n
-number_again n rest small = big_from-bytes 4 n rest ∙ omega arith
 
 end_parts : (interface teid : ℕ) (v4 v6 : Option (List ℕ)) → IsTunnelEnd (end_with interface teid v4 v6) → Spells 87 (encoding_of (OfFTeid (end_with interface teid v4 v6))) (OfFTeid (end_with interface teid v4 v6))
 unfolding encoding_of Says

@@ -162,6 +162,6 @@ ReadsAs User octets m = UserReads octets (User_message m)
 abbrev pub SpelledReads : Type 0
 SpelledReads = (m : Message) → IsSendable m → ReadsAs (plane_of m) (spelled m) m
 
--- Messages that a gateway can send, with one text, are one.
+-- Messages that a gateway can send, with one encoding, are one.
 abbrev pub SpelledApart : Type 0
 SpelledApart = (m n : Message) → IsSendable m → IsSendable n → spelled m ≡ spelled n → m ≡ n

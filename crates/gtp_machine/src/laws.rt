@@ -201,7 +201,7 @@ pub fn readings()
     // What a gateway sends for a message reads as that message.
     ensures spelled { SpelledReads }
 
-    // Messages that a gateway can send, with one text, are one.
+    // Messages that a gateway can send, with one encoding, are one.
     ensures apart { SpelledApart }
 
     // A Create Session Request that is decoded has a bearer context, and reads as one.

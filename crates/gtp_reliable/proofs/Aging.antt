@@ -94,7 +94,7 @@ young now hold p h = by (nat_lt (age now p + 1) hold) refl h
     by true e g = grind (arith, nat_tests)
     by false e g = absurd cc
 
--- behind one that stays, nothing is forgotten
+-- after one that stays, nothing is forgotten
 pub rest_stays : (now hold : ℕ) (ps : List Pair) (i : ℕ) (p : Pair) → AreAging now hold ps → i < length ps → p ≡ get_or ps i p → is_some (after_tick hold (seen now p)) ≡ true → filter_map (forgotten hold) (map (seen now) (take i ps)) ≡ filter_map (forgotten hold) (map (seen now) ps)
 rest_stays now hold [] i p a lt is stay = absurd (omega arith)
 rest_stays now hold (q ∷ qs) zero p a lt is stay =

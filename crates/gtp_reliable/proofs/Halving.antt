@@ -52,7 +52,7 @@ module _ (first : ℕ) (index : List ℕ) (qs : List Question) (order : AreAscen
       by (inr h) = question_total.trans (name k) (name m) q (order k m h within) less
       by (inl e) = subst (λ (i : ℕ). question_cmp (name i) q ≡ Less) (sym e) less
 
-  -- what is behind a higher one is higher
+  -- what is after a higher one is higher
   pub above_higher : question_cmp (name m) q ≡ Greater → (k : ℕ) → m ≤ k → k < length index → question_cmp (name k) q ≡ Greater
   above_higher more k le lt = by (eq-or-lt_of_le le)
     where

@@ -155,16 +155,16 @@ module _ (first : ℕ) (index : List ℕ) (p : Question) (qs : List Question) (i
       let same : c.at ≡ i = alike c.at i c.within within (ap (λ (k : ℕ). get_or (p ∷ qs) k nobody) c.is ∙ sym found) in
       ap (λ (j : ℕ). after first (get_or index j 0)) (sym same) ∙ c.is
 
-  -- the others are behind the front
-  behind : (j : ℕ) → j < length index → (j ≡ i → ⊥) → 0 < after first (get_or index j 0)
-  behind j lt other = by (after first (get_or index j 0)) refl
+  -- the others are after the front
+  later : (j : ℕ) → j < length index → (j ≡ i → ⊥) → 0 < after first (get_or index j 0)
+  later j lt other = by (after first (get_or index j 0)) refl
     where
       by : (k : ℕ) → after first (get_or index j 0) ≡ k → 0 < k
       by zero e = absurd (other (alike j i lt within (ap (λ (k : ℕ). get_or (p ∷ qs) k nobody) (e ∙ sym front))))
       by (suc k) e = omega arith
 
   shifted : (j : ℕ) → j < length index → (j ≡ i → ⊥) → after next (get_or index j 0) + 1 ≡ after first (get_or index j 0)
-  shifted j lt other = after_next first (get_or index j 0) low (behind j lt other)
+  shifted j lt other = after_next first (get_or index j 0) low (later j lt other)
 
   key_shifted : (m : ℕ) (k : ℕ) → k + 1 ≡ after first m → get_or qs k nobody ≡ get_or (p ∷ qs) (after first m) nobody
   key_shifted m k e = by (after first m) e

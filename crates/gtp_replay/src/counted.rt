@@ -46,8 +46,11 @@ impl<R: Read> Counted<R> {
     pub(crate) fn read(&mut self, buf: &mut [u8]) -> Result<usize, Failed>
         requires { failures_of self.old < 2 ^ 64 - 1 }
         ensures bound { ReadsAtMost result buf.new }
-        ensures bytes { ReadConsumes (R.remaining (inner_of self.old)) (R.remaining (inner_of self.new)) result buf.new }
-        ensures count { MatchResult result (λ _. failures_of self.new ≡ failures_of self.old) (λ _. failures_of self.new ≡ failures_of self.old + 1) }
+        ensures bytes { ReadConsumes
+            (R.remaining (inner_of self.old)) (R.remaining (inner_of self.new)) result buf.new }
+        ensures count { MatchResult result
+            (λ _. failures_of self.new ≡ failures_of self.old)
+            (λ _. failures_of self.new ≡ failures_of self.old + 1) }
     {
         match self.inner.read(buf) {
             Ok(n) => Ok(n),
@@ -65,9 +68,13 @@ impl<W: Write> Counted<W> {
         requires { failures_of self.old < 2 ^ 64 - 1 }
         ensures bound { IfOk result (λ n. (0 < n)) }
         ensures within { IfOk result (λ n. n ≤ length buf.now) }
-        ensures ok { IfOk result (λ n. Appends (W.contents (inner_of self.old)) (W.contents (inner_of self.new)) (take n buf.now)) }
-        ensures err { OnErr result (Keeps (W.contents (inner_of self.old)) (W.contents (inner_of self.new))) }
-        ensures count { MatchResult result (λ _. failures_of self.new ≡ failures_of self.old) (λ _. failures_of self.new ≡ failures_of self.old + 1) }
+        ensures ok { IfOk result (λ n. Appends
+            (W.contents (inner_of self.old)) (W.contents (inner_of self.new)) (take n buf.now)) }
+        ensures err { OnErr result
+            (Keeps (W.contents (inner_of self.old)) (W.contents (inner_of self.new))) }
+        ensures count { MatchResult result
+            (λ _. failures_of self.new ≡ failures_of self.old)
+            (λ _. failures_of self.new ≡ failures_of self.old + 1) }
     {
         match self.inner.write(buf) {
             Ok(n) if n > 0 => Ok(n),

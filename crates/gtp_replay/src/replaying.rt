@@ -148,7 +148,8 @@ fn replay_as<R: Read, W: Write>(
     requires reads { failures_of reader.old < 2 ^ 64 - 1 }
     requires writes { failures_of writer.old < 2 ^ 64 - 1 }
     ensures written { IfOk result (λ verdict. IfSome (R.remaining (inner_of reader.old)) (λ octets.
-        ToldAs form octets verdict (W.contents (inner_of writer.old)) (W.contents (inner_of writer.new)))) }
+        ToldAs form octets verdict
+        (W.contents (inner_of writer.old)) (W.contents (inner_of writer.new)))) }
     ensures consumed { ConsumesUpTo 16777217
         (R.remaining (inner_of reader.old)) (R.remaining (inner_of reader.new)) }
     ensures read { result ≡ Err ReplayFault.Read
@@ -184,7 +185,8 @@ pub fn replay<R: Read, W: Write>(
     requires writes { failures_of writer.old < 2 ^ 64 - 1 }
     // What is written is what is told for the octets that are read, and so is the verdict.
     ensures written { IfOk result (λ verdict. IfSome (R.remaining (inner_of reader.old)) (λ octets.
-        Told octets verdict (W.contents (inner_of writer.old)) (W.contents (inner_of writer.new)))) }
+        Told octets verdict
+        (W.contents (inner_of writer.old)) (W.contents (inner_of writer.new)))) }
     ensures consumed { ConsumesUpTo 16777217
         (R.remaining (inner_of reader.old)) (R.remaining (inner_of reader.new)) }
     // The first call of a side that fails ends it with the fault of that side, which no other end has.
@@ -219,7 +221,8 @@ pub fn replay_diagram<R: Read, W: Write>(
     // What is written is some text, or the line of a refusal, and the verdict is that on the octets
     // that are read.
     ensures drawn { IfOk result (λ verdict. IfSome (R.remaining (inner_of reader.old)) (λ octets.
-        Drawn octets verdict (W.contents (inner_of writer.old)) (W.contents (inner_of writer.new)))) }
+        Drawn octets verdict
+        (W.contents (inner_of writer.old)) (W.contents (inner_of writer.new)))) }
     ensures consumed { ConsumesUpTo 16777217
         (R.remaining (inner_of reader.old)) (R.remaining (inner_of reader.new)) }
     // The first call of a side that fails ends it with the fault of that side, which no other end has.

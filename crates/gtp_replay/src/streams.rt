@@ -20,10 +20,14 @@ pub(crate) fn read_octets<R: Read>(
     most: usize,
 ) -> Result<Vec<u8>, ReplayFault>
     requires { failures_of reader.old < 2 ^ 64 - 1 }
-    ensures octets { IfOk result (λ v. IfSome (R.remaining (inner_of reader.old)) (λ all. v.items ≡ take most all)) }
-    ensures consumed { ConsumesUpTo most (R.remaining (inner_of reader.old)) (R.remaining (inner_of reader.new)) }
-    ensures failed { result ≡ Err ReplayFault.Read → failures_of reader.new ≡ failures_of reader.old + 1 }
-    ensures unfailed { result ≢ Err ReplayFault.Read → failures_of reader.new ≡ failures_of reader.old }
+    ensures octets { IfOk result (λ v.
+        IfSome (R.remaining (inner_of reader.old)) (λ all. v.items ≡ take most all)) }
+    ensures consumed { ConsumesUpTo most
+        (R.remaining (inner_of reader.old)) (R.remaining (inner_of reader.new)) }
+    ensures failed { result ≡ Err ReplayFault.Read
+        → failures_of reader.new ≡ failures_of reader.old + 1 }
+    ensures unfailed { result ≢ Err ReplayFault.Read
+        → failures_of reader.new ≡ failures_of reader.old }
     ensures kind { IfErr result (λ e. e ≢ ReplayFault.Write) }
 {
     let mut octets = Vec::new(alloc);
@@ -46,8 +50,10 @@ pub(crate) fn write_octets<W: Write>(
     text: &[u8],
 ) -> Result<(), ReplayFault>
     requires { failures_of writer.old < 2 ^ 64 - 1 }
-    ensures ok { OnOk result (Appends (W.contents (inner_of writer.old)) (W.contents (inner_of writer.new)) text.now) }
-    ensures front { WritesFront (W.contents (inner_of writer.old)) (W.contents (inner_of writer.new)) text.now }
+    ensures ok { OnOk result
+        (Appends (W.contents (inner_of writer.old)) (W.contents (inner_of writer.new)) text.now) }
+    ensures front { WritesFront
+        (W.contents (inner_of writer.old)) (W.contents (inner_of writer.new)) text.now }
     ensures failed { OnErr result (failures_of writer.new ≡ failures_of writer.old + 1) }
     ensures unfailed { OnOk result (failures_of writer.new ≡ failures_of writer.old) }
     ensures kind { IfErr result (λ e. e ≡ ReplayFault.Write) }

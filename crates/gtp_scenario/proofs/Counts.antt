@@ -28,7 +28,7 @@ fits : (room : ℕ) (d : Data) (refusal : Refusal) (entry : Entry) → ok_or (en
 unfolding entry_within
 fits room d refusal entry h = fits_in room (entry_of d) refusal entry h
 
--- so many events, and those of others that fit behind them
+-- so many events, and those of others that fit after them
 counted : (first : Entry) (others : List Entry) (room : ℕ) → first.times ≤ room → length (flat_map events_in others) ≤ room - first.times → length (flat_map events_in (first ∷ others)) ≤ room
 counted first others room small rest =
     let both = length-append (replicate first.times first.event) (flat_map events_in others) in

@@ -25,7 +25,7 @@ pub json_is_none : (octets : List ℕ) → (IsUtf8 octets → read octets ≡ No
 unfolding json_of
 json_is_none octets h = chosen _ _ (λ both. h (IsUtf8-from_is_utf8 octets (second _ _ both)))
 
--- octets past the limit are no JSON, whatever comes behind
+-- octets past the limit are no JSON, whatever comes after
 json_past : (octets : List ℕ) → most_octets < length octets → json_of octets ≡ None
 unfolding json_of
 json_past octets long = ap (λ b. cond (b && is_utf8 octets) (read octets) None) (lt-leb _ _ long)

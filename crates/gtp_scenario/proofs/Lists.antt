@@ -8,6 +8,6 @@ with_front front (Ok rest) = Ok (front ++ rest)
 with_front front (Err refusal) = Err refusal
 
 -- the same where no refusal is told
-abbrev pub behind : {A : Type 0} → List A → Option (List A) → Option (List A)
-behind front (Some rest) = Some (front ++ rest)
-behind front None = None
+abbrev pub some_with_front : {A : Type 0} → List A → Option (List A) → Option (List A)
+some_with_front front (Some rest) = Some (front ++ rest)
+some_with_front front None = None

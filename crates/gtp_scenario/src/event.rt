@@ -78,10 +78,7 @@ fn tft_at(alloc: Global, value: &Value) -> Result<Tft, Fault>
 {
     let text = text_at(value, "tft").ok_or(Fault::Wrong)?;
     let octets = octets_of(alloc, text)?;
-    match Tft::try_new(octets.as_slice()) {
-        Ok(tft) => Ok(tft),
-        Err(_) => Err(Fault::Wrong),
-    }
+    Tft::try_new(octets.as_slice()).map_err(|_| Fault::Wrong)
 }
 
 #[tactic(auto, unfolding(crate::specs::Events::payload_at))]

@@ -55,10 +55,7 @@ fn entry_at(alloc: Global, place: usize, room: u32, value: &Value) -> Result<Ent
         (ok_or (entry_within room (view value.now)) (refusals.Event place)) }
     ensures fits { IfOk result (λ e. e.times ≤ room) }
 {
-    match entry_within(alloc, room, value) {
-        Ok(entry) => Ok(entry),
-        Err(fault) => Err(fault.refused(Refusal::Event(place))),
-    }
+    entry_within(alloc, room, value).map_err(|fault| fault.refused(Refusal::Event(place)))
 }
 
 fn entries_of(alloc: Global, values: &[Value]) -> Result<Vec<Entry>, ReadFault>
@@ -82,14 +79,8 @@ fn entries_of(alloc: Global, values: &[Value]) -> Result<Vec<Entry>, ReadFault>
 pub fn read_scenario(alloc: Global, octets: &[u8]) -> Result<Scenario, ReadFault>
     ensures read { Reads scenario_view result (scenario_of octets.now) }
 {
-    let value = match json_of(alloc, octets) {
-        Ok(value) => value,
-        Err(fault) => return Err(fault.refused(Refusal::Json)),
-    };
-    let config = match setup_of(alloc, &value) {
-        Ok(config) => config,
-        Err(fault) => return Err(fault.refused(Refusal::Head)),
-    };
+    let value = json_of(alloc, octets).map_err(|fault| fault.refused(Refusal::Json))?;
+    let config = setup_of(alloc, &value).map_err(|fault| fault.refused(Refusal::Head))?;
     let events = events_at(&value).ok_or(ReadFault::Refused(Refusal::Head))?;
     let entries = entries_of(alloc, events)?;
     Ok(Scenario { config, entries })

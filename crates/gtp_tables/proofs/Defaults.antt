@@ -10,6 +10,7 @@ use Rattle.gtp_tables.specs.declared.context.Kind.TheVariants.{Default, Dedicate
 use Rattle.gtp_values.specs.FiniteMap.{FiniteMap}
 use Rattle.gtp_tables.specs.Index.{HasRemote, HasDefault, IsUnnamed, is_default, default_of}
 use Rattle.gtp_tables.proofs.Named.{same}
+use Rattle.gtp_tables.proofs.Identities.{both, itself}
 
 -- the bearer that is looked at next is not past this TEID
 abbrev pub IsAhead : Option Teid → ℕ → Type 0
@@ -25,19 +26,11 @@ kind_of_is : (k : Kind) → is_default k ≡ true → k ≡ Default
 kind_of_is Default h = refl
 kind_of_is Dedicated h = absurd cc
 
-both : (a b : Bool) → (a && b) ≡ true → (a ≡ true) × (b ≡ true)
-both true true h = (refl, refl)
-both true false h = absurd cc
-both false b h = absurd cc
-
 -- a default bearer that was found
 pub has_default : (m : FiniteMap Bearer) (remote session teid : ℕ) → HasRemote m remote teid → default_of session (get m teid) ≡ true → HasDefault m remote session
 has_default m remote session teid at is =
     let parts = both (is_default at.bearer.kind) (nat_eq at.bearer.session session) (ap (default_of session) (sym at.stands) ∙ is) in
     record { teid = teid; at = at; default = kind_of_is at.bearer.kind parts.0; of = same at.bearer.session session parts.1 }
-
-itself : (n : ℕ) → nat_eq n n ≡ true
-itself n = grind (arith, nat_tests)
 
 is_found : (m : FiniteMap Bearer) (remote session : ℕ) (d : HasDefault m remote session) → default_of session (get m d.teid) ≡ true
 is_found m remote session d =

@@ -18,7 +18,7 @@ number : (identity : ℕ) (o : Option ℕ) → number_is identity o ≡ true →
 number identity None h = absurd cc
 number identity (Some i) h = ap Some (same i identity h)
 
-itself : (n : ℕ) → nat_eq n n ≡ true
+pub itself : (n : ℕ) → nat_eq n n ≡ true
 itself n = grind (arith, nat_tests)
 
 joined : (x y : Bool) → x ≡ true → y ≡ true → (x && y) ≡ true

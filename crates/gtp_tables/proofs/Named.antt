@@ -12,6 +12,7 @@ use Rattle.gtp_tables.specs.declared.context.State.TheVariants.{Closing}
 use Rattle.gtp_values.specs.FiniteMap.{FiniteMap, kept, changed, with_value}
 use Rattle.gtp_tables.specs.Identity.{closing_bearer}
 use Rattle.gtp_tables.proofs.Kept.{passing, get_kept}
+use Rattle.gtp_tables.proofs.Rows.{turned}
 use Rattle.gtp_tables.specs.Index.{pair_cmp, remote_is, remote_at, names, HasRemote, IsUnnamed}
 
 then_tied : (a b c d : ℕ) → is_eq (ordering_then (nat_cmp a b) (nat_cmp c d)) ≡ (nat_eq a b && nat_eq c d)
@@ -19,9 +20,6 @@ then_tied a b c d = grind (arith, nat_tests)
 
 pub pair_tied : (p q : ℕ × ℕ) → is_eq (pair_cmp p q) ≡ (nat_eq p.0 q.0 && nat_eq p.1 q.1)
 pair_tied p q = then_tied p.0 q.0 p.1 q.1
-
-turned : (a b : ℕ) → is_eq (nat_cmp a b) ≡ nat_eq b a
-turned a b = grind (arith, nat_tests)
 
 pub same : (a b : ℕ) → nat_eq a b ≡ true → a ≡ b
 same a b h = grind (arith, nat_tests)

@@ -14,7 +14,7 @@ use Rattle.gtp_values.specs.FiniteMap.{FiniteMap, with_value, changed}
 pub tied : (a b : ℕ) → is_eq (nat_cmp a b) ≡ nat_eq a b
 tied a b = grind (arith, nat_tests)
 
-turned : (a b : ℕ) → is_eq (nat_cmp a b) ≡ nat_eq b a
+pub turned : (a b : ℕ) → is_eq (nat_cmp a b) ≡ nat_eq b a
 turned a b = grind (arith, nat_tests)
 
 pub find_row : {X : Type 0} (rows : List (ℕ × X)) (q : ℕ) → find nat_cmp q rows ≡ lookup (nat_eq q) rows

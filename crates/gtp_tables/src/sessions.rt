@@ -27,7 +27,8 @@ impl Table<Session> {
         ensures full { IsErrOf result TablesFault.SessionsFull ↔ (1000 ≤ map.len self.old.table) }
         ensures ok { OnOk result (self.new ≡ record self.old { has_room = true }) }
         ensures err { OnErr result (self.new ≡ self.old) }
-        ensures fault { IfErr result (λ f. (f ≡ TablesFault.SessionsFull) ⊎ (f ≡ TablesFault.Memory)) }
+        ensures fault { IfErr result (λ f.
+            (f ≡ TablesFault.SessionsFull) ⊎ (f ≡ TablesFault.Memory)) }
         ensures ready { self.old.has_room ≡ true → map.len self.old.table < 1000 → IsOk result }
     {
         if self.is_full() {

@@ -44,6 +44,8 @@ fn written_again(alloc: Global, octets: &[u8]) -> Result<Vec<u8>, Fail> {
     }
 }
 
+/// Messages whose octets come from outside. The first is examples/datagrams/control/echo-request; those of
+/// types 36 and 37 are delete-session-request and delete-session-response there.
 const VECTORS: &[&str] = &[
     "40010009000001000300010007",
     "400200090000020003000100ff",
@@ -206,6 +208,7 @@ fn ends_of_sessions_made_by_hand(rt: HostRuntime) -> Result<(), Fail> {
     is_spelled_with_priority(&rt, alloc, response, digits)
 }
 
+/// The request is examples/datagrams/control/echo-request.
 #[test]
 fn echoes_made_by_hand(rt: HostRuntime) -> Result<(), Fail> {
     let alloc = rt.alloc();

@@ -339,7 +339,7 @@ fn octets_that_are_not_walked(rt: HostRuntime) -> Result<(), Fail> {
     Ok(())
 }
 
-/// What stands behind the numbers of a G-PDU: so many headers of so many units of four octets, and a payload
+/// What stands after the numbers of a G-PDU: so many headers of so many units of four octets, and a payload
 /// of so many octets.
 fn tail(alloc: Global, headers: u8, units: u8, payload: u16) -> Result<Vec<u8>, Fail> {
     let mut tail = Vec::new(alloc);

@@ -6,6 +6,7 @@ use Rattle.gtp_values.specs.Steps.{◌>>=◌}
 use Rattle.gtp_ie.specs.Element.{Element, all_of}
 use Rattle.gtp_ie.specs.Value.{Value}
 use Rattle.gtp_values.proofs.Decided.{bind_at, bind_at_err, bind_ok}
+use Rattle.gtp_values.proofs.Outcomes.{ok_same}
 use Rattle.gtp_v2.specs.declared.fault.RowFault.{RowFault}
 use Rattle.gtp_v2.specs.declared.fault.Need.{Need}
 use Rattle.gtp_v2.specs.declared.fault.Need.TheVariants as needs
@@ -116,12 +117,6 @@ map_err : {X Y E : Type 0} (r : Result X E) (g : X → Y) (f : E) → (r >>= λ 
 map_err (Ok x) g f h = absurd cc
 map_err (Err e) g f h = cc
 
-abbrev done : {Y : Type 0} (E : Type 0) → Y → Result Y E
-done E y = Ok y
-
-same_ok : {Y : Type 0} (E : Type 0) (y z : Y) → done E y ≡ Ok z → y ≡ z
-same_ok E y z h = cc
-
 -- ---- elements one after the other
 
 -- what was read says what is seen, and with what is left it is all
@@ -194,7 +189,7 @@ pub value_on : (kind instance : ℕ) (said more : State) (now : Bool) (e : Eleme
 unfolding one_accepts
 value_on kind instance said more now e es left total split h grown so_far =
     let r = bind_ok (one_at kind instance e) (λ v. Ok (accepts (v ∷ []))) now h in
-    passes_on (one_at kind instance) said_of said more e es left r.0 total split r.1 (λ front is. said_more front r.0 ∙ ap (λ (s : State). with_one s (accepts (r.0 ∷ []))) is ∙ ap (with_one said) (same_ok RowFault (accepts (r.0 ∷ [])) now r.2) ∙ sym grown) so_far
+    passes_on (one_at kind instance) said_of said more e es left r.0 total split r.1 (λ front is. said_more front r.0 ∙ ap (λ (s : State). with_one s (accepts (r.0 ∷ []))) is ∙ ap (with_one said) (ok_same RowFault (accepts (r.0 ∷ [])) now r.2) ∙ sym grown) so_far
 
 pub value_stop : (kind instance : ℕ) (said : State) (f : RowFault) (e : Element) (es left all : List Element)
     → left ≡ e ∷ es → one_accepts kind instance e ≡ Err f → Passes (one_at kind instance) said_of said left (values_at kind instance all) → values_say kind instance all ≡ Err f

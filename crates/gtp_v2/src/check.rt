@@ -157,13 +157,9 @@ fn check_rows(accepting: bool, rows: &[Row], elements: &Elements) -> Result<bool
 fn check_group(accepting: bool, rows: &[Row], view: &ElementView) -> Result<(), RowFault>
     ensures { Gives (λ u. u) result (group_passes accepting rows.now (element_of view.now)) }
 {
-    match view.inner() {
-        Ok(elements) => {
-            check_rows(accepting, rows, &elements)?;
-            Ok(())
-        }
-        Err(fault) => Err(RowFault::Element(fault)),
-    }
+    let elements = view.inner().map_err(RowFault::Element)?;
+    check_rows(accepting, rows, &elements)?;
+    Ok(())
 }
 
 /// Whether there are no groups of a type and instance, all of which read.

@@ -56,10 +56,8 @@ pub trait Context: Copy {
 fn context_in<C: Context>(accepting: bool, view: &ElementView) -> Result<C, RowFault>
     ensures { Gives C.values result (group_at accepting C.rows (element_of view.now)) }
 {
-    match view.inner() {
-        Ok(elements) => C::read(accepting, &elements),
-        Err(fault) => Err(RowFault::Element(fault)),
-    }
+    let elements = view.inner().map_err(RowFault::Element)?;
+    C::read(accepting, &elements)
 }
 
 /// The bearer contexts among the elements.

@@ -20,11 +20,7 @@ fn with_teid(first: u8, kind: u8, octets: &[u8]) -> Result<Header<'_>, V2Fault>
             held: 4 + octets.len(),
         });
     };
-    let priority = if first / 4 % 2 == 1 {
-        Some(Below::new(*last >> 4))
-    } else {
-        None
-    };
+    let priority = (first >> 2 & 1 == 1).then_some(Below::new(*last >> 4));
     Ok(Header {
         kind,
         teid: Some(Teid(BigEndian::read_u32(&[*a, *b, *c, *d]))),

@@ -22,9 +22,15 @@ impl Model for WorldConfig {
 
     ghost Value = { Setup };
 
-    ghost view = { λ c. record { serving = c.serving; packet = c.packet; serving_counter = c.serving_counter.0; packet_counter = c.packet_counter.0 } };
+    ghost view = { λ c. record {
+      serving = c.serving;
+      packet = c.packet;
+      serving_counter = c.serving_counter.0;
+      packet_counter = c.packet_counter.0;
+    } };
 
-    ghost invariant = { λ c. (c.serving_counter.0 < 256) × (c.packet_counter.0 < 256) × AreFacing c.serving c.packet };
+    ghost invariant = { λ c.
+        (c.serving_counter.0 < 256) × (c.packet_counter.0 < 256) × AreFacing c.serving c.packet };
 }
 
 /// Whether each gateway has the other's addresses for its peer.

@@ -152,14 +152,11 @@ impl Records {
 
     /// The index of the datagram with this number, if there is one.
     pub fn find(&self, number: u64) -> Option<usize>
-        ensures some { IfSome result (λ i. (i ≡ number) × (number < length self.now.datagrams.items)) }
+        ensures some { IfSome result (λ i.
+            (i ≡ number) × (number < length self.now.datagrams.items)) }
         ensures none { IfNone result (length self.now.datagrams.items ≤ number) }
     {
-        if number < self.datagrams.len() as u64 {
-            Some(number as usize)
-        } else {
-            None
-        }
+        (number < self.datagrams.len() as u64).then_some(number as usize)
     }
 
     /// An event that sends nothing is kept.
@@ -177,7 +174,8 @@ impl Records {
     /// TEID, subscriber, access point and bearer.
     pub fn is_owed(&self, accepted: &Entry) -> bool
         ensures { IsTrue result
-            ↔ HasBy (log_of self.now).handed (other accepted.now.node) (entry_by accepted.now).what }
+            ↔ HasBy
+            (log_of self.now).handed (other accepted.now.node) (entry_by accepted.now).what }
     {
         self.handed.owes(accepted)
     }

@@ -242,7 +242,8 @@ impl Side {
 
     /// A tick passes.
     pub fn ticks(&mut self, alloc: Global) -> Result<Ticked, Memory>
-        ensures ticked { IfOk result (λ ticked. IsTick (half_of self.old) ticked (half_of self.new)) }
+        ensures ticked { IfOk result (λ ticked.
+            IsTick (half_of self.old) ticked (half_of self.new)) }
         ensures few { IfOk result (λ ticked. length ticked.resent.items ≤ 256) }
         ensures err { OnErr result (half_of self.new ≡ half_of self.old) }
     {
@@ -265,7 +266,8 @@ impl Side {
     pub fn restart(&mut self, alloc: Global, node: Role) -> Result<Counter, Memory>
         requires { self.old.restarts < 127 }
         ensures counter { IfOk result (λ counter. counter.0 ≡ counter_after (half_of self.old)) }
-        ensures restarted { OnOk result (half_of self.new ≡ half_restarted node (half_of self.old)) }
+        ensures restarted { OnOk result
+            (half_of self.new ≡ half_restarted node (half_of self.old)) }
         ensures err { OnErr result (half_of self.new ≡ half_of self.old) }
     {
         let counter = self.next_counter();
@@ -281,7 +283,13 @@ impl Side {
 impl Came {
     /// A command was carried out.
     fn begun(begun: Begun, outcome: Outcome, handed: Option<HandedIn>) -> Came
-        ensures { result ≡ record { outcome = outcome; restart = None; out = Some begun.out; handed = handed; accepted = None } }
+        ensures { result ≡ record {
+          outcome = outcome;
+          restart = None;
+          out = Some begun.out;
+          handed = handed;
+          accepted = None;
+        } }
     {
         Came {
             outcome,
@@ -294,7 +302,13 @@ impl Came {
 
     /// A command was refused.
     fn refused(why: Refusal) -> Came
-        ensures { result ≡ record { outcome = Outcome.Refused why; restart = None; out = None; handed = None; accepted = None } }
+        ensures { result ≡ record {
+          outcome = Outcome.Refused why;
+          restart = None;
+          out = None;
+          handed = None;
+          accepted = None;
+        } }
     {
         Came {
             outcome: Outcome::Refused(why),

@@ -134,7 +134,8 @@ impl Sides {
     fn is_late(&self, alloc: Global, index: usize) -> Result<bool, Memory>
         requires { index < length self.now.records.datagrams.items }
         ensures { IfOk result (λ late. (found : IsThere (kept_of self.now).log.datagrams index)
-            → IsTrue late ↔ IsLate (half_in (kept_of self.now) (other found.sent.role)) found.sent.what) }
+            → IsTrue late
+            ↔ IsLate (half_in (kept_of self.now) (other found.sent.role)) found.sent.what) }
     {
         let datagram = &self.records.datagrams[index];
         self.side(other_than(datagram.node))
@@ -159,7 +160,8 @@ impl Sides {
 
     /// The first octets of a datagram come to the gateway that did not send it.
     fn cut(&mut self, alloc: Global, number: u64, count: u64) -> Result<EventOutcome, Memory>
-        ensures comes { OnOk result (Comes (kept_of self.old) (Cut number count) (kept_of self.new)) }
+        ensures comes { OnOk result
+            (Comes (kept_of self.old) (Cut number count) (kept_of self.new)) }
         ensures outcome { IfOk result (λ outcome. outcomes_in (kept_of self.new).log
             ≡ outcomes_in (kept_of self.old).log ++ outcome_of outcome ∷ []) }
         ensures err { OnErr result (kept_of self.new ≡ kept_of self.old) }
@@ -217,7 +219,8 @@ impl Sides {
 
     /// An event happens.
     pub fn step(&mut self, alloc: Global, event: &Event) -> Result<EventOutcome, Memory>
-        ensures comes { OnOk result (Comes (kept_of self.old) (event_of event.now) (kept_of self.new)) }
+        ensures comes { OnOk result
+            (Comes (kept_of self.old) (event_of event.now) (kept_of self.new)) }
         ensures outcome { IfOk result (λ outcome. outcomes_in (kept_of self.new).log
             ≡ outcomes_in (kept_of self.old).log ++ outcome_of outcome ∷ []) }
         ensures err { OnErr result (kept_of self.new ≡ kept_of self.old) }

@@ -63,10 +63,7 @@ impl IeValue for Imsi {
         if body.len() > 8 {
             return Err(ReadFault::Bad);
         }
-        match Imsi::try_new(unpacked(body).as_slice()) {
-            Ok(imsi) => Ok(imsi),
-            Err(_) => Err(ReadFault::Bad),
-        }
+        Imsi::try_new(unpacked(body).as_slice()).map_err(|_| ReadFault::Bad)
     }
 
     #[tactic(auto, unfolding(crate::specs::Value::encoding_of), using(crate::proofs::AgainNames::imsi_again, crate::proofs::FreeKinds::encoding_free))]
@@ -95,10 +92,7 @@ impl IeValue for Apn {
         if body.is_empty() {
             return Err(ReadFault::Short);
         }
-        match Apn::try_new(body) {
-            Ok(apn) => Ok(apn),
-            Err(_) => Err(ReadFault::Bad),
-        }
+        Apn::try_new(body).map_err(|_| ReadFault::Bad)
     }
 
     #[tactic(auto, unfolding(crate::specs::Value::encoding_of), using(crate::proofs::AgainNames::apn_again, crate::proofs::FreeKinds::encoding_free))]

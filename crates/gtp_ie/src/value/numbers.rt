@@ -252,7 +252,7 @@ impl IeValue for Selection {
     fn parse(body: &[u8]) -> Result<Selection, ReadFault> {
         match body {
             [] => Err(ReadFault::Short),
-            [octet, ..] => Ok(Selection(Below::new(*octet % 4))),
+            [octet, ..] => Ok(Selection(Below::new(*octet & 0x03))),
         }
     }
 

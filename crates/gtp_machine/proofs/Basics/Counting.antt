@@ -7,7 +7,7 @@ use Rattle.std.specs.Cmp.{nat_cmp_total}
 use Rattle.std.proofs.lemmas.Bool.Decides.{nat_tests}
 use Rattle.gtp_values.specs.FiniteMap.{FiniteMap, kept, passes}
 
-tied : (q k : ℕ) → eq_by_cmp nat_cmp q k ≡ true → q ≡ k
+pub tied : (q k : ℕ) → eq_by_cmp nat_cmp q k ≡ true → q ≡ k
 tied q k h = grind (arith, nat_tests)
 
 module _ {X : Type 0} where

@@ -1,4 +1,4 @@
--- Two requests for a session, or two of their answers, with one text name one TEID.
+-- Two requests for a session, or two of their answers, with one encoding name one TEID.
 use Rattle.std.proofs.Common.{◌≡◌, ℕ, ◌/◌, ◌%◌, ◌^◌, ◌<◌, length, List, [], ◌∷◌, ◌++◌, drop, take, get_or, map, Option, Some, None, refl, sym, ◌∙◌, ap, arith}
 use Rattle.std.proofs.lemmas.List.{length-append}
 use Rattle.gtp_values.specs.Plmn.{Network}
@@ -47,7 +47,7 @@ said_back n small = number_of n _ (charging_id_again n small).says
     number_of : (x y : ℕ) → OfChargingId x ≡ OfChargingId y → x ≡ y
     number_of x y is = cc is
 
--- F-TEIDs with one text have one TEID
+-- F-TEIDs with one encoding have one TEID
 same_teid : (e f : TunnelEnd) → e.teid < 2 ^ 32 → f.teid < 2 ^ 32 → encoding_of (OfFTeid e) ≡ encoding_of (OfFTeid f) → e.teid ≡ f.teid
 unfolding encoding_of
 same_teid e f small low is =
@@ -105,7 +105,7 @@ response_like _ a plane text = absurd (cc plane)
 left_short : (c s : List ℕ) → length (c ++ s) < 65536 → length s < 65536
 left_short c s short = let long = length-append c s in omega (arith, long, short)
 
--- Requests for a session with one text name one TEID.
+-- Requests for a session with one encoding name one TEID.
 module _ (p q : CreateSessionRequest) (short : length (after_request q) < 65536) (small : p.control.teid < 2 ^ 32) (low : q.control.teid < 2 ^ 32) where
   same_end : (r s : List ℕ) → length (element_encoding 87 0 (encoding_of (OfFTeid q.control)) ++ s) < 65536 → element_encoding 87 0 (encoding_of (OfFTeid p.control)) ++ r ≡ element_encoding 87 0 (encoding_of (OfFTeid q.control)) ++ s → p.control.teid ≡ q.control.teid
   same_end r s room is = same_teid p.control q.control small low (same_element 87 0 (encoding_of (OfFTeid p.control)) (encoding_of (OfFTeid q.control)) r s (omega (arith, room)) is).0

@@ -146,7 +146,7 @@ abbrev user_message_in_reading : UserReading → Message
 user_message_in_reading (User_message m) = m
 user_message_in_reading _ = Other_control 0
 
--- messages of this plane with one text are one
+-- messages of this plane with one encoding are one
 apart_on : (p : Plane) (octets : List ℕ) (m n : Message) → ReadsAs p octets m → ReadsAs p octets n → m ≡ n
 apart_on Control octets m n as_m as_n = ap message_in_reading (as_m ∙ sym as_n)
 apart_on User octets m n as_m as_n = ap user_message_in_reading (as_m ∙ sym as_n)

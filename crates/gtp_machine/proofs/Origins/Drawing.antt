@@ -71,6 +71,15 @@ pub record Draws (history : List Sent) (role : Role) (old new : Node) (sent : Li
   pub each : (m : Message) → Among m sent → HasSent history role m ⊎ IsMadeNow history old new m
   pub one : (m n : Message) → Among m sent → Among n sent → m ≡ n
 
+-- of one TEID more, or of two, each is of this start where those drawn now are
+pub one_more_drawn : (counter user : ℕ) (drawn : List ℕ) → counter_of user ≡ counter → (t : ℕ) → Among t (user ∷ drawn) → Among t drawn ⊎ (counter_of t ≡ counter)
+one_more_drawn counter user drawn counted t (inl is) = inr (ap counter_of is ∙ counted)
+one_more_drawn counter user drawn counted t (inr stood) = inl stood
+
+pub two_more_drawn : (counter user control : ℕ) (drawn : List ℕ) → counter_of user ≡ counter → counter_of control ≡ counter → (t : ℕ) → Among t (user ∷ control ∷ drawn) → Among t drawn ⊎ (counter_of t ≡ counter)
+two_more_drawn counter user control drawn counted both t (inl is) = inr (ap counter_of is ∙ counted)
+two_more_drawn counter user control drawn counted both t (inr others) = one_more_drawn counter control drawn both t others
+
 pub starts_apart : (first i j : ℕ) → i < j → j ≤ 127 → (first + i) % 256 ≡ (first + j) % 256 → ⊥
 starts_apart first i j before few same = omega arith
 

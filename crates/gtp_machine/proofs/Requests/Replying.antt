@@ -116,7 +116,7 @@ move_asks old asks (Resend number) e r = subst (λ (f : Effect). AllAsk f.node.p
 move_asks old asks (Give_up number) e r = subst (λ (f : Effect). AllAsk f.node.pending) (sym r.gives) (λ k p stands. asks k p ((Shrunk-finished old number r.at.pending.session r.at.pending.bearer).pending k p stands))
 move_asks old asks (Forget request) e r = subst (λ (f : Effect). AllAsk f.node.pending) (sym r.gives) asks
 
-both_true : (b c : Bool) → (b && c) ≡ true → (b ≡ true) × (c ≡ true)
+pub both_true : (b c : Bool) → (b && c) ≡ true → (b ≡ true) × (c ≡ true)
 both_true true c is = (refl, is)
 both_true false c is = absurd (cc is)
 

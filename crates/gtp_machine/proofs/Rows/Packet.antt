@@ -6,7 +6,7 @@ use Rattle.gtp_values.specs.declared.qos.Qos.{Qos}
 use Rattle.gtp_values.specs.FiniteMap.{FiniteMap, Each, Among}
 use Rattle.gtp_machine.specs.Element.{IsAccepting, cause_of, cause_at, teid_in}
 use Rattle.gtp_machine.specs.Message.{CreateSessionRequest, CreateSessionResponse, DeleteSessionRequest, DeleteSessionResponse, CreateBearerRequest, CreateBearerResponse, DeleteBearerResponse, Message, Create_session_request, Create_session_response, Delete_session_response, Create_bearer_request, Create_bearer_response, Packet_data, Owns, recovery_of, first_returned}
-use Rattle.gtp_machine.specs.Node.{Serving, Packet, State, Pending, Active, Closing, Session, Bearer, PendingRequest, Arrival, Held, Node, holding, written}
+use Rattle.gtp_machine.specs.Node.{Serving, Packet, Pending, Active, Closing, Session, Bearer, PendingRequest, Arrival, Held, Node, holding, written}
 use Rattle.gtp_machine.specs.Input.{ControlReading, Control_message, Begun, Opened, Answered, Effect}
 use Rattle.gtp_machine.specs.Choice.{IsFree, HasPending, counter_of}
 use Rattle.gtp_machine.specs.Removal.{without_session}
@@ -15,7 +15,7 @@ use Rattle.gtp_machine.specs.Answer.{IsNew, answered, ControlStep}
 use Rattle.gtp_machine.specs.Packet.{session_cause, session_response, made_session, made_bearer, session_made, MakesSession, session_refused, SessionAsked, DeletionAsked, FitsBearer, DescribesBearer, CanOpen, opened_dedicated, OpensBearer, BearerAnswered, RemovalAnswered, PacketTakes, packet_takes, PacketFaulted, PacketReads}
 use Rattle.gtp_machine.specs.World.{Sent, HasSent, signed}
 use Rattle.gtp_machine.proofs.Basics.FiniteMaps.{Each-insert, Each-remove, found-remove, get-insert_same, Among-left, Among-last}
-use Rattle.gtp_machine.proofs.Origins.Drawing.{Draws-nothing, Draws-new, TellsStart, IsProper, by_before, by_now, by_cases}
+use Rattle.gtp_machine.proofs.Origins.Drawing.{Draws-nothing, Draws-new, one_more_drawn, two_more_drawn, TellsStart, IsProper, by_before, by_now, by_cases}
 use Rattle.gtp_machine.proofs.Origins.Contexts.{IsMade, IsWanted, IsAtPacket, closes-session, closes-bearer}
 use Rattle.gtp_machine.proofs.Changes.Shrinking.{Shrunk, Shrunk-itself, Shrunk-without}
 use Rattle.gtp_machine.proofs.Changes.Matching.{IsMatched, IsMatched-bearer}
@@ -23,9 +23,9 @@ use Rattle.gtp_machine.proofs.Origins.Entries.{Once, answer_not_request}
 use Rattle.gtp_machine.proofs.Changes.Steps.{Logs-silent, Logs-plain, at_result, NothingOwns, NothingOwns-from}
 use Rattle.gtp_machine.proofs.Changes.After.{IsPending, IsStanding, IsReady, Knows, After, nothing_told, later, held_now, matched_session, matched_bearer, still_stands}
 use Rattle.gtp_machine.proofs.Rows.Common.{unchanged}
-use Rattle.gtp_machine.proofs.Rows.Taking.{Took, took, drops, ends, gives_answer, takes_echo, takes_echo_response}
+use Rattle.gtp_machine.proofs.Rows.Taking.{active_not_closing, Took, took, drops, ends, gives_answer, takes_echo, takes_echo_response}
 use Rattle.gtp_values.proofs.Outcomes.{none_some}
-use Rattle.gtp_machine.proofs.Basics.Options.{some_same}
+use Rattle.gtp_machine.proofs.Basics.Options.{some_same, not_below}
 use Rattle.gtp_machine.proofs.Rows.Control.{ControlCarried, control_came}
 use Rattle.gtp_machine.proofs.Basics.Kinds.{by_packet}
 
@@ -41,9 +41,6 @@ module _ (history : List Sent) (taken : Arrival → Message → Type 0) (serving
 
   pending_not_active : Pending ≡ Active → ⊥
   pending_not_active e = cc
-
-  active_not_closing : (state : State) → state ≡ Active → state ≡ Closing → ⊥
-  active_not_closing state is c = cc
 
   -- a session that stands there and is active is not closing
   stands_active : (sessions : FiniteMap Session) (key : ℕ) (at : Session) → get sessions key ≡ Some at → at.state ≡ Active → (s : Session) → get sessions key ≡ Some s → s.state ≡ Closing → ⊥
@@ -85,7 +82,7 @@ module _ (history : List Sent) (taken : Arrival → Message → Type 0) (serving
         };
         known = refl;
         told = nothing_told history Serving;
-        draws = Draws-new history Packet old new_node m refl refl (λ t stood. inr stood) present (record { free = λ t is. subst (IsFree old) (sym is) r.user_free; drawn = λ t is. inl is; told = λ c e. absurd (none_some c e); tells = λ t none. absurd none; proper = tt });
+        draws = Draws-new history Packet old new_node m refl refl (λ t stood. inr stood) (one_more_drawn old.counter r.user old.drawn r.user_free.counted) (record { free = λ t is. subst (IsFree old) (sym is) r.user_free; drawn = λ t is. inl is; told = λ c e. absurd (none_some c e); tells = λ t none. absurd none; proper = tt });
         logs = Logs-plain history Packet taken old new_node (Begun (Some r.user)) (λ h stood. stood) _ m tt;
       })
     where
@@ -98,10 +95,6 @@ module _ (history : List Sent) (taken : Arrival → Message → Type 0) (serving
 
       not_session : (q : CreateBearerRequest) (k : CreateSessionRequest) → Create_bearer_request q ≡ Create_session_request k → ⊥
       not_session q k e = cc
-
-      present : (t : ℕ) → Among t (r.user ∷ old.drawn) → Among t old.drawn ⊎ (counter_of t ≡ old.counter)
-      present t (inl is) = inr (ap counter_of is ∙ r.user_free.counted)
-      present t (inr stood) = inl stood
 
   pub bearer_begun_here : (unowned : NothingOwns history Packet old) (session : ℕ) (tft : List ℕ) (qos : Qos) (e : Effect) → BearerBegun Packet session tft qos old e → After Packet history taken old e
   bearer_begun_here unowned session tft qos e (inl f) = unchanged Packet history taken serving_once packet_once old knows _ e f.1
@@ -140,7 +133,7 @@ module _ (history : List Sent) (taken : Arrival → Message → Type 0) (serving
           });
           known = refl;
           told = nothing_told history Serving;
-          draws = Draws-new history Packet old (holding request m new) m refl refl (λ t stood. inr (inr stood)) present (record { free = free; drawn = drawn; told = λ c e. cc e; tells = λ t is owns. refl; proper = record { control = λ accepts. (r.control, refl); user = λ accepts. (r.user, refl); apart = λ t control user. r.apart (same_some r.control t control ∙ sym (same_some r.user t user)) } });
+          draws = Draws-new history Packet old (holding request m new) m refl refl (λ t stood. inr (inr stood)) (two_more_drawn old.counter r.user r.control old.drawn r.user_free.counted r.control_free.counted) (record { free = free; drawn = drawn; told = λ c e. cc e; tells = λ t is owns. refl; proper = record { control = λ accepts. (r.control, refl); user = λ accepts. (r.user, refl); apart = λ t control user. r.apart (same_some r.control t control ∙ sym (same_some r.user t user)) } });
           logs =
               let l = Logs-plain history Packet taken old (holding request m new) (Answered (session_cause q.pdn)) (λ h stood. Among-left h old.held _ stood) request.source m tt in record {
                 held_stays = l.held_stays;
@@ -152,11 +145,6 @@ module _ (history : List Sent) (taken : Arrival → Message → Type 0) (serving
               };
         })
       where
-        present : (t : ℕ) → Among t (r.user ∷ r.control ∷ old.drawn) → Among t old.drawn ⊎ (counter_of t ≡ old.counter)
-        present t (inl is) = inr (ap counter_of is ∙ r.user_free.counted)
-        present t (inr (inl is)) = inr (ap counter_of is ∙ r.control_free.counted)
-        present t (inr (inr stood)) = inl stood
-
         no_packet : (a : CreateSessionResponse) (t : ℕ) (p : List ℕ) → Among (Packet_data t p) (Create_session_response a ∷ []) → ⊥
         no_packet a t p (inl is) = cc
         no_packet a t p (inr none) = none
@@ -253,10 +241,7 @@ module _ (history : List Sent) (taken : Arrival → Message → Type 0) (serving
           })
         where
           session_is : x.header ≡ r.at.bearer.session
-          session_is = ⊎_elim (λ is. some_same at.pending.session x.header r.at.bearer.session is (matched_now.of_session fits.request fits.asked r.at.bearer (ap (λ k. get old.bearers k) user_is ∙ r.at.stands))) (λ zero. absurd (impossible zero.1 accepts.high)) fits.named
-            where
-              impossible : {n : ℕ} → n ≡ 64 → n < 64 → ⊥
-              impossible e h = omega arith
+          session_is = ⊎_elim (λ is. some_same at.pending.session x.header r.at.bearer.session is (matched_now.of_session fits.request fits.asked r.at.bearer (ap (λ k. get old.bearers k) user_is ∙ r.at.stands))) (λ zero. absurd (not_below zero.1 accepts.high)) fits.named
 
           -- the bearer is of the session that the request is about
           of_session : r.at.bearer.session ≡ fits.session

@@ -14,7 +14,7 @@ use Rattle.gtp_machine.specs.Answer.{answered, refusing, IsNew, ControlStep}
 use Rattle.gtp_machine.specs.Serving.{FitsSession, DescribesSession, opened_session, opened_bearer, OpensSession, SessionAnswered, DeletionAnswered, bearer_response, granted_bearer, MakesBearer, no_resources, BearerAsked, RemovalTaken, RemovalAsked, ServingTakes, serving_takes, ServingFaulted, ServingReads, removal_cause}
 use Rattle.gtp_machine.specs.World.{Sent, HasSent, signed}
 use Rattle.gtp_machine.proofs.Basics.FiniteMaps.{Each-insert, Each-remove, found-remove, get-insert_same, get-insert_other, Among-left, Among-last}
-use Rattle.gtp_machine.proofs.Origins.Drawing.{Draws-nothing, Draws-new, TellsStart, IsProper, by_before, by_now}
+use Rattle.gtp_machine.proofs.Origins.Drawing.{Draws-nothing, Draws-new, one_more_drawn, two_more_drawn, TellsStart, IsProper, by_before, by_now}
 use Rattle.gtp_machine.proofs.Origins.Contexts.{IsAsked, IsAtServing, closes-session, closes-bearer}
 use Rattle.gtp_machine.proofs.Changes.Shrinking.{Shrunk, Shrunk-itself, Shrunk-without, removes_each}
 use Rattle.gtp_machine.proofs.Changes.Matching.{IsMatched, IsMatched-session, IsMatched-bearer}
@@ -22,9 +22,9 @@ use Rattle.gtp_machine.proofs.Origins.Entries.{Once, same_request, same_user_req
 use Rattle.gtp_machine.proofs.Changes.Steps.{IsAnsweredNow, Logs-silent, Logs-plain, at_result, NothingOwns, NothingOwns-from}
 use Rattle.gtp_machine.proofs.Changes.After.{IsPending, IsStanding, IsReady, Knows, After, nothing_told, later, held_now, matched_session, matched_bearer, still_stands}
 use Rattle.gtp_machine.proofs.Rows.Common.{unchanged}
-use Rattle.gtp_machine.proofs.Rows.Taking.{Took, took, drops, ends, gives_answer, takes_echo, takes_echo_response, named_written}
+use Rattle.gtp_machine.proofs.Rows.Taking.{active_not_closing, Took, took, drops, ends, gives_answer, takes_echo, takes_echo_response, named_written}
 use Rattle.gtp_values.proofs.Outcomes.{none_some}
-use Rattle.gtp_machine.proofs.Basics.Options.{some_same}
+use Rattle.gtp_machine.proofs.Basics.Options.{some_same, not_below}
 use Rattle.gtp_machine.proofs.Rows.Control.{ControlCarried, control_came}
 use Rattle.gtp_machine.proofs.Basics.Kinds.{by_serving}
 
@@ -74,7 +74,7 @@ module _ (history : List Sent) (taken : Arrival → Message → Type 0) (serving
         };
         known = refl;
         told = nothing_told history Packet;
-        draws = Draws-new history Serving old new_node m refl refl (λ t stood. inr (inr stood)) present (record { free = free; drawn = drawn; told = λ c e. cc e; tells = λ t is owns. refl; proper = r.apart });
+        draws = Draws-new history Serving old new_node m refl refl (λ t stood. inr (inr stood)) (two_more_drawn old.counter r.user r.control old.drawn r.user_free.counted r.control_free.counted) (record { free = free; drawn = drawn; told = λ c e. cc e; tells = λ t is owns. refl; proper = r.apart });
         logs = Logs-plain history Serving taken old new_node (Begun (Some r.control)) (λ h stood. stood) _ m tt;
       })
     where
@@ -98,11 +98,6 @@ module _ (history : List Sent) (taken : Arrival → Message → Type 0) (serving
       not_bearer : (q : CreateSessionRequest) (b : CreateBearerRequest) → Create_session_request q ≡ Create_bearer_request b → ⊥
       not_bearer q b e = cc
 
-      present : (t : ℕ) → Among t (r.user ∷ r.control ∷ old.drawn) → Among t old.drawn ⊎ (counter_of t ≡ old.counter)
-      present t (inl is) = inr (ap counter_of is ∙ r.user_free.counted)
-      present t (inr (inl is)) = inr (ap counter_of is ∙ r.control_free.counted)
-      present t (inr (inr stood)) = inl stood
-
       free : (t : ℕ) → (t ≡ r.control) ⊎ (t ≡ r.user) → IsFree old t
       free t (inl is) = subst (IsFree old) (sym is) r.control_free
       free t (inr is) = subst (IsFree old) (sym is) r.user_free
@@ -124,10 +119,7 @@ module _ (history : List Sent) (taken : Arrival → Message → Type 0) (serving
 
       -- an accepting response names the session in its header
       header : a.header ≡ fits.session
-      header = ⊎_elim (λ is. some_same at.pending.session a.header fits.session is fits.about) (λ zero. absurd (impossible zero.1 accepts.high)) fits.named
-        where
-          impossible : {n : ℕ} → n ≡ 64 → n < 64 → ⊥
-          impossible e h = omega arith
+      header = ⊎_elim (λ is. some_same at.pending.session a.header fits.session is fits.about) (λ zero. absurd (not_below zero.1 accepts.high)) fits.named
 
       control : fits.request.control.teid ≡ fits.session
       control = some_same at.pending.session fits.request.control.teid fits.session ((knows.pending a.number at.pending at.waits).names fits.request fits.asked) fits.about
@@ -184,7 +176,7 @@ module _ (history : List Sent) (taken : Arrival → Message → Type 0) (serving
               drawn = Each-insert (λ t (s : Session). Among t old.drawn) old.sessions fits.session now (knows.drawn fits.session new.at.session new.at.stands) knows.drawn;
               standing = Each-insert (IsStanding old.known) old.sessions fits.session now (record { current = λ x is. told (counter_of x) (dated (Create_session_response a) x came tt (inl is)); blank = λ w. absurd (active_not_pending w); named = λ h. (proper (Create_session_response a) came).control accepts }) knows.standing;
               ready = Each-insert IsReady old.bearers q.context.user.teid opened (λ active. (proper (Create_session_response a) came).user accepts) knows.ready;
-              closed = closes-bearer (insert old.sessions fits.session now) old.bearers q.context.user.teid opened not_closing (closes-session old.sessions old.bearers fits.session now active_not_closing knows.closed);
+              closed = closes-bearer (insert old.sessions fits.session now) old.bearers q.context.user.teid opened not_closing (closes-session old.sessions old.bearers fits.session now (active_not_closing Active refl) knows.closed);
               pending = Each-remove (IsPending after Serving) old.pending a.number was.pending;
               held = was.held;
             };
@@ -208,9 +200,6 @@ module _ (history : List Sent) (taken : Arrival → Message → Type 0) (serving
               found.0 (sym (was.numbered q is) ∙ ap (λ (k : CreateSessionRequest). k.number) one ∙ (knows.matched a.number at.pending at.waits).numbered fits.request fits.asked))
               was)
 
-          active_not_closing : Active ≡ Closing → ⊥
-          active_not_closing e = cc
-
           -- its default bearer is of this session
           of_session : r.default.bearer.session ≡ fits.session
           of_session =
@@ -223,7 +212,7 @@ module _ (history : List Sent) (taken : Arrival → Message → Type 0) (serving
           not_closing : (s : Session) → get (insert old.sessions fits.session now) r.default.bearer.session ≡ Some s → s.state ≡ Closing → ⊥
           not_closing s stands closing =
               let is : now ≡ s = cc (at_new r.default.bearer.session of_session, stands) in
-              active_not_closing (ap (λ (k : Session). k.state) is ∙ closing)
+              active_not_closing Active refl (ap (λ (k : Session). k.state) is ∙ closing)
 
           -- its default bearer opens with it
           first_bearer : HasSent (history ++ []) Packet (Create_session_response a) → IsAtServing (history ++ []) (insert old.sessions fits.session now) fits.request.context.user.teid (opened_bearer r.default.bearer a)
@@ -306,7 +295,7 @@ module _ (history : List Sent) (taken : Arrival → Message → Type 0) (serving
           });
           known = refl;
           told = nothing_told history Packet;
-          draws = Draws-new history Serving old (holding request m new) m refl refl (λ t stood. inr stood) present (record {
+          draws = Draws-new history Serving old (holding request m new) m refl refl (λ t stood. inr stood) (one_more_drawn old.counter r.user old.drawn r.user_free.counted) (record {
             free = λ t is. subst (IsFree old) (let same : r.user ≡ t = cc is in same) r.user_free;
             drawn = λ t is. inl (let same : t ≡ r.user = cc is in same);
             told = λ c e. cc e;
@@ -326,17 +315,10 @@ module _ (history : List Sent) (taken : Arrival → Message → Type 0) (serving
         active_not_pending : (state : State) → state ≡ Active → state ≡ Pending → ⊥
         active_not_pending state is w = cc
 
-        active_not_closing : (state : State) → state ≡ Active → state ≡ Closing → ⊥
-        active_not_closing state is c = cc
-
         not_closing : (s : Session) → get old.sessions q.header ≡ Some s → s.state ≡ Closing → ⊥
         not_closing s stands closing =
             let is : at.session ≡ s = cc (at.stands, stands) in
             active_not_closing at.session.state active (ap (λ (k : Session). k.state) is ∙ closing)
-
-        present : (t : ℕ) → Among t (r.user ∷ old.drawn) → Among t old.drawn ⊎ (counter_of t ≡ old.counter)
-        present t (inl is) = inr (ap counter_of is ∙ r.user_free.counted)
-        present t (inr stood) = inl stood
 
         no_packet : (x : CreateBearerResponse) (t : ℕ) (p : List ℕ) → Among (Packet_data t p) (Create_bearer_response x ∷ []) → ⊥
         no_packet x t p (inl is) = cc

@@ -1,7 +1,7 @@
 -- What a gateway does with a control message leaves what each knows, and tells no counter.
 use Rattle.std.proofs.Common.{◌≡◌, inl, inr, ℕ, List, [], Option, Some, None, refl, sym, ◌∙◌, ap}
 use Rattle.gtp_machine.specs.Message.{Echo, Message, Echo_response, Owns, recovery_of}
-use Rattle.gtp_machine.specs.Node.{Role, PendingRequest, Arrival, Node, holding, written}
+use Rattle.gtp_machine.specs.Node.{Role, State, Active, Closing, PendingRequest, Arrival, Node, holding, written}
 use Rattle.gtp_machine.specs.Input.{DropReason, Outcome, Echoed, Effect, dropped}
 use Rattle.gtp_machine.specs.Removal.{finished}
 use Rattle.gtp_machine.specs.Response.{EchoAnswered, finishing}
@@ -11,6 +11,9 @@ use Rattle.gtp_machine.proofs.Origins.Drawing.{Made-plain, IsProper}
 use Rattle.gtp_machine.proofs.Changes.Shrinking.{Shrunk, Shrunk-itself, Shrunk-finished}
 use Rattle.gtp_machine.proofs.Changes.Steps.{at_result, IsPlain}
 use Rattle.gtp_machine.proofs.Changes.After.{Knows, After, shrunk, stays, speaks, answers}
+
+pub active_not_closing : (state : State) → state ≡ Active → state ≡ Closing → ⊥
+active_not_closing state is c = cc
 
 -- a TEID that is there, as it is written
 pub named_written : (o : Option ℕ) (r : ℕ) → o ≡ Some r → o ≡ Some (written o)

@@ -15,6 +15,7 @@ use Rattle.gtp_machine.specs.Packet.{FitsBearer}
 use Rattle.gtp_machine.specs.Sound.{At, IsInState, IsBearerOf, IsSoundSession, IsSoundBearer, AsksSession, AsksBearer, IsAbout, opened_by, AreSoundRequests, IsSound, IsWithin}
 use Rattle.gtp_machine.proofs.Basics.FiniteMaps.{found-remove, found-empty, found-kept, found-changed, get-changed_some, get-kept, Each-insert}
 use Rattle.gtp_machine.proofs.Basics.Counting.{len-insert_most, len-insert_same, len-remove_most, len-kept_most}
+use Rattle.gtp_machine.proofs.Sound.Free.{eqb_other}
 use Rattle.gtp_machine.proofs.Sound.Parts.{one_value, waiting_active, waiting_closing, default_dedicated, at_here, at_insert, there_insert, Follows, follows_all, no_deletion, requests_follow, requests_fewer, requests_add, opened_drawn, contexts_drawn, contexts_session, contexts_bearer, contexts_same}
 
 module _ (role : Role) where
@@ -87,9 +88,6 @@ module _ (role : Role) where
 
     pub without_session_sound : (session : ℕ) → IsSound role (without_session old session)
     without_session_sound session = without_sound (λ t. eqb t session) (λ t. false) (λ t b e k w. refl)
-
-    eqb_other : (m n : ℕ) → m ≢ n → eqb m n ≡ false
-    eqb_other m n other = grind (arith, nat_tests)
 
     -- a dedicated bearer goes
     pub without_bearer_sound : (key : ℕ) (b : Bearer) → get old.bearers key ≡ Some b → b.kind ≡ Dedicated → IsSound role (without_bearer old key)

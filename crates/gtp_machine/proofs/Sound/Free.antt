@@ -7,6 +7,7 @@ use Rattle.std.specs.Ordering.{nat_cmp, eq_by_cmp}
 use Rattle.std.proofs.lemmas.Bool.{cases_eq}
 use Rattle.std.proofs.lemmas.Bool.Decides.{nat_tests}
 use Rattle.gtp_values.specs.FiniteMap.{FiniteMap, Among}
+use Rattle.gtp_machine.proofs.Basics.Counting.{tied}
 
 decides : (x : ℕ) (xs : List ℕ) → Among x xs ⊎ (Among x xs → ⊥)
 decides x [] = inr (λ none. none)
@@ -15,7 +16,7 @@ decides x (y ∷ ys) = ⊎_elim (λ here. inl (inl here)) (λ other. ⊎_elim (�
 abbrev others : ℕ → List ℕ → List ℕ
 others x xs = filter (λ y. not (eqb y x)) xs
 
-eqb_other : (m n : ℕ) → m ≢ n → eqb m n ≡ false
+pub eqb_other : (m n : ℕ) → m ≢ n → eqb m n ≡ false
 eqb_other m n other = grind (arith, nat_tests)
 
 others_most : (x : ℕ) (xs : List ℕ) → length (others x xs) ≤ length xs
@@ -66,11 +67,8 @@ any_among : (q : ℕ) (ks : List ℕ) → list_any (eq_by_cmp nat_cmp q) ks ≡ 
 any_among q [] e = absurd (cc e)
 any_among q (k ∷ ks) e = by_test (eq_by_cmp nat_cmp q k) refl (λ h. any_among q ks h) e
   where
-    tied : eq_by_cmp nat_cmp q k ≡ true → q ≡ k
-    tied h = grind (arith, nat_tests)
-
     by_test : (b : Bool) → eq_by_cmp nat_cmp q k ≡ b → (list_any (eq_by_cmp nat_cmp q) ks ≡ true → Among q ks) → (b || list_any (eq_by_cmp nat_cmp q) ks) ≡ true → Among q (k ∷ ks)
-    by_test true is rest h = inl (tied is)
+    by_test true is rest h = inl (tied q k is)
     by_test false is rest h = inr (rest h)
 
 length-keys : {X : Type 0} (es : List (ℕ × X)) → length (map (λ e. e.0) es) ≡ length es

@@ -1,6 +1,5 @@
 -- Each response to a create request goes back to the moment at which its gateway gave it.
 use Rattle.std.proofs.Common.{◌≡◌, ◌⊎◌, inl, inr, ⊎_elim, ℕ, zero, suc, ◌+◌, ◌≤◌, Bool, true, false, not, List, [], ◌∷◌, ◌++◌, length, length-append, take, Option, Some, None, refl, sym, ◌∙◌, ap, subst, append_assoc, append-nil, arith, slice_get}
-use Rattle.std.specs.Prelude.{◌&&◌}
 use Rattle.gtp_values.specs.Counter.{age_of}
 use Rattle.gtp_values.specs.declared.counter.Age.{Age}
 use Rattle.gtp_values.specs.declared.counter.Age.TheVariants.{Same, Later, Earlier}
@@ -23,7 +22,7 @@ use Rattle.gtp_machine.specs.Laws.{OfEachRun, Moment, Gave, Brings, GoesBackTo, 
 use Rattle.gtp_machine.proofs.Basics.FiniteMaps.{get-insert_same, Among-one_more}
 use Rattle.gtp_machine.proofs.Basics.Kinds.{is_create_answer}
 use Rattle.gtp_machine.proofs.Requests.Holding.{are_plain, command_calm, user_calm}
-use Rattle.gtp_machine.proofs.Requests.Replying.{IsLesser, IsRepeated, IsReplied, AllAsk, lesser_calm, message_replies, fault_replies, tick_lesser}
+use Rattle.gtp_machine.proofs.Requests.Replying.{both_true, IsLesser, IsRepeated, IsReplied, AllAsk, lesser_calm, message_replies, fault_replies, tick_lesser}
 use Rattle.gtp_machine.proofs.Exchange.Made.{accepts_cause}
 use Rattle.gtp_values.proofs.Outcomes.{none_some}
 use Rattle.gtp_machine.proofs.Worlds.Runs.{Invariant, always, Run-push}
@@ -83,10 +82,6 @@ false_true f t = cc
 not_true : (b : Bool) → not b ≡ true → b ≡ false
 not_true false e = refl
 not_true true e = absurd (cc e)
-
-both_true : (b c : Bool) → (b && c) ≡ true → (b ≡ true) × (c ≡ true)
-both_true true c is = (refl, is)
-both_true false c is = absurd (cc is)
 
 -- none of plain messages is such a response
 plain_signed : (role : Role) (sent : List Message) → are_plain sent ≡ true → (k : ℕ) (s : Sent) → slice_get (signed role sent) k ≡ Some s → is_create_answer s.what ≡ false

@@ -152,7 +152,7 @@ fn echoes_and_extension_headers(rt: HostRuntime) -> Result<(), Fail> {
     plays(&rt, rt.alloc(), &HEADERS)
 }
 
-/// A packet behind extension headers that are taken.
+/// A packet after extension headers that are taken.
 const BEHIND: Scene = Scene {
     rows: &[
         &OPENED,
@@ -170,7 +170,7 @@ const BEHIND: Scene = Scene {
 };
 
 #[test]
-fn a_packet_behind_extension_headers(rt: HostRuntime) -> Result<(), Fail> {
+fn a_packet_after_extension_headers(rt: HostRuntime) -> Result<(), Fail> {
     plays(&rt, rt.alloc(), &BEHIND)
 }
 

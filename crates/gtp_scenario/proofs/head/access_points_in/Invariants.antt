@@ -1,12 +1,12 @@
 use Rattle.std.proofs.Common.{◌≡◌, drop, length}
 use Rattle.serde_json.specs.View.{items_view}
 use Rattle.gtp_scenario.specs.Heads.{access_points_in}
-use Rattle.gtp_scenario.proofs.Lists.{behind}
+use Rattle.gtp_scenario.proofs.Lists.{some_with_front}
 use Rattle.gtp_scenario.proofs.head.access_points_in.Given as goal
 
 -- the access points so far, and what is left
 abbrev pub invariant-loop-value : goal.invariant-loop-value
 invariant-loop-value l = record {
-  read : behind l.access_points.items (access_points_in (items_view (drop l.value-index l.values))) ≡ access_points_in (items_view l.values);
+  read : some_with_front l.access_points.items (access_points_in (items_view (drop l.value-index l.values))) ≡ access_points_in (items_view l.values);
   each : length l.access_points.items ≡ l.value-index;
 }
