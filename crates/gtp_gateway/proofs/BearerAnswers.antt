@@ -28,7 +28,7 @@ use Rattle.gtp_machine.specs.Packet.{FitsBearer, DescribesBearer, CanOpen, opene
 use Rattle.gtp_machine.specs.Response.{Named}
 use Rattle.gtp_machine.specs.Sound.{IsSound, IsWanted}
 use Rattle.gtp_machine.proofs.Sound.Changes.{is_bearer}
-use Rattle.gtp_machine.proofs.Sound.Parts.{one_value}
+use Rattle.gtp_machine.proofs.Basics.Facts.{one_value}
 use Rattle.gtp_gateway.specs.declared.bearer_response.AskedBearer.{AskedBearer}
 use Rattle.gtp_gateway.specs.declared.bearer_response.BearerResponse.{BearerResponse}
 use Rattle.gtp_gateway.specs.declared.contexts.ResponseContext.{ResponseContext}

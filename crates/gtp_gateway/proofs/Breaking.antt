@@ -1,15 +1,15 @@
 -- What goes with an Error Indication.
-use Rattle.std.proofs.Common.{◌≡◌, ◌↔◌, ℕ, ◌&&◌, Bool, true, false, cond, IsTrue, Option, Some, None, refl, sym, ◌∙◌, ap, arith}
+use Rattle.std.proofs.Common.{◌≡◌, ◌↔◌, ℕ, ◌&&◌, Bool, true, false, cond, IsTrue, Option, Some, None, refl, sym, ◌∙◌, ap}
 use Rattle.std.specs.Prelude.{◌==◌, ◌||◌, not, is_some}
 use Rattle.std.specs.FinMap.{get, same_map, nat_cmp-IsAntisymmetric}
 use Rattle.std.specs.Cmp.{nat_cmp_total}
-use Rattle.std.proofs.lemmas.Bool.Decides.{nat_tests}
 use Rattle.gtp_values.specs.FiniteMap.{FiniteMap, kept}
 use Rattle.gtp_tables.specs.Index.{HasDefault}
 use Rattle.gtp_tables.proofs.Kept.{passing, get_kept}
 use Rattle.gtp_machine.specs.Node.{Session, Bearer, Kind, Default, Dedicated}
 use Rattle.gtp_machine.specs.User.{is_to, bearer_is_to, is_default, is_default_to, default_among, broken}
 use Rattle.gtp_machine.proofs.Sound.Broken.{breaks_by_default}
+use Rattle.gtp_machine.proofs.Basics.Facts.{same_number, equal_itself}
 use Rattle.gtp_gateway.specs.Broken.{is_broken}
 use Rattle.gtp_gateway.specs.Station.{Station, IsWhole}
 use Rattle.gtp_gateway.proofs.Columns.{session_stands}
@@ -24,15 +24,9 @@ kind_is : (k : Kind) → is_default k ≡ true → k ≡ Default
 kind_is Default h = refl
 kind_is Dedicated h = absurd cc
 
-tied : (a b : ℕ) → (a == b) ≡ true → a ≡ b
-tied a b h = grind (arith, nat_tests)
-
-itself : (a : ℕ) → (a == a) ≡ true
-itself a = grind (arith, nat_tests)
-
 remote_is : (remote : ℕ) (o : Option ℕ) → is_to remote o ≡ true → o ≡ Some remote
 remote_is remote None h = absurd cc
-remote_is remote (Some t) h = ap Some (tied t remote h)
+remote_is remote (Some t) h = ap Some (same_number t remote h)
 
 module _ (m : FiniteMap Bearer) (remote session : ℕ) where
   among : HasDefault m remote session → default_among remote session m ≡ true
@@ -42,7 +36,7 @@ module _ (m : FiniteMap Bearer) (remote session : ℕ) where
       ap (λ (k : Kind). is_default k && is_to remote b.remote && (b.session == session)) d.default
       ∙ (ap (λ (o : Option ℕ). true && is_to remote o && (b.session == session)) d.at.has
       ∙ (ap (λ (n : ℕ). true && (remote == remote) && (n == session)) d.of
-      ∙ (ap (λ (c : Bool). true && c && (session == session)) (itself remote) ∙ itself session))) in
+      ∙ (ap (λ (c : Bool). true && c && (session == session)) (equal_itself remote) ∙ equal_itself session))) in
       (breaks_by_default remote session m).1 (d.teid, b, d.at.stands, is)
 
   has : default_among remote session m ≡ true → HasDefault m remote session
@@ -50,7 +44,7 @@ module _ (m : FiniteMap Bearer) (remote session : ℕ) where
       let at = (breaks_by_default remote session m).0 is in
       let b : Bearer = at.1 in
       let parts = three (is_default b.kind) (is_to remote b.remote) (b.session == session) at.3 in
-      record { teid = at.0; at = record { bearer = b; stands = at.2; has = remote_is remote b.remote parts.1 }; default = kind_is b.kind parts.0; of = tied b.session session parts.2 }
+      record { teid = at.0; at = record { bearer = b; stands = at.2; has = remote_is remote b.remote parts.1 }; default = kind_is b.kind parts.0; of = same_number b.session session parts.2 }
 
   -- a session goes where its default bearer has the remote
   pub default_same : (r : Bool) → IsTrue r ↔ HasDefault m remote session → r ≡ default_among remote session m

@@ -1,15 +1,14 @@
 -- What a gateway chooses for what it makes: of what is free, the lowest.
-use Rattle.std.proofs.Common.{◌≡◌, ◌<◌, ℕ, Bool, true, false, Option, Some, None, refl, sym, ◌∙◌, arith}
-use Rattle.std.specs.FinMap.{get, insert}
-use Rattle.gtp_values.specs.FiniteMap.{FiniteMap}
-use Rattle.gtp_machine.specs.Node.{Bearer, Node}
+use Rattle.std.proofs.Common.{◌≡◌, ℕ, Bool, true, false, refl, sym, ◌∙◌}
+use Rattle.std.specs.FinMap.{insert}
+use Rattle.gtp_machine.specs.Node.{Node}
 use Rattle.gtp_gateway.specs.declared.granting.BearerAnswer.{BearerAnswer}
 use Rattle.gtp_gateway.specs.declared.granting.BearerAnswer.TheVariants.{Refused, NoResources, Granted}
 use Rattle.gtp_gateway.specs.declared.granting.BearerRequest.{BearerRequest}
 use Rattle.gtp_gateway.specs.declared.hearing.Heard.{Heard}
 use Rattle.gtp_gateway.specs.declared.session_grant.Grant.{Grant}
 use Rattle.gtp_gateway.specs.declared.session_request.SessionRequest.{SessionRequest}
-use Rattle.gtp_gateway.specs.Change.{changed_by, IsAbove}
+use Rattle.gtp_gateway.specs.Change.{changed_by}
 use Rattle.gtp_gateway.specs.Choosing.{MakesLowestSession, MakesLowestBearer}
 use Rattle.gtp_gateway.specs.Grant.{Chooses, session_of}
 use Rattle.gtp_gateway.specs.Granting.{IsChosen, is_granted, change_for, granted_to}
@@ -33,17 +32,6 @@ lowest_session identity r g heard old new chosen is = record {
   lowest = chosen.lowest;
 }
 
--- a TEID above all others has no bearer
-no_bearer : (bearers : FiniteMap Bearer) (t : ℕ) → IsAbove bearers t → get bearers t ≡ None
-no_bearer bearers t above = by (get bearers t) refl
-  where
-    below_itself : (n : ℕ) → n < n → ⊥
-    below_itself n h = omega (arith, h)
-
-    by : (o : Option Bearer) → get bearers t ≡ o → o ≡ None
-    by None is = refl
-    by (Some b) is = absurd (below_itself t (above t b is))
-
 pub lowest_bearer : (r : BearerRequest) (a : BearerAnswer) (old new : Node) → IsChosen r.header.0 a old → new.bearers ≡ (changed_by (change_for r a) old).bearers → is_granted a ≡ true → MakesLowestBearer old new
 lowest_bearer r (Refused cause) old new chosen is granted = absurd cc
 lowest_bearer r NoResources old new chosen is granted = absurd cc
@@ -53,8 +41,8 @@ lowest_bearer r (Granted g) old new chosen is granted = record {
   others = old.bearers;
   identity = g.identity;
   bearers = is;
-  beside = no_bearer old.bearers g.drawn.teid.0 chosen.drawn.above;
-  before = no_bearer old.bearers g.drawn.teid.0 chosen.drawn.above;
+  beside = none_above old.bearers g.drawn.teid.0 chosen.drawn.above;
+  before = none_above old.bearers g.drawn.teid.0 chosen.drawn.above;
   has = refl;
   lowest = chosen.identity;
 }

@@ -16,6 +16,7 @@ use Rattle.gtp_values.specs.declared.qos.Qos.{Qos}
 use Rattle.gtp_machine.specs.Input.{Effect, says, refused}
 use Rattle.gtp_machine.specs.Sound.{IsSound}
 use Rattle.gtp_machine.specs.declared.outcome.Refusal.{Refusal}
+use Rattle.gtp_machine.proofs.Basics.Facts.{one_value}
 use Rattle.gtp_gateway.specs.declared.fault.CommandFault.{CommandFault}
 use Rattle.gtp_gateway.specs.declared.fault.CommandFault.TheVariants as faults
 use Rattle.gtp_gateway.specs.declared.sent.Begun.{Begun}
@@ -85,9 +86,6 @@ Told r why = r ≡ Err (faults.Refused why)
 one_fault : (r : Result Begun CommandFault) (why other : Refusal) → Told r why → Told r other → why ≡ other
 one_fault r why other a b = cc
 
-same_bearer : (o : Option Bearer) (b d : Bearer) → o ≡ Some b → o ≡ Some d → b ≡ d
-same_bearer o b d x y = cc
-
 module _ (old : Node) (r : Result Begun CommandFault) where
   -- the rule applies, and no other is looked at
   pub only : (reason : Refusal) → Told r reason → (why : Refusal) → Told r why ↔ (refused old why ≡ refused old reason)
@@ -111,19 +109,12 @@ module _ (old : Node) (r : Result Begun CommandFault) where
   -- a bearer stands there, and the rules after it look at no more than the bearer
   pub goes_bearer : (Rest : Bearer → Type 0) (t : ℕ) (b : Bearer) (reason why : Refusal) → get old.bearers t ≡ Some b → Told r why ↔ Rest b → Told r why ↔ Unless (HasBearer old t) (refused old why ≡ refused old reason) (λ at. Rest at.bearer)
   goes_bearer Rest t b reason why stands rest =
-      goes {P = HasBearer old t} {Next = λ at. Rest at.bearer} reason why (record { bearer = b; stands = stands }) (λ at. subst (λ (x : Bearer). Told r why ↔ Rest x) (same_bearer (get old.bearers t) b at.bearer stands at.stands) rest)
-
-  -- no bearer stands there
-  pub no_bearer : (t : ℕ) → get old.bearers t ≡ None → HasBearer old t → ⊥
-  no_bearer t none at = let same : None ≡ Some at.bearer = sym none ∙ at.stands in cc
-
-same_session : (o : Option Session) (s t : Session) → o ≡ Some s → o ≡ Some t → s ≡ t
-same_session o s t x y = cc
+      goes {P = HasBearer old t} {Next = λ at. Rest at.bearer} reason why (record { bearer = b; stands = stands }) (λ at. subst (λ (x : Bearer). Told r why ↔ Rest x) (one_value (get old.bearers t) b at.bearer stands at.stands) rest)
 
 -- a session stands there, and the rules after it look at no more than the session
 pub goes_session : (old : Node) (r : Result Begun CommandFault) (Rest : Session → Type 0) (t : ℕ) (s : Session) (reason why : Refusal) → get old.sessions t ≡ Some s → Told r why ↔ Rest s → Told r why ↔ Unless (HasSession old t) (refused old why ≡ refused old reason) (λ at. Rest at.session)
 goes_session old r Rest t s reason why stands rest =
-    goes old r {P = HasSession old t} {Next = λ at. Rest at.session} reason why (record { session = s; stands = stands }) (λ at. subst (λ (x : Session). Told r why ↔ Rest x) (same_session (get old.sessions t) s at.session stands at.stands) rest)
+    goes old r {P = HasSession old t} {Next = λ at. Rest at.session} reason why (record { session = s; stands = stands }) (λ at. subst (λ (x : Session). Told r why ↔ Rest x) (one_value (get old.sessions t) s at.session stands at.stands) rest)
 
 -- the session of a bearer of a sound gateway stands
 pub session_stands : (s : Station) (t : ℕ) (b : Bearer) → IsWhole s → get s.node.bearers t ≡ Some b → HasSession s.node b.session

@@ -1,5 +1,5 @@
 -- How many identities the list of a Delete Bearer Request has, where it lies.
-use Rattle.std.proofs.Common.{◌≡◌, inl, inr, ℕ, suc, List, [], ◌∷◌, map, length, drop, Option, Some, Result, Ok, refl, sym, ◌∙◌, ap, subst}
+use Rattle.std.proofs.Common.{◌≡◌, ℕ, suc, List, [], ◌∷◌, map, length, drop, Option, Some, Result, Ok, refl, sym, ◌∙◌, ap, subst}
 use Rattle.std.proofs.lemmas.List.{length-map}
 use Rattle.gtp_ie.specs.declared.value.numbers.EbiValue.{EbiValue}
 use Rattle.gtp_ie.specs.Element.{Element, all_of}
@@ -11,31 +11,14 @@ use Rattle.gtp_v2.specs.Datagram.{IsMessage, CarriesBy}
 use Rattle.gtp_v2.specs.DeleteBearerRequest.{delete_bearer_request}
 use Rattle.gtp_v2.specs.Grammar.{EachIs, OneIs, LinesAre}
 use Rattle.gtp_v2.specs.Headed.{Headed}
-use Rattle.gtp_v2.specs.Header.{IsHeaded}
 use Rattle.gtp_v2.specs.Message.{Content, Fields, MessageValue}
 use Rattle.gtp_v2.specs.Table.{Field, Plain, Table, start}
 use Rattle.gtp_v2.specs.Tables.{table_of}
 use Rattle.gtp_v2.specs.Viewed.{Viewed, place_of, ElementsAre, Carries}
+use Rattle.gtp_v2.proofs.Carried.{after_header}
 use Rattle.gtp_v2.proofs.Decided.{whole_decided}
 use Rattle.gtp_gateway.specs.Ending.{ReadsIdentities}
 use Rattle.gtp_gateway.proofs.InPlace.{fields_of}
-
--- where the octets after a header begin
-record IsAfter (octets : List ℕ) (h : Headed) : Type 0 where
-  pub place : place_of h.teid ≡ h.at
-  pub rest : drop h.at octets ≡ h.rest
-
-after_header : (octets : List ℕ) (h : Headed) → IsHeaded octets h → IsAfter octets h
-after_header octets h is = elim is [
-  | inl (flags, a, b, c, spare, small, (high, low, lt, text, long), e) ↦
-      let at : h.at ≡ 8 = ap (λ (x : Headed). x.at) e in
-      let teid : place_of h.teid ≡ 8 = ap (λ (x : Headed). place_of x.teid) e in
-      record { place = teid ∙ sym at; rest = ap (λ (n : ℕ). drop n octets) at ∙ ap (drop 8) text }
-  | inr (flags, a, b, c, d, p, q, r, last, small, (high, low, lt, text, long), e) ↦
-      let at : h.at ≡ 12 = ap (λ (x : Headed). x.at) e in
-      let teid : place_of h.teid ≡ 12 = ap (λ (x : Headed). place_of x.teid) e in
-      record { place = teid ∙ sym at; rest = ap (λ (n : ℕ). drop n octets) at ∙ ap (drop 12) text }
-]
 
 abbrev read_as : List Element → Result (List Element) RowFault
 read_as es = Ok es

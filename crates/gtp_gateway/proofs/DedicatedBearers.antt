@@ -1,32 +1,24 @@
 -- The dedicated bearer that a command names.
-use Rattle.std.proofs.Common.{◌≡◌, ◌↔◌, ℕ, Bool, true, false, Option, Some, refl, sym, ◌∙◌, ap, subst, arith}
+use Rattle.std.proofs.Common.{◌≡◌, ◌↔◌, ℕ, Bool, true, false, Some, refl, sym, ◌∙◌, ap, subst}
 use Rattle.std.specs.Prelude.{◌==◌}
-use Rattle.std.proofs.lemmas.Bool.Decides.{nat_tests}
 use Rattle.std.specs.FinMap.{get}
 use mathlib.Core.Logic.{∥∥₁_elim}
 use Rattle.gtp_machine.specs.Command.{NamesBearer}
 use Rattle.gtp_machine.specs.Ordered.{Unless}
 use Rattle.gtp_machine.specs.Input.{refused}
 use Rattle.gtp_machine.specs.Node as nodes
-use Rattle.gtp_machine.specs.Node.{Bearer, Node}
+use Rattle.gtp_machine.specs.Node.{Bearer}
 use Rattle.gtp_machine.specs.Sound.{IsSound}
 use Rattle.gtp_machine.specs.declared.outcome.Refusal.{Refusal}
 use Rattle.gtp_gateway.specs.declared.bearer.Dedicated.{Dedicated}
 use Rattle.gtp_gateway.specs.declared.fault.CommandFault.{CommandFault}
 use Rattle.gtp_gateway.specs.declared.sent.Begun.{Begun}
 use Rattle.std.proofs.Common.{Result}
+use Rattle.gtp_v2.proofs.Headers.{unequal}
+use Rattle.gtp_machine.proofs.Basics.Facts.{one_value, same_number}
 use Rattle.gtp_gateway.specs.Dedicated.{IsDedicated}
 use Rattle.gtp_gateway.specs.Station.{Station, IsWhole}
 use Rattle.gtp_gateway.proofs.Columns.{Told, goes}
-
-other_key : (a b : ℕ) → (a == b) ≡ false → a ≡ b → ⊥
-other_key a b differ same = grind (arith, nat_tests, differ, same)
-
-same_key : (a b : ℕ) → (a == b) ≡ true → a ≡ b
-same_key a b same = grind (arith, nat_tests, same)
-
-pub one_bearer : (o : Option Bearer) (b d : Bearer) → o ≡ Some b → o ≡ Some d → b ≡ d
-one_bearer o b d x y = cc
 
 module _ (s : Station) (whole : IsWhole s) (session identity : ℕ) where
   -- two bearers of the session with the identity stand under one TEID
@@ -34,17 +26,17 @@ module _ (s : Station) (whole : IsWhole s) (session identity : ℕ) where
   one_named t k b d b_stands b_of b_has d_stands d_of d_has = by (t == k) refl
     where
       none : IsSound s.role s.node → (t == k) ≡ false → ⊥
-      none sound differ = other_key t k differ (sound.contexts.apart t k b d identity b_stands d_stands (b_of ∙ sym d_of) b_has d_has)
+      none sound differ = unequal t k differ (sound.contexts.apart t k b d identity b_stands d_stands (b_of ∙ sym d_of) b_has d_has)
 
       by : (e : Bool) → (t == k) ≡ e → t ≡ k
-      by true same = same_key t k same
+      by true same = same_number t k same
       by false differ = absurd (∥∥₁_elim whole (λ x y. absurd x) (λ sound. none sound differ))
 
   -- where the bearer with the identity is not a dedicated one, none is
   pub not_named : (t : ℕ) (b : Bearer) → get s.node.bearers t ≡ Some b → b.session ≡ session → b.identity ≡ Some identity → (b.kind ≡ nodes.Dedicated → ⊥) → NamesBearer s.node session identity → ⊥
   not_named t b stands of has not named =
       let same : t ≡ named.key = one_named t named.key b named.at.bearer stands of has named.at.stands named.of named.has in
-      let one : b ≡ named.at.bearer = one_bearer (get s.node.bearers t) b named.at.bearer stands (ap (get s.node.bearers) same ∙ named.at.stands) in
+      let one : b ≡ named.at.bearer = one_value (get s.node.bearers t) b named.at.bearer stands (ap (get s.node.bearers) same ∙ named.at.stands) in
       not (ap (λ (x : Bearer). x.kind) one ∙ named.dedicated)
 
   -- the rules after the look-up look at no more than that bearer
@@ -54,5 +46,5 @@ module _ (s : Station) (whole : IsWhole s) (session identity : ℕ) where
       (record { key = d.teid.0; at = record { bearer = d.bearer; stands = is.stands }; of = is.of; dedicated = is.dedicated; has = is.has })
       (λ named.
       let same : d.teid.0 ≡ named.key = one_named d.teid.0 named.key d.bearer named.at.bearer is.stands is.of is.has named.at.stands named.of named.has in
-      let one : d.bearer ≡ named.at.bearer = one_bearer (get s.node.bearers d.teid.0) d.bearer named.at.bearer is.stands (ap (get s.node.bearers) same ∙ named.at.stands) in
+      let one : d.bearer ≡ named.at.bearer = one_value (get s.node.bearers d.teid.0) d.bearer named.at.bearer is.stands (ap (get s.node.bearers) same ∙ named.at.stands) in
       subst (λ (k : ℕ). Told r why ↔ Rest k named.at.bearer) same (subst (λ (x : Bearer). Told r why ↔ Rest d.teid.0 x) one rest))

@@ -1,7 +1,6 @@
 -- Requests that are finished, as the machine's finite map.
-use Rattle.std.proofs.Common.{◌≡◌, ℕ, Bool, true, false, cond, List, [], ◌∷◌, map, Some, None, refl, sym, ◌∙◌, ap, subst, arith}
+use Rattle.std.proofs.Common.{◌≡◌, ℕ, Bool, true, false, cond, List, [], ◌∷◌, map, Some, None, refl, sym, ◌∙◌, ap, subst}
 use Rattle.std.specs.Prelude.{filter}
-use Rattle.std.proofs.lemmas.Bool.Decides.{nat_tests}
 use Rattle.std.specs.FinMap.{find, get-from_entries, same_map, nat_cmp-IsAntisymmetric}
 use Rattle.std.specs.Ordering.{nat_cmp, eq_by_cmp}
 use Rattle.std.specs.Cmp.{nat_cmp_total}
@@ -10,12 +9,10 @@ use Rattle.gtp_tables.proofs.Kept.{passing, get_kept}
 use Rattle.gtp_reliable.specs.Waiting.{Waiting}
 use Rattle.gtp_reliable.specs.Pending.{is_pending, AreDistinct}
 use Rattle.gtp_machine.specs.Node.{PendingRequest}
+use Rattle.gtp_machine.proofs.Basics.Counting.{tied}
 use Rattle.gtp_gateway.specs.declared.purpose.Purpose.{Purpose}
 use Rattle.gtp_gateway.specs.Parts.{pending_of, pending_in}
 use Rattle.gtp_gateway.proofs.Requests.{not_found}
-
-pub tied : (a b : ℕ) → eq_by_cmp nat_cmp a b ≡ true → a ≡ b
-tied a b h = grind (arith, nat_tests)
 
 module _ (test : PendingRequest → Bool) where
   -- the requests that pass

@@ -1,8 +1,7 @@
 -- Requests that a tick gives up, as the machine's moves.
-use Rattle.std.proofs.Common.{◌≡◌, inl, inr, ℕ, Bool, true, false, cond, List, [], ◌∷◌, ◌++◌, map, Option, Some, None, refl, sym, ◌∙◌, ap, subst, arith}
+use Rattle.std.proofs.Common.{◌≡◌, inl, inr, ℕ, Bool, true, false, cond, List, [], ◌∷◌, ◌++◌, map, Option, Some, None, refl, sym, ◌∙◌, ap, subst}
 use Rattle.std.specs.Prelude.{filter, not, ◌||◌, ◌&&◌, ◌==◌}
 use Rattle.std.specs.List.{AllByRecursion, filter_map, cons_option}
-use Rattle.std.proofs.lemmas.Bool.Decides.{nat_tests}
 use Rattle.std.proofs.lemmas.List.Elements.{All-from_recursion, recursion_from_All}
 use Rattle.std.specs.FinMap.{get, find, from_entries, get-from_entries}
 use Rattle.std.specs.Ordering.{nat_cmp, eq_by_cmp}
@@ -12,6 +11,7 @@ use Rattle.gtp_values.specs.FiniteMap.{Among}
 use Rattle.gtp_reliable.specs.declared.waiting.NextTick.{NextTick}
 use Rattle.gtp_reliable.specs.declared.waiting.NextTick.TheVariants.{WaitsOn, SentAgain, GivenUp}
 use Rattle.gtp_reliable.specs.Waiting.{Waiting, next_tick, after_tick, after_tick_by, given_up, given_up_by}
+use Rattle.gtp_tables.proofs.Found.{itself}
 use Rattle.gtp_machine.specs.Input.{Move, Give_up, Out, nothing}
 use Rattle.gtp_machine.specs.declared.outcome.Outcome.TheVariants.{Moved}
 use Rattle.gtp_machine.specs.Node.{PendingRequest, Node}
@@ -19,6 +19,7 @@ use Rattle.gtp_machine.specs.Removal.{on, finished_about, finished}
 use Rattle.gtp_machine.specs.Tick.{TickStep, AreGiveUps}
 use Rattle.gtp_machine.proofs.Basics.FiniteMaps.{found-kept, found-remove}
 use Rattle.gtp_machine.proofs.Changes.Shrinking.{Shrunk-finished}
+use Rattle.gtp_machine.proofs.Basics.Facts.{one_value, equal_itself}
 use Rattle.gtp_gateway.specs.declared.purpose.Purpose.{Purpose}
 use Rattle.gtp_gateway.specs.Parts.{pending_of, pending_in}
 use Rattle.gtp_gateway.specs.Spelled.{IsAsked, AreAsked}
@@ -61,9 +62,6 @@ goes_on number numbers false old mid others new (absent, is) each = inl (absent,
 
 -- ---- what was due to be given up waits no more
 
-eq_itself : (a : ℕ) → (a == a) ≡ true
-eq_itself a = grind (arith, nat_tests)
-
 not_first : (a b : Bool) → a ≡ true → not (a || b) ≡ true → ⊥
 not_first true b is h = cc
 not_first false b is h = cc
@@ -73,18 +71,15 @@ not_second true b is h = cc
 not_second false true is h = cc
 not_second false false is h = cc
 
-same_request : (o : Option PendingRequest) (p q : PendingRequest) → o ≡ Some p → o ≡ Some q → p ≡ q
-same_request o p q a b = cc
-
 gone_about : (node : Node) (number : ℕ) (session bearer : Option ℕ) (p : PendingRequest) → p.session ≡ session → p.bearer ≡ bearer → get node.pending number ≡ Some p → (q : PendingRequest) → get (finished_about node number session bearer).pending number ≡ Some q → ⊥
 gone_about node number session (Some t) p s b waits q still =
     let found = found-kept (λ n (x : PendingRequest). not (on (λ k. false) x.session || on (λ k. k == t) x.bearer)) node.pending number q still in
-    let same = same_request (get node.pending number) q p found.1 waits in
-    not_second (on (λ k. false) q.session) (on (λ k. k == t) q.bearer) (ap (on (λ k. k == t)) (ap (λ (x : PendingRequest). x.bearer) same ∙ b) ∙ eq_itself t) found.0
+    let same = one_value (get node.pending number) q p found.1 waits in
+    not_second (on (λ k. false) q.session) (on (λ k. k == t) q.bearer) (ap (on (λ k. k == t)) (ap (λ (x : PendingRequest). x.bearer) same ∙ b) ∙ equal_itself t) found.0
 gone_about node number (Some t) None p s b waits q still =
     let found = found-kept (λ n (x : PendingRequest). not (on (λ k. k == t) x.session || on (λ k. false) x.bearer)) node.pending number q still in
-    let same = same_request (get node.pending number) q p found.1 waits in
-    not_first (on (λ k. k == t) q.session) (on (λ k. false) q.bearer) (ap (on (λ k. k == t)) (ap (λ (x : PendingRequest). x.session) same ∙ s) ∙ eq_itself t) found.0
+    let same = one_value (get node.pending number) q p found.1 waits in
+    not_first (on (λ k. k == t) q.session) (on (λ k. false) q.bearer) (ap (on (λ k. k == t)) (ap (λ (x : PendingRequest). x.session) same ∙ s) ∙ equal_itself t) found.0
 gone_about node number None None p s b waits q still = (found-remove node.pending number number q still).0 refl
 
 -- what waits after the give-ups waited before
@@ -103,9 +98,6 @@ none_waits (number ∷ numbers) old told new (inr (at, (others, each, told_is)))
 none_waits (number ∷ numbers) old told new (inr (at, (others, each, told_is))) n (inr there) p waits = none_waits numbers (finished old number at.pending) others new each n there p waits
 
 -- ---- the requests that are left
-
-itself : (a : ℕ) → eq_by_cmp nat_cmp a a ≡ true
-itself a = grind (arith, nat_tests)
 
 record Found (ws : List (Waiting Purpose)) (n : ℕ) : Type 0 where
   pub request : PendingRequest

@@ -371,6 +371,9 @@ session_asked octets m of is = let f = fields_of 32 create_session_request octet
         }
     by (a ∷ b ∷ c ∷ d ∷ e ∷ f ∷ g ∷ h ∷ i ∷ j ∷ k ∷ l ∷ fs) es are content = absurd cc
 
+pub asked : (m : MessageValue) (spelled : (octets : List ℕ) × IsMessage octets m) → m.kind ≡ 32 → IsSessionRequest m
+asked m (octets, is) of = session_asked octets m of is
+
 -- ---- the sender's restart counter
 
 needed : (v : Value) (r : Option Recovery) → option_map (λ (x : Recovery). OfRecovery x.0.0) r ≡ Some v → option_map (λ (x : Recovery). x.0.0) r ≡ Some (number_at (v ∷ []))

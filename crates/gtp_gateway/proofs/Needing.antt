@@ -20,7 +20,7 @@ use Rattle.gtp_machine.specs.Packet.{SessionJudged, SessionAsked, DeletionJudged
 use Rattle.gtp_machine.specs.Recovery.{Judges, Weighs, Hears}
 use Rattle.gtp_machine.specs.Serving.{BearerJudged, BearerAsked, RemovalTaken, RemovalJudged, RemovalAsked, SessionAnswered, FitsSession, DescribesSession, ServingFaulted, ServingReads}
 use Rattle.gtp_machine.specs.Step.{Step as MachineStep}
-use Rattle.gtp_machine.proofs.Sound.Parts.{one_value}
+use Rattle.gtp_machine.proofs.Basics.Facts.{one_value}
 use Rattle.gtp_gateway.specs.declared.faulty.Request.{Request}
 use Rattle.gtp_gateway.specs.declared.faulty.Request.TheVariants as requests
 use Rattle.gtp_gateway.specs.declared.procedure.Procedure.TheVariants as procedures

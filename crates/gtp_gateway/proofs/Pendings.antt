@@ -81,9 +81,6 @@ request_or_none o = o
 abbrev one : ℕ → Option ℕ
 one n = Some n
 
-pub one_request : (o : Option PendingRequest) (p q : PendingRequest) → o ≡ Some p → o ≡ Some q → p ≡ q
-one_request o p q a b = cc
-
 -- ---- which requests a response fits
 
 pub echo_there : (purpose : Purpose) (m : Message) → is_for purpose m ≡ true → FitsEcho purpose → IsEcho (about purpose m)

@@ -1,18 +1,15 @@
 -- What is read on the control plane is of the control plane.
-use Rattle.std.proofs.Common.{◌≡◌, ℕ, Bool, true, false, List, [], ◌∷◌, Option, Some, None, Result, Ok, Err, refl}
+use Rattle.std.proofs.Common.{◌≡◌, ℕ, Bool, true, false, List, [], ◌∷◌, Result, Ok, Err, refl}
 use Rattle.std.specs.Prelude.{◌==◌, if◌then◌else◌}
 use Rattle.gtp_v2.specs.Table.{Field}
 use Rattle.gtp_v2.specs.Message.{Content, Fields, Raw, MessageValue, message_at}
-use Rattle.gtp_v2.specs.declared.fault.Head.{Head}
 use Rattle.gtp_v2.specs.declared.fault.V2Fault.{V2Fault}
-use Rattle.gtp_v2.specs.declared.fault.V2Fault.TheVariants as faults
-use Rattle.gtp_ie.specs.declared.fault.IeFault.{IeFault}
-use Rattle.gtp_ie.specs.declared.fault.IeFault.TheVariants as elements
 use Rattle.gtp_ie.specs.Value.{Value}
 use Rattle.gtp_machine.specs.Message.{Message, Control, plane_of}
 use Rattle.gtp_machine.specs.Decoded.{groups_at, session_request_in, bearer_request_in, message_in, content_message, message_of}
-use Rattle.gtp_machine.specs.Input.{ControlReading, Control_message, Faulty, Control_fault, RequestKind, Defect, Too_short, Out_of_range}
-use Rattle.gtp_machine.specs.Reading.{request_kind, defect_in, missing_in, element_fault, control_fault, control_reading_of}
+use Rattle.gtp_machine.specs.Input.{ControlReading, Control_message, Faulty, Control_fault}
+use Rattle.gtp_machine.specs.Reading.{control_fault, control_reading_of}
+use Rattle.gtp_machine.proofs.Octets.Faults.{IsFault, fault_is}
 use Rattle.gtp_gateway.specs.Spelled as kept
 
 abbrev IsControl : Message → Type 0
@@ -50,12 +47,6 @@ content kind header number (Raw octets) = refl
 message : (m : MessageValue) → IsControl (message_of m)
 message m = content m.kind _ m.seq m.content
 
--- a fault is no message
-abbrev IsFault : ControlReading → Type 0
-IsFault (Control_message m) = ⊥
-IsFault (Faulty f) = Unit {0}
-IsFault (Control_fault fault) = Unit {0}
-
 -- what the outcome of reading says is of the control plane, where it is a message
 outcome : (r : Result MessageValue V2Fault) → IsControl (kept.message_read (control_reading_of r))
 outcome (Ok m) = message m
@@ -65,28 +56,6 @@ outcome (Err fault) = faulty (control_fault fault) (fault_is fault)
     faulty (Control_message m) is = absurd is
     faulty (Faulty f) is = refl
     faulty (Control_fault fault) is = refl
-
-    defect_is : (kind : Option RequestKind) (head : Head) (defect : Defect) (element instance : ℕ) → IsFault (defect_in kind head defect element instance)
-    defect_is None head defect element instance = tt
-    defect_is (Some kind) head defect element instance = tt
-
-    element_is : (head : Head) (fault : IeFault) → IsFault (element_fault head fault)
-    element_is head (elements.Truncated at) = tt
-    element_is head (elements.ShortValue kind instance at) = defect_is (request_kind head.kind) head Too_short kind instance
-    element_is head (elements.BadValue kind instance at) = defect_is (request_kind head.kind) head Out_of_range kind instance
-    element_is head elements.Memory = tt
-    element_is head elements.TooLong = tt
-
-    fault_is : (fault : V2Fault) → IsFault (control_fault fault)
-    fault_is (faults.Short held) = tt
-    fault_is (faults.Version version) = tt
-    fault_is faults.Piggyback = tt
-    fault_is (faults.Length stated held) = tt
-    fault_is (faults.FlagT kind) = tt
-    fault_is (faults.Missing kind instance conditional head) = defect_is (request_kind head.kind) head (missing_in conditional) kind instance
-    fault_is (faults.Element fault head) = element_is head fault
-    fault_is faults.Memory = tt
-    fault_is faults.TooLong = tt
 
 pub control_kept : (octets : List ℕ) → plane_of (kept.message_in octets) ≡ Control
 unfolding kept.message_in

@@ -1,6 +1,6 @@
 -- Requests that wait, as the machine's finite map.
-use Rattle.std.proofs.Common.{◌≡◌, ℕ, ◌≤◌, Bool, true, false, cond, List, [], ◌∷◌, ◌++◌, length, map, Some, None, refl, ◌∙◌, ap, arith}
-use Rattle.std.specs.Prelude.{◌==◌, ◌||◌}
+use Rattle.std.proofs.Common.{◌≡◌, ℕ, ◌≤◌, Bool, false, cond, List, [], ◌∷◌, ◌++◌, length, map, Some, None, refl, ◌∙◌, ap, arith}
+use Rattle.std.specs.Prelude.{◌==◌}
 use Rattle.std.specs.List.{list_any}
 use Rattle.std.proofs.lemmas.List.{map_push}
 use Rattle.std.proofs.lemmas.Bool.Decides.{nat_tests}
@@ -9,13 +9,10 @@ use Rattle.std.specs.Ordering.{nat_cmp, eq_by_cmp}
 use Rattle.std.specs.Cmp.{nat_cmp_total}
 use Rattle.gtp_reliable.specs.Waiting.{Waiting}
 use Rattle.gtp_reliable.specs.Pending.{is_pending, AreDistinct, IsNextFree}
+use Rattle.gtp_reliable.proofs.Requests.{or_false}
 use Rattle.gtp_machine.specs.Node.{PendingRequest}
 use Rattle.gtp_gateway.specs.declared.purpose.Purpose.{Purpose}
 use Rattle.gtp_gateway.specs.Parts.{pending_of, pending_in}
-
-or_false : (a b : Bool) → (a || b) ≡ false → (a ≡ false) × (b ≡ false)
-or_false true b h = absurd cc
-or_false false b h = (refl, h)
 
 turned : (a b : ℕ) → (a == b) ≡ false → eq_by_cmp nat_cmp b a ≡ false
 turned a b h = grind (arith, nat_tests)

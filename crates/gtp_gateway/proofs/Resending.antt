@@ -1,8 +1,7 @@
 -- Requests that a tick sends again, as the machine's moves.
-use Rattle.std.proofs.Common.{◌≡◌, inl, inr, ℕ, Bool, true, false, cond, List, [], ◌∷◌, ◌++◌, map, Option, Some, None, refl, sym, ◌∙◌, ap, subst, arith}
+use Rattle.std.proofs.Common.{◌≡◌, inl, inr, ℕ, Bool, true, false, cond, List, [], ◌∷◌, ◌++◌, map, Option, Some, None, refl, sym, ◌∙◌, ap, subst}
 use Rattle.std.specs.Prelude.{All}
 use Rattle.std.specs.List.{AllByRecursion, filter_map, cons_option}
-use Rattle.std.proofs.lemmas.Bool.Decides.{nat_tests}
 use Rattle.std.proofs.lemmas.List.Elements.{recursion_from_All, All-nil, All-cons}
 use Rattle.std.specs.FinMap.{get, find, get-from_entries}
 use Rattle.std.specs.Ordering.{nat_cmp, eq_by_cmp}
@@ -14,6 +13,7 @@ use Rattle.gtp_reliable.specs.declared.waiting.NextTick.TheVariants.{WaitsOn, Se
 use Rattle.gtp_reliable.specs.Waiting.{Waiting, next_tick, sent_again, sent_again_by}
 use Rattle.gtp_reliable.specs.Waiting as reliable
 use Rattle.gtp_reliable.specs.Pending.{is_pending, AreDistinct}
+use Rattle.gtp_tables.proofs.Found.{itself}
 use Rattle.gtp_machine.specs.Config.{Config, control_end, own_end}
 use Rattle.gtp_machine.specs.Input.{Move, Resend, Out, Sending, says}
 use Rattle.gtp_machine.specs.declared.outcome.Outcome.TheVariants.{Moved}
@@ -21,13 +21,13 @@ use Rattle.gtp_machine.specs.Message.{Message, Plane, Control, plane_of, Echo_re
 use Rattle.gtp_machine.specs.Node.{PendingRequest, Node}
 use Rattle.gtp_machine.specs.Spelling.{datagram_of, spelled}
 use Rattle.gtp_machine.specs.Tick.{TickStep, joined}
+use Rattle.gtp_machine.proofs.Basics.Counting.{tied}
 use Rattle.gtp_gateway.specs.declared.purpose.Purpose.{Purpose}
 use Rattle.gtp_gateway.specs.declared.purpose.Purpose.TheVariants.{Echo, CreateSession, DeleteSession, ReleaseSession, CreateBearer, DeleteBearer}
 use Rattle.gtp_gateway.specs.Parts.{pending_of, pending_in}
 use Rattle.gtp_gateway.specs.Sent.{ReadsBack, SendingReads}
 use Rattle.gtp_gateway.specs.Spelled.{message_in, is_for, IsAsked, AreAsked}
 use Rattle.gtp_gateway.specs.Ticked.{datagram_again}
-use Rattle.gtp_gateway.proofs.Finished.{tied}
 use Rattle.gtp_gateway.proofs.Requests.{not_found}
 use Rattle.gtp_gateway.proofs.Taking.{kept_back}
 
@@ -57,9 +57,6 @@ of_waiting t3 n3 (w ∷ ws) m among = by (next_tick t3 n3 w) (of_waiting t3 n3 w
     by SentAgain later (inl is) = record { waiting = w; among = inl refl; is = is }
     by SentAgain later (inr there) = of_more w ws m (later there)
     by GivenUp later among = of_more w ws m (later among)
-
-itself : (a : ℕ) → eq_by_cmp nat_cmp a a ≡ true
-itself a = grind (arith, nat_tests)
 
 -- what waits stands under its number
 found_there : (ws : List (Waiting Purpose)) (w : Waiting Purpose) → AreDistinct ws → Among w ws → find nat_cmp w.seq (map pending_of ws) ≡ Some (pending_of w).1

@@ -29,7 +29,7 @@ use Rattle.gtp_machine.specs.Serving.{FitsSession, DescribesSession, opened_sess
 use Rattle.gtp_machine.specs.Sound.{IsSound}
 use mathlib.Core.Logic.{∥∥₁_elim}
 use Rattle.gtp_machine.proofs.Sound.Changes.{is_session}
-use Rattle.gtp_machine.proofs.Sound.Parts.{one_value}
+use Rattle.gtp_machine.proofs.Basics.Facts.{one_value}
 use Rattle.gtp_gateway.specs.declared.hearing.Heard.{Heard}
 use Rattle.gtp_gateway.specs.Hearing.{node_heard}
 use Rattle.gtp_gateway.proofs.Settled.{heard_sound}

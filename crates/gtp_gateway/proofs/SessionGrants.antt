@@ -54,11 +54,11 @@ still_above heard n t above key s is = above key s (sessions_within heard n key 
 below_itself : (n : ℕ) → n < n → ⊥
 below_itself n h = omega (arith, h)
 
--- a TEID above all others has no session
-pub none_above : (sessions : FiniteMap Session) (t : ℕ) → IsAbove sessions t → get sessions t ≡ None
-none_above sessions t above = by (get sessions t) refl
+-- under a TEID above all others nothing stands
+pub none_above : {X : Type 0} (table : FiniteMap X) (t : ℕ) → IsAbove table t → get table t ≡ None
+none_above {X} table t above = by (get table t) refl
   where
-    by : (o : Option Session) → get sessions t ≡ o → o ≡ None
+    by : (o : Option X) → get table t ≡ o → o ≡ None
     by None is = refl
     by (Some s) is = absurd (below_itself t (above t s is))
 

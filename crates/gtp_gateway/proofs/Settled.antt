@@ -19,6 +19,8 @@ use Rattle.gtp_machine.specs.Removal.{on}
 use Rattle.gtp_machine.specs.Sound.{IsSound}
 use Rattle.gtp_machine.proofs.Sound.Changes.{known_sound}
 use Rattle.gtp_machine.proofs.Sound.Rows.{restarted_sound}
+use Rattle.gtp_machine.proofs.Basics.Facts.{one_value}
+use Rattle.gtp_machine.proofs.Basics.Counting.{tied}
 use Rattle.gtp_gateway.specs.declared.hearing.Heard.{Heard}
 use Rattle.gtp_gateway.specs.declared.hearing.Heard.TheVariants.{Nothing, First, Same, Later, Earlier}
 use Rattle.gtp_gateway.specs.declared.purpose.Purpose.{Purpose}
@@ -30,8 +32,6 @@ use Rattle.gtp_gateway.specs.Settled.{goes_after, outcome_by, node_by, effect_by
 use Rattle.gtp_gateway.specs.Row.{IsRow}
 use Rattle.gtp_gateway.specs.Station.{Station}
 use Rattle.gtp_gateway.specs.Taken.{plain_report}
-use Rattle.gtp_gateway.proofs.Finished.{tied}
-use Rattle.gtp_gateway.proofs.Pendings.{one_request}
 use Rattle.gtp_gateway.proofs.Rows.{ends}
 
 -- a request stays, where the peer has restarted
@@ -63,7 +63,7 @@ waits_no_more (First counter) n number purpose m is goes at = absurd cc
 waits_no_more (Same counter) n number purpose m is goes at = absurd cc
 waits_no_more (Later counter) n number purpose m is goes at =
     let found = found-kept (request_stays n) n.pending number at.pending at.waits in
-    let one : at.pending ≡ about purpose m = one_request (get n.pending number) at.pending (about purpose m) found.1 is in
+    let one : at.pending ≡ about purpose m = one_value (get n.pending number) at.pending (about purpose m) found.1 is in
     let stays : true ≡ false = sym found.0 ∙ (ap (request_stays n number) one ∙ ap not goes) in
     cc
 waits_no_more (Earlier counter) n number purpose m is goes at = absurd cc

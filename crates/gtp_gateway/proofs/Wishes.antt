@@ -1,12 +1,12 @@
 -- Commands that ask the peer for something, by their last rule.
-use Rattle.std.proofs.Common.{◌≡◌, ◌↔◌, inl, inr, ℕ, Bool, true, false, Some, refl, ◌∙◌, arith}
+use Rattle.std.proofs.Common.{◌≡◌, ◌↔◌, inl, inr, ℕ, Bool, true, false, Some, refl, ◌∙◌}
 use Rattle.std.specs.Prelude.{◌==◌, ◌&&◌, not}
-use Rattle.std.proofs.lemmas.Bool.Decides.{nat_tests}
 use Rattle.std.specs.Bool.{beq}
 use Rattle.gtp_machine.specs.Ordered.{Unless}
 use Rattle.gtp_machine.specs.Node.{Node, written}
 use Rattle.gtp_machine.specs.Input.{refused}
 use Rattle.gtp_machine.specs.declared.outcome.Refusal.{Refusal}
+use Rattle.gtp_machine.proofs.Basics.Facts.{equal_itself}
 use Rattle.gtp_gateway.specs.declared.wish.Wish.{Wish}
 use Rattle.gtp_gateway.specs.declared.wish.Wish.TheVariants.{Echo, CreateSession, DeleteSession, ReleaseSession, CreateBearer, DeleteBearer}
 use Rattle.gtp_gateway.specs.Asking.{about}
@@ -20,16 +20,13 @@ itself : (b : Bool) → beq b b ≡ true
 itself true = refl
 itself false = refl
 
-self_equal : (n : ℕ) → (n == n) ≡ true
-self_equal n = grind (arith, nat_tests)
-
 -- the request is one that is sent for the purpose
 pub meant : (wish : Wish) (number : _) (old : Node) → is_for (purpose_of wish) (request_of wish number old) ≡ true
 meant Echo number old = refl
-meant (CreateSession drawn spec) number old = (λ i. self_equal drawn.control.0 i && (self_equal drawn.user.0 i && true))
+meant (CreateSession drawn spec) number old = (λ i. equal_itself drawn.control.0 i && (equal_itself drawn.user.0 i && true))
 meant (DeleteSession teid session) number old = itself _
 meant (ReleaseSession teid session) number old = itself _
-meant (CreateBearer drawn session of tft qos) number old = (λ i. (self_equal drawn.teid.0 i) && beq (not (written of.remote == 0)) (not (written of.remote == 0))) ∙ itself _
+meant (CreateBearer drawn session of tft qos) number old = (λ i. (equal_itself drawn.teid.0 i) && beq (not (written of.remote == 0)) (not (written of.remote == 0))) ∙ itself _
 meant (DeleteBearer teid bearer session of identity) number old = itself _
 
 -- the request has the number

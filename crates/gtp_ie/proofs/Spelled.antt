@@ -31,7 +31,7 @@ finds_if : (good : Bool) (w : Value) (P : Type 0) → (good ≡ true → P) → 
 finds_if true w P to from = record { some = λ v h. (to refl, cc); is = λ v h. ap (λ (x : Value). Some x) (sym h.1) }
 finds_if false w P to from = record { some = λ v h. absurd cc; is = λ v h. let e = from h.0 in absurd cc }
 
-join : (a b : Bool) → a ≡ true → b ≡ true → (a && b) ≡ true
+pub join : (a b : Bool) → a ≡ true → b ≡ true → (a && b) ≡ true
 join a b p q = rw (p, q) refl
 
 -- ---- access point names

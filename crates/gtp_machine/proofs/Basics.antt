@@ -1,4 +1,5 @@
 -- Finite maps, numbers that may be absent, and counters that go round.
+pub mod Facts
 pub mod FiniteMaps
 pub mod Options
 pub mod Counting

@@ -1,4 +1,5 @@
 -- What octets read as.
+pub mod Faults
 pub mod ByName
 pub mod ByGrammar
 pub mod Readings

@@ -14,7 +14,7 @@ use Rattle.gtp_reliable.specs.Pending.{is_pending, AreDistinct}
 use Rattle.gtp_reliable.specs.Due.{message_of}
 use Rattle.gtp_reliable.proofs.Lists.{filter_map_some, filter_map_none, stay_and_pass, length_map, fewer_filter}
 
-or_false : (a b : Bool) → (a || b) ≡ false → (a ≡ false) × (b ≡ false)
+pub or_false : (a b : Bool) → (a || b) ≡ false → (a ≡ false) × (b ≡ false)
 or_false true b h = absurd cc
 or_false false b h = (refl, h)
 

@@ -5,4 +5,5 @@ pub mod Lists
 pub mod Pools
 pub mod Spelled
 pub mod Texts
+pub mod Trees
 pub mod Written

@@ -11,7 +11,7 @@ use Rattle.serde_json.specs.Read.{of_json, read, max_depth}
 use Rattle.serde_json.specs.Written.{outline, compact_text}
 use Rattle.serde_json.proofs.Numbers.{number_of-decimal}
 use Rattle.serde_json.proofs.Texts.{print-outline}
-use Rattle.gtp_machine.specs.Input.{Command, Create_session, Delete_session, Create_bearer, Delete_bearer, Release_session, Mark_end, Send_echo, Send_user}
+use Rattle.gtp_machine.specs.Input.{Create_session, Delete_session, Create_bearer, Delete_bearer, Release_session, Mark_end, Send_echo, Send_user}
 use Rattle.gtp_machine.specs.World.{Event, Does, Tick, Deliver, Cut, Restart}
 use Rattle.gtp_scenario.specs.Entries.{Entry, entry_of}
 use Rattle.gtp_scenario.specs.Spelling.{spelling, IsEvent, FitsIn64Bits}

@@ -1,5 +1,6 @@
 pub mod Steps
 pub mod Json
+pub mod Trees
 pub mod Texts
 pub mod Events
 pub mod Entries

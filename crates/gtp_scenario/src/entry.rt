@@ -1,16 +1,16 @@
 //! Entries of the list of events.
 
 ghost use Rattle.std.specs.Prelude.{◌≡◌, ◌≤◌, IfOk, Some, option_map, string_bytes};
-ghost use Rattle.serde_json.specs.View.{view};
 ghost use Rattle.gtp_scenario.specs.Steps.{Gives};
 ghost use Rattle.gtp_scenario.specs.Entries.{entry_of, entry_within};
+ghost use Rattle.gtp_scenario.specs.Trees.{view};
 ghost use Rattle.gtp_scenario.specs.Views.{entry as entry_view};
 
 use crate::event::event_named;
 use crate::fault::Fault;
 use crate::members::{number_or, text_at, text_if, within};
+use crate::tree::Tree;
 use gtp_world::Event;
-use serde_json::Value;
 use std::alloc::Global;
 
 /// An event of a scenario.
@@ -35,7 +35,7 @@ fn copied(alloc: Global, text: Option<&str>) -> Result<Option<String>, Fault>
 }
 
 #[tactic(auto, unfolding(crate::specs::Entries::entry_of))]
-fn entry_of(alloc: Global, value: &Value) -> Result<Entry, Fault>
+fn entry_of(alloc: Global, value: &Tree<'_>) -> Result<Entry, Fault>
     ensures { Gives entry_view result (entry_of (view value.now)) }
 {
     let word = text_at(value, "do").ok_or(Fault::Wrong)?;
@@ -53,7 +53,7 @@ fn entry_of(alloc: Global, value: &Value) -> Result<Entry, Fault>
 
 /// An entry, where there is room for so many events.
 #[tactic(auto, unfolding(crate::specs::Entries::entry_within))]
-pub(crate) fn entry_within(alloc: Global, room: u32, value: &Value) -> Result<Entry, Fault>
+pub(crate) fn entry_within(alloc: Global, room: u32, value: &Tree<'_>) -> Result<Entry, Fault>
     ensures read { Gives entry_view result (entry_within room (view value.now)) }
     ensures fits { IfOk result (λ e. e.times ≤ room) }
 {

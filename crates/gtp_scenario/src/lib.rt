@@ -11,6 +11,7 @@ pub mod laws;
 mod members;
 mod scenario;
 mod text;
+mod tree;
 mod word;
 
 pub use entry::Entry;

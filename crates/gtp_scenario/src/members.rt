@@ -1,46 +1,80 @@
 //! Members of a JSON object.
 
-ghost use Rattle.std.specs.Prelude.{◌≡◌, ◌≤◌, map, IfSome, option_map, string_bytes};
+ghost use Rattle.std.specs.Prelude.{◌≡◌, ◌≤◌, map, IfSome, option_map};
 ghost use Rattle.std.specs.List.{list_all};
-ghost use Rattle.std.specs.BTreeMap.{keys as member_keys};
-ghost use Rattle.serde_json.specs.View.{view};
-ghost use Rattle.serde_json.specs.Find.{get};
-ghost use Rattle.gtp_scenario.specs.Json.{text_at, number_at, text_if, number_or, within, is_among, has_only};
+ghost use Rattle.serde_json.specs.Find.{get, as_str, as_array};
+ghost use Rattle.gtp_scenario.specs.Json.{text_at, whole_number, number_at, text_if, number_or, within, is_among, has_only};
+ghost use Rattle.gtp_scenario.specs.Trees.{view, items_view};
 
-use serde_json::{Map, Value};
+use crate::tree::{Number, Tree, number_of};
+use json::Value;
+
+/// The value of a key.
+pub(crate) fn value_at<'v, 'a>(value: &'v Tree<'a>, key: &str) -> Option<&'v Tree<'a>>
+    ensures { option_map (λ v. view v.now) result ≡ get key.now (view value.now) }
+{
+    value.get(key)
+}
+
+/// The text that a value is.
+pub(crate) fn as_text<'a>(value: &Tree<'a>) -> Option<&'a str>
+    ensures { option_map (λ s. s.now) result ≡ as_str (view value.now) }
+{
+    value.as_str()
+}
+
+/// The whole number from 0 to 2^64 - 1 that a value is.
+pub(crate) fn whole_number(value: &Tree<'_>) -> Option<u64>
+    ensures { result ≡ whole_number (view value.now) }
+{
+    match number_of(value.as_number()?)? {
+        Number::Whole(n) => Some(n),
+        Number::Other => None,
+    }
+}
+
+/// The items of a list.
+pub(crate) fn as_list<'v, 'a>(value: &'v Tree<'a>) -> Option<&'v [Tree<'a>]>
+    ensures { option_map (λ vs. items_view vs.now) result ≡ as_array (view value.now) }
+{
+    match value {
+        Value::Array(items) => Some(items.as_slice()),
+        _ => None,
+    }
+}
 
 /// The text of a key that must be there.
-pub(crate) fn text_at<'v>(value: &'v Value, key: &str) -> Option<&'v str>
+pub(crate) fn text_at<'a>(value: &Tree<'a>, key: &str) -> Option<&'a str>
     ensures { option_map (λ s. s.now) result ≡ text_at key.now (view value.now) }
 {
-    value.get(key)?.as_str()
+    as_text(value_at(value, key)?)
 }
 
 /// The number of a key that must be there.
-pub(crate) fn number_at(value: &Value, key: &str) -> Option<u64>
+pub(crate) fn number_at(value: &Tree<'_>, key: &str) -> Option<u64>
     ensures { result ≡ number_at key.now (view value.now) }
 {
-    value.get(key)?.as_u64()
+    whole_number(value_at(value, key)?)
 }
 
 /// The text of a key that may be absent.
-pub(crate) fn text_if<'v>(value: &'v Value, key: &str) -> Option<Option<&'v str>>
+pub(crate) fn text_if<'a>(value: &Tree<'a>, key: &str) -> Option<Option<&'a str>>
     ensures { option_map (option_map (λ s. s.now)) result
         ≡ text_if (get key.now (view value.now)) }
 {
-    match value.get(key) {
+    match value_at(value, key) {
         None => Some(None),
-        Some(found) => Some(Some(found.as_str()?)),
+        Some(found) => Some(Some(as_text(found)?)),
     }
 }
 
 /// The number of a key that may be absent, and is this one then.
-pub(crate) fn number_or(value: &Value, key: &str, absent: u64) -> Option<u64>
+pub(crate) fn number_or(value: &Tree<'_>, key: &str, absent: u64) -> Option<u64>
     ensures { result ≡ number_or absent (get key.now (view value.now)) }
 {
-    match value.get(key) {
+    match value_at(value, key) {
         None => Some(absent),
-        Some(found) => found.as_u64(),
+        Some(found) => whole_number(found),
     }
 }
 
@@ -68,20 +102,19 @@ fn is_among(keys: &[&str], key: &str) -> bool
     false
 }
 
-/// Whether each key of a map is one of these.
-fn all_among(keys: &[&str], members: &Map<String, Value>) -> bool
-    ensures { result ≡ list_all (λ key. is_among (map (λ k. k.now) keys.now) (string_bytes key))
-        (member_keys members.now) }
+/// Whether each key of the members is one of these.
+fn all_among(keys: &[&str], members: &[(&str, Tree<'_>)]) -> bool
+    ensures { result ≡ list_all (λ m. is_among (map (λ k. k.now) keys.now) m.0.now) members.now }
 {
-    members.keys().all(|key| is_among(keys, key.as_str()))
+    members.iter().all(|member| is_among(keys, member.0))
 }
 
 /// Whether the value is an object with no keys but these.
-pub(crate) fn has_only(value: &Value, keys: &[&str]) -> bool
+pub(crate) fn has_only(value: &Tree<'_>, keys: &[&str]) -> bool
     ensures { result ≡ has_only (map (λ k. k.now) keys.now) (view value.now) }
 {
-    match value.as_object() {
-        Some(members) => all_among(keys, members),
-        None => false,
+    match value {
+        Value::Object(members) => all_among(keys, members.as_slice()),
+        _ => false,
     }
 }

@@ -2,18 +2,20 @@
 
 ghost use Rattle.std.specs.Prelude.{◌≡◌, ◌≤◌, IfOk, map};
 ghost use Rattle.std.specs.Option.{ok_or};
-ghost use Rattle.serde_json.specs.View.{view, items_view};
 ghost use Rattle.gtp_scenario.specs.declared.fault.Refusal.TheVariants as refusals;
 ghost use Rattle.gtp_scenario.specs.Steps.{Gives, Reads};
 ghost use Rattle.gtp_scenario.specs.Entries.{entry_within};
 ghost use Rattle.gtp_scenario.specs.Scenarios.{most_events, json_of, entries_from, scenario_of};
+ghost use Rattle.gtp_scenario.specs.Trees.{view, items_view};
 ghost use Rattle.gtp_scenario.specs.Views.{entry as entry_view, scenario as scenario_view};
 
 use crate::entry::{Entry, entry_within};
 use crate::fault::{Fault, ReadFault, Refusal};
 use crate::head::{events_at, setup_of};
+use crate::tree::{Tree, tree_of};
+use bumpalo::Bump;
 use gtp_world::WorldConfig;
-use serde_json::Value;
+use json::Scratch;
 use std::alloc::Global;
 
 /// The most octets of a scenario.
@@ -31,26 +33,24 @@ pub struct Scenario {
 }
 
 #[tactic(auto, unfolding(crate::specs::Scenarios::json_of))]
-fn json_of(alloc: Global, octets: &[u8]) -> Result<Value, Fault>
+fn json_of<'a>(
+    arena: &'a Bump,
+    octets: &'a [u8],
+    scratch: &'a mut Scratch,
+) -> Result<Tree<'a>, Fault>
     ensures { Gives view result (json_of octets.now) }
 {
     if octets.len() > MOST_OCTETS {
         return Err(Fault::Wrong);
     }
-    match Value::from_slice(alloc, octets) {
-        Ok(value) => Ok(value),
-        Err(e) => {
-            if e.is_memory() {
-                Err(Fault::Memory)
-            } else {
-                Err(Fault::Wrong)
-            }
-        }
+    match str::from_utf8(octets) {
+        Ok(text) => tree_of(arena, text, scratch),
+        Err(_) => Err(Fault::Wrong),
     }
 }
 
 /// The entry at this place.
-fn entry_at(alloc: Global, place: usize, room: u32, value: &Value) -> Result<Entry, ReadFault>
+fn entry_at(alloc: Global, place: usize, room: u32, value: &Tree<'_>) -> Result<Entry, ReadFault>
     ensures read { Reads entry_view result
         (ok_or (entry_within room (view value.now)) (refusals.Event place)) }
     ensures fits { IfOk result (λ e. e.times ≤ room) }
@@ -58,7 +58,7 @@ fn entry_at(alloc: Global, place: usize, room: u32, value: &Value) -> Result<Ent
     entry_within(alloc, room, value).map_err(|fault| fault.refused(Refusal::Event(place)))
 }
 
-fn entries_of(alloc: Global, values: &[Value]) -> Result<Vec<Entry>, ReadFault>
+fn entries_of(alloc: Global, values: &[Tree<'_>]) -> Result<Vec<Entry>, ReadFault>
     ensures { Reads (λ v. map entry_view v.items) result
         (entries_from 0 most_events (items_view values.now)) }
 {
@@ -79,7 +79,10 @@ fn entries_of(alloc: Global, values: &[Value]) -> Result<Vec<Entry>, ReadFault>
 pub fn read_scenario(alloc: Global, octets: &[u8]) -> Result<Scenario, ReadFault>
     ensures read { Reads scenario_view result (scenario_of octets.now) }
 {
-    let value = json_of(alloc, octets).map_err(|fault| fault.refused(Refusal::Json))?;
+    let arena = Bump::new(alloc);
+    let mut scratch = Scratch::new(alloc);
+    let tree = json_of(&arena, octets, &mut scratch);
+    let value = tree.map_err(|fault| fault.refused(Refusal::Json))?;
     let config = setup_of(alloc, &value).map_err(|fault| fault.refused(Refusal::Head))?;
     let events = events_at(&value).ok_or(ReadFault::Refused(Refusal::Head))?;
     let entries = entries_of(alloc, events)?;

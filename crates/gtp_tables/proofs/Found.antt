@@ -24,7 +24,7 @@ record Row {X : Type 0} (p : X → Bool) (es : List (ℕ × X)) : Type 0 where
   found : find nat_cmp key es ≡ Some value
   meets : p value ≡ true
 
-itself : (k : ℕ) → eq_by_cmp nat_cmp k k ≡ true
+pub itself : (k : ℕ) → eq_by_cmp nat_cmp k k ≡ true
 itself k = grind (arith, nat_tests)
 
 other : (a b : ℕ) → T (is_lt (nat_cmp a b)) → a < b

@@ -1,5 +1,6 @@
-//! Datagrams whose octets and readings come from outside. Those of examples/datagrams/user stand there
-//! with their clauses.
+//! Datagrams whose octets and readings come from outside. Of them these stand with their clauses in
+//! examples/datagrams/user: end-marker, error-indication, g-pdu, g-pdu-empty, g-pdu-extension-headers,
+//! g-pdu-extension-not-understood, g-pdu-extension-of-length-0, supported-extensions.
 
 use crate::values::is_told;
 use gtp_user::*;

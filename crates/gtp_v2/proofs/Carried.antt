@@ -21,12 +21,12 @@ use Rattle.gtp_v2.proofs.Headers.{header_decided}
 use Rattle.gtp_v2.proofs.Views.{told_is, whole_is, content_is, content_ok}
 
 -- where the octets after a header begin
-record IsAfter (octets : List ℕ) (h : Headed) : Type 0 where
+pub record IsAfter (octets : List ℕ) (h : Headed) : Type 0 where
   pub place : place_of h.teid ≡ h.at
   pub rest : drop h.at octets ≡ h.rest
   pub room : h.at ≤ length octets
 
-after_header : (octets : List ℕ) (h : Headed) → IsHeaded octets h → IsAfter octets h
+pub after_header : (octets : List ℕ) (h : Headed) → IsHeaded octets h → IsAfter octets h
 after_header octets h is = elim is [
   | inl (flags, a, b, c, spare, small, (high, low, lt, text, long), e) ↦
       let at : h.at ≡ 8 = ap (λ (x : Headed). x.at) e in

@@ -105,7 +105,7 @@ fault_is octets f (inr (first, kind, high, low, following, text, inr (inr (inr (
 fault_is octets f (inr (first, kind, high, low, following, text, inr (inr (inr (inr (flags, lt, is, long, shorter, e)))))) =
     ap header_at (text ∙ ap (λ n. begins n kind high low following) is) ∙ (at_teid flags kind high low following lt long ∙ (few_teid (72 + flags) kind following shorter ∙ ap (λ (x : V2Fault). Err x) (sym e)))
 
-unequal : (m n : ℕ) → (m == n) ≡ false → m ≡ n → ⊥
+pub unequal : (m n : ℕ) → (m == n) ≡ false → m ≡ n → ⊥
 unequal m n t e = grind (arith, nat_tests)
 
 -- ---- each list of octets is a header or at fault

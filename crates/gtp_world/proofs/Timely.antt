@@ -1,5 +1,5 @@
 -- Where no delivery was late, none was of any request.
-use Rattle.std.proofs.Common.{◌≡◌, inl, inr, ℕ, ◌+◌, List, [], ◌∷◌, refl, sym, ◌∙◌, subst, arith}
+use Rattle.std.proofs.Common.{◌≡◌, inl, inr, ℕ, List, [], ◌∷◌, refl, sym, ◌∙◌, subst}
 use Rattle.gtp_values.specs.FiniteMap.{Among}
 use Rattle.gtp_machine.specs.Config.{Config}
 use Rattle.gtp_machine.specs.Input.{Input, Effect}
@@ -10,6 +10,7 @@ use Rattle.gtp_machine.specs.Tick.{ticked}
 use Rattle.gtp_machine.specs.declared.role.Role.{Role}
 use Rattle.gtp_machine.specs.declared.role.Role.TheVariants.{Serving, Packet}
 use Rattle.gtp_machine.specs.World.{World, Event, Does, Tick, Deliver, Cut, Restart, Came_to, Ticked, Restarted, No_such_datagram, Cut_too_long, Restarts_used, Note, note_of, quiet_note, next_counter, Happens, Delivers, Moves, TicksOn, Run, start, side_of, moved, noted, logged, late_once, restarted, with_side, with_steps}
+use Rattle.gtp_machine.proofs.Basics.Facts.{one_more}
 
 -- where no delivery was late, none is kept as late
 abbrev pub NoneLate : World → Type 0
@@ -54,10 +55,7 @@ noted_timely w note timely = stays w (noted w note) refl (same_noted w note) tim
 
 -- one was late
 late_timely : (w : World) (role : Role) (a : Arrival) → NoneLate (late_once w role a)
-late_timely w role a none = absurd (more w.late none)
-  where
-    more : (n : ℕ) → 1 + n ≡ 0 → ⊥
-    more n is = omega (arith, is)
+late_timely w role a none = absurd (one_more w.late none)
 
 restarted_timely : (w : World) (role : Role) (note : Note) → NoneLate w → NoneLate (with_steps (noted (with_side w role (restarted (side_of w role))) note) role [])
 restarted_timely w Serving note timely none Serving a has = absurd has

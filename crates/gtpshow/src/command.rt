@@ -8,6 +8,7 @@ ghost use Rattle.gtpshow.specs.Words.{program_words};
 use clap::{Arg, ArgAction, Command};
 use gtp_replay::ReplayFault;
 use std::alloc::{AllocError, Global};
+use std::error::Error;
 use std::fmt;
 
 const VERSION: &str = "0.1.0";
@@ -117,3 +118,5 @@ impl fmt::Display for Failure {
         }
     }
 }
+
+impl Error for Failure {}

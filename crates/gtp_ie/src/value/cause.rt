@@ -23,14 +23,10 @@ impl IeValue for Cause {
             return Err(ReadFault::Short);
         }
         let flags = body[1];
-        let offending = if body.len() < 6 {
-            None
-        } else {
-            Some(Offending {
-                kind: body[2],
-                instance: Below::new(body[5] & 0x0f),
-            })
-        };
+        let offending = (body.len() >= 6).then(|| Offending {
+            kind: body[2],
+            instance: Below::new(body[5] & 0x0f),
+        });
         Ok(Cause {
             value: body[0],
             pce: flags >> 2 & 1 == 1,

@@ -9,7 +9,7 @@ use Rattle.gtp_machine.specs.World.{other, Sent}
 use Rattle.gtp_machine.proofs.Origins.Contexts.{IsAskedWith, IsMadeWith, ServingContexts, PacketContexts}
 use Rattle.gtp_machine.proofs.Origins.Entries.{Once, same_request, same_answer, names_in, IsFor}
 use Rattle.gtp_machine.proofs.Changes.After.{Contexts}
-use Rattle.gtp_machine.proofs.Basics.Options.{some_same}
+use Rattle.gtp_machine.proofs.Basics.Facts.{one_value}
 
 -- the entry of a packet on a bearer
 abbrev packet_of : ℕ → List ℕ → Bearer → Session → Entry
@@ -42,7 +42,7 @@ module _ (history : List Sent) (serving_once : Once history Serving) (packet_onc
       (λ g. inr (record {
         wanted = g.request;
         sent = g.asked;
-        target = some_same b.remote r g.request.context.user.teid named g.remote;
+        target = one_value b.remote r g.request.context.user.teid named g.remote;
         answer = g.answer;
         answered = g.answered;
         given = t;
@@ -59,7 +59,7 @@ module _ (history : List Sent) (serving_once : Once history Serving) (packet_onc
       let at = c.bearers_made t b stands in
       let made = c.sessions_made b.session s session_stands in
       ⊎_elim
-      (λ o. inl (record { request = o.request; asked = o.asked; target = some_same b.remote r o.request.context.user.teid named o.remote; subscriber = ap names_in (made_alike c t b s session_stands o); identity = o.identity }))
+      (λ o. inl (record { request = o.request; asked = o.asked; target = one_value b.remote r o.request.context.user.teid named o.remote; subscriber = ap names_in (made_alike c t b s session_stands o); identity = o.identity }))
       (λ w.
       let given = w.opened r named in
       let answers = same_answer history packet_once w.made made.answer w.answered made.answered b.session w.control made.control in

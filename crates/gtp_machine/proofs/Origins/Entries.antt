@@ -6,7 +6,7 @@ use Rattle.gtp_machine.specs.Node.{Role, Serving, Packet}
 use Rattle.gtp_machine.specs.Input.{Entry}
 use Rattle.gtp_machine.specs.World.{Sent, HasSent}
 use Rattle.gtp_machine.proofs.Origins.Drawing.{Extends}
-use Rattle.gtp_machine.proofs.Basics.Options.{some_same}
+use Rattle.gtp_machine.proofs.Basics.Facts.{one_value}
 
 -- each TEID stands as the sender's own in one message and its repeats
 abbrev pub Once : List Sent → Role → Type 0
@@ -125,7 +125,7 @@ module _ (history : List Sent) (serving_once : Once history Serving) (packet_onc
   alike Serving d e target (inr f) (inl g) = absurd (request_not_answer history serving_once g.request f.answer g.asked f.answered (f.target ∙ ap (λ k. Some k) (target ∙ g.target)))
   alike Serving d e target (inr f) (inr g) =
       let answers = same_bearer_answer history serving_once f.answer g.answer f.answered g.answered e.target (f.target ∙ ap (λ k. Some k) target) g.target in
-      let wanted = same_bearer_request history packet_once f.wanted g.wanted f.sent g.sent (some_same (first_returned g.answer.contexts) f.wanted.context.user.teid g.wanted.context.user.teid (ap (λ (k : CreateBearerResponse). first_returned k.contexts) (sym answers) ∙ f.echoed) g.echoed) in
+      let wanted = same_bearer_request history packet_once f.wanted g.wanted f.sent g.sent (one_value (first_returned g.answer.contexts) f.wanted.context.user.teid g.wanted.context.user.teid (ap (λ (k : CreateBearerResponse). first_returned k.contexts) (sym answers) ∙ f.echoed) g.echoed) in
       let same = same_request history serving_once f.request g.request f.asked g.asked (sym f.header ∙ ap (λ (k : CreateBearerRequest). k.header) wanted ∙ g.header) in
       (f.subscriber ∙ ap (λ q. names_in (subscriber_of q)) same ∙ sym g.subscriber, f.identity ∙ ap (λ (k : CreateBearerResponse). first_identity k.contexts) answers ∙ sym g.identity)
   alike Packet d e target (inl f) (inl g) =

@@ -26,6 +26,7 @@ use Rattle.gtp_machine.proofs.Changes.After.{Knows}
 use Rattle.gtp_machine.proofs.Changes.Shrinking.{Shrinks-restart, restart_pending}
 use Rattle.gtp_machine.proofs.Rows.Stepping.{Carried}
 use Rattle.gtp_machine.proofs.Basics.Kinds.{by_serving, by_packet}
+use Rattle.gtp_machine.proofs.Basics.Facts.{one_value}
 
 -- a remote TEID goes back to a draw by the other gateway
 abbrev pub IsThere : Plane → List Sent → Role → Option ℕ → Type 0
@@ -340,9 +341,6 @@ module _ (history : List Sent) where
   step_told named Serving old back (Moves_on move) e came r = moves history Serving old back move e r
   step_told named Packet old back (Moves_on move) e came r = moves history Packet old back move e r
 
-one_remote : (o : Option ℕ) (s t : ℕ) → o ≡ Some s → o ≡ Some t → s ≡ t
-one_remote o s t x y = cc
-
 -- what a gateway has goes back to messages
 pub back_of : (history : List Sent) (role : Role) (node : Node) → Knows role history node → Back history role node
 back_of history Serving node knows = record {
@@ -350,16 +348,16 @@ back_of history Serving node knows = record {
   bearers = λ t b stands r e.
       ⊎_elim
       (λ o. let opened = o.opened r e in record { message = Create_session_response opened.answer; sent = opened.sent; owns = sym opened.user ∙ e })
-      (λ g. record { message = Create_bearer_request g.request; sent = g.asked; owns = one_remote b.remote r g.request.context.user.teid e g.remote })
+      (λ g. record { message = Create_bearer_request g.request; sent = g.asked; owns = one_value b.remote r g.request.context.user.teid e g.remote })
       (knows.contexts.bearers_asked t b stands).origin;
   pending = λ number p e. (knows.pending number p e).sent;
   held = knows.held;
 }
 back_of history Packet node knows = record {
-  sessions = λ t s stands r e. let made = knows.contexts.sessions_made t s stands in record { message = Create_session_request made.request; sent = made.asked; owns = one_remote s.remote r made.request.control.teid e made.remote };
+  sessions = λ t s stands r e. let made = knows.contexts.sessions_made t s stands in record { message = Create_session_request made.request; sent = made.asked; owns = one_value s.remote r made.request.control.teid e made.remote };
   bearers = λ t b stands r e.
       ⊎_elim
-      (λ o. record { message = Create_session_request o.request; sent = o.asked; owns = one_remote b.remote r o.request.context.user.teid e o.remote })
+      (λ o. record { message = Create_session_request o.request; sent = o.asked; owns = one_value b.remote r o.request.context.user.teid e o.remote })
       (λ p. let given = p.opened r e in record { message = Create_bearer_response given.answer; sent = given.sent; owns = sym given.remote ∙ e })
       (knows.contexts.bearers_made t b stands).origin;
   pending = λ number p e. (knows.pending number p e).sent;

@@ -2,6 +2,7 @@
 use Rattle.std.proofs.Common.{◌≡◌, ◌⊎◌, inl, inr, ⊎_elim, ℕ, Bool, true, false, not, List, [], ◌∷◌, ◌++◌, refl, sym, ◌∙◌, ap, subst}
 use Rattle.std.specs.Prelude.{◌&&◌}
 use Rattle.gtp_values.specs.FiniteMap.{FiniteMap, Each, Among}
+use Rattle.gtp_tables.proofs.Identities.{both}
 use Rattle.gtp_machine.specs.Message.{Message, Create_session_request, Create_bearer_request, recovery_of}
 use Rattle.gtp_machine.specs.Node.{Role, Serving, Packet, PendingRequest, Arrival, Held, Node}
 use Rattle.gtp_machine.specs.Input.{Control_message, Control_fault, Control_came, Move, Resend, Give_up, Forget, Out, Effect, messages}
@@ -116,14 +117,10 @@ move_asks old asks (Resend number) e r = subst (λ (f : Effect). AllAsk f.node.p
 move_asks old asks (Give_up number) e r = subst (λ (f : Effect). AllAsk f.node.pending) (sym r.gives) (λ k p stands. asks k p ((Shrunk-finished old number r.at.pending.session r.at.pending.bearer).pending k p stands))
 move_asks old asks (Forget request) e r = subst (λ (f : Effect). AllAsk f.node.pending) (sym r.gives) asks
 
-pub both_true : (b c : Bool) → (b && c) ≡ true → (b ≡ true) × (c ≡ true)
-both_true true c is = (refl, is)
-both_true false c is = absurd (cc is)
-
 plain_both : (first rest : List Message) → are_plain first ≡ true → are_plain rest ≡ true → are_plain (first ++ rest) ≡ true
 plain_both [] rest a b = b
 plain_both (m ∷ first) rest a b =
-    let s = both_true (not (is_create_answer m)) (are_plain first) a in
+    let s = both (not (is_create_answer m)) (are_plain first) a in
     ap (λ (k : Bool). k && are_plain (first ++ rest)) s.0 ∙ plain_both first rest s.1 b
 
 -- a tick sends and holds none

@@ -6,7 +6,7 @@ use Rattle.gtp_values.specs.declared.qos.Qos.{Qos}
 use Rattle.gtp_values.specs.FiniteMap.{FiniteMap, Each, Among}
 use Rattle.gtp_machine.specs.Element.{IsAccepting, cause_of, cause_at, teid_in}
 use Rattle.gtp_machine.specs.Message.{CreateSessionRequest, CreateSessionResponse, DeleteSessionRequest, DeleteSessionResponse, CreateBearerRequest, CreateBearerResponse, DeleteBearerResponse, Message, Create_session_request, Create_session_response, Delete_session_response, Create_bearer_request, Create_bearer_response, Packet_data, Owns, recovery_of, first_returned}
-use Rattle.gtp_machine.specs.Node.{Serving, Packet, Pending, Active, Closing, Session, Bearer, PendingRequest, Arrival, Held, Node, holding, written}
+use Rattle.gtp_machine.specs.Node.{Serving, Packet, Active, Closing, Session, Bearer, PendingRequest, Arrival, Held, Node, holding, written}
 use Rattle.gtp_machine.specs.Input.{ControlReading, Control_message, Begun, Opened, Answered, Effect}
 use Rattle.gtp_machine.specs.Choice.{IsFree, HasPending, counter_of}
 use Rattle.gtp_machine.specs.Removal.{without_session}
@@ -24,10 +24,11 @@ use Rattle.gtp_machine.proofs.Changes.Steps.{Logs-silent, Logs-plain, at_result,
 use Rattle.gtp_machine.proofs.Changes.After.{IsPending, IsStanding, IsReady, Knows, After, nothing_told, later, held_now, matched_session, matched_bearer, still_stands}
 use Rattle.gtp_machine.proofs.Rows.Common.{unchanged}
 use Rattle.gtp_machine.proofs.Rows.Taking.{active_not_closing, Took, took, drops, ends, gives_answer, takes_echo, takes_echo_response}
-use Rattle.gtp_values.proofs.Outcomes.{none_some}
-use Rattle.gtp_machine.proofs.Basics.Options.{some_same, not_below}
+use Rattle.gtp_values.proofs.Outcomes.{none_some, some_same}
+use Rattle.gtp_machine.proofs.Basics.Options.{not_below}
 use Rattle.gtp_machine.proofs.Rows.Control.{ControlCarried, control_came}
 use Rattle.gtp_machine.proofs.Basics.Kinds.{by_packet}
+use Rattle.gtp_machine.proofs.Basics.Facts.{one_value, active_not_pending, pending_not_active}
 
 module _ (history : List Sent) (taken : Arrival → Message → Type 0) (serving_once : Once history Serving) (packet_once : Once history Packet) (old : Node) (knows : Knows Packet history old) where
   was_later : (sent : List Message) → Knows Packet (history ++ signed Packet sent) old
@@ -35,12 +36,6 @@ module _ (history : List Sent) (taken : Arrival → Message → Type 0) (serving
 
   with_new_session : (after : List Sent) (key : ℕ) (s : Session) → (Among key old.drawn → ⊥) → Each (IsAtPacket after old.sessions) old.bearers → Each (IsAtPacket after (insert old.sessions key s)) old.bearers
   with_new_session after key s undrawn each t b e = let at = each t b e in record { session = at.session; stands = still_stands history Packet old knows key s undrawn b.session at.session at.stands; origin = at.origin }
-
-  active_not_pending : Active ≡ Pending → ⊥
-  active_not_pending e = cc
-
-  pending_not_active : Pending ≡ Active → ⊥
-  pending_not_active e = cc
 
   -- a session that stands there and is active is not closing
   stands_active : (sessions : FiniteMap Session) (key : ℕ) (at : Session) → get sessions key ≡ Some at → at.state ≡ Active → (s : Session) → get sessions key ≡ Some s → s.state ≡ Closing → ⊥
@@ -133,7 +128,7 @@ module _ (history : List Sent) (taken : Arrival → Message → Type 0) (serving
           });
           known = refl;
           told = nothing_told history Serving;
-          draws = Draws-new history Packet old (holding request m new) m refl refl (λ t stood. inr (inr stood)) (two_more_drawn old.counter r.user r.control old.drawn r.user_free.counted r.control_free.counted) (record { free = free; drawn = drawn; told = λ c e. cc e; tells = λ t is owns. refl; proper = record { control = λ accepts. (r.control, refl); user = λ accepts. (r.user, refl); apart = λ t control user. r.apart (same_some r.control t control ∙ sym (same_some r.user t user)) } });
+          draws = Draws-new history Packet old (holding request m new) m refl refl (λ t stood. inr (inr stood)) (two_more_drawn old.counter r.user r.control old.drawn r.user_free.counted r.control_free.counted) (record { free = free; drawn = drawn; told = λ c e. cc e; tells = λ t is owns. refl; proper = record { control = λ accepts. (r.control, refl); user = λ accepts. (r.user, refl); apart = λ t control user. r.apart (some_same r.control t control ∙ sym (some_same r.user t user)) } });
           logs =
               let l = Logs-plain history Packet taken old (holding request m new) (Answered (session_cause q.pdn)) (λ h stood. Among-left h old.held _ stood) request.source m tt in record {
                 held_stays = l.held_stays;
@@ -149,16 +144,13 @@ module _ (history : List Sent) (taken : Arrival → Message → Type 0) (serving
         no_packet a t p (inl is) = cc
         no_packet a t p (inr none) = none
 
-        same_some : (s t : ℕ) → Some s ≡ Some t → s ≡ t
-        same_some s t e = cc
-
         free : (t : ℕ) → (Some r.control ≡ Some t) ⊎ (Some r.user ≡ Some t) → IsFree old t
-        free t (inl is) = subst (IsFree old) (same_some r.control t is) r.control_free
-        free t (inr is) = subst (IsFree old) (same_some r.user t is) r.user_free
+        free t (inl is) = subst (IsFree old) (some_same r.control t is) r.control_free
+        free t (inr is) = subst (IsFree old) (some_same r.user t is) r.user_free
 
         drawn : (t : ℕ) → (Some r.control ≡ Some t) ⊎ (Some r.user ≡ Some t) → Among t (r.user ∷ r.control ∷ old.drawn)
-        drawn t (inl is) = inr (inl (sym (same_some r.control t is)))
-        drawn t (inr is) = inl (sym (same_some r.user t is))
+        drawn t (inl is) = inr (inl (sym (some_same r.control t is)))
+        drawn t (inr is) = inl (sym (some_same r.user t is))
 
     refuses : (request : Arrival) (q : CreateSessionRequest) (cause : Cause) (e : Effect) → 64 ≤ cause.value → e ≡ session_refused request q cause old → Took Packet history taken old e
     refuses request q cause e high gives = gives_answer Packet history taken old knows request _ cause.value old e gives (Shrunk-itself old) tt none (λ c e. cc e)
@@ -200,7 +192,7 @@ module _ (history : List Sent) (taken : Arrival → Message → Type 0) (serving
 
       -- the request that it answers is for this bearer
       user_is : fits.request.context.user.teid ≡ fits.bearer
-      user_is = some_same at.pending.bearer fits.request.context.user.teid fits.bearer (matched_now.names_bearer fits.request fits.asked) fits.about_bearer
+      user_is = one_value at.pending.bearer fits.request.context.user.teid fits.bearer (matched_now.names_bearer fits.request fits.asked) fits.about_bearer
 
       request_sent : HasSent (history ++ []) Packet (Create_bearer_request fits.request)
       request_sent = by_before history Packet Packet [] (Create_bearer_request fits.request) (subst (λ m. HasSent history Packet m) fits.asked pending.sent)
@@ -241,11 +233,11 @@ module _ (history : List Sent) (taken : Arrival → Message → Type 0) (serving
           })
         where
           session_is : x.header ≡ r.at.bearer.session
-          session_is = ⊎_elim (λ is. some_same at.pending.session x.header r.at.bearer.session is (matched_now.of_session fits.request fits.asked r.at.bearer (ap (λ k. get old.bearers k) user_is ∙ r.at.stands))) (λ zero. absurd (not_below zero.1 accepts.high)) fits.named
+          session_is = ⊎_elim (λ is. one_value at.pending.session x.header r.at.bearer.session is (matched_now.of_session fits.request fits.asked r.at.bearer (ap (λ k. get old.bearers k) user_is ∙ r.at.stands))) (λ zero. absurd (not_below zero.1 accepts.high)) fits.named
 
           -- the bearer is of the session that the request is about
           of_session : r.at.bearer.session ≡ fits.session
-          of_session = some_same at.pending.session r.at.bearer.session fits.session (matched_now.of_session fits.request fits.asked r.at.bearer (ap (λ k. get old.bearers k) user_is ∙ r.at.stands)) fits.about
+          of_session = one_value at.pending.session r.at.bearer.session fits.session (matched_now.of_session fits.request fits.asked r.at.bearer (ap (λ k. get old.bearers k) user_is ∙ r.at.stands)) fits.about
 
           not_closing : (s : Session) → get old.sessions r.at.bearer.session ≡ Some s → s.state ≡ Closing → ⊥
           not_closing s stands closing =

@@ -5,7 +5,7 @@ use Rattle.std.specs.FinMap.{get, insert, remove}
 use Rattle.gtp_values.specs.FiniteMap.{Each, Among}
 use Rattle.gtp_machine.specs.Element.{IsAccepting, cause_of, ipv4_of}
 use Rattle.gtp_machine.specs.Message.{CreateSessionRequest, CreateSessionResponse, DeleteSessionResponse, CreateBearerRequest, GivenBearer, CreateBearerResponse, DeleteBearerRequest, DeleteBearerResponse, Message, Create_session_request, Create_session_response, Create_bearer_request, Create_bearer_response, Delete_bearer_response, Packet_data, Owns, recovery_of, first_given}
-use Rattle.gtp_machine.specs.Node.{Serving, Packet, State, Pending, Active, Closing, Session, Bearer, PendingRequest, Arrival, Held, Node, holding, written}
+use Rattle.gtp_machine.specs.Node.{Serving, Packet, Pending, Active, Closing, Session, Bearer, PendingRequest, Arrival, Held, Node, holding, written}
 use Rattle.gtp_machine.specs.Input.{Specification, ControlReading, Control_message, Of_create_bearer, Begun, Opened, Effect}
 use Rattle.gtp_machine.specs.Choice.{IsFree, HasPending, HasSession, counter_of}
 use Rattle.gtp_machine.specs.Removal.{without_session}
@@ -24,9 +24,10 @@ use Rattle.gtp_machine.proofs.Changes.After.{IsPending, IsStanding, IsReady, Kno
 use Rattle.gtp_machine.proofs.Rows.Common.{unchanged}
 use Rattle.gtp_machine.proofs.Rows.Taking.{active_not_closing, Took, took, drops, ends, gives_answer, takes_echo, takes_echo_response, named_written}
 use Rattle.gtp_values.proofs.Outcomes.{none_some}
-use Rattle.gtp_machine.proofs.Basics.Options.{some_same, not_below}
+use Rattle.gtp_machine.proofs.Basics.Options.{not_below}
 use Rattle.gtp_machine.proofs.Rows.Control.{ControlCarried, control_came}
 use Rattle.gtp_machine.proofs.Basics.Kinds.{by_serving}
+use Rattle.gtp_machine.proofs.Basics.Facts.{one_value, pending_not_active, active_not_pending, pending_active}
 
 module _ (history : List Sent) (taken : Arrival → Message → Type 0) (serving_once : Once history Serving) (packet_once : Once history Packet) (old : Node) (knows : Knows Serving history old) where
   was_later : (sent : List Message) → Knows Serving (history ++ signed Serving sent) old
@@ -78,9 +79,6 @@ module _ (history : List Sent) (taken : Arrival → Message → Type 0) (serving
         logs = Logs-plain history Serving taken old new_node (Begun (Some r.control)) (λ h stood. stood) _ m tt;
       })
     where
-      pending_not_active : Pending ≡ Active → ⊥
-      pending_not_active e = cc
-
       pending_not_closing : Pending ≡ Closing → ⊥
       pending_not_closing e = cc
 
@@ -119,10 +117,10 @@ module _ (history : List Sent) (taken : Arrival → Message → Type 0) (serving
 
       -- an accepting response names the session in its header
       header : a.header ≡ fits.session
-      header = ⊎_elim (λ is. some_same at.pending.session a.header fits.session is fits.about) (λ zero. absurd (not_below zero.1 accepts.high)) fits.named
+      header = ⊎_elim (λ is. one_value at.pending.session a.header fits.session is fits.about) (λ zero. absurd (not_below zero.1 accepts.high)) fits.named
 
       control : fits.request.control.teid ≡ fits.session
-      control = some_same at.pending.session fits.request.control.teid fits.session ((knows.pending a.number at.pending at.waits).names fits.request fits.asked) fits.about
+      control = one_value at.pending.session fits.request.control.teid fits.session ((knows.pending a.number at.pending at.waits).names fits.request fits.asked) fits.about
 
       -- its pending request says that the session is pending
       session_pending : new.at.session.state ≡ Pending
@@ -130,9 +128,6 @@ module _ (history : List Sent) (taken : Arrival → Message → Type 0) (serving
 
       abbrev now : Session
       now = opened_session new.at.session a new.address
-
-      active_not_pending : Active ≡ Pending → ⊥
-      active_not_pending e = cc
 
       at_new : (t : ℕ) → t ≡ fits.session → get (insert old.sessions fits.session now) t ≡ Some now
       at_new t is = ap (λ k. get (insert old.sessions fits.session now) k) is ∙ get-insert_same old.sessions fits.session now
@@ -259,7 +254,7 @@ module _ (history : List Sent) (taken : Arrival → Message → Type 0) (serving
         let was = was_later (m ∷ []) in
         let now : HasSent after Serving m = by_now history Serving (m ∷ []) m (inl refl) in
         let new : Node = record old { drawn = r.user ∷ old.drawn; bearers = insert old.bearers r.user (granted_bearer q r.identity) } in
-        let remote = (knows.standing q.header at.session at.stands).named (active_not_pending at.session.state active) in
+        let remote = (knows.standing q.header at.session at.stands).named (λ waits. pending_active at.session.state waits active) in
         took Serving history taken old knows e _ r.gives refl (record {
           knows = held_now Serving history taken old knows request m new (record {
             contexts = record {
@@ -280,7 +275,7 @@ module _ (history : List Sent) (taken : Arrival → Message → Type 0) (serving
                       echoed = refl;
                       identity = refl;
                       header = named_written at.session.remote remote.0 remote.1;
-                      not_pending = active_not_pending at.session.state active;
+                      not_pending = (λ waits. pending_active at.session.state waits active);
                     });
                   })
                   was.contexts.bearers_asked;
@@ -312,9 +307,6 @@ module _ (history : List Sent) (taken : Arrival → Message → Type 0) (serving
           };
         })
       where
-        active_not_pending : (state : State) → state ≡ Active → state ≡ Pending → ⊥
-        active_not_pending state is w = cc
-
         not_closing : (s : Session) → get old.sessions q.header ≡ Some s → s.state ≡ Closing → ⊥
         not_closing s stands closing =
             let is : at.session ≡ s = cc (at.stands, stands) in

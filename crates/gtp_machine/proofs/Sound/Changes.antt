@@ -1,7 +1,6 @@
 -- Each change of a node that a row makes leaves it sound.
 use Rattle.std.proofs.Common.{◌≡◌, ◌≢◌, ◌⊎◌, inl, inr, ⊎_elim, ℕ, ◌+◌, ◌≤◌, ◌<◌, eqb, cond, Bool, true, false, not, ◌||◌, [], ◌∷◌, length, length-append, Option, Some, None, refl, sym, ◌∙◌, ap, subst, arith}
 use Rattle.std.proofs.lemmas.Bool.{cases_eq}
-use Rattle.std.proofs.lemmas.Bool.Decides.{nat_tests}
 use Rattle.std.specs.FinMap.{get, insert, remove, len, gets}
 use Rattle.gtp_values.specs.FiniteMap.{FiniteMap, Among, kept, changed}
 use Rattle.gtp_machine.specs.Config.{Config}
@@ -16,7 +15,8 @@ use Rattle.gtp_machine.specs.Sound.{At, IsInState, IsBearerOf, IsSoundSession, I
 use Rattle.gtp_machine.proofs.Basics.FiniteMaps.{found-remove, found-empty, found-kept, found-changed, get-changed_some, get-kept, Each-insert}
 use Rattle.gtp_machine.proofs.Basics.Counting.{len-insert_most, len-insert_same, len-remove_most, len-kept_most}
 use Rattle.gtp_machine.proofs.Sound.Free.{eqb_other}
-use Rattle.gtp_machine.proofs.Sound.Parts.{one_value, waiting_active, waiting_closing, default_dedicated, at_here, at_insert, there_insert, Follows, follows_all, no_deletion, requests_follow, requests_fewer, requests_add, opened_drawn, contexts_drawn, contexts_session, contexts_bearer, contexts_same}
+use Rattle.gtp_machine.proofs.Sound.Parts.{default_dedicated, at_here, at_insert, there_insert, Follows, follows_all, no_deletion, requests_follow, requests_fewer, requests_add, opened_drawn, contexts_drawn, contexts_session, contexts_bearer, contexts_same}
+use Rattle.gtp_machine.proofs.Basics.Facts.{one_value, pending_active, pending_closing, eqb_same}
 
 module _ (role : Role) where
   pub fresh : (config : Config) (counter : ℕ) → IsSound role (fresh_node config counter)
@@ -231,7 +231,7 @@ module _ (role : Role) where
     }
       where
         closed_session : IsSoundSession old.drawn session (closing_session s)
-        closed_session = let at = sound.contexts.each_session session s stands in record { own = at.own; named = λ n. at.named (λ w. waiting_active s.state w active); blank = λ w. absurd (cc w) }
+        closed_session = let at = sound.contexts.each_session session s stands in record { own = at.own; named = λ n. at.named (λ w. pending_active s.state w active); blank = λ w. absurd (cc w) }
 
         closed_bearer : (test : Bool) (t : ℕ) (x : Bearer) → IsSoundBearer old.drawn old.sessions t x → IsSoundBearer old.drawn (insert old.sessions session (closing_session s)) t (cond test (record x { state = Closing }) x)
         closed_bearer true t x at = record { own = at.own; of = there_insert old.sessions session (closing_session s) x.session at.of; named = λ a. absurd (cc a); blank = λ w. absurd (cc w); range = at.range }
@@ -241,31 +241,28 @@ module _ (role : Role) where
         unmoved true x = (refl, refl)
         unmoved false x = (refl, refl)
 
-        stays_waiting : (test : Bool) (x : Bearer) (c : ℕ) (k : Kind) → test ≡ false → IsBearerOf c k Pending x → IsBearerOf c k Pending (cond test (record x { state = Closing }) x)
-        stays_waiting true x c k is at = absurd (cc is)
-        stays_waiting false x c k is at = at
+        stays_pending : (test : Bool) (x : Bearer) (c : ℕ) (k : Kind) → test ≡ false → IsBearerOf c k Pending x → IsBearerOf c k Pending (cond test (record x { state = Closing }) x)
+        stays_pending true x c k is at = absurd (cc is)
+        stays_pending false x c k is at = at
 
         is_closing : (test : Bool) (x : Bearer) (c : ℕ) (k : Kind) (st : State) → (test ≡ true) ⊎ (st ≡ Closing) → IsBearerOf c k st x → IsBearerOf c k Closing (cond test (record x { state = Closing }) x)
         is_closing true x c k st is at = record { of = at.of; is_kind = at.is_kind; in_state = refl }
         is_closing false x c k st (inl is) at = absurd (cc is)
         is_closing false x c k st (inr is) at = record { of = at.of; is_kind = at.is_kind; in_state = at.in_state ∙ is }
 
-        eqb_same : (m n : ℕ) → m ≡ n → eqb m n ≡ true
-        eqb_same m n same = grind (arith, nat_tests)
-
         here : (t : ℕ) (y : Session) → t ≡ session → get old.sessions t ≡ Some y → y.state ≡ Active
         here t y same e = ap (λ (k : Session). k.state) (one_value (get old.sessions session) y s (ap (λ k. get old.sessions k) (sym same) ∙ e) stands) ∙ active
 
         follows : (q : PendingRequest) → Follows old.sessions (insert old.sessions session (closing_session s)) old.bearers (changed (closing_bearer session) old.bearers) q
         follows q = record {
-          waits = λ t o is at. at_insert old.sessions session (closing_session s) (IsInState Pending) t (λ y same e w. absurd (waiting_active y.state w (here t y same e))) at;
+          waits = λ t o is at. at_insert old.sessions session (closing_session s) (IsInState Pending) t (λ y same e w. absurd (pending_active y.state w (here t y same e))) at;
           closes = λ t is at. at_insert old.sessions session (closing_session s) (IsInState Closing) t (λ y same e w. refl) at;
           default = λ c u o is w at.
-              let other : c ≢ session = λ same. waiting_active w.0.state w.2 (here c w.0 same w.1) in
-              (closing_bearer session at.0, get-changed_some (closing_bearer session) old.bearers u at.0 at.1, stays_waiting (eqb at.0.session session) at.0 c Default (eqb_other at.0.session session (λ same. other (sym at.2.of ∙ same))) at.2);
+              let other : c ≢ session = λ same. pending_active w.0.state w.2 (here c w.0 same w.1) in
+              (closing_bearer session at.0, get-changed_some (closing_bearer session) old.bearers u at.0 at.1, stays_pending (eqb at.0.session session) at.0 c Default (eqb_other at.0.session session (λ same. other (sym at.2.of ∙ same))) at.2);
           wanted = λ c u o is by at. ⊎_elim
               (λ same. inr ((closing_bearer session at.0, get-changed_some (closing_bearer session) old.bearers u at.0 at.1, is_closing (eqb at.0.session session) at.0 c Dedicated Pending (inl (eqb_same at.0.session session (at.2.of ∙ same))) at.2), at_here old.sessions session (closing_session s) (IsInState Closing) c same refl))
-              (λ other. inl (closing_bearer session at.0, get-changed_some (closing_bearer session) old.bearers u at.0 at.1, stays_waiting (eqb at.0.session session) at.0 c Dedicated (eqb_other at.0.session session (λ same. other (sym at.2.of ∙ same))) at.2))
+              (λ other. inl (closing_bearer session at.0, get-changed_some (closing_bearer session) old.bearers u at.0 at.1, stays_pending (eqb at.0.session session) at.0 c Dedicated (eqb_other at.0.session session (λ same. other (sym at.2.of ∙ same))) at.2))
               (cases_eq c session);
           ends = λ c u is by at. (closing_bearer session at.0, get-changed_some (closing_bearer session) old.bearers u at.0 at.1, is_closing (eqb at.0.session session) at.0 c Dedicated Closing (inr refl) at.2);
         }
@@ -310,10 +307,10 @@ module _ (role : Role) where
                 own = at.own;
                 of = there_insert old.sessions c now opened.session (at.of.0, ap (λ k. get old.sessions k) session ∙ at.of.1);
                 named = λ x. opened_remote;
-                blank = λ w. absurd (waiting_active opened.state w opened_active);
+                blank = λ w. absurd (pending_active opened.state w opened_active);
                 range = λ i e. at.range i (sym identity ∙ e);
               })
-              (contexts_session old.drawn old.sessions old.bearers c now (record { own = (sound.contexts.each_session c a.waits.0 a.waits.1).own; named = λ n. remote; blank = λ w. absurd (waiting_active now.state w active) }) sound.contexts);
+              (contexts_session old.drawn old.sessions old.bearers c now (record { own = (sound.contexts.each_session c a.waits.0 a.waits.1).own; named = λ n. remote; blank = λ w. absurd (pending_active now.state w active) }) sound.contexts);
           requests = requests_follow role old.sessions (insert old.sessions c now) old.bearers (insert old.bearers u opened) (remove old.pending number) (λ m q e. follows m q (found-remove old.pending number m q e)) (requests_fewer role old.sessions old.bearers old.pending (remove old.pending number) (λ m q e. (found-remove old.pending number m q e).1) sound.requests);
           within = record {
             sessions_few = omega (arith, len-insert_same old.sessions c now a.waits.0 a.waits.1, sound.within.sessions_few);
@@ -330,7 +327,7 @@ module _ (role : Role) where
             let is_default : (t : ℕ) (y : Bearer) → t ≡ a.request.context.user.teid → get old.bearers t ≡ Some y → y ≡ a.default.0 = λ t y same e. one_value (get old.bearers a.request.context.user.teid) y a.default.0 (ap (λ k. get old.bearers k) (sym same) ∙ e) a.default.1 in
             record {
               waits = λ t o is at. at_insert old.sessions a.request.control.teid now (IsInState Pending) t (λ y same e w. absurd (apart t o same)) at;
-              closes = λ t is at. at_insert old.sessions a.request.control.teid now (IsInState Closing) t (λ y same e w. absurd (waiting_closing y.state (ap (λ (k : Session). k.state) (one_value (get old.sessions a.request.control.teid) y a.waits.0 (ap (λ k. get old.sessions k) (sym same) ∙ e) a.waits.1) ∙ a.waits.2) w)) at;
+              closes = λ t is at. at_insert old.sessions a.request.control.teid now (IsInState Closing) t (λ y same e w. absurd (pending_closing y.state (ap (λ (k : Session). k.state) (one_value (get old.sessions a.request.control.teid) y a.waits.0 (ap (λ k. get old.sessions k) (sym same) ∙ e) a.waits.1) ∙ a.waits.2) w)) at;
               default = λ s t o is w at. at_insert old.bearers a.request.context.user.teid opened (IsBearerOf s Default Pending) t (λ y same e b. absurd (apart s o (sym b.of ∙ (ap (λ (k : Bearer). k.session) (is_default t y same e) ∙ a.default.2.of)))) at;
               wanted = λ s t o is by at. inl (at_insert old.bearers a.request.context.user.teid opened (IsBearerOf s Dedicated Pending) t (λ y same e b. absurd (default_dedicated y.kind (ap (λ (k : Bearer). k.kind) (is_default t y same e) ∙ a.default.2.is_kind) b.is_kind)) at);
               ends = λ s t is by at. at_insert old.bearers a.request.context.user.teid opened (IsBearerOf s Dedicated Closing) t (λ y same e b. absurd (default_dedicated y.kind (ap (λ (k : Bearer). k.kind) (is_default t y same e) ∙ a.default.2.is_kind) b.is_kind)) at;
@@ -346,7 +343,7 @@ module _ (role : Role) where
             own = was.own;
             of = (was.of.0, ap (λ k. get old.sessions k) session ∙ was.of.1);
             named = λ x. remote;
-            blank = λ w. absurd (waiting_active n.state w active);
+            blank = λ w. absurd (pending_active n.state w active);
             range = range;
           }) (λ t a i e other. unused t a i e) sound.contexts;
           requests = requests_follow role old.sessions old.sessions old.bearers (insert old.bearers u n) (remove old.pending number) (λ m q e. follows m q (found-remove old.pending number m q e)) (requests_fewer role old.sessions old.bearers old.pending (remove old.pending number) (λ m q e. (found-remove old.pending number m q e).1) sound.requests);
@@ -362,7 +359,7 @@ module _ (role : Role) where
           closes = λ t is w. w;
           default = λ s t o is w x. at_insert old.bearers r.context.user.teid n (IsBearerOf s Default Pending) t (λ y same e k. absurd (default_dedicated y.kind k.is_kind (ap (λ (z : Bearer). z.kind) (is_it t y same e) ∙ dedicated))) x;
           wanted = λ s t o is by x. inl (at_insert old.bearers r.context.user.teid n (IsBearerOf s Dedicated Pending) t (λ y same e k. absurd (found.0 (sound.requests.lone m number q p t found.1 stands o (ap opened_by asked ∙ ap (λ z. Some z) (sym same))))) x);
-          ends = λ s t is by x. at_insert old.bearers r.context.user.teid n (IsBearerOf s Dedicated Closing) t (λ y same e k. absurd (waiting_closing y.state (ap (λ (z : Bearer). z.state) (is_it t y same e) ∙ waits) k.in_state)) x;
+          ends = λ s t is by x. at_insert old.bearers r.context.user.teid n (IsBearerOf s Dedicated Closing) t (λ y same e k. absurd (pending_closing y.state (ap (λ (z : Bearer). z.state) (is_it t y same e) ∙ waits) k.in_state)) x;
         }
 
 -- A response that names what a sound node's request is about fits it: `about` needs no test.

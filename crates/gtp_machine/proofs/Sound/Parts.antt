@@ -1,5 +1,5 @@
 -- What a change of tables leaves of the soundness of what stands in them.
-use Rattle.std.proofs.Common.{◌≡◌, ◌≢◌, inl, inr, ⊎_elim, ℕ, List, Option, Some, sym, ◌∙◌, ap, subst}
+use Rattle.std.proofs.Common.{◌≡◌, ◌≢◌, inl, inr, ⊎_elim, ℕ, List, Some, sym, ◌∙◌, ap, subst}
 use Rattle.std.proofs.lemmas.Bool.{cases_eq}
 use Rattle.std.specs.FinMap.{get, insert}
 use Rattle.gtp_values.specs.FiniteMap.{FiniteMap, Among}
@@ -7,18 +7,6 @@ use Rattle.gtp_machine.specs.Message.{Message}
 use Rattle.gtp_machine.specs.Node.{Role, Serving, Packet, State, Pending, Active, Closing, Kind, Default, Dedicated, Session, Bearer, PendingRequest}
 use Rattle.gtp_machine.specs.Sound.{At, IsInState, IsBearerOf, IsSoundSession, IsSoundBearer, AreApart, IsWanted, DeletesSession, IsAbout, opened_by, AreLone, AreSoundContexts, AreSoundRequests}
 use Rattle.gtp_machine.proofs.Basics.FiniteMaps.{found-insert, get-insert_same, get-insert_other, Each-insert}
-
-pub one_value : {X : Type 0} (o : Option X) (x y : X) → o ≡ Some x → o ≡ Some y → x ≡ y
-one_value o x y a b = cc
-
-pub waiting_active : (s : State) → s ≡ Pending → s ≡ Active → ⊥
-waiting_active s a b = cc
-
-pub closing_active : (s : State) → s ≡ Closing → s ≡ Active → ⊥
-closing_active s a b = cc
-
-pub waiting_closing : (s : State) → s ≡ Pending → s ≡ Closing → ⊥
-waiting_closing s a b = cc
 
 pub default_dedicated : (k : Kind) → k ≡ Default → k ≡ Dedicated → ⊥
 default_dedicated k a b = cc

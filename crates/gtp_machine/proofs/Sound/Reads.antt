@@ -9,6 +9,7 @@ use Rattle.gtp_ie.specs.Value.{Value, OfCause, OfFTeid, fteid_in}
 use Rattle.gtp_ie.specs.Spelling.{Says}
 use Rattle.gtp_ie.specs.declared.fault.IeFault.{IeFault}
 use Rattle.gtp_ie.specs.declared.fault.IeFault.TheVariants as elements
+use Rattle.gtp_ie.proofs.Spelled.{join}
 use Rattle.gtp_v2.specs.Grammar.{One, AtMostOne, RowIs, RowsAre, EachIs, GroupIs, LinesAre}
 use Rattle.gtp_v2.specs.declared.table.Row.TheVariants.{Accepted}
 use Rattle.gtp_v2.specs.Table.{Field, Plain, Groups, accepts, start}
@@ -29,12 +30,10 @@ use Rattle.gtp_machine.specs.Decoded.{end_in, first_in, cause_at, values_in, gro
 use Rattle.gtp_machine.specs.Reading.{control_fault, control_reading_of, element_fault, defect_in, request_kind, missing_in}
 use Rattle.gtp_machine.specs.Sound.{IsWhole, IsWellFormed, ReadsWhole}
 use Rattle.gtp_machine.proofs.Octets.Readings.{typed_lines}
+use Rattle.gtp_machine.proofs.Basics.Facts.{same_number}
 
 is_accepting : (value : ℕ) → 16 ≤ value → value < 64 → is_accepting_value value ≡ true
 is_accepting value low high = grind (arith, nat_tests)
-
-both : (a b : Bool) → a ≡ true → b ≡ true → (a && b) ≡ true
-both a b x y = ap (λ k. k && b) x ∙ y
 
 -- a cause that is not there accepts nothing
 none_accepts : IsAccepting (cause_of 0) → ⊥
@@ -107,14 +106,14 @@ session_context b es [] is are a = absurd (none_accepts a)
 session_context b es (ebi ∷ []) is are a = absurd (none_accepts a)
 session_context b es (ebi ∷ cause ∷ []) is are a = absurd are.1.1
 session_context b es (ebi ∷ cause ∷ user ∷ rows) is are a =
-    end_there 2 es user (needed 87 2 ((b && accepts ebi) && accepts cause) es user (both _ _ (both _ _ is (one_neutral 73 0 es ebi ebi_accepts are.0)) (accepted cause a)) are.1.1.0)
+    end_there 2 es user (needed 87 2 ((b && accepts ebi) && accepts cause) es user (join _ _ (join _ _ is (one_neutral 73 0 es ebi ebi_accepts are.0)) (accepted cause a)) are.1.1.0)
 
 bearer_context : (b : Bool) (es : List Element) (rows : List (List Value)) → b ≡ true → RowsAre b bearer_response_context_rows es rows → IsAccepting (given rows).cause → (t : ℕ) × (teid_in (given rows).serving_user ≡ Some t)
 bearer_context b es [] is are a = absurd (none_accepts a)
 bearer_context b es (ebi ∷ []) is are a = absurd (none_accepts a)
 bearer_context b es (ebi ∷ cause ∷ []) is are a = absurd are.1.1
 bearer_context b es (ebi ∷ cause ∷ user ∷ rows) is are a =
-    end_there 2 es user (needed 87 2 ((b && accepts ebi) && accepts cause) es user (both _ _ (both _ _ is (one_neutral 73 0 es ebi ebi_accepts are.0)) (accepted cause a)) are.1.1.0)
+    end_there 2 es user (needed 87 2 ((b && accepts ebi) && accepts cause) es user (join _ _ (join _ _ is (one_neutral 73 0 es ebi ebi_accepts are.0)) (accepted cause a)) are.1.1.0)
 
 -- the message of a type with these fields
 abbrev message_by : ℕ → ℕ → ℕ → List Field → Message
@@ -144,19 +143,19 @@ session_whole header number es (Plain cause ∷ Plain control ∷ Plain paa ∷ 
     control_is = subst (One 87 1 es) (plain control _ lines.1.0.2) (needed 87 1 (accepts cause) es _ first lines.1.0.1)
 
     second : (accepts cause && accepts control) ≡ true
-    second = both _ _ first (one_neutral 87 1 es control end_accepts control_is)
+    second = join _ _ first (one_neutral 87 1 es control end_accepts control_is)
 
     paa_is : One 79 0 es paa
     paa_is = subst (One 79 0 es) (plain paa _ lines.1.1.0.2) (needed 79 0 (accepts cause && accepts control) es _ second lines.1.1.0.1)
 
     third : ((accepts cause && accepts control) && accepts paa) ≡ true
-    third = both _ _ second (one_neutral 79 0 es paa paa_accepts paa_is)
+    third = join _ _ second (one_neutral 79 0 es paa paa_accepts paa_is)
 
     ambr_is : AtMostOne 72 0 es ambr
     ambr_is = subst (AtMostOne 72 0 es) (plain ambr _ lines.1.1.1.0.2) lines.1.1.1.0.1
 
     fourth : (((accepts cause && accepts control) && accepts paa) && accepts ambr) ≡ true
-    fourth = both _ _ third (most_neutral 72 0 es ambr ambr_accepts ambr_is)
+    fourth = join _ _ third (most_neutral 72 0 es ambr ambr_accepts ambr_is)
 
     each : (c : CreatedBearer) → Among c (map created contexts) → IsAccepting c.cause → (t : ℕ) × (teid_in c.user ≡ Some t)
     each c among accepting =
@@ -194,9 +193,6 @@ bearer_request_whole header number f (first ∷ further) = tt
 either : (b : Bool) (x y : Message) → (b ≡ true → IsWhole x) → IsWhole y → IsWhole (if b then x else y)
 either true x y this other = this refl
 either false x y this other = other
-
-same_number : (a b : ℕ) → (a == b) ≡ true → a ≡ b
-same_number a b e = grind (arith, nat_tests)
 
 -- what octets spell is whole
 fields_whole : (octets : List ℕ) (m : MessageValue) (f : List Field) → m.content ≡ Fields f → IsMessage octets m → IsWhole (message_in m.kind (written m.teid) m.seq f)

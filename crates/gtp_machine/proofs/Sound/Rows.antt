@@ -24,11 +24,12 @@ use Rattle.gtp_machine.specs.Serving.{FitsSession, DescribesSession, opened_sess
 use Rattle.gtp_machine.specs.Packet.{made_session, made_bearer, session_made, SessionAsked, DeletionAsked, FitsBearer, DescribesBearer, CanOpen, opened_dedicated, OpensBearer, BearerAnswered, RemovalAnswered, PacketTakes, PacketFaulted, PacketReads}
 use Rattle.gtp_machine.specs.Sound.{At, IsInState, IsBearerOf, IsSound, IsWhole, IsWellFormed, AreWellFormed, StaysSound, ReachedIsSound}
 use Rattle.gtp_machine.proofs.Basics.FiniteMaps.{get-insert_same}
-use Rattle.gtp_machine.proofs.Sound.Parts.{one_value, waiting_active, at_here}
+use Rattle.gtp_machine.proofs.Sound.Parts.{at_here}
 use Rattle.gtp_machine.proofs.Sound.Changes.{fresh, without_sound, without_session_sound, without_bearer_sound, finished_sound, holding_sound, known_sound, asks_sound, free_opened, session_comes, bearer_comes, bearer_changes, closing_sound, is_session, is_bearer, session_opens, bearer_opens}
 use Rattle.gtp_machine.proofs.Changes.Forgetting.{leaves}
 use Rattle.gtp_values.proofs.Outcomes.{none_some, some_same as some_is}
 use Rattle.gtp_machine.proofs.Basics.Kinds.{by_serving, by_packet}
+use Rattle.gtp_machine.proofs.Basics.Facts.{one_value, pending_active}
 
 module _ (role : Role) where
   -- what a row says of its effect
@@ -103,7 +104,7 @@ module _ (old : Node) where
       (λ m p t at o same. none_some t same))
 
   ends_bearer : (role : Role) → IsSound role old → (key : ℕ) (b : Bearer) → get old.bearers key ≡ Some b → b.state ≡ Active → IsSound role (record old { bearers = insert old.bearers key (ended_bearer b) })
-  ends_bearer role sound key b stands active = bearer_changes role old sound key b (ended_bearer b) stands active refl refl refl refl (λ w. waiting_active b.state w active)
+  ends_bearer role sound key b stands active = bearer_changes role old sound key b (ended_bearer b) stands active refl refl refl refl (λ w. pending_active b.state w active)
 
   command : (role : Role) → IsSound role old → (c : Command) → IsWellFormed (Commanded c) → (e : Effect) → CommandStep role c old e → IsSound role e.node
   command Packet sound (Create_session spec) formed e r = by_row Packet e _ r sound

@@ -22,9 +22,11 @@ use Rattle.gtp_machine.specs.Laws.{OfEachRun, Moment, Gave, Brings, GoesBackTo, 
 use Rattle.gtp_machine.proofs.Basics.FiniteMaps.{get-insert_same, Among-one_more}
 use Rattle.gtp_machine.proofs.Basics.Kinds.{is_create_answer}
 use Rattle.gtp_machine.proofs.Requests.Holding.{are_plain, command_calm, user_calm}
-use Rattle.gtp_machine.proofs.Requests.Replying.{both_true, IsLesser, IsRepeated, IsReplied, AllAsk, lesser_calm, message_replies, fault_replies, tick_lesser}
+use Rattle.gtp_machine.proofs.Requests.Replying.{IsLesser, IsRepeated, IsReplied, AllAsk, lesser_calm, message_replies, fault_replies, tick_lesser}
 use Rattle.gtp_machine.proofs.Exchange.Made.{accepts_cause}
 use Rattle.gtp_values.proofs.Outcomes.{none_some}
+use Rattle.gtp_ie.proofs.Slots.{not_is}
+use Rattle.gtp_tables.proofs.Identities.{both}
 use Rattle.gtp_machine.proofs.Worlds.Runs.{Invariant, always, Run-push}
 
 -- what the world has of a step of one gateway
@@ -79,17 +81,13 @@ only_place x s (suc k) e = absurd (cc e)
 false_true : {b : Bool} → b ≡ false → b ≡ true → ⊥
 false_true f t = cc
 
-not_true : (b : Bool) → not b ≡ true → b ≡ false
-not_true false e = refl
-not_true true e = absurd (cc e)
-
 -- none of plain messages is such a response
 plain_signed : (role : Role) (sent : List Message) → are_plain sent ≡ true → (k : ℕ) (s : Sent) → slice_get (signed role sent) k ≡ Some s → is_create_answer s.what ≡ false
 plain_signed role [] plain k s e = absurd (cc e)
 plain_signed role (m ∷ sent) plain zero s e =
     let is : record { role = role; what = m } ≡ s = cc e in
-    ap (λ (x : Sent). is_create_answer x.what) (sym is) ∙ not_true (is_create_answer m) (both_true (not (is_create_answer m)) (are_plain sent) plain).0
-plain_signed role (m ∷ sent) plain (suc k) s e = plain_signed role sent (both_true (not (is_create_answer m)) (are_plain sent) plain).1 k s e
+    ap (λ (x : Sent). is_create_answer x.what) (sym is) ∙ not_is (is_create_answer m) (both (not (is_create_answer m)) (are_plain sent) plain).0
+plain_signed role (m ∷ sent) plain (suc k) s e = plain_signed role sent (both (not (is_create_answer m)) (are_plain sent) plain).1 k s e
 
 -- a moment of a run comes before its end
 until_now : (first : World) (events : List Event) (last : World) (m : Moment first events last) → length m.earlier ≤ length events

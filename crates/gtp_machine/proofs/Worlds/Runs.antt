@@ -23,6 +23,7 @@ use Rattle.gtp_machine.proofs.Worlds.Ticking.{move_quiet, moved_nothing, moved_t
 use Rattle.gtp_machine.proofs.Worlds.Kept.{Packets, Packets-step, Packets-elsewhere, Remembers, Remembers-step, Remembers-elsewhere, Remembers-restart, AnsweredOnce-step, Making, Making-step, Making-fresh, Making-late}
 use Rattle.gtp_values.proofs.Outcomes.{none_some}
 use Rattle.std.specs.FinMap.{empty}
+use Rattle.gtp_machine.proofs.Basics.Facts.{one_more}
 
 -- what holds of one gateway of the world
 pub record SideInvariant (history : List Sent) (role : Role) (side peer : Side) : Type 0 where
@@ -144,15 +145,12 @@ module _ (own : Addresses) where
     packet = record { draws = inv.packet.draws; knows = inv.packet.knows; hearing = Hearing-peer w.serving (record w.serving { came_late = a ∷ w.serving.came_late }) refl (omega arith) w.packet.node.known w.packet.seen inv.packet.hearing; making = inv.packet.making };
     own_is = inv.own_is;
     remembers = λ x t has gives. let i = inv.remembers x t has gives in record { request = i.request; sent = i.sent; echoed = i.echoed; where_now = ⊎_elim (λ here. inl here) (λ earlier. inr (record { start = earlier.start; before = earlier.before; is = earlier.is })) i.where_now };
-    once = λ z. absurd (more w.late z);
+    once = λ z. absurd (one_more w.late z);
     packets = inv.packets;
-    owed = λ z. absurd (more w.late z);
+    owed = λ z. absurd (one_more w.late z);
     named = inv.named;
   }
     where
-      more : (n : ℕ) → 1 + n ≡ 0 → ⊥
-      more n e = omega arith
-
       marked_draws : Drawing (record w.serving { came_late = a ∷ w.serving.came_late }) Serving w.history
       marked_draws = Drawing-marked w.serving Serving w.history inv.serving.draws a
   late_keeps w inv Packet a = record {
@@ -160,14 +158,11 @@ module _ (own : Addresses) where
     packet = record { draws = Drawing-marked w.packet Packet w.history inv.packet.draws a; knows = inv.packet.knows; hearing = inv.packet.hearing; making = Making-late w.packet a inv.packet.making };
     own_is = inv.own_is;
     remembers = inv.remembers;
-    once = λ z. absurd (more w.late z);
+    once = λ z. absurd (one_more w.late z);
     packets = inv.packets;
-    owed = λ z. absurd (more w.late z);
+    owed = λ z. absurd (one_more w.late z);
     named = inv.named;
   }
-    where
-      more : (n : ℕ) → 1 + n ≡ 0 → ⊥
-      more n e = omega arith
 
   -- a note changes nothing of this
   noted_keeps : (w : World) (note : Note) → Invariant own w → Invariant own (noted w note)
@@ -248,10 +243,7 @@ module _ (own : Addresses) where
 
   -- late: it is counted and marked
   lately : (w : World) → Invariant own w → (m : Message) → Comes (late_once w Serving (arrival w.packet.node.config.own m)) (Control_came (arrival w.packet.node.config.own m) (Control_message m))
-  lately w inv m = record { keyed = keyed_so w.packet.node.config.own m inv.own_is; on_time = λ a n is z. absurd (more w.late z) }
-    where
-      more : (n : ℕ) → 1 + n ≡ 0 → ⊥
-      more n e = omega arith
+  lately w inv m = record { keyed = keyed_so w.packet.node.config.own m inv.own_is; on_time = λ a n is z. absurd (one_more w.late z) }
 
   pub lately_marked : (side : Side) (from : Addresses) (m : Message) → IsMarked (record side { came_late = arrival from m ∷ side.came_late }) (Control_came (arrival from m) (Control_message m))
   lately_marked side from m a n is gone = inl (came_so from m a n is)

@@ -13,7 +13,7 @@ use Rattle.gtp_machine.proofs.Origins.Contexts.{IsAskedWith, IsGranted, IsMadeWi
 use Rattle.gtp_machine.proofs.Origins.Entries.{Once, same_request, same_user_request, same_answer, same_user_answer, same_bearer_answer, answer_not_request}
 use Rattle.gtp_machine.proofs.Worlds.Hearing.{Hearing, none_later}
 use Rattle.gtp_machine.proofs.Worlds.Runs.{SideInvariant, Invariant, always}
-use Rattle.gtp_machine.proofs.Basics.Options.{some_same}
+use Rattle.gtp_machine.proofs.Basics.Facts.{one_value}
 
 module _ (own : Addresses) (w : World) (inv : Invariant own w) where
   so : Once w.history Serving
@@ -46,7 +46,7 @@ module _ (own : Addresses) (w : World) (inv : Invariant own w) where
     both_default s n s_stands n_stands o p =
         let opened = o.opened d m.there in
         let answers = same_user_answer w.history po opened.answer p.answer opened.sent p.answered d (sym opened.user ∙ m.there) p.user in
-        let requests = same_user_request w.history so o.request p.request o.sent p.asked (o.user ∙ some_same e.remote c p.request.context.user.teid m.back p.remote) in
+        let requests = same_user_request w.history so o.request p.request o.sent p.asked (o.user ∙ one_value e.remote c p.request.context.user.teid m.back p.remote) in
         record {
           identity = o.identity ∙ ap (λ (q : CreateSessionRequest). Some q.context.identity) requests ∙ sym p.identity;
           at_serving = s;
@@ -96,11 +96,8 @@ module _ (own : Addresses) (w : World) (inv : Invariant own w) where
       let made = inv.packet.knows.contexts.sessions_made t s stands in
       record {
         here = record { message = Create_session_response made.answer; sent = made.answered; owns = made.control };
-        there = λ r e. record { message = Create_session_request made.request; sent = made.asked; owns = one s.remote r made.request.control.teid e made.remote };
+        there = λ r e. record { message = Create_session_request made.request; sent = made.asked; owns = one_value s.remote r made.request.control.teid e made.remote };
       }
-    where
-      one : (o : Option ℕ) (s t : ℕ) → o ≡ Some s → o ≡ Some t → s ≡ t
-      one o s t x y = cc
 
   pub bearer_goes_back : (role : Role) (t : ℕ) (b : Bearer) → get (side_of w role).node.bearers t ≡ Some b → GoesBack User w.history role t b.remote
   bearer_goes_back Serving t b stands =
@@ -111,26 +108,20 @@ module _ (own : Addresses) (w : World) (inv : Invariant own w) where
       })
       (λ g. record {
         here = record { message = Create_bearer_response g.answer; sent = g.answered; owns = g.user };
-        there = λ r e. record { message = Create_bearer_request g.request; sent = g.asked; owns = one b.remote r g.request.context.user.teid e g.remote };
+        there = λ r e. record { message = Create_bearer_request g.request; sent = g.asked; owns = one_value b.remote r g.request.context.user.teid e g.remote };
       })
       (inv.serving.knows.contexts.bearers_asked t b stands).origin
-    where
-      one : (o : Option ℕ) (s t : ℕ) → o ≡ Some s → o ≡ Some t → s ≡ t
-      one o s t x y = cc
   bearer_goes_back Packet t b stands =
       ⊎_elim
       (λ o. record {
         here = record { message = Create_session_response o.answer; sent = o.answered; owns = o.user };
-        there = λ r e. record { message = Create_session_request o.request; sent = o.asked; owns = one b.remote r o.request.context.user.teid e o.remote };
+        there = λ r e. record { message = Create_session_request o.request; sent = o.asked; owns = one_value b.remote r o.request.context.user.teid e o.remote };
       })
       (λ p. record {
         here = record { message = Create_bearer_request p.request; sent = p.asked; owns = sym p.user };
         there = λ r e. let given = p.opened r e in record { message = Create_bearer_response given.answer; sent = given.sent; owns = sym given.remote ∙ e };
       })
       (inv.packet.knows.contexts.bearers_made t b stands).origin
-    where
-      one : (o : Option ℕ) (s t : ℕ) → o ≡ Some s → o ≡ Some t → s ≡ t
-      one o s t x y = cc
 
 -- no session of a gateway is over
 none_over : (history : List Sent) (role : Role) (side peer : Side) → SideInvariant history role side peer → peer.restarts ≤ 127 → (t : ℕ) (s : Session) → get side.node.sessions t ≡ Some s → IsOver side s → ⊥

@@ -1,4 +1,7 @@
 //! What a peer may send that the other gateway never does.
+//!
+//! Of these datagrams some stand in examples/datagrams: control/delete-session-request,
+//! control/echo-request-cut.
 
 use super::{Act, DEDICATED, IDLE, Look, OPENED, SESSION_ASKED, Scene, Sends, plays};
 use Act::*;

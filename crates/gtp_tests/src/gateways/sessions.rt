@@ -1,4 +1,8 @@
 //! Sessions and dedicated bearers, from their making to their end.
+//!
+//! Of these datagrams some stand in examples/datagrams: control/delete-bearer-request,
+//! control/delete-bearer-response, control/delete-session-request,
+//! control/delete-session-response, user/g-pdu.
 
 use super::{
     Act, BEARER_ANSWERED, BEARER_ASKED, DEDICATED, Ended, HEARD, IDLE, Look, MADE, MADE_UNHEARD,

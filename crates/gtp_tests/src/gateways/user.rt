@@ -1,4 +1,8 @@
 //! The user plane of both gateways (TS 29.281).
+//!
+//! Of these datagrams some stand in examples/datagrams: user/end-marker, user/error-indication,
+//! user/g-pdu, user/g-pdu-extension-headers, user/g-pdu-extension-not-understood,
+//! user/g-pdu-extension-of-length-0, user/supported-extensions.
 
 use super::{Act, IDLE, Look, OPENED, Scene, Sends, plays};
 use Act::*;
@@ -153,7 +157,7 @@ fn echoes_and_extension_headers(rt: HostRuntime) -> Result<(), Fail> {
 }
 
 /// A packet after extension headers that are taken.
-const BEHIND: Scene = Scene {
+const AFTER_HEADERS: Scene = Scene {
     rows: &[
         &OPENED,
         &[(
@@ -171,7 +175,7 @@ const BEHIND: Scene = Scene {
 
 #[test]
 fn a_packet_after_extension_headers(rt: HostRuntime) -> Result<(), Fail> {
-    plays(&rt, rt.alloc(), &BEHIND)
+    plays(&rt, rt.alloc(), &AFTER_HEADERS)
 }
 
 /// A packet that is too long, and the longest one.

@@ -1,4 +1,7 @@
 //! Whole sessions: packets, repeats, loss, restarts, late requests, limits.
+//!
+//! Of these datagrams some stand in examples/datagrams: control/delete-session-request,
+//! control/delete-session-response, user/g-pdu.
 
 use super::{Line, Row, Session, Told, reports};
 use crate::gateways::{BEARER_REQUEST, BEARER_RESPONSE, SESSION_REQUEST, SESSION_RESPONSE};

@@ -1,4 +1,7 @@
 //! Stories of two gateways: sessions and packets, repeats, loss, restarts, late requests.
+//!
+//! Of these datagrams some stand in examples/datagrams: control/delete-session-request,
+//! control/delete-session-response, user/end-marker, user/g-pdu.
 
 use super::{
     EMPTY, Ending, Happens, QUIET, Row, Story, Told, both_set_up, event, happens_so, notes,

@@ -8,15 +8,12 @@ use Rattle.gtp_v2.specs.Rows.{optional_at}
 use Rattle.gtp_v2.specs.Viewed.{in_groups, values_in}
 use Rattle.std.proofs.lemmas.Option.{same_Some}
 use Rattle.gtp_machine.specs.Decoded.{row}
-use Rattle.gtp_gateway.proofs.InPlace.{IsRequestedContext, IsSessionRequest, session_asked, requested_context, groups_so}
+use Rattle.gtp_gateway.proofs.InPlace.{IsRequestedContext, IsSessionRequest, asked, requested_context, groups_so}
 use Rattle.gtp_gateway.proofs.ContextsRead.{some_context, first_context, one_value, none_left}
 use Rattle.gtp_gateway.proofs.session_request.requested_default.Goals as goal
 
 abbrev rows_in : List Element → List (List Value)
 rows_in = values_in session_request_context_rows
-
-asked : (m : MessageValue) (spelled : (octets : List ℕ) × IsMessage octets m) → m.kind ≡ 32 → IsSessionRequest m
-asked m (octets, is) of = session_asked octets m of is
 
 -- the values of the rows of the first context
 record AreRead (a : IsRequestedContext) (es : List Element) : Type 0 where

@@ -1,17 +1,12 @@
-use Rattle.std.proofs.Common.{◌≡◌, ℕ, List, [], ◌∷◌, map, Option, Some, None, option_map, refl, sym, ◌∙◌, ap}
+use Rattle.std.proofs.Common.{◌≡◌, List, [], ◌∷◌, map, Option, Some, None, option_map, refl, sym, ◌∙◌, ap}
 use Rattle.std.proofs.lemmas.Option.{same_Some}
 use Rattle.gtp_ie.specs.Value.{Value, OfAmbr}
-use Rattle.gtp_v2.specs.Datagram.{IsMessage}
-use Rattle.gtp_v2.specs.Message.{MessageValue}
 use Rattle.gtp_v2.specs.Viewed.{in_row, front_value}
 use Rattle.gtp_values.specs.declared.qos.Ambr.{Ambr}
 use Rattle.gtp_machine.specs.Decoded.{first_in, ambr_in, octets_at, number_at, end_at, requested}
 use Rattle.gtp_gateway.specs.SessionAsked.{default_values}
-use Rattle.gtp_gateway.proofs.InPlace.{IsSessionRequest, session_asked, requested_context, reads_so, row_so, groups_so}
+use Rattle.gtp_gateway.proofs.InPlace.{asked, requested_context, reads_so, row_so, groups_so}
 use Rattle.gtp_gateway.proofs.session_request.session_request_in.Goals as goal
-
-asked : (m : MessageValue) (spelled : (octets : List ℕ) × IsMessage octets m) → m.kind ≡ 32 → IsSessionRequest m
-asked m (octets, is) of = session_asked octets m of is
 
 pub needed-requires : goal.needed-requires
 needed-requires c = let m = c.args.view.now.message in let a = asked m c.requires.spelled c.requires.of in (a.imsi, row_so 32 1 0 _ m a.says)

@@ -1,6 +1,6 @@
 use Rattle.std.proofs.Common.{◌≡◌, drop, length}
-use Rattle.serde_json.specs.View.{items_view}
 use Rattle.gtp_scenario.specs.Heads.{access_points_in}
+use Rattle.gtp_scenario.specs.Trees.{items_view}
 use Rattle.gtp_scenario.proofs.Lists.{some_with_front}
 use Rattle.gtp_scenario.proofs.head.access_points_in.Given as goal
 

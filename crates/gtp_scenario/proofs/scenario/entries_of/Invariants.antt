@@ -1,7 +1,7 @@
 use Rattle.std.proofs.Common.{◌≡◌, map, drop}
-use Rattle.serde_json.specs.View.{items_view}
 use Rattle.gtp_scenario.specs.Scenarios.{entries_from, most_events}
 use Rattle.gtp_scenario.specs.Views.{entry}
+use Rattle.gtp_scenario.specs.Trees.{items_view}
 use Rattle.gtp_scenario.proofs.Lists.{with_front}
 use Rattle.gtp_scenario.proofs.scenario.entries_of.Given as goal
 

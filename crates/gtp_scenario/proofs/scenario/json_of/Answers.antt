@@ -1,9 +1,15 @@
-use Rattle.std.proofs.Common.{arith, sym, true≢false}
+use Rattle.std.proofs.Common.{ap, sym, subst, ◌∙◌, arith}
+use Rattle.serde_json.specs.Read.{read}
+use Rattle.gtp_scenario.specs.Steps.{Gives}
+use Rattle.gtp_scenario.specs.Trees.{view}
 use Rattle.gtp_scenario.proofs.Front.{json_is, json_is_none}
 use Rattle.gtp_scenario.proofs.scenario.json_of.Goals as goal
 
 pub returns-in-Ok : goal.returns-in-Ok
-returns-in-Ok c = json_is c.args.octets.now _ (omega arith) c.in-Ok.ensures.ok.0 c.in-Ok.ensures.ok.1
+returns-in-Ok c =
+    let octets = c.args.octets.now in
+    let is_text = c.in-Ok.ensures.cases in
+    subst (Gives view c.tree_of.result) (ap read is_text.0 ∙ sym (json_is octets (omega arith) is_text.1)) c.tree_of.ensures
 
-pub returns-else-is_memory : goal.returns-else-is_memory
-returns-else-is_memory c = json_is_none c.args.octets.now (λ text. c.in-Err.ensures.err (λ memory. true≢false (sym (c.if-is_memory.ensures.1 memory))) text)
+pub returns-in-Err : goal.returns-in-Err
+returns-in-Err c = json_is_none c.args.octets.now c.in-Err.ensures.cases.0

@@ -5,6 +5,7 @@ use Rattle.gtp_machine.specs.Input.{Effect}
 use Rattle.gtp_machine.specs.Node.{Pending, Session}
 use Rattle.gtp_machine.specs.Serving.{RemovalJudged, RemovalAsked}
 use Rattle.gtp_machine.specs.declared.outcome.DropReason.TheVariants.{HeldFull, ContextNotActive}
+use Rattle.gtp_machine.proofs.Basics.Facts.{one_value}
 use Rattle.gtp_gateway.specs.Ending.{removal_effect}
 use Rattle.gtp_gateway.specs.Parts.{arrival_of, node_of}
 use Rattle.gtp_gateway.specs.Station.{station_of}
@@ -13,7 +14,6 @@ use Rattle.gtp_gateway.proofs.Columns.{yes, no}
 use Rattle.gtp_gateway.proofs.Endings.{row_as}
 use Rattle.gtp_gateway.proofs.Rows.{if_ok, drops}
 use Rattle.gtp_gateway.proofs.Needing.{on_err, removal_opened, removal_asked}
-use Rattle.gtp_machine.proofs.Sound.Parts.{one_value}
 use Rattle.gtp_gateway.proofs.parts.Parts.take_removal_request.Goals as goal
 
 pub returns-then-is_full-clause-taken : goal.returns-then-is_full-clause-taken
