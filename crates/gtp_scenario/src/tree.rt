@@ -33,11 +33,8 @@ pub(crate) enum Number {
 fn nearest(negative: bool, numeral: &Numeral<'_>) -> Option<Number>
     ensures { option_map whole_of result ≡ option_map as_u64 (float_of negative numeral.now) }
 {
-    if numeral.to_float::<f64>(negative).is_finite() {
-        Some(Number::Other)
-    } else {
-        None
-    }
+    let is_kept = numeral.to_float::<f64>(negative).is_finite();
+    is_kept.then_some(Number::Other)
 }
 
 /// A number without a sign.
