@@ -12,10 +12,10 @@ fn peer() -> Endpoint {
     }
 }
 
-/// The octets of a request of this number: an Echo Request.
-fn request_of(number: u32) -> [u8; 13] {
+/// The octets of a request of this number: a Delete Session Request.
+fn request_of(number: u32) -> [u8; 12] {
     let [_, a, b, c] = number.to_be_bytes();
-    [64, 1, 0, 9, a, b, c, 0, 3, 0, 1, 0, 7]
+    [72, 36, 0, 8, 1, 0, 0, 1, a, b, c, 0]
 }
 
 /// How many answers were compared for one that is held. Not inlined, so that no part of it moves out of

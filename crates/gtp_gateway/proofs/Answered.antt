@@ -1,5 +1,5 @@
 -- Create Session Requests that were answered, as rows of the machine.
-use Rattle.std.proofs.Common.{◌≡◌, ℕ, Bool, false, List, [], ◌∷◌, Some, refl, sym, ◌∙◌, ap}
+use Rattle.std.proofs.Common.{◌≡◌, ℕ, Bool, false, List, [], ◌∷◌, Some, sym, ◌∙◌, ap}
 use Rattle.std.specs.FinMap.{insert}
 use Rattle.gtp_values.specs.declared.address.Endpoint.{Endpoint}
 use Rattle.gtp_values.specs.declared.cause.Cause.{Cause}
@@ -12,7 +12,6 @@ use Rattle.gtp_machine.specs.Node.{Active, Default, Node}
 use Rattle.gtp_machine.specs.Packet.{session_cause, session_response, session_made}
 use Rattle.gtp_machine.specs.Spelling.{datagram_of}
 use Rattle.gtp_gateway.specs.declared.hearing.Heard.{Heard}
-use Rattle.gtp_gateway.specs.declared.hearing.Heard.TheVariants as heards
 use Rattle.gtp_gateway.specs.declared.session_grant.Grant.{Grant}
 use Rattle.gtp_gateway.specs.declared.session_request.SessionRequest.{SessionRequest}
 use Rattle.gtp_gateway.specs.declared.control_step.ControlStep.{ControlStep}
@@ -24,15 +23,8 @@ use Rattle.gtp_gateway.specs.Parts.{arrival_of}
 use Rattle.gtp_gateway.specs.Row.{IsRow}
 use Rattle.gtp_gateway.specs.SessionAsked.{SaysSession}
 use Rattle.gtp_gateway.specs.Station.{Station}
-use Rattle.gtp_gateway.proofs.Rows.{answers_made, config_stays}
-use Rattle.gtp_gateway.proofs.Weighing.{counter_stays}
-
-pub held_stays : (heard : Heard) (n : Node) → (node_heard heard n).held ≡ n.held
-held_stays heards.Nothing n = refl
-held_stays (heards.First counter) n = refl
-held_stays (heards.Same counter) n = refl
-held_stays (heards.Later counter) n = refl
-held_stays (heards.Earlier counter) n = refl
+use Rattle.gtp_gateway.proofs.Rows.{answers_made}
+use Rattle.gtp_gateway.proofs.Weighing.{counter_stays, config_stays}
 
 pub answered_so : (Takes : Node → Effect → Type 0) (source : Endpoint) (octets : List ℕ) (m : Message) (cause : ℕ) (made : Bool) (left heard : Node) (old : Station) (step : ControlStep) (new : Station) → heard.config ≡ old.node.config → IsAnsweredSo source octets m cause made left old step new → Takes heard (answering made (arrival_of source octets) m cause left)
     → IsRow Takes (arrival_of source octets) old.role heard step new

@@ -3,9 +3,8 @@ use Rattle.std.proofs.Common.{◌≡◌, ◌⊎◌, ◌≢◌, inl, inr, ℕ, Bo
 use Rattle.std.specs.Prelude.{◌==◌, not, option_to_list, IsSomeAnd}
 use Rattle.std.specs.Bool.{beq}
 use Rattle.std.specs.FinMap.{get, insert, remove}
-use mathlib.Core.Logic.{∥∥₁_elim}
 use Rattle.std.proofs.lemmas.Bool.{eqb-true}
-use Rattle.gtp_values.proofs.Outcomes.{both}
+use Rattle.gtp_values.proofs.Tests.{both}
 use Rattle.gtp_values.specs.FiniteMap.{FiniteMap}
 use Rattle.gtp_values.specs.declared.identifiers.Teid.{Teid}
 use Rattle.gtp_ie.specs.Element.{Element}
@@ -15,7 +14,6 @@ use Rattle.gtp_v2.specs.Message.{MessageValue}
 use Rattle.gtp_v2.specs.Rows.{optional_at}
 use Rattle.gtp_v2.specs.Viewed.{values_in}
 use Rattle.gtp_machine.specs.declared.role.Role.{Role}
-use Rattle.gtp_machine.specs.declared.role.Role.TheVariants.{Serving, Packet}
 use Rattle.gtp_machine.specs.declared.outcome.DropReason.TheVariants.{NoPending, Mismatch}
 use Rattle.gtp_machine.specs.declared.outcome.Outcome.TheVariants.{Opened, Clash, Rejected}
 use Rattle.gtp_machine.specs.Choice.{HasPending}
@@ -46,9 +44,11 @@ use Rattle.gtp_gateway.specs.Parts.{session_of, bearer_of}
 use Rattle.gtp_gateway.specs.Procedure.{procedure_at, has, TakesBy}
 use Rattle.gtp_gateway.specs.Settled.{IsWaiting, effect_by}
 use Rattle.gtp_gateway.specs.Spelled.{is_for}
+use Rattle.gtp_gateway.proofs.Blank.{IsBlank, stands_there, blank_there}
 use Rattle.gtp_gateway.proofs.InPlace.{type_is, groups_so, bearer_answered}
 use Rattle.gtp_gateway.proofs.Pendings.{names_here, names_there}
 use Rattle.gtp_gateway.proofs.Settled.{heard_sound}
+use Rattle.gtp_gateway.proofs.Procedures.{at_packet}
 
 -- ---- what the message says, where it lies
 
@@ -236,29 +236,18 @@ bearer_asked role n sound number purpose w r k asked =
 
 module _ (role : Role) (heard : Heard) (old : Node) (whole : ∥ IsSound role old ∥₁) (number : ℕ) (purpose : Purpose) (w : IsWaiting (node_heard heard old) number purpose) (r : Response) (k : AskedBearer) (asked : IsAskedBearer purpose r k) where
   pub bearer_stands : get (node_heard heard old).bearers k.bearer.0 ≡ None → ⊥
-  bearer_stands none = ∥∥₁_elim whole (λ x y. absurd x) (λ sound. by (bearer_asked role (node_heard heard old) (heard_sound role heard old sound) number purpose w r k asked))
+  bearer_stands = stands_there whole (node_heard heard old) k.bearer.0 (λ sound. let d = by sound in (d.at, d.stands))
     where
-      by : IsBearerAsked (node_heard heard old) k.session.0 k.bearer.0 → ⊥
-      by d = let same : None ≡ Some d.at = sym none ∙ d.stands in cc
+      by : IsSound role old → IsBearerAsked (node_heard heard old) k.session.0 k.bearer.0
+      by sound = bearer_asked role (node_heard heard old) (heard_sound role heard old sound) number purpose w r k asked
 
   pub bearer_blank : (s : Session) → get (node_heard heard old).sessions k.session.0 ≡ Some s → s.state ≢ Closing → (b : Bearer) → get (node_heard heard old).bearers k.bearer.0 ≡ Some b → b.remote ≡ None
-  bearer_blank s here opened b stands = by b.remote refl
+  bearer_blank s here opened = blank_there whole (node_heard heard old) k.bearer.0 by
     where
-      other : (t : ℕ) → b.remote ≡ Some t → IsBearerAsked (node_heard heard old) k.session.0 k.bearer.0 → ⊥
-      other t is d =
-          let same : b ≡ d.at = one_value (get (node_heard heard old).bearers k.bearer.0) b d.at stands d.stands in
-          let none : Some t ≡ None = sym is ∙ (ap (λ (y : Bearer). y.remote) same ∙ d.blank s here opened) in
-          cc
-
-      by : (o : Option ℕ) → b.remote ≡ o → o ≡ None
-      by None is = refl
-      by (Some t) is = absurd (∥∥₁_elim whole (λ x y. absurd x) (λ sound. other t is (bearer_asked role (node_heard heard old) (heard_sound role heard old sound) number purpose w r k asked)))
+      by : IsSound role old → IsBlank (node_heard heard old) k.bearer.0
+      by sound = let d = bearer_asked role (node_heard heard old) (heard_sound role heard old sound) number purpose w r k asked in record { at = d.at; stands = d.stands; blank = d.blank s here opened }
 
 -- ---- wired to the kinds of message
 
 pub takes_bearer_response : (role : Role) (request : Arrival) (x : CreateBearerResponse) (m : Message) → has role BearerAnswered ≡ true → m ≡ Create_bearer_response x → (n : Node) (e : Effect) → BearerRow x n e → TakesBy role request m n e
-takes_bearer_response role request x m has_it is n e takes = subst (λ (k : Message). TakesBy role request k n e) (sym is) (by role has_it)
-  where
-    by : (r : Role) → has r BearerAnswered ≡ true → TakesBy r request (Create_bearer_response x) n e
-    by Serving has_it = absurd cc
-    by Packet has_it = takes
+takes_bearer_response role request x m has_it is n e takes = at_packet (λ r k. TakesBy r request k n e) BearerAnswered role m (Create_bearer_response x) refl has_it is takes

@@ -4,12 +4,14 @@ use Rattle.std.specs.Prelude.{◌==◌, ◌||◌, not, is_some}
 use Rattle.std.specs.FinMap.{get, same_map, nat_cmp-IsAntisymmetric}
 use Rattle.std.specs.Cmp.{nat_cmp_total}
 use Rattle.gtp_values.specs.FiniteMap.{FiniteMap, kept}
-use Rattle.gtp_tables.specs.Index.{HasDefault}
+use Rattle.gtp_values.specs.Number.{is_number}
+use Rattle.gtp_tables.specs.Index.{HasDefault, is_default, names}
+use Rattle.gtp_tables.proofs.Defaults.{kind_is}
 use Rattle.gtp_tables.proofs.Kept.{passing, get_kept}
-use Rattle.gtp_machine.specs.Node.{Session, Bearer, Kind, Default, Dedicated}
-use Rattle.gtp_machine.specs.User.{is_to, bearer_is_to, is_default, is_default_to, default_among, broken}
+use Rattle.gtp_machine.specs.Node.{Session, Bearer, Kind}
+use Rattle.gtp_machine.specs.User.{is_default_to, default_among, broken}
 use Rattle.gtp_machine.proofs.Sound.Broken.{breaks_by_default}
-use Rattle.gtp_machine.proofs.Basics.Facts.{same_number, equal_itself}
+use Rattle.gtp_values.proofs.Tests.{same_number, itself, number_is}
 use Rattle.gtp_gateway.specs.Broken.{is_broken}
 use Rattle.gtp_gateway.specs.Station.{Station, IsWhole}
 use Rattle.gtp_gateway.proofs.Columns.{session_stands}
@@ -20,31 +22,23 @@ three true true false h = absurd cc
 three true false c h = absurd cc
 three false b c h = absurd cc
 
-kind_is : (k : Kind) → is_default k ≡ true → k ≡ Default
-kind_is Default h = refl
-kind_is Dedicated h = absurd cc
-
-remote_is : (remote : ℕ) (o : Option ℕ) → is_to remote o ≡ true → o ≡ Some remote
-remote_is remote None h = absurd cc
-remote_is remote (Some t) h = ap Some (same_number t remote h)
-
 module _ (m : FiniteMap Bearer) (remote session : ℕ) where
   among : HasDefault m remote session → default_among remote session m ≡ true
   among d =
       let b = d.at.bearer in
       let is : is_default_to remote session b ≡ true =
-      ap (λ (k : Kind). is_default k && is_to remote b.remote && (b.session == session)) d.default
-      ∙ (ap (λ (o : Option ℕ). true && is_to remote o && (b.session == session)) d.at.has
+      ap (λ (k : Kind). is_default k && is_number remote b.remote && (b.session == session)) d.default
+      ∙ (ap (λ (o : Option ℕ). true && is_number remote o && (b.session == session)) d.at.has
       ∙ (ap (λ (n : ℕ). true && (remote == remote) && (n == session)) d.of
-      ∙ (ap (λ (c : Bool). true && c && (session == session)) (equal_itself remote) ∙ equal_itself session))) in
+      ∙ (ap (λ (c : Bool). true && c && (session == session)) (itself remote) ∙ itself session))) in
       (breaks_by_default remote session m).1 (d.teid, b, d.at.stands, is)
 
   has : default_among remote session m ≡ true → HasDefault m remote session
   has is =
       let at = (breaks_by_default remote session m).0 is in
       let b : Bearer = at.1 in
-      let parts = three (is_default b.kind) (is_to remote b.remote) (b.session == session) at.3 in
-      record { teid = at.0; at = record { bearer = b; stands = at.2; has = remote_is remote b.remote parts.1 }; default = kind_is b.kind parts.0; of = same_number b.session session parts.2 }
+      let parts = three (is_default b.kind) (is_number remote b.remote) (b.session == session) at.3 in
+      record { teid = at.0; at = record { bearer = b; stands = at.2; has = number_is remote b.remote parts.1 }; default = kind_is b.kind parts.0; of = same_number b.session session parts.2 }
 
   -- a session goes where its default bearer has the remote
   pub default_same : (r : Bool) → IsTrue r ↔ HasDefault m remote session → r ≡ default_among remote session m
@@ -70,7 +64,7 @@ gone false s = refl
 -- the bearers whose session is gone are those whose session goes
 pub broken_bearers : (s : Station) (sessions : FiniteMap Session) (remote : ℕ) → IsWhole s → sessions ≡ (broken s.node remote).sessions → kept (λ _ b. not (is_broken sessions remote b)) s.node.bearers ≡ (broken s.node remote).bearers
 broken_bearers s sessions remote whole left =
-    kept_same (λ _ b. not (is_broken sessions remote b)) (λ t b. not (bearer_is_to remote (get s.node.bearers t) || default_among remote b.session s.node.bearers)) s.node.bearers (λ t b stands.
+    kept_same (λ _ b. not (is_broken sessions remote b)) (λ t b. not (names remote (get s.node.bearers t) || default_among remote b.session s.node.bearers)) s.node.bearers (λ t b stands.
     let goes : ℕ → Bool = λ k. default_among remote k s.node.bearers in
     let of = session_stands s t b whole stands in
     let there : get sessions b.session ≡ cond (not (goes b.session)) (Some of.session) None =
@@ -78,5 +72,5 @@ broken_bearers s sessions remote whole left =
     ∙ (get_kept (λ k _. not (goes k)) s.node.sessions b.session
     ∙ ap (passing (λ k (_ : Session). not (goes k)) b.session) of.stands) in
     let ends : not (is_some (get sessions b.session)) ≡ goes b.session = ap (λ (o : Option Session). not (is_some o)) there ∙ gone (goes b.session) of.session in
-    ap (λ (c : Bool). not (is_to remote b.remote || c)) ends
-    ∙ ap (λ (o : Option Bearer). not (bearer_is_to remote o || goes b.session)) (sym stands))
+    ap (λ (c : Bool). not (is_number remote b.remote || c)) ends
+    ∙ ap (λ (o : Option Bearer). not (names remote o || goes b.session)) (sym stands))

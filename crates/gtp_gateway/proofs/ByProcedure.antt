@@ -1,5 +1,5 @@
 -- Which message octets spell, by the procedure that takes it, and what either gateway does with it.
-use Rattle.std.proofs.Common.{◌≡◌, ℕ, true, List, [], ◌∷◌, Option, Some, None, option_map, refl, sym, ◌∙◌, ap, subst}
+use Rattle.std.proofs.Common.{◌≡◌, ℕ, true, List, [], ◌∷◌, Option, Some, None, option_map, refl, sym, ◌∙◌, ap}
 use Rattle.gtp_values.specs.declared.cause.Cause.{Cause}
 use Rattle.gtp_ie.specs.Value.{Value, OfCause, OfEbi}
 use Rattle.gtp_v2.specs.Table.{Field}
@@ -8,7 +8,6 @@ use Rattle.gtp_v2.specs.DeleteBearerRequest.{delete_bearer_request}
 use Rattle.gtp_v2.specs.Datagram.{IsMessage}
 use Rattle.gtp_v2.specs.Viewed.{in_row, front_value}
 use Rattle.gtp_machine.specs.declared.role.Role.{Role}
-use Rattle.gtp_machine.specs.declared.role.Role.TheVariants.{Serving, Packet}
 use Rattle.gtp_machine.specs.Message.{Message, recovery_of, Echo, CreateSessionRequest, Create_session_request, DeleteSessionRequest, Delete_session_request, DeleteSessionResponse, DeleteBearerResponse, Echo_request, Echo_response, Delete_session_response, Delete_bearer_response}
 use Rattle.gtp_machine.specs.Node.{Arrival, Node, written}
 use Rattle.gtp_machine.specs.Answer.{echoed}
@@ -26,40 +25,28 @@ use Rattle.gtp_gateway.specs.Hearing.{node_heard}
 use Rattle.gtp_gateway.specs.Row.{IsWeighed}
 use Rattle.gtp_gateway.specs.Station.{Station}
 use Rattle.gtp_gateway.specs.Procedure.{procedure_at, has, TakesBy, takes_by}
-use Rattle.gtp_gateway.proofs.InPlace.{type_of, type_is, fields_of, Says, reads_so, row_so, deletion_asked, echo_asked, echo_answered, session_asked, session_taken, session_answered, deletion_answered, bearer_asked, bearer_taken, bearer_answered, removal_answered}
+use Rattle.gtp_gateway.proofs.InPlace.{type_of, type_is, fields_of, Says, reads_so, row_so, deletion_asked, echo_asked, echo_answered, session_asked, session_answered, deletion_answered, bearer_asked, bearer_answered, removal_answered}
 use Rattle.gtp_gateway.proofs.Procedures as kinds
+use Rattle.gtp_gateway.proofs.Procedures.{at_both, at_packet, at_serving}
 
 -- ---- Echo Request and Echo Response
 
-pub record IsEchoRequest (m : MessageValue) : Type 0 where
-  pub request : Echo
-  pub is : message_of m ≡ Echo_request request
-  pub number : request.number ≡ m.seq
+pub record IsEcho (message : Echo → Message) (m : MessageValue) : Type 0 where
+  pub echo : Echo
+  pub is : message_of m ≡ message echo
+  pub number : echo.number ≡ m.seq
 
-pub echo_request_is : (octets : List ℕ) (m : MessageValue) → IsMessage octets m → procedure_at m.kind ≡ Some EchoAsked → IsEchoRequest m
-echo_request_is octets m is at = let a = echo_asked octets m (type_is m.kind EchoAsked at) is in record { request = _; is = reads_so 1 _ m a.says; number = refl }
+pub echo_request_is : (octets : List ℕ) (m : MessageValue) → IsMessage octets m → procedure_at m.kind ≡ Some EchoAsked → IsEcho Echo_request m
+echo_request_is octets m is at = let a = echo_asked octets m (type_is m.kind EchoAsked at) is in record { echo = _; is = reads_so 1 _ m a.says; number = refl }
 
 pub takes_echo_request : (role : Role) (request : Arrival) (q : Echo) (m : Message) → m ≡ Echo_request q → (n : Node) (e : Effect) → e ≡ echoed request q n → TakesBy role request m n e
-takes_echo_request role request q m is n e takes = subst (λ (k : Message). TakesBy role request k n e) (sym is) (by role)
-  where
-    by : (r : Role) → TakesBy r request (Echo_request q) n e
-    by Serving = takes
-    by Packet = takes
+takes_echo_request role request q m is n e takes = at_both (λ r k. TakesBy r request k n e) role m (Echo_request q) is takes takes
 
-pub record IsEchoResponse (m : MessageValue) : Type 0 where
-  pub response : Echo
-  pub is : message_of m ≡ Echo_response response
-  pub number : response.number ≡ m.seq
-
-pub echo_response_is : (octets : List ℕ) (m : MessageValue) → IsMessage octets m → procedure_at m.kind ≡ Some EchoAnswered → IsEchoResponse m
-echo_response_is octets m is at = let a = echo_answered octets m (type_is m.kind EchoAnswered at) is in record { response = _; is = reads_so 2 _ m a.says; number = refl }
+pub echo_response_is : (octets : List ℕ) (m : MessageValue) → IsMessage octets m → procedure_at m.kind ≡ Some EchoAnswered → IsEcho Echo_response m
+echo_response_is octets m is at = let a = echo_answered octets m (type_is m.kind EchoAnswered at) is in record { echo = _; is = reads_so 2 _ m a.says; number = refl }
 
 pub takes_echo_response : (role : Role) (request : Arrival) (a : Echo) (m : Message) → m ≡ Echo_response a → (n : Node) (e : Effect) → EchoRow a n e → TakesBy role request m n e
-takes_echo_response role request a m is n e takes = subst (λ (k : Message). TakesBy role request k n e) (sym is) (by role)
-  where
-    by : (r : Role) → TakesBy r request (Echo_response a) n e
-    by Serving = takes
-    by Packet = takes
+takes_echo_response role request a m is n e takes = at_both (λ r k. TakesBy r request k n e) role m (Echo_response a) is takes takes
 
 -- ---- Delete Session Request
 
@@ -80,81 +67,51 @@ deletion_request_is octets m r is at reads =
     record { request = _; is = reads_so 36 _ m a.says; says = record { number = sym reads.number; header = sym reads.header; linked = linked_is a.linked r.linked (reads.linked a.linked (row_so 36 73 0 _ m a.says)) } }
 
 pub takes_deletion_request : (role : Role) (request : Arrival) (d : DeleteSessionRequest) (m : Message) → has role DeletionAsked ≡ true → m ≡ Delete_session_request d → (n : Node) (e : Effect) → DeletionAskedRow request d n e → TakesBy role request m n e
-takes_deletion_request role request d m has_it is n e takes = subst (λ (k : Message). TakesBy role request k n e) (sym is) (by role has_it)
-  where
-    by : (r : Role) → has r DeletionAsked ≡ true → TakesBy r request (Delete_session_request d) n e
-    by Serving has_it = absurd cc
-    by Packet has_it = takes
+takes_deletion_request role request d m has_it is n e takes = at_packet (λ r k. TakesBy r request k n e) DeletionAsked role m (Delete_session_request d) refl has_it is takes
 
 -- ---- Create Session Request
 
 pub takes_session_request : (role : Role) (request : Arrival) (q : CreateSessionRequest) (m : Message) → has role SessionAsked ≡ true → m ≡ Create_session_request q → (n : Node) (e : Effect) → SessionAskedRow request q n e → TakesBy role request m n e
-takes_session_request role request q m has_it is n e takes = subst (λ (k : Message). TakesBy role request k n e) (sym is) (by role has_it)
-  where
-    by : (r : Role) → has r SessionAsked ≡ true → TakesBy r request (Create_session_request q) n e
-    by Serving has_it = absurd cc
-    by Packet has_it = takes
+takes_session_request role request q m has_it is n e takes = at_packet (λ r k. TakesBy r request k n e) SessionAsked role m (Create_session_request q) refl has_it is takes
 
 -- the message tells no counter, and so nothing was heard
 pub unheard : (heard : Heard) (m : Message) (s : Station) → IsWeighed heard m s → recovery_of m ≡ None → s.node ≡ node_heard heard s.node
 unheard heard m s (None, tells, is) none = ap (λ (h : Heard). node_heard h s.node) (sym is)
 unheard heard m s (Some counter, tells, is) none = absurd (let no : Some counter.0 ≡ None = tells ∙ none in cc)
 
--- ---- Delete Session Response
-
-abbrev values : List Value → Option (List Value)
-values vs = Some vs
+-- ---- Delete Session Response and Delete Bearer Response
 
 -- a cause that was read is the one that the message says
 pub cause_is : (v : Value) (c : Cause) (row : Option (List Value)) → row ≡ Some (v ∷ []) → row ≡ Some (OfCause c ∷ []) → cause_at (v ∷ []) ≡ c
 cause_is v c row is read = let same : v ≡ OfCause c = cc in ap (λ (x : Value). cause_at (x ∷ [])) same
 
-pub record IsDeletionResponse (m : MessageValue) (c : Cause) : Type 0 where
-  pub response : DeleteSessionResponse
-  pub is : message_of m ≡ Delete_session_response response
-  pub header : response.header ≡ written m.teid
-  pub number : response.number ≡ m.seq
-  pub cause : response.cause ≡ c
+-- a response, by what is read of it: its header, its number and its cause
+pub record IsResponse {A : Type 0} (message : A → Message) (header_of seq_of : A → ℕ) (cause_of : A → Cause) (m : MessageValue) (c : Cause) : Type 0 where
+  pub response : A
+  pub is : message_of m ≡ message response
+  pub header : header_of response ≡ written m.teid
+  pub number : seq_of response ≡ m.seq
+  pub cause : cause_of response ≡ c
 
-pub deletion_response_is : (octets : List ℕ) (m : MessageValue) (c : Cause) → IsMessage octets m → procedure_at m.kind ≡ Some DeletionAnswered → in_row 2 0 m ≡ Some (OfCause c ∷ []) → IsDeletionResponse m c
+pub deletion_response_is : (octets : List ℕ) (m : MessageValue) (c : Cause) → IsMessage octets m → procedure_at m.kind ≡ Some DeletionAnswered → in_row 2 0 m ≡ Some (OfCause c ∷ []) → IsResponse Delete_session_response (λ d. d.header) (λ d. d.number) (λ d. d.cause) m c
 deletion_response_is octets m c is at read =
     let a = deletion_answered octets m (type_is m.kind DeletionAnswered at) is in
     record { response = _; is = reads_so 37 _ m a.says; header = refl; number = refl; cause = cause_is a.cause c (in_row 2 0 m) (row_so 37 2 0 _ m a.says) read }
 
--- its cause stands in its row
-pub deletion_cause : (octets : List ℕ) (m : MessageValue) → IsMessage octets m → procedure_at m.kind ≡ Some DeletionAnswered → (v : Value) × (in_row 2 0 m ≡ Some (v ∷ []))
-deletion_cause octets m is at = let a = deletion_answered octets m (type_is m.kind DeletionAnswered at) is in (a.cause, row_so 37 2 0 _ m a.says)
-
 pub takes_deletion_response : (role : Role) (request : Arrival) (d : DeleteSessionResponse) (m : Message) → has role DeletionAnswered ≡ true → m ≡ Delete_session_response d → (n : Node) (e : Effect) → DeletionRow d n e → TakesBy role request m n e
-takes_deletion_response role request d m has_it is n e takes = subst (λ (k : Message). TakesBy role request k n e) (sym is) (by role has_it)
-  where
-    by : (r : Role) → has r DeletionAnswered ≡ true → TakesBy r request (Delete_session_response d) n e
-    by Serving has_it = takes
-    by Packet has_it = absurd cc
+takes_deletion_response role request d m has_it is n e takes = at_serving (λ r k. TakesBy r request k n e) DeletionAnswered role m (Delete_session_response d) refl has_it is takes
 
--- ---- Delete Bearer Response
-
-pub record IsRemovalResponse (m : MessageValue) (c : Cause) : Type 0 where
-  pub response : DeleteBearerResponse
-  pub is : message_of m ≡ Delete_bearer_response response
-  pub header : response.header ≡ written m.teid
-  pub number : response.number ≡ m.seq
-  pub cause : response.cause ≡ c
-
-pub removal_response_is : (octets : List ℕ) (m : MessageValue) (c : Cause) → IsMessage octets m → procedure_at m.kind ≡ Some RemovalAnswered → in_row 2 0 m ≡ Some (OfCause c ∷ []) → IsRemovalResponse m c
+pub removal_response_is : (octets : List ℕ) (m : MessageValue) (c : Cause) → IsMessage octets m → procedure_at m.kind ≡ Some RemovalAnswered → in_row 2 0 m ≡ Some (OfCause c ∷ []) → IsResponse Delete_bearer_response (λ d. d.header) (λ d. d.number) (λ d. d.cause) m c
 removal_response_is octets m c is at read =
     let a = removal_answered octets m (type_is m.kind RemovalAnswered at) is in
     record { response = _; is = reads_so 100 _ m a.says; header = refl; number = refl; cause = cause_is a.cause c (in_row 2 0 m) (row_so 100 2 0 _ m a.says) read }
 
+-- its cause stands in its row
 pub removal_cause : (octets : List ℕ) (m : MessageValue) → IsMessage octets m → procedure_at m.kind ≡ Some RemovalAnswered → (v : Value) × (in_row 2 0 m ≡ Some (v ∷ []))
 removal_cause octets m is at = let a = removal_answered octets m (type_is m.kind RemovalAnswered at) is in (a.cause, row_so 100 2 0 _ m a.says)
 
 pub takes_removal_response : (role : Role) (request : Arrival) (d : DeleteBearerResponse) (m : Message) → has role RemovalAnswered ≡ true → m ≡ Delete_bearer_response d → (n : Node) (e : Effect) → RemovalRow d n e → TakesBy role request m n e
-takes_removal_response role request d m has_it is n e takes = subst (λ (k : Message). TakesBy role request k n e) (sym is) (by role has_it)
-  where
-    by : (r : Role) → has r RemovalAnswered ≡ true → TakesBy r request (Delete_bearer_response d) n e
-    by Serving has_it = absurd cc
-    by Packet has_it = takes
+takes_removal_response role request d m has_it is n e takes = at_packet (λ r k. TakesBy r request k n e) RemovalAnswered role m (Delete_bearer_response d) refl has_it is takes
 
 -- ---- a gateway takes the messages for which it has a procedure
 
@@ -167,11 +124,11 @@ is_taken role octets m p is at has_it = by p (type_is m.kind p at) has_it
     by : (p : Procedure) → m.kind ≡ type_of p → has role p ≡ true → takes_by role (message_of m) ≡ true
     by EchoAsked of has_it = so 1 _ (echo_asked octets m of is).says (kinds.echo_asked role _ ∙ has_it)
     by EchoAnswered of has_it = so 2 _ (echo_answered octets m of is).says (kinds.echo_answered role _ ∙ has_it)
-    by SessionAsked of has_it = so 32 _ (session_asked octets m of is).says (session_taken role _ has_it)
+    by SessionAsked of has_it = so 32 _ (session_asked octets m of is).says (kinds.session_asked role _ ∙ has_it)
     by SessionAnswered of has_it = so 33 _ (session_answered octets m of is).says (kinds.session_answered role _ ∙ has_it)
     by DeletionAsked of has_it = so 36 _ (deletion_asked octets m of is).says (kinds.deletion_asked role _ ∙ has_it)
     by DeletionAnswered of has_it = so 37 _ (deletion_answered octets m of is).says (kinds.deletion_answered role _ ∙ has_it)
-    by BearerAsked of has_it = so 95 _ (bearer_asked octets m of is).says (bearer_taken role _ has_it)
+    by BearerAsked of has_it = so 95 _ (bearer_asked octets m of is).says (kinds.bearer_asked role _ ∙ has_it)
     by BearerAnswered of has_it = so 96 _ (bearer_answered octets m of is).says (kinds.bearer_answered role _ ∙ has_it)
     by RemovalAsked of has_it = let f = fields_of 99 delete_bearer_request octets m refl of is in so 99 f.fields (record { of = of; content = f.content }) (kinds.removal_asked role _ ∙ has_it)
     by RemovalAnswered of has_it = so 100 _ (removal_answered octets m of is).says (kinds.removal_answered role _ ∙ has_it)

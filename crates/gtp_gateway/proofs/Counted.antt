@@ -1,5 +1,5 @@
 -- How many identities the list of a Delete Bearer Request has, where it lies.
-use Rattle.std.proofs.Common.{◌≡◌, ℕ, suc, List, [], ◌∷◌, map, length, drop, Option, Some, Result, Ok, refl, sym, ◌∙◌, ap, subst}
+use Rattle.std.proofs.Common.{◌≡◌, ℕ, suc, List, [], ◌∷◌, map, length, drop, Option, Some, refl, sym, ◌∙◌, ap, subst}
 use Rattle.std.proofs.lemmas.List.{length-map}
 use Rattle.gtp_ie.specs.declared.value.numbers.EbiValue.{EbiValue}
 use Rattle.gtp_ie.specs.Element.{Element, all_of}
@@ -15,20 +15,15 @@ use Rattle.gtp_v2.specs.Message.{Content, Fields, MessageValue}
 use Rattle.gtp_v2.specs.Table.{Field, Plain, Table, start}
 use Rattle.gtp_v2.specs.Tables.{table_of}
 use Rattle.gtp_v2.specs.Viewed.{Viewed, place_of, ElementsAre, Carries}
+use Rattle.gtp_values.proofs.Outcomes.{ok_same}
 use Rattle.gtp_v2.proofs.Carried.{after_header}
 use Rattle.gtp_v2.proofs.Decided.{whole_decided}
 use Rattle.gtp_gateway.specs.Ending.{ReadsIdentities}
 use Rattle.gtp_gateway.proofs.InPlace.{fields_of}
 
-abbrev read_as : List Element → Result (List Element) RowFault
-read_as es = Ok es
-
-one_read : (es all : List Element) → read_as es ≡ read_as all → es ≡ all
-one_read es all is = cc
-
 -- octets are one list of elements
 one_list : (at : ℕ) (octets : List ℕ) (es all : List Element) → AreElements at octets es → AreElements at octets all → es ≡ all
-one_list at octets es all a b = one_read es all (sym ((whole_decided at octets).is es a) ∙ (whole_decided at octets).is all b)
+one_list at octets es all a b = ok_same RowFault es all (sym ((whole_decided at octets).is es a) ∙ (whole_decided at octets).is all b)
 
 each_length : {X : Type 0} (Is : Element → X → Type 0) (es : List Element) (xs : List X) → EachIs Is es xs → length es ≡ length xs
 each_length Is [] xs each = ap length (sym each)

@@ -14,8 +14,8 @@ use Rattle.gtp_gateway.specs.declared.bearer.Dedicated.{Dedicated}
 use Rattle.gtp_gateway.specs.declared.fault.CommandFault.{CommandFault}
 use Rattle.gtp_gateway.specs.declared.sent.Begun.{Begun}
 use Rattle.std.proofs.Common.{Result}
-use Rattle.gtp_v2.proofs.Headers.{unequal}
-use Rattle.gtp_machine.proofs.Basics.Facts.{one_value, same_number}
+use Rattle.gtp_values.proofs.Tests.{unequal, same_number}
+use Rattle.gtp_machine.proofs.Basics.Facts.{one_value}
 use Rattle.gtp_gateway.specs.Dedicated.{IsDedicated}
 use Rattle.gtp_gateway.specs.Station.{Station, IsWhole}
 use Rattle.gtp_gateway.proofs.Columns.{Told, goes}

@@ -1,7 +1,8 @@
 -- TEIDs that were drawn, and the next ones.
-use Rattle.std.proofs.Common.{◌≡◌, ◌<◌, ◌≤◌, ◌+◌, ◌/◌, ◌%◌, ◌^◌, ℕ, zero, suc, length, List, ◌∷◌, inl, inr, refl, sym, ◌∙◌, ap, subst, arith}
+use Rattle.std.proofs.Common.{◌≡◌, ◌<◌, ◌≤◌, ◌+◌, ◌/◌, ◌%◌, ◌^◌, ℕ, zero, suc, length, List, ◌∷◌, Some, inl, inr, refl, sym, ◌∙◌, ap, subst, arith}
 use mathlib.Core.Logic.{∥∥₁_elim}
-use Rattle.gtp_values.specs.FiniteMap.{Among}
+use Rattle.std.specs.FinMap.{get}
+use Rattle.gtp_values.specs.FiniteMap.{FiniteMap, Among}
 use Rattle.gtp_tables.specs.Drawn.{Drawn, teid_at, drawn_up_to}
 use Rattle.gtp_machine.specs.Node.{Node}
 use Rattle.gtp_machine.specs.Choice.{HasDraws}
@@ -29,24 +30,21 @@ one_more : (n : ℕ) → n + 1 ≡ suc n
 one_more n = omega arith
 
 module _ (s : Station) (whole : IsWhole s) (count : ℕ) (drawn : s.node.drawn ≡ drawn_up_to s.node.counter count) where
-  -- the next TEIDs are above all sessions and bearers
-  pub sessions_below : (t : ℕ) → teid_at s.node.counter count < t → IsAbove s.node.sessions t
-  sessions_below t above key session stands = not_below key t (λ reaches. ∥∥₁_elim whole (λ x y. absurd x) (λ sound. none sound reaches))
+  -- the next TEIDs are above all that a table has, where a sound gateway has drawn each of its keys
+  all_below : {X : Type 0} (table : FiniteMap X) → (IsSound s.role s.node → (key : ℕ) (x : X) → get table key ≡ Some x → Among key s.node.drawn) → (t : ℕ) → teid_at s.node.counter count < t → IsAbove table t
+  all_below table own t above key x stands = not_below key t (λ reaches. ∥∥₁_elim whole (λ x y. absurd x) (λ sound. none sound reaches))
     where
       none : IsSound s.role s.node → t ≤ key → ⊥
       none sound reaches =
-          let own : Among key (drawn_up_to s.node.counter count) = subst (λ (ts : List ℕ). Among key ts) drawn (sound.contexts.each_session key session stands).own in
-          let low = among_below s.node.counter count key own in
+          let low = among_below s.node.counter count key (subst (λ (ts : List ℕ). Among key ts) drawn (own sound key x stands)) in
           omega (arith, low, above, reaches)
 
+  -- so they are above all sessions and bearers
+  pub sessions_below : (t : ℕ) → teid_at s.node.counter count < t → IsAbove s.node.sessions t
+  sessions_below = all_below s.node.sessions (λ sound key session stands. (sound.contexts.each_session key session stands).own)
+
   pub bearers_below : (t : ℕ) → teid_at s.node.counter count < t → IsAbove s.node.bearers t
-  bearers_below t above key bearer stands = not_below key t (λ reaches. ∥∥₁_elim whole (λ x y. absurd x) (λ sound. none sound reaches))
-    where
-      none : IsSound s.role s.node → t ≤ key → ⊥
-      none sound reaches =
-          let own : Among key (drawn_up_to s.node.counter count) = subst (λ (ts : List ℕ). Among key ts) drawn (sound.contexts.each_bearer key bearer stands).own in
-          let low = among_below s.node.counter count key own in
-          omega (arith, low, above, reaches)
+  bearers_below = all_below s.node.bearers (λ sound key bearer stands. (sound.contexts.each_bearer key bearer stands).own)
 
 -- one more draw
 pub drawn_next : (counter count t : ℕ) → t ≡ teid_at counter (count + 1) → drawn_up_to counter (count + 1) ≡ t ∷ drawn_up_to counter count

@@ -29,7 +29,6 @@ use Rattle.gtp_machine.specs.Answer.{answered}
 use Rattle.gtp_machine.specs.Decoded.{number_of, message_of}
 use Rattle.gtp_machine.specs.Message.{Message, RemovedBearer, DeleteBearerRequest, Delete_bearer_request, Delete_bearer_response}
 use Rattle.gtp_machine.specs.Node.{Arrival, Bearer, Node}
-use Rattle.gtp_machine.specs.declared.role.Role.TheVariants.{Serving, Packet}
 use Rattle.gtp_machine.specs.declared.role.Role.{Role}
 use Rattle.gtp_machine.specs.Reading.{removed_bearer}
 use Rattle.gtp_machine.specs.Serving.{RemovesEach, RemovalTaken, RemovalJudged, all_removed, any_removed, removal_cause}
@@ -49,6 +48,7 @@ use Rattle.gtp_gateway.specs.Row.{IsRow}
 use Rattle.gtp_gateway.specs.Station.{Station}
 use Rattle.gtp_gateway.proofs.ByProcedure.{linked_is}
 use Rattle.gtp_gateway.proofs.InPlace.{type_is, fields_of, Says, reads_so, row_so}
+use Rattle.gtp_gateway.proofs.Procedures.{at_serving}
 
 -- a row of one kind, as a row of another that holds of the same effects at this node
 pub row_as : (T U : Node → Effect → Type 0) (request : Arrival) (role : Role) (old : Node) (step : ControlStep) (new : Station) → ((e : Effect) → T old e → U old e) → IsRow T request role old step new → IsRow U request role old step new
@@ -84,9 +84,6 @@ names_push old session before (m ∷ ns) n each one = (each.0, names_push old se
 record IsLeft (old : Node) (before : List NamedBearer) (node : Node) : Type 0 where
   pub there : (t : ℕ) (b : Bearer) → get node.bearers t ≡ Some b → (get old.bearers t ≡ Some b) × (was_named t before ≡ false)
   pub here : (t : ℕ) (b : Bearer) → get old.bearers t ≡ Some b → was_named t before ≡ false → get node.bearers t ≡ Some b
-
-abbrev bearer_or_none : Option Bearer → Option Bearer
-bearer_or_none o = o
 
 other : (t k : ℕ) (o : Option Bearer) (b : Bearer) → passing (λ q (x : Bearer). not ((q == k) || false)) t o ≡ Some b → (o ≡ Some b) × ((t == k) ≡ false)
 other t k None b is = absurd cc
@@ -286,8 +283,4 @@ delete_bearer_is octets m r is at reads =
     }
 
 pub takes_removal_request : (role : Role) (request : Arrival) (d : DeleteBearerRequest) (m : Message) → has role RemovalAsked ≡ true → m ≡ Delete_bearer_request d → (n : Node) (e : Effect) → RemovalAskedRow request d n e → TakesBy role request m n e
-takes_removal_request role request d m has_it is n e takes = subst (λ (k : Message). TakesBy role request k n e) (sym is) (by role has_it)
-  where
-    by : (r : Role) → has r RemovalAsked ≡ true → TakesBy r request (Delete_bearer_request d) n e
-    by Serving has_it = takes
-    by Packet has_it = absurd cc
+takes_removal_request role request d m has_it is n e takes = at_serving (λ r k. TakesBy r request k n e) RemovalAsked role m (Delete_bearer_request d) refl has_it is takes

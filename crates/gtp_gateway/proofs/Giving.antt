@@ -10,8 +10,9 @@ use Rattle.gtp_values.specs.declared.address.Ip.{Ip}
 use Rattle.gtp_values.specs.FiniteMap.{Among}
 use Rattle.gtp_reliable.specs.declared.waiting.NextTick.{NextTick}
 use Rattle.gtp_reliable.specs.declared.waiting.NextTick.TheVariants.{WaitsOn, SentAgain, GivenUp}
+use Rattle.gtp_reliable.proofs.Told.{filter_twice}
 use Rattle.gtp_reliable.specs.Waiting.{Waiting, next_tick, after_tick, after_tick_by, given_up, given_up_by}
-use Rattle.gtp_tables.proofs.Found.{itself}
+use Rattle.gtp_tables.proofs.Found.{key_itself}
 use Rattle.gtp_machine.specs.Input.{Move, Give_up, Out, nothing}
 use Rattle.gtp_machine.specs.declared.outcome.Outcome.TheVariants.{Moved}
 use Rattle.gtp_machine.specs.Node.{PendingRequest, Node}
@@ -19,7 +20,8 @@ use Rattle.gtp_machine.specs.Removal.{on, finished_about, finished}
 use Rattle.gtp_machine.specs.Tick.{TickStep, AreGiveUps}
 use Rattle.gtp_machine.proofs.Basics.FiniteMaps.{found-kept, found-remove}
 use Rattle.gtp_machine.proofs.Changes.Shrinking.{Shrunk-finished}
-use Rattle.gtp_machine.proofs.Basics.Facts.{one_value, equal_itself}
+use Rattle.gtp_values.proofs.Tests.{itself}
+use Rattle.gtp_machine.proofs.Basics.Facts.{one_value}
 use Rattle.gtp_gateway.specs.declared.purpose.Purpose.{Purpose}
 use Rattle.gtp_gateway.specs.Parts.{pending_of, pending_in}
 use Rattle.gtp_gateway.specs.Spelled.{IsAsked, AreAsked}
@@ -75,11 +77,11 @@ gone_about : (node : Node) (number : ℕ) (session bearer : Option ℕ) (p : Pen
 gone_about node number session (Some t) p s b waits q still =
     let found = found-kept (λ n (x : PendingRequest). not (on (λ k. false) x.session || on (λ k. k == t) x.bearer)) node.pending number q still in
     let same = one_value (get node.pending number) q p found.1 waits in
-    not_second (on (λ k. false) q.session) (on (λ k. k == t) q.bearer) (ap (on (λ k. k == t)) (ap (λ (x : PendingRequest). x.bearer) same ∙ b) ∙ equal_itself t) found.0
+    not_second (on (λ k. false) q.session) (on (λ k. k == t) q.bearer) (ap (on (λ k. k == t)) (ap (λ (x : PendingRequest). x.bearer) same ∙ b) ∙ itself t) found.0
 gone_about node number (Some t) None p s b waits q still =
     let found = found-kept (λ n (x : PendingRequest). not (on (λ k. k == t) x.session || on (λ k. false) x.bearer)) node.pending number q still in
     let same = one_value (get node.pending number) q p found.1 waits in
-    not_first (on (λ k. k == t) q.session) (on (λ k. false) q.bearer) (ap (on (λ k. k == t)) (ap (λ (x : PendingRequest). x.session) same ∙ s) ∙ equal_itself t) found.0
+    not_first (on (λ k. k == t) q.session) (on (λ k. false) q.bearer) (ap (on (λ k. k == t)) (ap (λ (x : PendingRequest). x.session) same ∙ s) ∙ itself t) found.0
 gone_about node number None None p s b waits q still = (found-remove node.pending number number q still).0 refl
 
 -- what waits after the give-ups waited before
@@ -107,7 +109,7 @@ found : (ws : List (Waiting Purpose)) (w : Waiting Purpose) → Among w ws → F
 found [] w among = absurd among
 found (v ∷ ws) w (inl is) =
     subst (λ (x : Waiting Purpose). Found (v ∷ ws) x.seq) (sym is)
-    (record { request = (pending_of v).1; stands = ap (λ (b : Bool). cond b (Some (pending_of v).1) (find nat_cmp v.seq (map pending_of ws))) (itself v.seq) })
+    (record { request = (pending_of v).1; stands = ap (λ (b : Bool). cond b (Some (pending_of v).1) (find nat_cmp v.seq (map pending_of ws))) (key_itself v.seq) })
 found (v ∷ ws) w (inr there) = by (eq_by_cmp nat_cmp w.seq v.seq) refl (found ws w there)
   where
     by : (b : Bool) → eq_by_cmp nat_cmp w.seq v.seq ≡ b → Found ws w.seq → Found (v ∷ ws) w.seq
@@ -173,19 +175,10 @@ asked_on peer t3 n3 ws each = All-from_recursion (IsAsked peer) _ (asked_each pe
 
 -- ---- what waits on, through one change and then another
 
-pub filter_twice : (f g : Waiting Purpose → Bool) (ws : List (Waiting Purpose)) → filter g (filter f ws) ≡ filter (λ w. f w && g w) ws
-filter_twice f g [] = refl
-filter_twice f g (w ∷ ws) = by (f w) (g w) refl (filter_twice f g ws)
-  where
-    by : (b d : Bool) → g w ≡ d → filter g (filter f ws) ≡ filter (λ v. f v && g v) ws → filter g (cond b (w ∷ filter f ws) (filter f ws)) ≡ cond (b && d) (w ∷ filter (λ v. f v && g v) ws) (filter (λ v. f v && g v) ws)
-    by true true is later = rw is (λ i. w ∷ later i)
-    by true false is later = rw is later
-    by false d is later = later
-
 pub wait_on : (a b c : Station) → WaitOn a b → WaitOn b c → WaitOn a c
 wait_on a b c first second =
     record {
       stays = λ w. first.stays w && second.stays w;
-      timing = second.timing ∙ ((λ i. record (first.timing i) { waiting = filter second.stays (first.timing i).waiting }) ∙ (λ i. record a.timing { waiting = filter_twice first.stays second.stays a.timing.waiting i }));
+      timing = second.timing ∙ ((λ i. record (first.timing i) { waiting = filter second.stays (first.timing i).waiting }) ∙ (λ i. record a.timing { waiting = filter_twice second.stays first.stays a.timing.waiting i }));
       pending = second.pending;
     }

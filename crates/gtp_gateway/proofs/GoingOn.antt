@@ -10,7 +10,7 @@ use Rattle.gtp_gateway.specs.Station.{Station, IsTied, station_of}
 use Rattle.gtp_gateway.specs.UserTaken.{WaitOn}
 use Rattle.gtp_gateway.specs.declared.parts.Parts.{Parts}
 use Rattle.gtp_gateway.proofs.Drawn.{length_drawn}
-use Rattle.gtp_gateway.proofs.Giving.{filter_twice}
+use Rattle.gtp_reliable.proofs.Told.{filter_twice}
 use Rattle.gtp_gateway.proofs.UserRows.{all_wait}
 
 -- a gateway's node keeps what its ticks and draws go by
@@ -41,6 +41,6 @@ module _ (source : Endpoint) (octets : List ℕ) where
       record {
         stays = λ w. first.stays w && second.stays w;
         answer = second.answer;
-        timing = second.timing ∙ ((λ i. record (first.timing i) { waiting = filter second.stays (first.timing i).waiting; held = held_with source octets second.answer (first.timing i).held }) ∙ (λ i. record a.timing { waiting = filter_twice first.stays second.stays a.timing.waiting i; held = held_with source octets second.answer a.timing.held }));
+        timing = second.timing ∙ ((λ i. record (first.timing i) { waiting = filter second.stays (first.timing i).waiting; held = held_with source octets second.answer (first.timing i).held }) ∙ (λ i. record a.timing { waiting = filter_twice second.stays first.stays a.timing.waiting i; held = held_with source octets second.answer a.timing.held }));
         tied = second.tied;
       }

@@ -1,5 +1,5 @@
 -- Create Bearer Requests, where they lie and as they are judged.
-use Rattle.std.proofs.Common.{◌≡◌, ◌↔◌, ℕ, Bool, true, false, IsTrue, List, [], ◌∷◌, map, Option, Some, None, refl, sym, ◌∙◌, ap, subst}
+use Rattle.std.proofs.Common.{◌≡◌, ◌↔◌, ℕ, Bool, true, false, IsTrue, List, [], ◌∷◌, map, Option, Some, None, refl, sym, ◌∙◌, ap}
 use Rattle.std.specs.Prelude.{MatchOption, option_to_list, is_some, not}
 use Rattle.gtp_values.specs.TunnelEnd.{TunnelEnd}
 use Rattle.gtp_ie.specs.Element.{Element}
@@ -11,7 +11,6 @@ use Rattle.gtp_v2.specs.Datagram.{IsMessage}
 use Rattle.gtp_v2.specs.Message.{MessageValue}
 use Rattle.gtp_v2.specs.Viewed.{values_in, in_row}
 use Rattle.gtp_machine.specs.declared.role.Role.{Role}
-use Rattle.gtp_machine.specs.declared.role.Role.TheVariants.{Serving, Packet}
 use Rattle.gtp_machine.specs.Choice.{HasFreeIdentity}
 use Rattle.gtp_machine.specs.Decoded.{row, number_at, end_at, wanted, message_of}
 use Rattle.gtp_machine.specs.Input.{Effect}
@@ -23,6 +22,7 @@ use Rattle.gtp_gateway.specs.declared.procedure.Procedure.TheVariants.{BearerAsk
 use Rattle.gtp_gateway.specs.Granting.{HasBearerContext, ReadsBearer, SaysBearer}
 use Rattle.gtp_gateway.specs.Procedure.{procedure_at, has, TakesBy}
 use Rattle.gtp_gateway.proofs.InPlace.{type_is, reads_so, row_so, groups_so, bearer_asked}
+use Rattle.gtp_gateway.proofs.Procedures.{at_serving}
 
 -- no further item came
 pub none_further : {X : Type 0} (o : Option X) (left after : List X) (none : Bool) → is_some o ≡ not none → MatchOption o ((left ≡ []) × (after ≡ [])) (λ x. left ≡ x ∷ after) → IsTrue none ↔ (left ≡ [])
@@ -87,8 +87,4 @@ create_bearer_is octets m r is at reads =
     }
 
 pub takes_bearer_request : (role : Role) (request : Arrival) (q : CreateBearerRequest) (m : Message) → has role BearerAsked ≡ true → m ≡ Create_bearer_request q → (n : Node) (e : Effect) → BearerAskedRow request q n e → TakesBy role request m n e
-takes_bearer_request role request q m has_it is n e takes = subst (λ (k : Message). TakesBy role request k n e) (sym is) (by role has_it)
-  where
-    by : (r : Role) → has r BearerAsked ≡ true → TakesBy r request (Create_bearer_request q) n e
-    by Serving has_it = takes
-    by Packet has_it = absurd cc
+takes_bearer_request role request q m has_it is n e takes = at_serving (λ r k. TakesBy r request k n e) BearerAsked role m (Create_bearer_request q) refl has_it is takes

@@ -21,14 +21,12 @@ use Rattle.gtp_v2.specs.DeleteSessionResponse.{delete_session_response}
 use Rattle.gtp_v2.specs.CreateBearerRequest.{create_bearer_request, bearer_request_context_rows}
 use Rattle.gtp_v2.specs.CreateBearerResponse.{create_bearer_response}
 use Rattle.gtp_v2.specs.DeleteBearerResponse.{delete_bearer_response}
-use Rattle.gtp_machine.specs.declared.role.Role.{Role}
-use Rattle.gtp_machine.specs.declared.role.Role.TheVariants.{Serving, Packet}
-use Rattle.gtp_machine.specs.Message.{CreateSessionRequest, CreateBearerRequest, Create_session_request, Create_bearer_request, recovery_of}
+use Rattle.gtp_machine.specs.Message.{recovery_of}
 use Rattle.gtp_machine.specs.Node.{written}
 use Rattle.gtp_machine.specs.Decoded.{first_in, number_of, number_at, row, content_message, message_of}
 use Rattle.gtp_gateway.specs.declared.procedure.Procedure.{Procedure}
 use Rattle.gtp_gateway.specs.declared.procedure.Procedure.TheVariants.{EchoAsked, EchoAnswered, SessionAsked, SessionAnswered, DeletionAsked, DeletionAnswered, BearerAsked, BearerAnswered, RemovalAsked, RemovalAnswered}
-use Rattle.gtp_gateway.specs.Procedure.{procedure_at, has, takes_by}
+use Rattle.gtp_gateway.specs.Procedure.{procedure_at}
 use Rattle.gtp_gateway.specs.InPlace.{tells_counter}
 use Rattle.gtp_gateway.specs.Contexts.{HasCause}
 use Rattle.gtp_gateway.proofs.ResponseContexts.{group_has, each_group}
@@ -281,14 +279,6 @@ pub record IsSessionRequest (m : MessageValue) : Type 0 where
   pub further : List (List (List Value))
   pub recovery : List Value
   pub says : Says 32 (Plain (imsi ∷ []) ∷ Plain (rat ∷ []) ∷ Plain network ∷ Plain (control ∷ []) ∷ Plain (access_point ∷ []) ∷ Plain selection ∷ Plain (pdn ∷ []) ∷ Plain address ∷ Plain ambr ∷ Groups (requested_context first ∷ further) ∷ Plain recovery ∷ []) m
-
-pub session_taken : (role : Role) (q : CreateSessionRequest) → has role SessionAsked ≡ true → takes_by role (Create_session_request q) ≡ true
-session_taken Serving q is = absurd cc
-session_taken Packet q is = refl
-
-pub bearer_taken : (role : Role) (r : CreateBearerRequest) → has role BearerAsked ≡ true → takes_by role (Create_bearer_request r) ≡ true
-bearer_taken Serving r is = refl
-bearer_taken Packet r is = absurd cc
 
 -- the third row of a bearer context of a Create Bearer Request has a value
 third_row : (accepting : Bool) (es : List Element) (rows : List (List Value)) → RowsAre accepting bearer_request_context_rows es rows → (user : Value) × (row 2 rows ≡ user ∷ [])

@@ -23,6 +23,7 @@ pub mod Rows
 pub mod FaultsTaken
 pub mod ByProcedure
 pub mod Settled
+pub mod Blank
 pub mod SessionAnswers
 pub mod BearerAnswers
 pub mod Weighing
@@ -42,3 +43,6 @@ pub mod AcceptedStays
 pub mod Needing
 pub mod Choosings
 pub mod Counted
+pub mod ChosenOnce
+pub mod LeftAlike
+pub mod Determined

@@ -1,5 +1,5 @@
 -- What is left of a list, from a place on.
-use Rattle.std.proofs.Common.{◌≡◌, ◌≤◌, ◌+◌, ℕ, zero, suc, length, drop, slice_get, List, [], ◌∷◌, Some, None, refl, ◌∙◌, ap, arith}
+use Rattle.std.proofs.Common.{◌≡◌, ◌+◌, ℕ, zero, suc, drop, slice_get, List, [], ◌∷◌, Some, None, refl, ◌∙◌, ap, arith}
 
 drop_suc : {X : Type 0} (xs : List X) (i : ℕ) (x : X) → slice_get xs i ≡ Some x → drop i xs ≡ x ∷ drop (suc i) xs
 drop_suc [] i x is = absurd cc
@@ -12,13 +12,6 @@ one_more n = omega arith
 -- from a place on, where something stands there
 pub drop_at : {X : Type 0} (xs : List X) (i : ℕ) (x : X) → slice_get xs i ≡ Some x → drop i xs ≡ x ∷ drop (i + 1) xs
 drop_at xs i x is = drop_suc xs i x is ∙ ap (λ n. x ∷ drop n xs) (one_more i)
-
--- past its end nothing is left
-pub drop_past : {X : Type 0} (xs : List X) (i : ℕ) → length xs ≤ i → drop i xs ≡ []
-drop_past [] zero past = refl
-drop_past [] (suc i) past = refl
-drop_past (y ∷ xs) zero past = absurd (omega (arith, past))
-drop_past (y ∷ xs) (suc i) past = drop_past xs i (omega (arith, past))
 
 pub drop_none : {X : Type 0} (xs : List X) (i : ℕ) → slice_get xs i ≡ None → drop i xs ≡ []
 drop_none [] zero none = refl

@@ -1,5 +1,5 @@
 -- What takes memory on the control plane, rule by rule.
-use Rattle.std.proofs.Common.{◌≡◌, inl, inr, ℕ, true, List, [], ◌∷◌, Option, Some, None, option_map, Result, Ok, Err, sym, ◌∙◌, ap, subst}
+use Rattle.std.proofs.Common.{◌≡◌, inl, inr, ℕ, true, List, [], ◌∷◌, Option, Some, None, option_map, Result, Ok, Err, refl, sym, ◌∙◌, ap, subst}
 use Rattle.std.specs.Prelude.{OnErr}
 use Rattle.std.specs.FinMap.{get}
 use Rattle.gtp_values.specs.Counter.{age_of}
@@ -30,15 +30,12 @@ use Rattle.gtp_gateway.specs.Hearing.{aged, weighed, weighed_by, node_heard, IsE
 use Rattle.gtp_gateway.specs.Needing.{SendsOrOpens, AlwaysSendsOrOpens, StepSendsOrOpens}
 use Rattle.gtp_gateway.specs.Procedure.{has, TakesBy, takes_by}
 use Rattle.gtp_gateway.specs.Station.{Station}
+use Rattle.gtp_gateway.proofs.Procedures.{at_both, at_packet, at_serving}
 
 -- what follows where there is an error
 pub on_err : {A E P : Type 0} (r : Result A E) → P → OnErr r P
 on_err (Ok x) is = tt
 on_err (Err e) is = is
-
-pub from_err : {A E P Q : Type 0} (r : Result A E) → (P → Q) → OnErr r P → OnErr r Q
-from_err (Ok x) then is = tt
-from_err (Err e) then is = then is
 
 sends : {e f : Effect} → (f.out.sent ≡ [] → ⊥) → e ≡ f → SendsOrOpens e
 sends some is = inl (λ none. some (ap (λ (x : Effect). x.out.sent) (sym is) ∙ none))
@@ -205,57 +202,29 @@ bearer_answered x old f opened is e answers = inr (bearer_by x old (bearer_accep
 -- ---- wired to the kinds of message
 
 module _ (role : Role) (request : Arrival) (m : Message) (n : Node) where
-  abbrev Always : Message → Type 0
-  Always k = AlwaysSendsOrOpens (TakesBy role request k) n
+  abbrev Always : Role → Message → Type 0
+  Always r k = AlwaysSendsOrOpens (TakesBy r request k) n
 
-  pub needs_echo : (q : Echo) → m ≡ Echo_request q → Always m
-  needs_echo q is = subst Always (sym is) (by role)
-    where
-      by : (r : Role) → AlwaysSendsOrOpens (TakesBy r request (Echo_request q)) n
-      by Serving e same = sends (λ none. cc) same
-      by Packet e same = sends (λ none. cc) same
+  pub needs_echo : (q : Echo) → m ≡ Echo_request q → Always role m
+  needs_echo q is = at_both Always role m (Echo_request q) is (λ e same. sends (λ none. cc) same) (λ e same. sends (λ none. cc) same)
 
-  pub needs_session : (q : CreateSessionRequest) → has role procedures.SessionAsked ≡ true → m ≡ Create_session_request q → AlwaysSendsOrOpens (SessionAsked request q) n → Always m
-  needs_session q has_it is needs = subst Always (sym is) (by role has_it)
-    where
-      by : (r : Role) → has r procedures.SessionAsked ≡ true → AlwaysSendsOrOpens (TakesBy r request (Create_session_request q)) n
-      by Serving has_it = absurd cc
-      by Packet has_it = needs
+  pub needs_session : (q : CreateSessionRequest) → has role procedures.SessionAsked ≡ true → m ≡ Create_session_request q → AlwaysSendsOrOpens (SessionAsked request q) n → Always role m
+  needs_session q has_it is needs = at_packet Always procedures.SessionAsked role m (Create_session_request q) refl has_it is needs
 
-  pub needs_deletion : (d : DeleteSessionRequest) → has role procedures.DeletionAsked ≡ true → m ≡ Delete_session_request d → AlwaysSendsOrOpens (DeletionAsked request d) n → Always m
-  needs_deletion d has_it is needs = subst Always (sym is) (by role has_it)
-    where
-      by : (r : Role) → has r procedures.DeletionAsked ≡ true → AlwaysSendsOrOpens (TakesBy r request (Delete_session_request d)) n
-      by Serving has_it = absurd cc
-      by Packet has_it = needs
+  pub needs_deletion : (d : DeleteSessionRequest) → has role procedures.DeletionAsked ≡ true → m ≡ Delete_session_request d → AlwaysSendsOrOpens (DeletionAsked request d) n → Always role m
+  needs_deletion d has_it is needs = at_packet Always procedures.DeletionAsked role m (Delete_session_request d) refl has_it is needs
 
-  pub needs_bearer : (q : CreateBearerRequest) → has role procedures.BearerAsked ≡ true → m ≡ Create_bearer_request q → AlwaysSendsOrOpens (BearerAsked request q) n → Always m
-  needs_bearer q has_it is needs = subst Always (sym is) (by role has_it)
-    where
-      by : (r : Role) → has r procedures.BearerAsked ≡ true → AlwaysSendsOrOpens (TakesBy r request (Create_bearer_request q)) n
-      by Serving has_it = needs
-      by Packet has_it = absurd cc
+  pub needs_bearer : (q : CreateBearerRequest) → has role procedures.BearerAsked ≡ true → m ≡ Create_bearer_request q → AlwaysSendsOrOpens (BearerAsked request q) n → Always role m
+  needs_bearer q has_it is needs = at_serving Always procedures.BearerAsked role m (Create_bearer_request q) refl has_it is needs
 
-  pub needs_removal : (d : DeleteBearerRequest) → has role procedures.RemovalAsked ≡ true → m ≡ Delete_bearer_request d → AlwaysSendsOrOpens (RemovalAsked request d) n → Always m
-  needs_removal d has_it is needs = subst Always (sym is) (by role has_it)
-    where
-      by : (r : Role) → has r procedures.RemovalAsked ≡ true → AlwaysSendsOrOpens (TakesBy r request (Delete_bearer_request d)) n
-      by Serving has_it = needs
-      by Packet has_it = absurd cc
+  pub needs_removal : (d : DeleteBearerRequest) → has role procedures.RemovalAsked ≡ true → m ≡ Delete_bearer_request d → AlwaysSendsOrOpens (RemovalAsked request d) n → Always role m
+  needs_removal d has_it is needs = at_serving Always procedures.RemovalAsked role m (Delete_bearer_request d) refl has_it is needs
 
-  pub needs_session_response : (a : CreateSessionResponse) → has role procedures.SessionAnswered ≡ true → m ≡ Create_session_response a → AlwaysSendsOrOpens (SessionAnswered a) n → Always m
-  needs_session_response a has_it is needs = subst Always (sym is) (by role has_it)
-    where
-      by : (r : Role) → has r procedures.SessionAnswered ≡ true → AlwaysSendsOrOpens (TakesBy r request (Create_session_response a)) n
-      by Serving has_it = needs
-      by Packet has_it = absurd cc
+  pub needs_session_response : (a : CreateSessionResponse) → has role procedures.SessionAnswered ≡ true → m ≡ Create_session_response a → AlwaysSendsOrOpens (SessionAnswered a) n → Always role m
+  needs_session_response a has_it is needs = at_serving Always procedures.SessionAnswered role m (Create_session_response a) refl has_it is needs
 
-  pub needs_bearer_response : (x : CreateBearerResponse) → has role procedures.BearerAnswered ≡ true → m ≡ Create_bearer_response x → AlwaysSendsOrOpens (BearerAnswered x) n → Always m
-  needs_bearer_response x has_it is needs = subst Always (sym is) (by role has_it)
-    where
-      by : (r : Role) → has r procedures.BearerAnswered ≡ true → AlwaysSendsOrOpens (TakesBy r request (Create_bearer_response x)) n
-      by Serving has_it = absurd cc
-      by Packet has_it = needs
+  pub needs_bearer_response : (x : CreateBearerResponse) → has role procedures.BearerAnswered ≡ true → m ≡ Create_bearer_response x → AlwaysSendsOrOpens (BearerAnswered x) n → Always role m
+  needs_bearer_response x has_it is needs = at_packet Always procedures.BearerAnswered role m (Create_bearer_response x) refl has_it is needs
 
 -- ---- before the message is taken
 

@@ -6,10 +6,11 @@ use Rattle.std.specs.List.{AllByRecursion}
 use Rattle.std.proofs.lemmas.Bool.Decides.{nat_tests}
 use Rattle.std.proofs.lemmas.List.Elements.{recursion_from_All}
 use Rattle.std.specs.FinMap.{get, find, get-from_entries}
-use Rattle.std.specs.Ordering.{nat_cmp, eq_by_cmp}
+use Rattle.std.specs.Ordering.{nat_cmp}
 use Rattle.std.specs.Cmp.{nat_cmp_total}
 use Rattle.gtp_values.specs.declared.address.Ip.{Ip}
 use Rattle.gtp_values.specs.declared.cause.Cause.{Cause}
+use Rattle.gtp_tables.proofs.Rows.{turned}
 use Rattle.gtp_reliable.specs.Waiting.{Waiting}
 use Rattle.gtp_reliable.specs.Pending.{purpose_of}
 use Rattle.gtp_machine.specs.Message.{Message, DeleteSessionResponse, DeleteBearerResponse, Echo_request, Delete_session_request, Delete_bearer_request}
@@ -31,10 +32,6 @@ pub record Waits (ws : List (Waiting Purpose)) (n : ℕ) (purpose : Purpose) : T
   pub stands : get (pending_in ws) n ≡ Some (about purpose message)
   pub meant : is_for purpose message ≡ true
 
-turned : (a b : ℕ) (c : Bool) → (a == b) ≡ c → eq_by_cmp nat_cmp b a ≡ c
-turned a b true h = grind (arith, nat_tests)
-turned a b false h = grind (arith, nat_tests)
-
 record Found (ws : List (Waiting Purpose)) (n : ℕ) (purpose : Purpose) : Type 0 where
   pub message : Message
   pub stands : find nat_cmp n (map pending_of ws) ≡ Some (about purpose message)
@@ -50,12 +47,12 @@ found peer (w ∷ ws) n purpose each is = by (w.seq == n) refl is (found peer ws
         let one : w.purpose ≡ purpose = cc in
         record {
           message = message_in w.octets;
-          stands = ap (λ (b : Bool). cond b (Some (pending_of w).1) (find nat_cmp n (map pending_of ws))) (turned w.seq n true same) ∙ ap (λ (p : Purpose). Some (about p (message_in w.octets))) one;
+          stands = ap (λ (b : Bool). cond b (Some (pending_of w).1) (find nat_cmp n (map pending_of ws))) (turned n w.seq ∙ same) ∙ ap (λ (p : Purpose). Some (about p (message_in w.octets))) one;
           meant = ap (λ (p : Purpose). is_for p (message_in w.octets)) (sym one) ∙ each.0.purpose;
         }
     by false same is later =
         let f = later is in
-        record { message = f.message; stands = ap (λ (b : Bool). cond b (Some (pending_of w).1) (find nat_cmp n (map pending_of ws))) (turned w.seq n false same) ∙ f.stands; meant = f.meant }
+        record { message = f.message; stands = ap (λ (b : Bool). cond b (Some (pending_of w).1) (find nat_cmp n (map pending_of ws))) (turned n w.seq ∙ same) ∙ f.stands; meant = f.meant }
 
 pub waits : (peer : Ip) (ws : List (Waiting Purpose)) (n : ℕ) (purpose : Purpose) → AreAsked peer ws → purpose_of n ws ≡ Some purpose → Waits ws n purpose
 waits peer ws n purpose each is =
@@ -69,7 +66,7 @@ missing (w ∷ ws) n is = by (w.seq == n) refl is (missing ws n)
   where
     by : (b : Bool) → (w.seq == n) ≡ b → cond b (Some w.purpose) (purpose_of n ws) ≡ None → (purpose_of n ws ≡ None → find nat_cmp n (map pending_of ws) ≡ None) → find nat_cmp n (map pending_of (w ∷ ws)) ≡ None
     by true same is later = absurd cc
-    by false same is later = ap (λ (b : Bool). cond b (Some (pending_of w).1) (find nat_cmp n (map pending_of ws))) (turned w.seq n false same) ∙ later is
+    by false same is later = ap (λ (b : Bool). cond b (Some (pending_of w).1) (find nat_cmp n (map pending_of ws))) (turned n w.seq ∙ same) ∙ later is
 
 -- nothing waits under the number
 pub none_waits : (ws : List (Waiting Purpose)) (n : ℕ) → purpose_of n ws ≡ None → get (pending_in ws) n ≡ None

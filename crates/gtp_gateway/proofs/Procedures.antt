@@ -1,16 +1,30 @@
 -- Which messages a gateway takes, by their type.
-use Rattle.std.proofs.Common.{◌≡◌, ℕ, Bool, true, false, List, [], ◌∷◌, Option, Some, refl, ◌∙◌}
+use Rattle.std.proofs.Common.{◌≡◌, ℕ, Bool, true, false, List, [], ◌∷◌, Option, Some, refl, sym, ◌∙◌, subst}
 use Rattle.std.specs.Prelude.{◌==◌, if◌then◌else◌}
 use Rattle.gtp_ie.specs.Value.{Value}
 use Rattle.gtp_v2.specs.Table.{Field}
 use Rattle.gtp_v2.specs.Message.{Content, Fields, Raw, MessageValue}
 use Rattle.gtp_machine.specs.declared.role.Role.{Role}
 use Rattle.gtp_machine.specs.declared.role.Role.TheVariants.{Serving, Packet}
-use Rattle.gtp_machine.specs.Message.{Message, Echo, CreateSessionResponse, DeleteSessionRequest, DeleteSessionResponse, CreateBearerResponse, DeleteBearerRequest, DeleteBearerResponse, Echo_request, Echo_response, Create_session_response, Delete_session_request, Delete_session_response, Create_bearer_response, Delete_bearer_request, Delete_bearer_response, Other_control}
+use Rattle.gtp_machine.specs.Message.{Message, Echo, CreateSessionRequest, CreateSessionResponse, DeleteSessionRequest, DeleteSessionResponse, CreateBearerRequest, CreateBearerResponse, DeleteBearerRequest, DeleteBearerResponse, Echo_request, Echo_response, Create_session_request, Create_session_response, Delete_session_request, Delete_session_response, Create_bearer_request, Create_bearer_response, Delete_bearer_request, Delete_bearer_response, Other_control}
 use Rattle.gtp_machine.specs.Decoded.{groups_at, session_request_in, bearer_request_in, message_in, content_message, message_of}
 use Rattle.gtp_gateway.specs.declared.procedure.Procedure.{Procedure}
 use Rattle.gtp_gateway.specs.declared.procedure.Procedure.TheVariants.{EchoAsked, EchoAnswered, SessionAsked, SessionAnswered, DeletionAsked, DeletionAnswered, BearerAsked, BearerAnswered, RemovalAsked, RemovalAnswered}
 use Rattle.gtp_gateway.specs.Procedure.{procedure_at, has, HasNot, takes_by}
+
+-- What is so of a message that both gateways take, and of one of a procedure that one of them has, by what is so of it there.
+module _ (P : Role → Message → Type 0) where
+  pub at_both : (role : Role) (m k : Message) → m ≡ k → P Serving k → P Packet k → P role m
+  at_both Serving m k is serving packet = subst (P Serving) (sym is) serving
+  at_both Packet m k is serving packet = subst (P Packet) (sym is) packet
+
+  pub at_serving : (p : Procedure) (role : Role) (m k : Message) → has Packet p ≡ false → has role p ≡ true → m ≡ k → P Serving k → P role m
+  at_serving p Serving m k alone has_it is serving = subst (P Serving) (sym is) serving
+  at_serving p Packet m k alone has_it is serving = absurd cc
+
+  pub at_packet : (p : Procedure) (role : Role) (m k : Message) → has Serving p ≡ false → has role p ≡ true → m ≡ k → P Packet k → P role m
+  at_packet p Serving m k alone has_it is packet = absurd cc
+  at_packet p Packet m k alone has_it is packet = subst (P Packet) (sym is) packet
 
 pub echo_asked : (role : Role) (q : Echo) → takes_by role (Echo_request q) ≡ has role EchoAsked
 echo_asked Serving q = refl
@@ -19,6 +33,10 @@ echo_asked Packet q = refl
 pub echo_answered : (role : Role) (a : Echo) → takes_by role (Echo_response a) ≡ has role EchoAnswered
 echo_answered Serving a = refl
 echo_answered Packet a = refl
+
+pub session_asked : (role : Role) (q : CreateSessionRequest) → takes_by role (Create_session_request q) ≡ has role SessionAsked
+session_asked Serving q = refl
+session_asked Packet q = refl
 
 pub session_answered : (role : Role) (a : CreateSessionResponse) → takes_by role (Create_session_response a) ≡ has role SessionAnswered
 session_answered Serving a = refl
@@ -31,6 +49,10 @@ deletion_asked Packet d = refl
 pub deletion_answered : (role : Role) (d : DeleteSessionResponse) → takes_by role (Delete_session_response d) ≡ has role DeletionAnswered
 deletion_answered Serving d = refl
 deletion_answered Packet d = refl
+
+pub bearer_asked : (role : Role) (q : CreateBearerRequest) → takes_by role (Create_bearer_request q) ≡ has role BearerAsked
+bearer_asked Serving q = refl
+bearer_asked Packet q = refl
 
 pub bearer_answered : (role : Role) (x : CreateBearerResponse) → takes_by role (Create_bearer_response x) ≡ has role BearerAnswered
 bearer_answered Serving x = refl
@@ -58,19 +80,11 @@ module _ (role : Role) where
 
   session : (header number : ℕ) (f : List Field) (groups : List (List (List Value))) → has role SessionAsked ≡ false → Takes (session_request_in header number f groups)
   session header number f [] not = other_kind role 32
-  session header number f (g ∷ groups) not = by role not
-    where
-      by : (r : Role) → has r SessionAsked ≡ false → takes_by r (session_request_in header number f (g ∷ groups)) ≡ false
-      by Serving not = refl
-      by Packet not = absurd cc
+  session header number f (g ∷ groups) not = session_asked role _ ∙ not
 
   bearer : (header number : ℕ) (f : List Field) (groups : List (List (List Value))) → has role BearerAsked ≡ false → Takes (bearer_request_in header number f groups)
   bearer header number f [] not = other_kind role 95
-  bearer header number f (g ∷ groups) not = by role not
-    where
-      by : (r : Role) → has r BearerAsked ≡ false → takes_by r (bearer_request_in header number f (g ∷ groups)) ≡ false
-      by Serving not = absurd cc
-      by Packet not = refl
+  bearer header number f (g ∷ groups) not = bearer_asked role _ ∙ not
 
   fields : (kind header number : ℕ) (f : List Field) → HasNot role (procedure_at kind) → Takes (message_in kind header number f)
   fields kind header number f =

@@ -5,24 +5,22 @@ use Rattle.std.specs.List.{list_any}
 use Rattle.std.proofs.lemmas.List.{map_push}
 use Rattle.std.proofs.lemmas.Bool.Decides.{nat_tests}
 use Rattle.std.specs.FinMap.{find, get, insert, len, from_entries, from_entries_push, get-from_entries, len-empty, gets, nat_cmp-IsAntisymmetric}
-use Rattle.std.specs.Ordering.{nat_cmp, eq_by_cmp}
+use Rattle.std.specs.Ordering.{nat_cmp}
 use Rattle.std.specs.Cmp.{nat_cmp_total}
+use Rattle.std.proofs.lemmas.Bool.{or_parts}
+use Rattle.gtp_tables.proofs.Rows.{turned}
 use Rattle.gtp_reliable.specs.Waiting.{Waiting}
 use Rattle.gtp_reliable.specs.Pending.{is_pending, AreDistinct, IsNextFree}
-use Rattle.gtp_reliable.proofs.Requests.{or_false}
 use Rattle.gtp_machine.specs.Node.{PendingRequest}
 use Rattle.gtp_gateway.specs.declared.purpose.Purpose.{Purpose}
 use Rattle.gtp_gateway.specs.Parts.{pending_of, pending_in}
-
-turned : (a b : ℕ) → (a == b) ≡ false → eq_by_cmp nat_cmp b a ≡ false
-turned a b h = grind (arith, nat_tests)
 
 pub not_found : (ws : List (Waiting Purpose)) (n : ℕ) → is_pending n ws ≡ false → find nat_cmp n (map pending_of ws) ≡ None
 unfolding is_pending
 not_found [] n h = refl
 not_found (w ∷ ws) n h =
-    let both = or_false (w.seq == n) (list_any (λ (x : Waiting Purpose). x.seq == n) ws) h in
-    ap (λ (b : Bool). cond b (Some (pending_of w).1) (find nat_cmp n (map pending_of ws))) (turned w.seq n both.0) ∙ not_found ws n both.1
+    let both = or_parts (w.seq == n) (list_any (λ (x : Waiting Purpose). x.seq == n) ws) h in
+    ap (λ (b : Bool). cond b (Some (pending_of w).1) (find nat_cmp n (map pending_of ws))) (turned n w.seq ∙ both.0) ∙ not_found ws n both.1
 
 -- under a number that no request has nothing stands
 pub none_pending : (ws : List (Waiting Purpose)) (n : ℕ) → is_pending n ws ≡ false → get (pending_in ws) n ≡ None

@@ -13,7 +13,7 @@ use Rattle.gtp_reliable.specs.declared.waiting.NextTick.TheVariants.{WaitsOn, Se
 use Rattle.gtp_reliable.specs.Waiting.{Waiting, next_tick, sent_again, sent_again_by}
 use Rattle.gtp_reliable.specs.Waiting as reliable
 use Rattle.gtp_reliable.specs.Pending.{is_pending, AreDistinct}
-use Rattle.gtp_tables.proofs.Found.{itself}
+use Rattle.gtp_tables.proofs.Found.{key_itself}
 use Rattle.gtp_machine.specs.Config.{Config, control_end, own_end}
 use Rattle.gtp_machine.specs.Input.{Move, Resend, Out, Sending, says}
 use Rattle.gtp_machine.specs.declared.outcome.Outcome.TheVariants.{Moved}
@@ -63,7 +63,7 @@ found_there : (ws : List (Waiting Purpose)) (w : Waiting Purpose) → AreDistinc
 found_there [] w distinct among = absurd among
 found_there (v ∷ ws) w distinct (inl is) =
     subst (λ (x : Waiting Purpose). find nat_cmp x.seq (map pending_of (v ∷ ws)) ≡ Some (pending_of x).1) (sym is)
-    (ap (λ (b : Bool). cond b (Some (pending_of v).1) (find nat_cmp v.seq (map pending_of ws))) (itself v.seq))
+    (ap (λ (b : Bool). cond b (Some (pending_of v).1) (find nat_cmp v.seq (map pending_of ws))) (key_itself v.seq))
 found_there (v ∷ ws) w distinct (inr there) = by (eq_by_cmp nat_cmp w.seq v.seq) refl (found_there ws w distinct.1 there)
   where
     by : (b : Bool) → eq_by_cmp nat_cmp w.seq v.seq ≡ b → find nat_cmp w.seq (map pending_of ws) ≡ Some (pending_of w).1 → cond b (Some (pending_of v).1) (find nat_cmp w.seq (map pending_of ws)) ≡ Some (pending_of w).1

@@ -1,6 +1,5 @@
 -- What a step that sends nothing comes to, as a row of the machine.
-use Rattle.std.proofs.Common.{◌≡◌, inl, inr, ℕ, Bool, true, false, List, Option, None, Some, option_map, Result, Ok, Err, refl, sym, ◌∙◌, subst}
-use Rattle.std.specs.Prelude.{IfOk}
+use Rattle.std.proofs.Common.{◌≡◌, inl, inr, ℕ, Bool, true, false, List, Option, None, Some, option_map, refl, sym, ◌∙◌, subst}
 use Rattle.gtp_machine.specs.Node.{Arrival, Node, holding}
 use Rattle.gtp_values.specs.declared.address.Endpoint.{Endpoint}
 use Rattle.gtp_values.specs.declared.counter.Counter.{Counter}
@@ -28,15 +27,8 @@ use Rattle.gtp_gateway.specs.Taken.{plain_report, datagrams, Tells, IsTaken}
 use Rattle.gtp_gateway.specs.Hearing.{weighed_by, node_heard, IsEarlier, report_heard, effect_heard}
 use Rattle.gtp_gateway.specs.Procedure.{TakesBy, takes_by}
 use Rattle.gtp_gateway.specs.Parts.{arrival_of}
-use Rattle.gtp_gateway.specs.declared.hearing.Heard.{Heard}
-use Rattle.gtp_gateway.specs.declared.hearing.Heard.TheVariants as heards
 use Rattle.gtp_gateway.proofs.SentBack.{none_sent, one_sent}
-use Rattle.gtp_gateway.proofs.Weighing.{told_is, later_is, hears_on, hears_old}
-
--- what follows of the value, where there is one
-pub if_ok : {A E : Type 0} {P Q : A → Type 0} (r : Result A E) → ((x : A) → P x → Q x) → IfOk r P → IfOk r Q
-if_ok (Ok x) each is = each x is
-if_ok (Err e) each is = tt
+use Rattle.gtp_gateway.proofs.Weighing.{told_is, later_is, hears_on, hears_old, config_stays}
 
 pub drops : (Takes : Node → Effect → Type 0) (request : Arrival) (s : Station) (step : ControlStep) (why : DropReason) → step ≡ record { out = None; report = plain_report (Dropped why) } → Takes s.node (dropped s.node why) → IsRow Takes request s.role s.node step s
 drops Takes request s step why is takes =
@@ -99,14 +91,6 @@ hears Takes old (Some counter) taken on takes = hears_on Takes old counter taken
 pub hears_early : (Takes : Node → Effect → Type 0) (old : Node) (recovery : Option Counter) → IsEarlier (weighed_by recovery old.known) → Hears Takes old (option_map (λ (c : Counter). c.0) recovery) (told recovery old.known (dropped old OldCounter))
 hears_early Takes old None early = absurd early
 hears_early Takes old (Some counter) early = hears_old Takes old counter early
-
--- hearing does not change the configuration
-pub config_stays : (heard : Heard) (n : Node) → (node_heard heard n).config ≡ n.config
-config_stays heards.Nothing n = refl
-config_stays (heards.First counter) n = refl
-config_stays (heards.Same counter) n = refl
-config_stays (heards.Later counter) n = refl
-config_stays (heards.Earlier counter) n = refl
 
 -- a message that the gateway takes, from the peer, for which no answer is held
 pub message_taken : (role : Role) (old : Node) (request : Arrival) (m : Message) (e : Effect) → request.source.ip ≡ old.config.peer.control → IsNew old request → takes_by role m ≡ true → Hears (TakesBy role request m) old (recovery_of m) e → MachineStep role old (Control_came request (Control_message m)) e

@@ -3,7 +3,7 @@ use Rattle.std.proofs.Common.{◌≡◌, inl, inr, ℕ, true, List, [], ◌∷�
 use Rattle.std.specs.Prelude.{◌==◌, ◌&&◌, option_to_list, IsSomeAnd}
 use Rattle.std.specs.FinMap.{get, insert, remove}
 use Rattle.std.proofs.lemmas.Bool.{eqb-true}
-use Rattle.gtp_values.proofs.Outcomes.{both}
+use Rattle.gtp_values.proofs.Tests.{both}
 use Rattle.gtp_values.specs.FiniteMap.{FiniteMap}
 use Rattle.gtp_values.specs.TunnelEnd.{TunnelEnd}
 use Rattle.gtp_values.specs.declared.identifiers.Teid.{Teid}
@@ -15,7 +15,6 @@ use Rattle.gtp_v2.specs.Message.{MessageValue}
 use Rattle.gtp_v2.specs.Rows.{optional_at}
 use Rattle.gtp_v2.specs.Viewed.{front_value, values_in}
 use Rattle.gtp_machine.specs.declared.role.Role.{Role}
-use Rattle.gtp_machine.specs.declared.role.Role.TheVariants.{Serving, Packet}
 use Rattle.gtp_machine.specs.declared.outcome.DropReason.TheVariants.{NoPending, Mismatch}
 use Rattle.gtp_machine.specs.declared.outcome.Outcome.TheVariants.{Opened, Rejected}
 use Rattle.gtp_machine.specs.Choice.{HasPending}
@@ -27,11 +26,10 @@ use Rattle.gtp_machine.specs.Node.{Active, Session, Bearer, Arrival, Node}
 use Rattle.gtp_machine.specs.Response.{Named}
 use Rattle.gtp_machine.specs.Serving.{FitsSession, DescribesSession, opened_session, opened_bearer, SessionAnswered as SessionRow}
 use Rattle.gtp_machine.specs.Sound.{IsSound}
-use mathlib.Core.Logic.{∥∥₁_elim}
 use Rattle.gtp_machine.proofs.Sound.Changes.{is_session}
-use Rattle.gtp_machine.proofs.Basics.Facts.{one_value}
 use Rattle.gtp_gateway.specs.declared.hearing.Heard.{Heard}
 use Rattle.gtp_gateway.specs.Hearing.{node_heard}
+use Rattle.gtp_gateway.proofs.Blank.{IsBlank, stands_there, blank_there}
 use Rattle.gtp_gateway.proofs.Settled.{heard_sound}
 use Rattle.gtp_gateway.specs.declared.contexts.ResponseContext.{ResponseContext}
 use Rattle.gtp_gateway.specs.declared.procedure.Procedure.TheVariants.{SessionAnswered}
@@ -50,6 +48,7 @@ use Rattle.gtp_gateway.specs.SessionAnswer.{SaysCreated, SaysOnlyCreated, SaysSe
 use Rattle.gtp_gateway.specs.Settled.{IsWaiting, effect_by}
 use Rattle.gtp_gateway.specs.Spelled.{is_for}
 use Rattle.gtp_gateway.proofs.InPlace.{type_is, groups_so, session_answered}
+use Rattle.gtp_gateway.proofs.Procedures.{at_serving}
 
 -- ---- what the message says, where it lies
 
@@ -222,13 +221,8 @@ module _ (n : Node) (r : SessionResponse) (a : CreateSessionResponse) (says : Sa
 
 -- ---- what stands, at a sound gateway
 
--- the default bearer of a session that was asked for: it has no remote yet
-record IsDefaultAsked (n : Node) (bearer : ℕ) : Type 0 where
-  pub at : Bearer
-  pub stands : get n.bearers bearer ≡ Some at
-  pub blank : at.remote ≡ None
-
-default_asked : (role : Role) (n : Node) → IsSound role n → (number : ℕ) (purpose : Purpose) (w : IsWaiting n number purpose) (r : Response) (k : AskedSession) → IsAskedSession purpose r k → IsDefaultAsked n k.bearer.0
+-- the default bearer of a session that was asked for has no remote yet
+default_asked : (role : Role) (n : Node) → IsSound role n → (number : ℕ) (purpose : Purpose) (w : IsWaiting n number purpose) (r : Response) (k : AskedSession) → IsAskedSession purpose r k → IsBlank n k.bearer.0
 default_asked role n sound number purpose w r k asked =
     let x = asks_session k.session k.bearer w.message (ap (λ (p : Purpose). is_for p w.message) (sym asked.is) ∙ w.meant) in
     let is = is_session role n sound number (about purpose w.message) x.request w.waits x.is in
@@ -238,29 +232,15 @@ default_asked role n sound number purpose w r k asked =
 
 module _ (role : Role) (heard : Heard) (old : Node) (whole : ∥ IsSound role old ∥₁) (number : ℕ) (purpose : Purpose) (w : IsWaiting (node_heard heard old) number purpose) (r : Response) (k : AskedSession) (asked : IsAskedSession purpose r k) where
   pub default_stands : get (node_heard heard old).bearers k.bearer.0 ≡ None → ⊥
-  default_stands none = ∥∥₁_elim whole (λ x y. absurd x) (λ sound. by (default_asked role (node_heard heard old) (heard_sound role heard old sound) number purpose w r k asked))
+  default_stands = stands_there whole (node_heard heard old) k.bearer.0 (λ sound. let d = by sound in (d.at, d.stands))
     where
-      by : IsDefaultAsked (node_heard heard old) k.bearer.0 → ⊥
-      by d = let same : None ≡ Some d.at = sym none ∙ d.stands in cc
+      by : IsSound role old → IsBlank (node_heard heard old) k.bearer.0
+      by sound = default_asked role (node_heard heard old) (heard_sound role heard old sound) number purpose w r k asked
 
   pub default_blank : (b : Bearer) → get (node_heard heard old).bearers k.bearer.0 ≡ Some b → b.remote ≡ None
-  default_blank b stands = by b.remote refl
-    where
-      other : (t : ℕ) → b.remote ≡ Some t → IsDefaultAsked (node_heard heard old) k.bearer.0 → ⊥
-      other t is d =
-          let same : b ≡ d.at = one_value (get (node_heard heard old).bearers k.bearer.0) b d.at stands d.stands in
-          let none : Some t ≡ None = sym is ∙ (ap (λ (x : Bearer). x.remote) same ∙ d.blank) in
-          cc
-
-      by : (o : Option ℕ) → b.remote ≡ o → o ≡ None
-      by None is = refl
-      by (Some t) is = absurd (∥∥₁_elim whole (λ x y. absurd x) (λ sound. other t is (default_asked role (node_heard heard old) (heard_sound role heard old sound) number purpose w r k asked)))
+  default_blank = blank_there whole (node_heard heard old) k.bearer.0 (λ sound. default_asked role (node_heard heard old) (heard_sound role heard old sound) number purpose w r k asked)
 
 -- ---- wired to the kinds of message
 
 pub takes_session_response : (role : Role) (request : Arrival) (a : CreateSessionResponse) (m : Message) → has role SessionAnswered ≡ true → m ≡ Create_session_response a → (n : Node) (e : Effect) → SessionRow a n e → TakesBy role request m n e
-takes_session_response role request a m has_it is n e takes = subst (λ (k : Message). TakesBy role request k n e) (sym is) (by role has_it)
-  where
-    by : (r : Role) → has r SessionAnswered ≡ true → TakesBy r request (Create_session_response a) n e
-    by Serving has_it = takes
-    by Packet has_it = absurd cc
+takes_session_response role request a m has_it is n e takes = at_serving (λ r k. TakesBy r request k n e) SessionAnswered role m (Create_session_response a) refl has_it is takes

@@ -1,33 +1,24 @@
 -- Sessions that are granted at a gateway that has heard a counter.
-use Rattle.std.proofs.Common.{◌≡◌, ◌⊎◌, inl, inr, nat_eq, ◌<◌, ◌≤◌, ◌+◌, ℕ, Bool, true, false, cond, List, [], ◌∷◌, length, Option, Some, None, refl, sym, ◌∙◌, ap, subst, arith}
+use Rattle.std.proofs.Common.{◌≡◌, ◌⊎◌, inl, inr, nat_eq, ◌<◌, ◌≤◌, ◌+◌, ℕ, Bool, true, false, List, [], ◌∷◌, length, Option, Some, None, refl, sym, ◌∙◌, ap, subst, arith}
 use Rattle.std.specs.Prelude.{not, ◌||◌}
-use Rattle.std.proofs.lemmas.Bool.Decides.{nat_tests}
 use Rattle.std.specs.Cmp.Lexicographic.{pointwise, same_text}
 use Rattle.std.specs.List.{list_any}
-use Rattle.std.specs.FinMap.{get, insert, get-insert, same_map, nat_cmp-IsAntisymmetric}
-use Rattle.std.specs.Ordering.{nat_cmp, eq_by_cmp}
-use Rattle.std.specs.Cmp.{nat_cmp_total}
-use Rattle.gtp_values.specs.FiniteMap.{FiniteMap, Among, kept}
-use Rattle.gtp_tables.proofs.Kept.{passing, get_kept}
+use Rattle.std.specs.FinMap.{get, insert}
+use Rattle.gtp_values.proofs.Tests.{itself}
+use Rattle.std.proofs.Math.Bool.{or-true}
+use Rattle.gtp_values.specs.FiniteMap.{FiniteMap, Among}
 use Rattle.gtp_tables.specs.Contexts.{is_opened}
 use Rattle.gtp_tables.specs.Pool.{Range, IsLowestFree, IsUsedUp}
-use Rattle.gtp_machine.proofs.Basics.FiniteMaps.{found-kept}
 use Rattle.gtp_machine.specs.Choice.{IsFree, HasDraws, IsFreeAddress, HasFreeAddress}
 use Rattle.gtp_machine.specs.Node.{Session, Bearer, Node}
 use Rattle.gtp_gateway.specs.declared.hearing.Heard.{Heard}
 use Rattle.gtp_gateway.specs.declared.hearing.Heard.TheVariants as heards
 use Rattle.gtp_gateway.specs.Change.{IsAbove}
 use Rattle.gtp_gateway.specs.Hearing.{node_heard}
-use Rattle.gtp_gateway.proofs.Weighing.{counter_stays}
+use Rattle.gtp_gateway.proofs.Weighing.{counter_stays, drawn_stays}
+use Rattle.gtp_gateway.proofs.Settled.{kept_insert, session_stood}
 
 -- ---- what hearing leaves as it was
-
-pub drawn_stays : (heard : Heard) (n : Node) → (node_heard heard n).drawn ≡ n.drawn
-drawn_stays heards.Nothing n = refl
-drawn_stays (heards.First counter) n = refl
-drawn_stays (heards.Same counter) n = refl
-drawn_stays (heards.Later counter) n = refl
-drawn_stays (heards.Earlier counter) n = refl
 
 pub draws_left : (heard : Heard) (n : Node) (k : ℕ) → HasDraws n k → HasDraws (node_heard heard n) k
 draws_left heard n k has = record { left = subst (λ (ts : List ℕ). length ts + k ≤ 16777215) (sym (drawn_stays heard n)) has.left }
@@ -40,16 +31,8 @@ still_free heard n t free =
       undrawn = subst (λ (ts : List ℕ). Among t ts → ⊥) (sym (drawn_stays heard n)) free.undrawn;
     }
 
--- no session is there that was not
-sessions_within : (heard : Heard) (n : Node) (t : ℕ) (s : Session) → get (node_heard heard n).sessions t ≡ Some s → get n.sessions t ≡ Some s
-sessions_within heards.Nothing n t s is = is
-sessions_within (heards.First counter) n t s is = is
-sessions_within (heards.Same counter) n t s is = is
-sessions_within (heards.Later counter) n t s is = (found-kept (λ k (x : Session). not (is_opened (get n.sessions k))) n.sessions t s is).1
-sessions_within (heards.Earlier counter) n t s is = is
-
 pub still_above : (heard : Heard) (n : Node) (t : ℕ) → IsAbove n.sessions t → IsAbove (node_heard heard n).sessions t
-still_above heard n t above key s is = above key s (sessions_within heard n key s is)
+still_above heard n t above key s is = above key s (session_stood heard n key s is)
 
 below_itself : (n : ℕ) → n < n → ⊥
 below_itself n h = omega (arith, h)
@@ -64,13 +47,6 @@ none_above {X} table t above = by (get table t) refl
 
 -- ---- a bearer that is made before the counter is heard
 
-kept_insert : {X : Type 0} (test : ℕ → X → Bool) (m : FiniteMap X) (k : ℕ) (x : X) → ((q : ℕ) → test q x ≡ true) → kept test (insert m k x) ≡ insert (kept test m) k x
-kept_insert {X} test m k x stays = same_map nat_cmp_total nat_cmp-IsAntisymmetric _ _ (λ q. get_kept test (insert m k x) q ∙ (ap (passing test q) (get-insert nat_cmp_total m k x q) ∙ (by q (eq_by_cmp nat_cmp q k) ∙ (ap (λ (o : Option X). cond (eq_by_cmp nat_cmp q k) (Some x) o) (sym (get_kept test m q)) ∙ sym (get-insert nat_cmp_total (kept test m) k x q)))))
-  where
-    by : (q : ℕ) (b : Bool) → passing test q (cond b (Some x) (get m q)) ≡ cond b (Some x) (passing test q (get m q))
-    by q true = ap (λ (b : Bool). cond b (Some x) None) (stays q)
-    by q false = refl
-
 abbrev with_bearer : Node → ℕ → Bearer → Node
 with_bearer n t b = record n { bearers = insert n.bearers t b }
 
@@ -80,7 +56,7 @@ heard_with heards.Nothing n t b none = refl
 heard_with (heards.First counter) n t b none = refl
 heard_with (heards.Same counter) n t b none = refl
 heard_with (heards.Later counter) n t b none =
-    let stays = λ (q : ℕ). ap (λ (o : Option Session). not (false || is_opened o)) none in
+    let stays = ap (λ (o : Option Session). not (false || is_opened o)) none in
     λ i. record (node_heard (heards.Later counter) n) { bearers = kept_insert (λ (k : ℕ) (x : Bearer). not (false || is_opened (get n.sessions x.session))) n.bearers t b stays i }
 heard_with (heards.Earlier counter) n t b none = refl
 
@@ -104,12 +80,9 @@ module _ (n : Node) (sessions : FiniteMap Session) (pool : Range) (same : sessio
 
 -- ---- access points
 
-self_equal : (n : ℕ) → nat_eq n n ≡ true
-self_equal n = grind (arith, nat_tests)
-
-itself : (xs : List ℕ) → pointwise nat_eq xs xs ≡ true
-itself [] = refl
-itself (x ∷ xs) = rw (self_equal x) (itself xs)
+same_octets : (xs : List ℕ) → pointwise nat_eq xs xs ≡ true
+same_octets [] = refl
+same_octets (x ∷ xs) = rw (itself x) (same_octets xs)
 
 pub any_among : (x : List ℕ) (xs : List (List ℕ)) → list_any (λ y. pointwise nat_eq y x) xs ≡ true → Among x xs
 any_among x [] is = absurd cc
@@ -121,9 +94,5 @@ any_among x (y ∷ ys) is = by (pointwise nat_eq y x) refl is (any_among x ys)
 
 pub among_any : (x : List ℕ) (xs : List (List ℕ)) → Among x xs → list_any (λ y. pointwise nat_eq y x) xs ≡ true
 among_any x [] among = absurd among
-among_any x (y ∷ ys) (inl is) = ap (λ (b : Bool). b || list_any (λ z. pointwise nat_eq z x) ys) (subst (λ (z : List ℕ). pointwise nat_eq z x ≡ true) is (itself x))
-among_any x (y ∷ ys) (inr later) = or_later (pointwise nat_eq y x) _ (among_any x ys later)
-  where
-    or_later : (a b : Bool) → b ≡ true → (a || b) ≡ true
-    or_later true b is = refl
-    or_later false b is = is
+among_any x (y ∷ ys) (inl is) = ap (λ (b : Bool). b || list_any (λ z. pointwise nat_eq z x) ys) (subst (λ (z : List ℕ). pointwise nat_eq z x ≡ true) is (same_octets x))
+among_any x (y ∷ ys) (inr later) = ap (λ (b : Bool). pointwise nat_eq y x || b) (among_any x ys later) ∙ or-true (pointwise nat_eq y x)

@@ -1,5 +1,5 @@
 -- What stands once a counter was heard, by what stood before.
-use Rattle.std.proofs.Common.{◌≡◌, ℕ, Bool, true, false, cond, Some, None, Result, Ok, Err, refl, sym, ◌∙◌, ap}
+use Rattle.std.proofs.Common.{◌≡◌, ℕ, Bool, true, false, cond, Option, Some, None, Result, Ok, Err, refl, sym, ◌∙◌, ap}
 use Rattle.std.specs.Prelude.{◌||◌, not, IfOk, OnOk}
 use Rattle.gtp_values.specs.declared.fault.Memory.{Memory}
 use Rattle.std.specs.FinMap.{get, insert, get-insert, same_map, nat_cmp-IsAntisymmetric}
@@ -12,10 +12,11 @@ use Rattle.gtp_tables.proofs.Kept.{passing, get_kept}
 use Rattle.gtp_machine.proofs.Basics.FiniteMaps.{found-kept, get-kept}
 use Rattle.gtp_machine.specs.Choice.{HasPending}
 use Rattle.gtp_machine.specs.Message.{Message}
-use Rattle.gtp_machine.specs.Node.{Bearer, PendingRequest, Arrival, Node}
+use Rattle.gtp_machine.specs.Node.{Session, Bearer, PendingRequest, Arrival, Node}
 use Rattle.gtp_machine.specs.Input.{Effect}
 use Rattle.gtp_machine.specs.declared.role.Role.{Role}
 use Rattle.gtp_machine.specs.Removal.{on}
+use Rattle.gtp_machine.specs.Recovery.{peer_restarted}
 use Rattle.gtp_machine.specs.Sound.{IsSound}
 use Rattle.gtp_machine.proofs.Sound.Changes.{known_sound}
 use Rattle.gtp_machine.proofs.Sound.Rows.{restarted_sound}
@@ -42,13 +43,23 @@ request_stays n number p = not (on (λ t. is_opened (get n.sessions t)) p.sessio
 abbrev bearer_stays : Node → ℕ → Bearer → Bool
 bearer_stays n t b = not (is_opened (get n.sessions b.session))
 
--- what waits once the counter was heard waited before
+-- what stands in a table once the counter was heard stood before, where a restart leaves what passes a test
+stood : {X : Type 0} (table : Node → FiniteMap X) (stays : Node → ℕ → X → Bool) → ((n : Node) (known : Option ℕ) → table (record n { known = known }) ≡ table n) → ((n : Node) (counter : ℕ) → table (peer_restarted n counter) ≡ kept (stays n) (table n))
+    → (heard : Heard) (n : Node) (key : ℕ) (x : X) → get (table (node_heard heard n)) key ≡ Some x → get (table n) key ≡ Some x
+stood table stays heeds restarts Nothing n key x is = is
+stood table stays heeds restarts (First counter) n key x is = ap (λ (m : FiniteMap _). get m key) (sym (heeds n (Some counter.0))) ∙ is
+stood table stays heeds restarts (Same counter) n key x is = is
+stood table stays heeds restarts (Later counter) n key x is = (found-kept (stays n) (table n) key x (ap (λ (m : FiniteMap _). get m key) (sym (restarts n counter.0)) ∙ is)).1
+stood table stays heeds restarts (Earlier counter) n key x is = is
+
 pub waited : (heard : Heard) (n : Node) (number : ℕ) (p : PendingRequest) → get (node_heard heard n).pending number ≡ Some p → get n.pending number ≡ Some p
-waited Nothing n number p is = is
-waited (First counter) n number p is = is
-waited (Same counter) n number p is = is
-waited (Later counter) n number p is = (found-kept (request_stays n) n.pending number p is).1
-waited (Earlier counter) n number p is = is
+waited = stood (λ n. n.pending) request_stays (λ n known. refl) (λ n counter. refl)
+
+pub bearer_stood : (heard : Heard) (n : Node) (t : ℕ) (b : Bearer) → get (node_heard heard n).bearers t ≡ Some b → get n.bearers t ≡ Some b
+bearer_stood = stood (λ n. n.bearers) bearer_stays (λ n known. refl) (λ n counter. refl)
+
+pub session_stood : (heard : Heard) (n : Node) (t : ℕ) (s : Session) → get (node_heard heard n).sessions t ≡ Some s → get n.sessions t ≡ Some s
+session_stood = stood (λ n. n.sessions) (λ n t s. not (is_opened (get n.sessions t))) (λ n known. refl) (λ n counter. refl)
 
 pub waits_on : (heard : Heard) (n : Node) (number : ℕ) (purpose : Purpose) (m : Message) → get n.pending number ≡ Some (about purpose m) → goes_after heard n.sessions purpose ≡ false → get (node_heard heard n).pending number ≡ Some (about purpose m)
 waits_on Nothing n number purpose m is goes = is
@@ -68,16 +79,8 @@ waits_no_more (Later counter) n number purpose m is goes at =
     cc
 waits_no_more (Earlier counter) n number purpose m is goes at = absurd cc
 
--- the bearers that stand once the counter was heard stood before
-pub bearer_stood : (heard : Heard) (n : Node) (t : ℕ) (b : Bearer) → get (node_heard heard n).bearers t ≡ Some b → get n.bearers t ≡ Some b
-bearer_stood Nothing n t b is = is
-bearer_stood (First counter) n t b is = is
-bearer_stood (Same counter) n t b is = is
-bearer_stood (Later counter) n t b is = (found-kept (bearer_stays n) n.bearers t b is).1
-bearer_stood (Earlier counter) n t b is = is
-
 -- an entry that passes may be put in before or after
-kept_insert : {X : Type 0} (test : ℕ → X → Bool) (m : FiniteMap X) (k : ℕ) (x : X) → test k x ≡ true → kept test (insert m k x) ≡ insert (kept test m) k x
+pub kept_insert : {X : Type 0} (test : ℕ → X → Bool) (m : FiniteMap X) (k : ℕ) (x : X) → test k x ≡ true → kept test (insert m k x) ≡ insert (kept test m) k x
 kept_insert {X} test m k x passes = same_map nat_cmp_total nat_cmp-IsAntisymmetric _ _ (λ q.
     get_kept test (insert m k x) q
     ∙ (ap (passing test q) (get-insert nat_cmp_total m k x q)

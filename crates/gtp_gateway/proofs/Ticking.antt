@@ -1,18 +1,17 @@
 -- A tick, as the machine's moves.
-use Rattle.std.proofs.Common.{◌≡◌, ℕ, suc, ◌+◌, ◌<◌, ◌≤◌, true, List, [], ◌∷◌, ◌++◌, length, map, Option, Some, None, nat_lt, refl, sym, ◌∙◌, ap, subst, append_assoc, arith}
+use Rattle.std.proofs.Common.{◌≡◌, ℕ, suc, ◌+◌, ◌<◌, ◌≤◌, List, [], ◌∷◌, ◌++◌, length, map, Option, Some, None, refl, sym, ◌∙◌, ap, subst, append_assoc, arith}
 use Rattle.std.specs.Prelude.{filter, All, Result, Ok, Err, IfOk, OnErr}
 use Rattle.std.proofs.lemmas.Grind.{merely}
 use mathlib.Core.Logic.{∥∥₁_elim, ∥∥₁_prop}
 use Rattle.std.specs.List.{AllByRecursion, filter_map, cons_option}
-use Rattle.std.proofs.lemmas.Bool.Decides.{nat_tests}
 use Rattle.std.proofs.lemmas.List.{length-map}
 use Rattle.std.proofs.lemmas.List.Elements.{recursion_from_All}
-use Rattle.gtp_reliable.specs.Waiting.{Waiting, after_tick, after_tick_by, next_tick, sent_again, sent_again_by, given_up, given_up_by}
+use Rattle.gtp_reliable.specs.Waiting.{Waiting, sent_again, sent_again_by, given_up, given_up_by}
 use Rattle.gtp_reliable.specs.Waiting as reliable
+use Rattle.gtp_reliable.proofs.Requests.{waits}
 use Rattle.gtp_reliable.specs.Held.{AreApart}
 use Rattle.gtp_reliable.specs.Pending.{AreDistinct}
 use Rattle.gtp_reliable.specs.declared.waiting.NextTick.{NextTick}
-use Rattle.gtp_reliable.specs.declared.waiting.NextTick.TheVariants.{WaitsOn}
 use Rattle.gtp_machine.specs.Input.{Resend, Give_up, Forget, Out, nothing}
 use Rattle.gtp_machine.specs.Node.{Held, Node}
 use Rattle.gtp_machine.specs.Sound.{IsSound}
@@ -93,25 +92,16 @@ no_items : {X Y : Type 0} (f : X → Y) (xs : List X) → map f xs ≡ [] → xs
 no_items f [] none = refl
 no_items f (x ∷ xs) none = absurd cc
 
-below : (t3 n3 : ℕ) (w : Waiting Purpose) → w.waited + 1 < t3 → nat_lt (w.waited + 1) t3 ≡ true
-below t3 n3 w lt = grind (arith, nat_tests)
-
-waits_on : (t3 n3 : ℕ) (w : Waiting Purpose) → w.waited + 1 < t3 → next_tick t3 n3 w ≡ WaitsOn
-waits_on t3 n3 w lt = rw (below t3 n3 w lt) refl
-
-none_again : (t3 n3 : ℕ) (ws : List (Waiting Purpose)) → AllByRecursion (λ (w : Waiting Purpose). w.waited + 1 < t3) ws → filter_map (sent_again t3 n3) ws ≡ []
-none_again t3 n3 [] idle = refl
-none_again t3 n3 (w ∷ ws) idle = ap (λ (t : NextTick). cons_option (sent_again_by t w) (filter_map (sent_again t3 n3) ws)) (waits_on t3 n3 w idle.0) ∙ none_again t3 n3 ws idle.1
-
-none_up : (t3 n3 : ℕ) (ws : List (Waiting Purpose)) → AllByRecursion (λ (w : Waiting Purpose). w.waited + 1 < t3) ws → filter_map (given_up t3 n3) ws ≡ []
-none_up t3 n3 [] idle = refl
-none_up t3 n3 (w ∷ ws) idle = ap (λ (t : NextTick). cons_option (given_up_by t w) (filter_map (given_up t3 n3) ws)) (waits_on t3 n3 w idle.0) ∙ none_up t3 n3 ws idle.1
+-- where each that waits on gives nothing, all give nothing
+none_given : {Y : Type 0} (h : Waiting Purpose → Option Y) (t3 : ℕ) (ws : List (Waiting Purpose)) → ((w : Waiting Purpose) → w.waited + 1 < t3 → h w ≡ None) → AllByRecursion (λ (w : Waiting Purpose). w.waited + 1 < t3) ws → filter_map h ws ≡ []
+none_given h t3 [] none idle = refl
+none_given h t3 (w ∷ ws) none idle = ap (λ (o : Option _). cons_option o (filter_map h ws)) (none w idle.0) ∙ none_given h t3 ws none idle.1
 
 pub none_resent : {X : Type 0} (f : X → reliable.Message) (xs : List X) (t3 n3 : ℕ) (ws : List (Waiting Purpose)) → All (λ (w : Waiting Purpose). w.waited + 1 < t3) ws → map f xs ≡ filter_map (sent_again t3 n3) ws → xs ≡ []
-none_resent f xs t3 n3 ws idle same = no_items f xs (same ∙ none_again t3 n3 ws (recursion_from_All (λ (w : Waiting Purpose). w.waited + 1 < t3) ws idle))
+none_resent f xs t3 n3 ws idle same = no_items f xs (same ∙ none_given (sent_again t3 n3) t3 ws (λ w idle. ap (λ (t : NextTick). sent_again_by t w) (waits t3 n3 w idle)) (recursion_from_All (λ (w : Waiting Purpose). w.waited + 1 < t3) ws idle))
 
 pub none_given_up : (t3 n3 : ℕ) (ws : List (Waiting Purpose)) → All (λ (w : Waiting Purpose). w.waited + 1 < t3) ws → filter_map (given_up t3 n3) ws ≡ []
-none_given_up t3 n3 ws idle = none_up t3 n3 ws (recursion_from_All (λ (w : Waiting Purpose). w.waited + 1 < t3) ws idle)
+none_given_up t3 n3 ws idle = none_given (given_up t3 n3) t3 ws (λ w idle. ap (λ (t : NextTick). given_up_by t w) (waits t3 n3 w idle)) (recursion_from_All (λ (w : Waiting Purpose). w.waited + 1 < t3) ws idle)
 
 -- what a tick leaves is sound: it was a tick of the machine, or changed nothing
 pub tick_sound : {E : Type 0} (r : Result Ticked E) (old new : Station) → IfOk r (λ ticked. IsTicked old ticked new) → OnErr r (new ≡ old) → IsWhole old → IsWhole new

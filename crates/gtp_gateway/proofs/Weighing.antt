@@ -1,18 +1,13 @@
 -- Hearing the peer's counter, for any message that is then taken.
-use Rattle.std.proofs.Common.{◌≡◌, inr, ℕ, Option, Some, None, option_map, refl}
+use Rattle.std.proofs.Common.{◌≡◌, ℕ, Option, Some, None, option_map, refl, ap}
 use Rattle.gtp_values.specs.Counter.{age_of}
 use Rattle.gtp_values.specs.declared.counter.Counter.{Counter}
 use Rattle.gtp_values.specs.declared.counter.Age.{Age}
 use Rattle.gtp_values.specs.declared.counter.Age.TheVariants as ages
-use Rattle.gtp_machine.specs.declared.role.Role.{Role}
-use Rattle.gtp_machine.specs.declared.role.Role.TheVariants.{Serving, Packet}
 use Rattle.gtp_machine.specs.declared.outcome.DropReason.TheVariants.{OldCounter}
-use Rattle.gtp_machine.specs.Message.{Echo, Echo_request}
-use Rattle.gtp_machine.specs.Node.{Arrival, Node}
-use Rattle.gtp_machine.specs.Answer.{IsNew, echoed}
-use Rattle.gtp_machine.specs.Input.{Control_message, Control_came, Effect, dropped}
+use Rattle.gtp_machine.specs.Node.{Node}
+use Rattle.gtp_machine.specs.Input.{Effect, dropped}
 use Rattle.gtp_machine.specs.Recovery.{Judges, Weighs, Hears, later_only, learned_by}
-use Rattle.gtp_machine.specs.Step.{Step}
 use Rattle.gtp_gateway.specs.declared.hearing.Heard.{Heard}
 use Rattle.gtp_gateway.specs.declared.hearing.Heard.TheVariants as heards
 use Rattle.gtp_gateway.specs.Hearing.{aged, weighed, node_heard, IsEarlier, told_in, later_in, effect_heard}
@@ -20,13 +15,25 @@ use Rattle.gtp_gateway.specs.Hearing.{aged, weighed, node_heard, IsEarlier, told
 number : Counter → ℕ
 number counter = counter.0
 
--- hearing does not change the own counter
+-- hearing changes the counter that is known, the sessions, the bearers and the requests, and nothing else
+rest_stays : (heard : Heard) (n : Node) → let left = node_heard heard n in left ≡ record n { known = left.known; sessions = left.sessions; bearers = left.bearers; pending = left.pending }
+rest_stays heards.Nothing n = refl
+rest_stays (heards.First counter) n = refl
+rest_stays (heards.Same counter) n = refl
+rest_stays (heards.Later counter) n = refl
+rest_stays (heards.Earlier counter) n = refl
+
 pub counter_stays : (heard : Heard) (n : Node) → (node_heard heard n).counter ≡ n.counter
-counter_stays heards.Nothing n = refl
-counter_stays (heards.First counter) n = refl
-counter_stays (heards.Same counter) n = refl
-counter_stays (heards.Later counter) n = refl
-counter_stays (heards.Earlier counter) n = refl
+counter_stays heard n = ap (λ (x : Node). x.counter) (rest_stays heard n)
+
+pub config_stays : (heard : Heard) (n : Node) → (node_heard heard n).config ≡ n.config
+config_stays heard n = ap (λ (x : Node). x.config) (rest_stays heard n)
+
+pub drawn_stays : (heard : Heard) (n : Node) → (node_heard heard n).drawn ≡ n.drawn
+drawn_stays heard n = ap (λ (x : Node). x.drawn) (rest_stays heard n)
+
+pub held_stays : (heard : Heard) (n : Node) → (node_heard heard n).held ≡ n.held
+held_stays heard n = ap (λ (x : Node). x.held) (rest_stays heard n)
 
 -- what is told of the counter is what the machine tells
 pub told_is : (known : Option ℕ) (counter : Counter) → option_map (λ (c : Counter). c.0) (told_in (weighed known counter)) ≡ Some counter.0
@@ -73,8 +80,3 @@ module _ (Takes : Node → Effect → Type 0) (old : Node) (counter : Counter) w
   -- a counter of an earlier start: the message is dropped
   pub hears_old : IsEarlier (weighed old.known counter) → Hears Takes old (Some counter.0) (effect_heard counter.0 old.known (dropped old OldCounter))
   hears_old is = (dropped old OldCounter, weighs_old old.known is, refl)
-
--- both gateways take an Echo Request, once its counter was heard
-pub echo_taken : (role : Role) (old : Node) (request : Arrival) (q : Echo) (e : Effect) → request.source.ip ≡ old.config.peer.control → IsNew old request → Hears (λ node effect. effect ≡ echoed request q node) old (Some q.recovery) e → Step role old (Control_came request (Control_message (Echo_request q))) e
-echo_taken Serving old request q e peer new hears = inr (peer, inr (new, inr (refl, hears)))
-echo_taken Packet old request q e peer new hears = inr (peer, inr (new, inr (refl, hears)))

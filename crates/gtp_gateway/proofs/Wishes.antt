@@ -2,11 +2,11 @@
 use Rattle.std.proofs.Common.{◌≡◌, ◌↔◌, inl, inr, ℕ, Bool, true, false, Some, refl, ◌∙◌}
 use Rattle.std.specs.Prelude.{◌==◌, ◌&&◌, not}
 use Rattle.std.specs.Bool.{beq}
+use Rattle.gtp_values.proofs.Tests.{itself}
 use Rattle.gtp_machine.specs.Ordered.{Unless}
 use Rattle.gtp_machine.specs.Node.{Node, written}
 use Rattle.gtp_machine.specs.Input.{refused}
 use Rattle.gtp_machine.specs.declared.outcome.Refusal.{Refusal}
-use Rattle.gtp_machine.proofs.Basics.Facts.{equal_itself}
 use Rattle.gtp_gateway.specs.declared.wish.Wish.{Wish}
 use Rattle.gtp_gateway.specs.declared.wish.Wish.TheVariants.{Echo, CreateSession, DeleteSession, ReleaseSession, CreateBearer, DeleteBearer}
 use Rattle.gtp_gateway.specs.Asking.{about}
@@ -16,18 +16,18 @@ use Rattle.gtp_gateway.specs.Spelled.{is_for}
 use Rattle.gtp_gateway.specs.Wish.{request_of, purpose_of, change_of, teid_of, AsksFor}
 use Rattle.gtp_gateway.proofs.Refusals.{asks_on}
 
-itself : (b : Bool) → beq b b ≡ true
-itself true = refl
-itself false = refl
+test_itself : (b : Bool) → beq b b ≡ true
+test_itself true = refl
+test_itself false = refl
 
 -- the request is one that is sent for the purpose
 pub meant : (wish : Wish) (number : _) (old : Node) → is_for (purpose_of wish) (request_of wish number old) ≡ true
 meant Echo number old = refl
-meant (CreateSession drawn spec) number old = (λ i. equal_itself drawn.control.0 i && (equal_itself drawn.user.0 i && true))
-meant (DeleteSession teid session) number old = itself _
-meant (ReleaseSession teid session) number old = itself _
-meant (CreateBearer drawn session of tft qos) number old = (λ i. (equal_itself drawn.teid.0 i) && beq (not (written of.remote == 0)) (not (written of.remote == 0))) ∙ itself _
-meant (DeleteBearer teid bearer session of identity) number old = itself _
+meant (CreateSession drawn spec) number old = (λ i. itself drawn.control.0 i && (itself drawn.user.0 i && true))
+meant (DeleteSession teid session) number old = test_itself _
+meant (ReleaseSession teid session) number old = test_itself _
+meant (CreateBearer drawn session of tft qos) number old = (λ i. (itself drawn.teid.0 i) && beq (not (written of.remote == 0)) (not (written of.remote == 0))) ∙ test_itself _
+meant (DeleteBearer teid bearer session of identity) number old = test_itself _
 
 -- the request has the number
 pub numbered : (wish : Wish) (number : ℕ) (old : Node) → request_number (request_of wish number old) ≡ Some number

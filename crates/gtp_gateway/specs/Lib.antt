@@ -38,3 +38,4 @@ pub mod Received
 pub mod GoesOn
 pub mod Needing
 pub mod Choosing
+pub mod Determined

@@ -2,7 +2,8 @@
 
 ghost use Rattle.std.specs.Prelude.{◌≡◌, not, filter};
 ghost use Rattle.std.specs.FinMap as map;
-ghost use Rattle.gtp_machine.specs.User.{bearer_is_to, default_among, broken};
+ghost use Rattle.gtp_tables.specs.Index.{names};
+ghost use Rattle.gtp_machine.specs.User.{default_among, broken};
 ghost use Rattle.gtp_gateway.specs.Broken.{goes_with_remote, is_broken};
 ghost use Rattle.gtp_gateway.specs.Parts.{node_of};
 ghost use Rattle.gtp_gateway.specs.Station.{IsWhole, station_of, timing_of};
@@ -14,7 +15,7 @@ use gtp_values::Teid;
 
 /// Whether a bearer that may be absent has this remote.
 fn has_remote(bearer: Option<Bearer>, remote: Teid) -> bool
-    ensures { result ≡ bearer_is_to remote.0 bearer }
+    ensures { result ≡ names remote.0 bearer }
 {
     match bearer {
         Some(bearer) => bearer.remote == Some(remote.0),

@@ -22,7 +22,7 @@ use gtp_tables::State;
 use gtp_v2::kinds::{
     CREATE_BEARER_REQUEST, CREATE_SESSION_REQUEST, DELETE_BEARER_REQUEST, DELETE_SESSION_REQUEST,
 };
-use gtp_v2::{Head, V2Fault};
+use gtp_v2::{BAD_ELEMENT, Head, MISSING_ELEMENT, V2Fault};
 use gtp_values::{Below, Endpoint, FTeid, Memory, Seq, Teid};
 use std::alloc::Global;
 
@@ -74,8 +74,8 @@ impl Defect {
         ensures { result ≡ fault_number (defect_of self) }
     {
         match self {
-            Defect::MandatoryMissing | Defect::ConditionalMissing => 6,
-            Defect::TooShort | Defect::OutOfRange => 7,
+            Defect::MandatoryMissing | Defect::ConditionalMissing => MISSING_ELEMENT,
+            Defect::TooShort | Defect::OutOfRange => BAD_ELEMENT,
         }
     }
 
@@ -149,7 +149,7 @@ fn element_flaw(head: &Head, fault: &IeFault) -> Flaw
         IeFault::BadValue { kind, instance, .. } => {
             flaw_in(head, Defect::OutOfRange, kind, instance)
         }
-        IeFault::Truncated { .. } | IeFault::Memory | IeFault::TooLong => Flaw::Plain(7),
+        IeFault::Truncated { .. } | IeFault::Memory | IeFault::TooLong => Flaw::Plain(BAD_ELEMENT),
     }
 }
 
@@ -159,11 +159,6 @@ pub fn flaw_of(fault: &V2Fault) -> Flaw
     ensures { reading_of result ≡ control_fault fault.now }
 {
     match fault {
-        V2Fault::Short { .. } => Flaw::Plain(1),
-        V2Fault::Version { .. } => Flaw::Plain(2),
-        V2Fault::Length { .. } => Flaw::Plain(3),
-        V2Fault::FlagT { .. } => Flaw::Plain(4),
-        V2Fault::Piggyback => Flaw::Plain(5),
         V2Fault::Missing {
             kind,
             instance,
@@ -171,8 +166,7 @@ pub fn flaw_of(fault: &V2Fault) -> Flaw
             head,
         } => flaw_in(head, missing(*conditional), *kind, *instance),
         V2Fault::Element { fault, head } => element_flaw(head, fault),
-        V2Fault::Memory => Flaw::Plain(8),
-        V2Fault::TooLong => Flaw::Plain(9),
+        _ => Flaw::Plain(fault.number()),
     }
 }
 

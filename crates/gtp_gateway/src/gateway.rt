@@ -7,7 +7,9 @@ ghost use Rattle.gtp_machine.specs.Input.{Mark_end, Send_echo, Send_user};
 ghost use Rattle.gtp_gateway.specs.Begun.{IsDone, IsRefusedWhere, AsksNext};
 ghost use Rattle.gtp_gateway.specs.Choosing.{ChoosesLowest};
 ghost use Rattle.gtp_gateway.specs.Specified.{specification};
-ghost use Rattle.gtp_gateway.specs.Station.{Station, starting, IsTied};
+ghost use Rattle.gtp_reliable.specs.Pending.{AreDistinct};
+ghost use Rattle.gtp_machine.specs.Determined.{HeldOnce};
+ghost use Rattle.gtp_gateway.specs.Station.{Station, starting, IsTied, IsWhole};
 ghost use Rattle.gtp_gateway.specs.Ticked.{IsIdle, IsTicked, CountsOn, arrivals_of, due_in};
 ghost use Rattle.gtp_gateway.specs.Received.{IsReceived, KeepsTiming, NeedsMemory};
 
@@ -241,6 +243,17 @@ impl Gateway {
         ensures err { OnErr result (self.new ≡ self.old) }
     {
         self.parts.receive(alloc, source, plane, octets)
+    }
+
+    /// What holds of a gateway at all times.
+    pub(crate) fn stands(&self)
+        ensures whole { IsWhole self.now }
+        ensures tied { IsTied self.now }
+        ensures once { HeldOnce self.now.node }
+        ensures distinct { AreDistinct self.now.timing.waiting }
+    {
+        let _held_full = self.parts.held.is_full();
+        let _pending_full = self.parts.pending.is_full();
     }
 
     /// A tick passes (TS 29.274 7.6): requests whose answer was waited for long enough are sent

@@ -23,6 +23,7 @@ mod gateway;
 mod granting;
 mod hearing;
 mod in_place;
+pub mod laws;
 mod listing;
 mod messages;
 mod needed;

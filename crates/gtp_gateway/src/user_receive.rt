@@ -45,17 +45,8 @@ fn fault_number(fault: &UserFault) -> Option<u8>
     ensures needed { IfNone result (user_fault fault.now ≡ Extension_needed) }
 {
     match fault {
-        UserFault::Short { .. } => Some(1),
-        UserFault::Version { .. } => Some(2),
-        UserFault::Protocol => Some(3),
-        UserFault::Length { .. } => Some(4),
-        UserFault::ExtensionZero { .. } => Some(5),
-        UserFault::ExtensionPast { .. } => Some(6),
         UserFault::ExtensionNeeded { .. } => None,
-        UserFault::Missing { .. } => Some(8),
-        UserFault::Element { .. } => Some(9),
-        UserFault::Memory => Some(10),
-        UserFault::TooLong => Some(11),
+        _ => Some(fault.number()),
     }
 }
 

@@ -2,7 +2,9 @@
 use Rattle.std.proofs.Common.{◌≡◌, Bool, true, false, ℕ, ◌+◌, ◌*◌, ◌<◌, ◌^◌, List, [], ◌++◌, refl, sym, ap, ◌∙◌, arith}
 use Rattle.byteorder.specs.Endian.{big_bytes, big_number}
 use Rattle.byteorder.specs.Numbers.{big_from-bytes}
-use Rattle.gtp_ie.specs.Value.{OfRecovery, OfEbi, OfRat, OfChargingId, OfPdnType, OfPti, OfSelection, OfCause, OfAmbr, OfQos, encoding_of, bit, rates_encoding, AreRates}
+use Rattle.gtp_ie.specs.Value.{OfRecovery, OfEbi, OfRat, OfChargingId, OfPdnType, OfPti, OfSelection, OfCause, OfAmbr, OfQos, encoding_of, rates_encoding, AreRates}
+use Rattle.gtp_values.specs.Bit.{bit}
+use Rattle.gtp_values.proofs.Same.{cause_with, offending_with, ambr_with, rates_with}
 use Rattle.gtp_values.specs.declared.cause.Cause.{Cause}
 use Rattle.gtp_values.specs.declared.cause.Offending.{Offending}
 use Rattle.gtp_values.specs.declared.qos.Ambr.{Ambr}
@@ -64,38 +66,28 @@ flags_are false true false = record { pce = refl; bce = refl; cs = refl }
 flags_are false false true = record { pce = refl; bce = refl; cs = refl }
 flags_are false false false = record { pce = refl; bce = refl; cs = refl }
 
-abbrev cause_with : ℕ → Option Offending → Bool → Bool → Bool → Cause
-cause_with v o p b s = record { value = v; pce = p; bce = b; cs = s; offending = o }
-
-same_cause : (v : ℕ) {o q : Option Offending} {p b s x y z : Bool} → p ≡ x → b ≡ y → s ≡ z → o ≡ q → cause_with v o p b s ≡ cause_with v q x y z
-same_cause v {o = o} {q = q} {p = p} {b = b} {s = s} {x = x} {y = y} {z = z} e f g h =
-    ap (λ (p : Bool). cause_with v o p b s) e ∙ (ap (λ (b : Bool). cause_with v o x b s) f ∙ (ap (λ (s : Bool). cause_with v o x y s) g ∙ ap (λ (o : Option Offending). cause_with v o x y z) h))
-
-abbrev offending_with : ℕ → ℕ → Option Offending
-offending_with kind instance = Some (record { kind = kind; instance = instance })
+pub same_cause : {m n : ℕ} {p q b c s t : Bool} {o u : Option Offending} → m ≡ n → p ≡ q → b ≡ c → s ≡ t → o ≡ u → cause_with m p b s o ≡ cause_with n q c t u
+same_cause e f g h i = cc
 
 -- an element at fault has its instance in half an octet
 abbrev pub IsSmall : Option Offending → Type 0
 IsSmall None = Unit {0}
 IsSmall (Some o) = o.instance < 16
 
-cause_parts : (v : ℕ) (o : Option Offending) (p b s : Bool) → IsSmall o → Spells 2 (encoding_of (OfCause (cause_with v o p b s))) (OfCause (cause_with v o p b s))
+cause_parts : (v : ℕ) (o : Option Offending) (p b s : Bool) → IsSmall o → Spells 2 (encoding_of (OfCause (cause_with v p b s o))) (OfCause (cause_with v p b s o))
 unfolding encoding_of Says
 cause_parts v None p b s small =
     let f = flags_are p b s in
-    record { long_enough = omega arith; says = ap OfCause (same_cause v (sym f.pce) (sym f.bce) (sym f.cs) refl) }
+    record { long_enough = omega arith; says = ap OfCause (same_cause refl (sym f.pce) (sym f.bce) (sym f.cs) refl) }
 cause_parts v (Some o) p b s small =
     let f = flags_are p b s in
     let same : o.instance ≡ bits 4 1 o.instance = omega arith in
-    record { long_enough = omega arith; says = ap OfCause (same_cause v (sym f.pce) (sym f.bce) (sym f.cs) (ap (offending_with o.kind) same)) }
+    record { long_enough = omega arith; says = ap OfCause (same_cause refl (sym f.pce) (sym f.bce) (sym f.cs) (ap (λ (i : ℕ). Some (offending_with o.kind i)) same)) }
 
 pub cause_again : (c : Cause) → IsSmall c.offending → Spells 2 (encoding_of (OfCause c)) (OfCause c)
 cause_again c small = cause_parts c.value c.offending c.pce c.bce c.cs small
 
 -- ---- rates
-
-abbrev ambr_with : ℕ → ℕ → Ambr
-ambr_with up down = record { up = up; down = down }
 
 pub ambr_again : (a : Ambr) → a.up < 2 ^ 32 → a.down < 2 ^ 32 → Spells 72 (encoding_of (OfAmbr a)) (OfAmbr a)
 unfolding encoding_of Says
@@ -106,9 +98,6 @@ ambr_again a up down =
 
 rate_again : (n : ℕ) (rest : List ℕ) → n < 2 ^ 40 → big_number 5 (big_bytes 5 n ++ rest) ≡ n
 rate_again n rest small = big_from-bytes 5 n rest ∙ omega arith
-
-abbrev rates_with : ℕ → ℕ → Rates
-rates_with up down = record { up = up; down = down }
 
 rates_again : (r : Rates) (rest : List ℕ) → AreRates r → r ≡ rates_with (big_number 5 (rates_encoding r ++ rest)) (big_number 5 (big_bytes 5 r.down ++ rest))
 rates_again r rest are =

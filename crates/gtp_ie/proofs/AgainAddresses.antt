@@ -1,10 +1,11 @@
 -- What is written of an address, a tunnel end or a network spells it.
-use Rattle.std.proofs.Common.{◌≡◌, ℕ, ◌+◌, ◌*◌, ◌/◌, ◌%◌, ◌<◌, ◌^◌, true, false, List, [], ◌∷◌, ◌++◌, length, take, drop, Option, Some, None, refl, sym, ap, subst, ◌∙◌, arith, length-append}
+use Rattle.std.proofs.Common.{◌≡◌, ℕ, ◌+◌, ◌*◌, ◌/◌, ◌%◌, ◌<◌, true, false, List, [], ◌∷◌, ◌++◌, length, take, drop, Option, Some, None, refl, sym, ap, subst, ◌∙◌, arith, length-append}
 use Rattle.std.specs.Prelude.{◌==◌}
 use Rattle.std.proofs.lemmas.Bool.Decides.{nat_tests}
 use Rattle.std.proofs.lemmas.List.{take_at, drop_at, append-nil}
 use Rattle.std.proofs.lemmas.List.Elements.{All-head, All-tail}
 use Rattle.gtp_values.specs.TunnelEnd.{TunnelEnd, IsTunnelEnd}
+use Rattle.gtp_values.proofs.Same.{end_with, network_with}
 use Rattle.gtp_values.specs.Plmn.{Network, IsNetwork}
 use Rattle.gtp_values.specs.Paa.{IsOtherPdnType}
 use Rattle.gtp_values.specs.declared.paa.Paa.TheVariants as paas
@@ -45,9 +46,6 @@ other_again pdn is =
 
 -- ---- tunnel ends
 
-abbrev end_with : ℕ → ℕ → Option (List ℕ) → Option (List ℕ) → TunnelEnd
-end_with interface teid v4 v6 = record { interface = interface; teid = teid; v4 = v4; v6 = v6 }
-
 end_parts : (interface teid : ℕ) (v4 v6 : Option (List ℕ)) → IsTunnelEnd (end_with interface teid v4 v6) → Spells 87 (encoding_of (OfFTeid (end_with interface teid v4 v6))) (OfFTeid (end_with interface teid v4 v6))
 unfolding encoding_of Says
 end_parts interface teid (Some v4) (Some v6) is =
@@ -85,9 +83,6 @@ pub fteid_again : (e : TunnelEnd) → IsTunnelEnd e → Spells 87 (encoding_of (
 fteid_again e is = end_parts e.interface e.teid e.v4 e.v6 is
 
 -- ---- networks
-
-abbrev network_with : List ℕ → List ℕ → Network
-network_with mcc mnc = record { mcc = mcc; mnc = mnc }
 
 -- digits in the halves of an octet
 low_half : (a b : ℕ) → a < 16 → ((16 * b + a) / 1) % 16 ≡ a

@@ -8,12 +8,13 @@ use Rattle.std.proofs.lemmas.Bool.{ltb-false, eqb-true}
 use Rattle.byteorder.specs.Endian.{big_number}
 use Rattle.gtp_values.specs.declared.cause.Cause.{Cause}
 use Rattle.gtp_values.specs.declared.cause.Offending.{Offending}
-use Rattle.gtp_values.specs.declared.qos.Ambr.{Ambr}
 use Rattle.gtp_values.specs.declared.qos.Qos.{Qos}
 use Rattle.gtp_values.specs.declared.paa.Paa.{Paa}
 use Rattle.gtp_values.specs.declared.paa.Paa.TheVariants as paas
 use Rattle.gtp_values.specs.Plmn.{IsNetwork}
 use Rattle.gtp_values.specs.TunnelEnd.{TunnelEnd}
+use Rattle.gtp_values.proofs.Same.{end_with, cause_with, offending_with, ambr_with}
+use Rattle.gtp_ie.proofs.Again.{same_cause}
 use Rattle.gtp_ie.specs.Layout.{octet, bits, is_set}
 use Rattle.gtp_ie.specs.Free.{SaysTheSame, SpellsFreely, counted_by, counted_from, spare_lines}
 use Rattle.gtp_ie.specs.Value.{Value, OfRecovery, OfEbi, OfRat, OfChargingId, OfPdnType, OfPti, OfSelection, OfAmbr, OfPlmn, OfFTeid, OfCause, OfPaa, OfQos, least, least_paa, pdn_type_in, qos_in, room, network_in, fteid_in, has_v4, has_v6, encoding_of}
@@ -66,9 +67,6 @@ unfolding Says
 charging_id_free body other v s spells =
     let same : take 4 body ≡ take 4 other = front_same 94 4 4 (λ m o h. refl) body other s.same in
     record { long_enough = long_same 4 body other spells.long_enough same; says = spells.says ∙ ap OfChargingId (number_same 0 4 4 body other (omega arith) same) }
-
-abbrev ambr_with : ℕ → ℕ → Ambr
-ambr_with up down = record { up = up; down = down }
 
 pub ambr_free : IsFree 72
 unfolding Says
@@ -229,9 +227,6 @@ paa_free (x ∷ xs) (y ∷ ys) v s spells =
 abbrev end_room : Bool → Bool → ℕ
 end_room a b = 5 + room a 4 + room b 16
 
-abbrev end_with : ℕ → ℕ → Option (List ℕ) → Option (List ℕ) → TunnelEnd
-end_with interface teid v4 v6 = record { interface = interface; teid = teid; v4 = v4; v6 = v6 }
-
 same_end : {i j t u : ℕ} {a b c d : Option (List ℕ)} → i ≡ j → t ≡ u → a ≡ b → c ≡ d → end_with i t a c ≡ end_with j u b d
 same_end e f g h = cc
 
@@ -317,15 +312,6 @@ cause_room b = cond b 2 6
 
 same_lengths : (kind k n m : ℕ) (xs ys : List ℕ) → counted_from kind k (take n xs) ≡ counted_from kind k (take m ys) → length (take n xs) ≡ length (take m ys)
 same_lengths kind k n m xs ys e = sym (length_counted kind k (take n xs)) ∙ (ap (λ (l : List (List ℕ)). length l) e ∙ length_counted kind k (take m ys))
-
-abbrev cause_with : ℕ → Bool → Bool → Bool → Option Offending → Cause
-cause_with value p b s o = record { value = value; pce = p; bce = b; cs = s; offending = o }
-
-same_cause : {m n : ℕ} {p q b c s t : Bool} {o u : Option Offending} → m ≡ n → p ≡ q → b ≡ c → s ≡ t → o ≡ u → cause_with m p b s o ≡ cause_with n q c t u
-same_cause e f g h i = cc
-
-abbrev offending_with : ℕ → ℕ → Offending
-offending_with kind instance = record { kind = kind; instance = instance }
 
 same_offending : {m n i j : ℕ} → m ≡ n → i ≡ j → offending_with m i ≡ offending_with n j
 same_offending e f = cc

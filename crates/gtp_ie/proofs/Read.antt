@@ -3,6 +3,7 @@ use Rattle.std.proofs.Common.{◌≡◌, ℕ, ◌+◌, ◌*◌, ◌/◌, ◌%◌
 use Rattle.gtp_values.specs.Apn.{IsApn}
 use Rattle.gtp_values.specs.Imsi.{IsImsi}
 use Rattle.gtp_values.specs.Plmn.{Network, IsNetwork}
+use Rattle.gtp_values.proofs.Same.{network_with}
 use Rattle.gtp_ie.specs.declared.fault.ReadFault.TheVariants.{Bad}
 use Rattle.gtp_ie.specs.Digits.{packed, digits_in}
 use Rattle.gtp_ie.specs.Value.{OfImsi, OfApn, OfPlmn, network_in, value_at}
@@ -53,9 +54,6 @@ plmn_found body long digits made same is e =
 pub plmn_unread : (body : List ℕ) → 3 ≤ length body → (IsNetwork (network_in body) → ⊥) → value_at 83 body ≡ Err Bad
 unfolding Says
 plmn_unread body long none = (value_decided 83 body).fails Bad (record { long_enough = long; silent = λ v s. none s.0 })
-
-abbrev network_with : List ℕ → List ℕ → Network
-network_with mcc mnc = record { mcc = mcc; mnc = mnc }
 
 -- the halves of three octets, the last digit left out where it is the filler
 abbrev pub halves : ℕ → ℕ → ℕ → ℕ → Network

@@ -2,13 +2,15 @@
 use Rattle.std.proofs.Common.{◌≡◌, ℕ, ◌+◌, ◌*◌, ◌/◌, ◌%◌, ◌<◌, ◌≤◌, Bool, true, false, cond, ◌&&◌, ◌||◌, List, [], ◌∷◌, length, Option, Some, None, Err, refl, sym, ap, subst, ◌∙◌, arith}
 use Rattle.std.specs.Prelude.{◌==◌, IsTrue, All, nat_le, nat_lt}
 use Rattle.std.proofs.lemmas.Bool.Decides.{nat_tests}
-use Rattle.std.proofs.lemmas.Bool.{ltb-false, ltb-true, eqb-true}
+use Rattle.std.proofs.lemmas.Bool.{ltb-false, ltb-true, eqb-true, and_from}
 use Rattle.std.proofs.lemmas.List.Elements.{All-nil, All-head, All-tail, All-cons}
+use Rattle.std.proofs.lemmas.Option.{same_Some}
 use Rattle.gtp_values.specs.Apn.{IsApn, are_labels_from}
 use Rattle.gtp_values.specs.Imsi.{IsImsi}
 use Rattle.gtp_values.specs.Plmn.{Network, IsNetwork}
 use Rattle.gtp_values.proofs.Labels.{are_labels, labels_are}
-use Rattle.gtp_values.proofs.Outcomes.{both, none_some}
+use Rattle.gtp_values.proofs.Outcomes.{none_some}
+use Rattle.gtp_values.proofs.Tests.{both}
 use Rattle.gtp_ie.specs.declared.fault.ReadFault.{ReadFault}
 use Rattle.gtp_ie.specs.declared.fault.ReadFault.TheVariants.{Short, Bad}
 use Rattle.gtp_values.specs.Decides.{Decides}
@@ -31,16 +33,13 @@ finds_if : (good : Bool) (w : Value) (P : Type 0) → (good ≡ true → P) → 
 finds_if true w P to from = record { some = λ v h. (to refl, cc); is = λ v h. ap (λ (x : Value). Some x) (sym h.1) }
 finds_if false w P to from = record { some = λ v h. absurd cc; is = λ v h. let e = from h.0 in absurd cc }
 
-pub join : (a b : Bool) → a ≡ true → b ≡ true → (a && b) ≡ true
-join a b p q = rw (p, q) refl
-
 -- ---- access point names
 
 apn_finds : (body : List ℕ) → 1 ≤ length body → Finds (only_if (nat_le (length body) 100 && are_labels_from 0 body) (OfApn body)) (SpellsApn body)
 apn_finds body some =
     finds_if (nat_le (length body) 100 && are_labels_from 0 body) (OfApn body) (IsApn body)
     (λ h. let b = both (nat_le (length body) 100) (are_labels_from 0 body) h in record { least = some; most = grind (arith, nat_tests); labels = are_labels body b.right })
-    (λ is. let most = is.most in let few : nat_le (length body) 100 ≡ true = grind (arith, nat_tests) in join (nat_le (length body) 100) (are_labels_from 0 body) few (labels_are body is.labels))
+    (λ is. let most = is.most in let few : nat_le (length body) 100 ≡ true = grind (arith, nat_tests) in and_from (nat_le (length body) 100) (are_labels_from 0 body) few (labels_are body is.labels))
 
 -- ---- digits
 
@@ -53,7 +52,7 @@ all_decimal [] h = refl
 all_decimal (x ∷ xs) h =
     let first : x < 10 = All-head (λ digit. digit < 10) x xs h in
     let small : nat_lt x 10 ≡ true = grind (arith, nat_tests) in
-    join (nat_lt x 10) (are_decimal xs) small (all_decimal xs (All-tail (λ digit. digit < 10) x xs h))
+    and_from (nat_lt x 10) (are_decimal xs) small (all_decimal xs (All-tail (λ digit. digit < 10) x xs h))
 
 imsi_to : (digits : List ℕ) → are_imsi_digits digits ≡ true → IsImsi digits
 imsi_to digits h =
@@ -67,7 +66,7 @@ imsi_from digits is =
     let most = is.most in
     let enough : nat_le 6 (length digits) ≡ true = grind (arith, nat_tests) in
     let few : nat_le (length digits) 15 ≡ true = grind (arith, nat_tests) in
-    join (nat_le 6 (length digits) && nat_le (length digits) 15) (are_decimal digits) (join (nat_le 6 (length digits)) (nat_le (length digits) 15) enough few) (all_decimal digits is.decimal)
+    and_from (nat_le 6 (length digits) && nat_le (length digits) 15) (are_decimal digits) (and_from (nat_le 6 (length digits)) (nat_le (length digits) 15) enough few) (all_decimal digits is.decimal)
 
 -- what the last octet's digits are packed into
 last_again : (octet : ℕ) → packed (last_digits octet) ≡ octet ∷ []
@@ -118,9 +117,6 @@ digits_again (a ∷ b ∷ c ∷ digits) h =
     pair_before a b (packed (c ∷ digits)) (All-head (λ digit. digit < 10) a (b ∷ c ∷ digits) h) (All-head (λ digit. digit < 10) b (c ∷ digits) rest) (some_packed c digits)
     ∙ ap (λ (xs : List ℕ). a ∷ b ∷ xs) (digits_again (c ∷ digits) others)
 
-abbrev found_digits : List ℕ → Option Value
-found_digits digits = Some (OfImsi digits)
-
 imsi_finds : (body : List ℕ) → Finds (only_if (are_imsi_digits (digits_in body)) (OfImsi (digits_in body))) (SpellsImsi body)
 imsi_finds body = record {
   some = λ v h. let p = (by_test.some) v h in (digits_in body, p.0, sym (packed_again body), p.1);
@@ -144,7 +140,7 @@ network_to body h =
     record { country = refl; least = omega arith; most = omega arith; country_digits = decimal_all (network_in body).mcc b.left; network_digits = decimal_all (network_in body).mnc b.right }
 
 network_from : (n : Network) → IsNetwork n → are_network_digits n ≡ true
-network_from n is = join (are_decimal n.mcc) (are_decimal n.mnc) (all_decimal n.mcc is.country_digits) (all_decimal n.mnc is.network_digits)
+network_from n is = and_from (are_decimal n.mcc) (are_decimal n.mnc) (all_decimal n.mcc is.country_digits) (all_decimal n.mnc is.network_digits)
 
 -- ---- any type
 
@@ -181,18 +177,12 @@ said_finds kind body long =
     (finds_cond (kind == 128) _ _ _ _ (λ t. finds_always _)
     finds_none)))))))))))))))
 
-abbrev some_value : Value → Option Value
-some_value v = Some v
-
-same_value : (v w : Value) → some_value v ≡ Some w → w ≡ v
-same_value v w h = cc
-
 -- reading a body decides which value it spells, and why it spells none
 pub value_decided : (kind : ℕ) (body : List ℕ) → Decides (value_at kind body) (Spells kind body) (SpellsNone kind body)
 unfolding value_at
 value_decided kind body = by_length (nat_lt (length body) (least kind body)) refl where
   by_said : least kind body ≤ length body → (o : Option Value) → Finds o (Says kind body) → Decides (or_bad o) (Spells kind body) (SpellsNone kind body)
-  by_said long (Some v) f = known_ok v (Spells kind body) (SpellsNone kind body) (record { long_enough = long; says = f.some v refl }) (λ w s. same_value v w (f.is w s.says)) (λ g h. fault g h) where
+  by_said long (Some v) f = known_ok v (Spells kind body) (SpellsNone kind body) (record { long_enough = long; says = f.some v refl }) (λ w s. sym (same_Some v w (f.is w s.says))) (λ g h. fault g h) where
     fault : (g : ReadFault) → SpellsNone kind body g → ⊥
     fault Short h = omega (arith, h)
     fault Bad h = h.silent v (f.some v refl)

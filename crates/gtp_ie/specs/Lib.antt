@@ -9,3 +9,4 @@ pub mod Octets
 pub mod Text
 pub mod Spelling
 pub mod Free
+pub mod Codes

@@ -1,5 +1,5 @@
 -- The values that elements have, what a body says, and the one body that is written for a value.
-use Rattle.std.specs.Prelude.{ℕ, ◌+◌, ◌*◌, ◌^◌, ◌<◌, Bool, true, false, ◌&&◌, ◌||◌, List, [], ◌∷◌, ◌++◌, length, take, Option, Some, None, is_some, Result, Ok, Err, nat_lt, nat_le, ◌==◌, if◌then◌else◌}
+use Rattle.std.specs.Prelude.{ℕ, ◌+◌, ◌*◌, ◌^◌, ◌<◌, Bool, ◌&&◌, ◌||◌, List, [], ◌∷◌, ◌++◌, length, take, Option, Some, None, is_some, Result, Ok, Err, nat_lt, nat_le, ◌==◌, if◌then◌else◌}
 use Rattle.byteorder.specs.Endian.{big_bytes}
 use Rattle.gtp_values.specs.declared.cause.Cause.{Cause}
 use Rattle.gtp_values.specs.declared.cause.Offending.{Offending}
@@ -9,6 +9,7 @@ use Rattle.gtp_values.specs.declared.qos.Rates.{Rates}
 use Rattle.gtp_values.specs.declared.paa.Paa.{Paa}
 use Rattle.gtp_values.specs.declared.paa.Paa.TheVariants as paas
 use Rattle.gtp_values.specs.Apn.{are_labels_from}
+use Rattle.gtp_values.specs.Bit.{bit}
 use Rattle.gtp_values.specs.TunnelEnd.{TunnelEnd}
 use Rattle.gtp_values.specs.Plmn.{Network}
 use Rattle.gtp_ie.specs.declared.fault.ReadFault.{ReadFault}
@@ -198,11 +199,6 @@ value_at kind body = if nat_lt (length body) (least kind body) then Err Short el
 pub record AreRates (r : Rates) : Type 0 where
   pub up : r.up < 2 ^ 40
   pub down : r.down < 2 ^ 40
-
--- 1 or 0
-abbrev pub bit : Bool → ℕ
-bit true = 1
-bit false = 0
 
 abbrev pub offending_encoding : Option Offending → List ℕ
 offending_encoding None = []

@@ -3,10 +3,12 @@ use Rattle.std.specs.Prelude.{◌≡◌, ℕ, ◌+◌, ◌==◌, if◌then◌els
 use Rattle.std.specs.List.{flat_map}
 use Rattle.gtp_ie.specs.declared.fault.IeFault.{IeFault}
 use Rattle.gtp_ie.specs.declared.fault.IeFault.TheVariants as elements
+use Rattle.gtp_ie.specs.Codes as element_codes
 use Rattle.gtp_ie.specs.Element.{Element, elements_of}
 use Rattle.gtp_ie.specs.Octets.{AreElements}
 use Rattle.gtp_v2.specs.declared.fault.V2Fault.{V2Fault}
 use Rattle.gtp_v2.specs.declared.fault.V2Fault.TheVariants as faults
+use Rattle.gtp_v2.specs.Codes.{number_of}
 use Rattle.gtp_v2.specs.Table.{Table}
 use Rattle.gtp_v2.specs.Tables.{table_of}
 use Rattle.gtp_v2.specs.Message.{Content, Fields, Raw, MessageValue}
@@ -68,32 +70,35 @@ abbrev pub carried_lines : Content → List Element → List ℕ
 carried_lines (Raw carried) es = codes "octets " ++ (octets_text carried ++ codes "\n")
 carried_lines (Fields fields) es = flat_map element_lines es
 
+-- what follows the number of a fault of elements: the element, and its place
+abbrev pub element_fault_detail : IeFault → List ℕ
+element_fault_detail (elements.Truncated at) = codes " at " ++ decimal at
+element_fault_detail (elements.ShortValue kind instance at) = codes " type " ++ (decimal kind ++ (codes " instance " ++ (decimal instance ++ (codes " at " ++ decimal at))))
+element_fault_detail (elements.BadValue kind instance at) = codes " type " ++ (decimal kind ++ (codes " instance " ++ (decimal instance ++ (codes " at " ++ decimal at))))
+element_fault_detail fault = []
+
 -- a fault of elements
 abbrev pub element_fault : IeFault → List ℕ
-element_fault (elements.Truncated at) = codes "I1 at " ++ decimal at
-element_fault (elements.ShortValue kind instance at) =
-    codes "I2 type " ++ (decimal kind ++ (codes " instance " ++ (decimal instance ++ (codes " at " ++ decimal at))))
-element_fault (elements.BadValue kind instance at) =
-    codes "I3 type " ++ (decimal kind ++ (codes " instance " ++ (decimal instance ++ (codes " at " ++ decimal at))))
-element_fault elements.Memory = codes "I4"
-element_fault elements.TooLong = codes "I5"
+element_fault f = field_shown (codes "I") (element_codes.number_of f) ++ element_fault_detail f
 
 abbrev pub mark_shown : Bool → List ℕ
 mark_shown true = codes " conditional"
 mark_shown false = codes " mandatory"
 
+-- what follows the number of a fault
+abbrev pub fault_detail : V2Fault → List ℕ
+fault_detail (faults.Short held) = codes " held " ++ decimal held
+fault_detail (faults.Version version) = codes " version " ++ decimal version
+fault_detail (faults.Length stated held) = codes " stated " ++ (decimal stated ++ (codes " held " ++ decimal held))
+fault_detail (faults.FlagT kind) = codes " type " ++ decimal kind
+fault_detail (faults.Missing kind instance conditional head) =
+    codes " type " ++ (decimal kind ++ (codes " instance " ++ (decimal instance ++ mark_shown conditional)))
+fault_detail (faults.Element fault head) = codes " " ++ element_fault fault
+fault_detail fault = []
+
 -- what follows the word of a fault
 abbrev pub fault_shown : V2Fault → List ℕ
-fault_shown (faults.Short held) = codes "H1 held " ++ decimal held
-fault_shown (faults.Version version) = codes "H2 version " ++ decimal version
-fault_shown (faults.Length stated held) = codes "H3 stated " ++ (decimal stated ++ (codes " held " ++ decimal held))
-fault_shown (faults.FlagT kind) = codes "H4 type " ++ decimal kind
-fault_shown faults.Piggyback = codes "H5"
-fault_shown (faults.Missing kind instance conditional head) =
-    codes "H6 type " ++ (decimal kind ++ (codes " instance " ++ (decimal instance ++ mark_shown conditional)))
-fault_shown (faults.Element fault head) = codes "H7 " ++ element_fault fault
-fault_shown faults.Memory = codes "H8"
-fault_shown faults.TooLong = codes "H9"
+fault_shown f = field_shown (codes "H") (number_of f) ++ fault_detail f
 
 -- the line of a fault
 abbrev pub fault_line : V2Fault → List ℕ

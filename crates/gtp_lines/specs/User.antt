@@ -4,6 +4,7 @@ use Rattle.std.specs.List.{flat_map}
 use Rattle.hex.specs.Hex.{encode_lower}
 use Rattle.gtp_user.specs.declared.fault.UserFault.{UserFault}
 use Rattle.gtp_user.specs.declared.fault.UserFault.TheVariants as faults
+use Rattle.gtp_user.specs.Codes.{number_of}
 use Rattle.gtp_user.specs.Chain.{Extension}
 use Rattle.gtp_user.specs.Message.{Content, EchoRequest, EchoResponse, ErrorIndication, Notification, EndMarker, Packet, Other, MessageValue}
 use Rattle.gtp_user.specs.Datagram.{IsUserMessage, IsUserFault}
@@ -56,19 +57,21 @@ carried_shown (Packet teid payload) = octets_line (codes "payload ") payload
 carried_shown (Other kind teid octets) = octets_line (codes "octets ") octets
 carried_shown content = []
 
+-- what follows the number of a fault
+abbrev pub user_fault_detail : UserFault → List ℕ
+user_fault_detail (faults.Short held) = codes " held " ++ decimal held
+user_fault_detail (faults.Version version) = codes " version " ++ decimal version
+user_fault_detail (faults.Length stated held) = codes " stated " ++ (decimal stated ++ (codes " held " ++ decimal held))
+user_fault_detail (faults.ExtensionZero at) = codes " at " ++ decimal at
+user_fault_detail (faults.ExtensionPast at) = codes " at " ++ decimal at
+user_fault_detail (faults.ExtensionNeeded kind) = codes " type " ++ encode_lower (kind ∷ [])
+user_fault_detail (faults.Missing kind) = codes " type " ++ decimal kind
+user_fault_detail (faults.Element at) = codes " at " ++ decimal at
+user_fault_detail fault = []
+
 -- what follows the word of a fault
 abbrev pub user_fault_shown : UserFault → List ℕ
-user_fault_shown (faults.Short held) = codes "U1 held " ++ decimal held
-user_fault_shown (faults.Version version) = codes "U2 version " ++ decimal version
-user_fault_shown faults.Protocol = codes "U3"
-user_fault_shown (faults.Length stated held) = codes "U4 stated " ++ (decimal stated ++ (codes " held " ++ decimal held))
-user_fault_shown (faults.ExtensionZero at) = codes "U5 at " ++ decimal at
-user_fault_shown (faults.ExtensionPast at) = codes "U6 at " ++ decimal at
-user_fault_shown (faults.ExtensionNeeded kind) = codes "U7 type " ++ encode_lower (kind ∷ [])
-user_fault_shown (faults.Missing kind) = codes "U8 type " ++ decimal kind
-user_fault_shown (faults.Element at) = codes "U9 at " ++ decimal at
-user_fault_shown faults.Memory = codes "U10"
-user_fault_shown faults.TooLong = codes "U11"
+user_fault_shown f = field_shown (codes "U") (number_of f) ++ user_fault_detail f
 
 abbrev pub user_fault_line : UserFault → List ℕ
 user_fault_line f = codes "fault " ++ (user_fault_shown f ++ codes "\n")

@@ -7,9 +7,10 @@ use Rattle.gtp_values.specs.declared.paa.Paa.TheVariants as paas
 use Rattle.gtp_values.specs.declared.qos.Qos.{Qos}
 use Rattle.gtp_values.specs.declared.qos.Rates.{Rates}
 use Rattle.gtp_ie.specs.declared.fault.ReadFault.{ReadFault}
-use Rattle.gtp_ie.specs.Value.{Value, OfImsi, OfCause, OfRecovery, OfApn, OfAmbr, OfEbi, OfPaa, OfQos, OfRat, OfPlmn, OfTft, OfFTeid, OfChargingId, OfPdnType, OfPti, OfSelection, bit, value_at}
+use Rattle.gtp_ie.specs.Value.{Value, OfImsi, OfCause, OfRecovery, OfApn, OfAmbr, OfEbi, OfPaa, OfQos, OfRat, OfPlmn, OfTft, OfFTeid, OfChargingId, OfPdnType, OfPti, OfSelection, value_at}
 use Rattle.std.specs.Net.Text.{ipv4_text}
 use Rattle.gtp_values.specs.Apn.{apn_text}
+use Rattle.gtp_values.specs.Bit.{bit}
 use Rattle.gtp_values.specs.Imsi.{digits_text}
 use Rattle.gtp_values.specs.Teid.{teid_text}
 use Rattle.gtp_lines.specs.Text.{octets_text}

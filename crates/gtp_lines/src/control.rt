@@ -4,7 +4,8 @@ ghost use Rattle.std.specs.Prelude.{◌≡◌, ◌+◌, ◌++◌, OnOk, option_m
 ghost use Rattle.std.specs.List.{flat_map};
 ghost use Rattle.gtp_ie.specs.Element.{elements_of};
 ghost use Rattle.gtp_ie.specs.View.{element_of};
-ghost use Rattle.gtp_lines.specs.Control.{element_head, inner_line, element_lines, message_name as spec_message_name, teid_shown, priority_shown, title_shown, head_line, group_shown, element_fault, mark_shown, fault_shown, fault_line};
+ghost use Rattle.gtp_lines.specs.Control.{element_head, inner_line, element_lines, message_name as spec_message_name, teid_shown, priority_shown, title_shown, head_line, group_shown};
+ghost use Rattle.gtp_lines.specs.Control.{element_fault_detail, element_fault, mark_shown, fault_detail, fault_shown, fault_line};
 
 use crate::text::{put, put_teid};
 use crate::values::{put_body, put_field, put_raw};
@@ -141,26 +142,29 @@ pub fn put_head(out: &mut Vec<u8>, seen: &DatagramView) -> Result<(), AllocError
     put(out, b"\n")
 }
 
+/// Appends what follows the number of a fault of elements.
+#[tactic(auto, using(crate::proofs::Appends::appending))]
+fn put_element_fault_detail(out: &mut Vec<u8>, fault: &IeFault) -> Result<(), AllocError>
+    ensures ok { OnOk result (out.new.items ≡ out.old.items ++ element_fault_detail fault.now) }
+{
+    match fault {
+        IeFault::Truncated { at } => put_field(out, b" at ", *at as u64),
+        IeFault::ShortValue { kind, instance, at } | IeFault::BadValue { kind, instance, at } => {
+            put_field(out, b" type ", u64::from(*kind))?;
+            put_field(out, b" instance ", u64::from(*instance))?;
+            put_field(out, b" at ", *at as u64)
+        }
+        IeFault::Memory | IeFault::TooLong => Ok(()),
+    }
+}
+
 /// Appends a fault of elements.
 #[tactic(auto, using(crate::proofs::Appends::appending))]
 fn put_element_fault(out: &mut Vec<u8>, fault: &IeFault) -> Result<(), AllocError>
     ensures ok { OnOk result (out.new.items ≡ out.old.items ++ element_fault fault.now) }
 {
-    match fault {
-        IeFault::Truncated { at } => put_field(out, b"I1 at ", *at as u64),
-        IeFault::ShortValue { kind, instance, at } => {
-            put_field(out, b"I2 type ", u64::from(*kind))?;
-            put_field(out, b" instance ", u64::from(*instance))?;
-            put_field(out, b" at ", *at as u64)
-        }
-        IeFault::BadValue { kind, instance, at } => {
-            put_field(out, b"I3 type ", u64::from(*kind))?;
-            put_field(out, b" instance ", u64::from(*instance))?;
-            put_field(out, b" at ", *at as u64)
-        }
-        IeFault::Memory => put(out, b"I4"),
-        IeFault::TooLong => put(out, b"I5"),
-    }
+    put_field(out, b"I", u64::from(fault.number()))?;
+    put_element_fault_detail(out, fault)
 }
 
 /// Appends the mark of a row that is missing.
@@ -174,37 +178,44 @@ fn put_mark(out: &mut Vec<u8>, conditional: bool) -> Result<(), AllocError>
     }
 }
 
-/// Appends what follows the word of a fault.
+/// Appends what follows the number of a fault.
 #[tactic(auto, using(crate::proofs::Appends::appending))]
-fn put_fault(out: &mut Vec<u8>, fault: &V2Fault) -> Result<(), AllocError>
-    ensures ok { OnOk result (out.new.items ≡ out.old.items ++ fault_shown fault.now) }
+fn put_fault_detail(out: &mut Vec<u8>, fault: &V2Fault) -> Result<(), AllocError>
+    ensures ok { OnOk result (out.new.items ≡ out.old.items ++ fault_detail fault.now) }
 {
     match fault {
-        V2Fault::Short { held } => put_field(out, b"H1 held ", *held as u64),
-        V2Fault::Version(version) => put_field(out, b"H2 version ", u64::from(*version)),
+        V2Fault::Short { held } => put_field(out, b" held ", *held as u64),
+        V2Fault::Version(version) => put_field(out, b" version ", u64::from(*version)),
         V2Fault::Length { stated, held } => {
-            put_field(out, b"H3 stated ", *stated as u64)?;
+            put_field(out, b" stated ", *stated as u64)?;
             put_field(out, b" held ", *held as u64)
         }
-        V2Fault::FlagT { kind } => put_field(out, b"H4 type ", u64::from(*kind)),
-        V2Fault::Piggyback => put(out, b"H5"),
+        V2Fault::FlagT { kind } => put_field(out, b" type ", u64::from(*kind)),
         V2Fault::Missing {
             kind,
             instance,
             conditional,
             ..
         } => {
-            put_field(out, b"H6 type ", u64::from(*kind))?;
+            put_field(out, b" type ", u64::from(*kind))?;
             put_field(out, b" instance ", u64::from(*instance))?;
             put_mark(out, *conditional)
         }
         V2Fault::Element { fault, .. } => {
-            put(out, b"H7 ")?;
+            put(out, b" ")?;
             put_element_fault(out, fault)
         }
-        V2Fault::Memory => put(out, b"H8"),
-        V2Fault::TooLong => put(out, b"H9"),
+        V2Fault::Piggyback | V2Fault::Memory | V2Fault::TooLong => Ok(()),
     }
+}
+
+/// Appends what follows the word of a fault.
+#[tactic(auto, using(crate::proofs::Appends::appending))]
+fn put_fault(out: &mut Vec<u8>, fault: &V2Fault) -> Result<(), AllocError>
+    ensures ok { OnOk result (out.new.items ≡ out.old.items ++ fault_shown fault.now) }
+{
+    put_field(out, b"H", u64::from(fault.number()))?;
+    put_fault_detail(out, fault)
 }
 
 /// Appends the line of a fault.

@@ -4,7 +4,7 @@ ghost use Rattle.std.specs.Prelude.{◌≡◌, ◌++◌, [], OnOk};
 ghost use Rattle.std.specs.List.{flat_map};
 ghost use Rattle.gtp_user.specs.Chained.{extension_of};
 ghost use Rattle.gtp_user.specs.Message.{content_of, message_value};
-ghost use Rattle.gtp_lines.specs.User.{named, user_title, target_shown, some_shown, user_head_line, extension_line, octets_line, carried_shown, user_fault_shown, user_fault_line, user_lines};
+ghost use Rattle.gtp_lines.specs.User.{named, user_title, target_shown, some_shown, user_head_line, extension_line, octets_line, carried_shown, user_fault_detail, user_fault_shown, user_fault_line, user_lines};
 
 use crate::text::{put, put_display, put_hex, put_octets, put_teid};
 use crate::values::put_field;
@@ -141,30 +141,37 @@ pub fn put_user_message(out: &mut Vec<u8>, message: &UserMessage) -> Result<(), 
     put_carried(out, &message.body)
 }
 
+/// Appends what follows the number of a fault.
+#[tactic(auto, using(crate::proofs::Appends::appending))]
+fn put_user_fault_detail(out: &mut Vec<u8>, fault: &UserFault) -> Result<(), AllocError>
+    ensures ok { OnOk result (out.new.items ≡ out.old.items ++ user_fault_detail fault.now) }
+{
+    match fault {
+        UserFault::Short { held } => put_field(out, b" held ", *held as u64),
+        UserFault::Version { version } => put_field(out, b" version ", u64::from(*version)),
+        UserFault::Length { stated, held } => {
+            put_field(out, b" stated ", *stated as u64)?;
+            put_field(out, b" held ", *held as u64)
+        }
+        UserFault::ExtensionZero { at }
+        | UserFault::ExtensionPast { at }
+        | UserFault::Element { at } => put_field(out, b" at ", *at as u64),
+        UserFault::ExtensionNeeded { kind } => {
+            put(out, b" type ")?;
+            put_hex(out, &[*kind])
+        }
+        UserFault::Missing { kind } => put_field(out, b" type ", u64::from(*kind)),
+        UserFault::Protocol | UserFault::Memory | UserFault::TooLong => Ok(()),
+    }
+}
+
 /// Appends what follows the word of a fault.
 #[tactic(auto, using(crate::proofs::Appends::appending))]
 fn put_user_fault(out: &mut Vec<u8>, fault: &UserFault) -> Result<(), AllocError>
     ensures ok { OnOk result (out.new.items ≡ out.old.items ++ user_fault_shown fault.now) }
 {
-    match fault {
-        UserFault::Short { held } => put_field(out, b"U1 held ", *held as u64),
-        UserFault::Version { version } => put_field(out, b"U2 version ", u64::from(*version)),
-        UserFault::Protocol => put(out, b"U3"),
-        UserFault::Length { stated, held } => {
-            put_field(out, b"U4 stated ", *stated as u64)?;
-            put_field(out, b" held ", *held as u64)
-        }
-        UserFault::ExtensionZero { at } => put_field(out, b"U5 at ", *at as u64),
-        UserFault::ExtensionPast { at } => put_field(out, b"U6 at ", *at as u64),
-        UserFault::ExtensionNeeded { kind } => {
-            put(out, b"U7 type ")?;
-            put_hex(out, &[*kind])
-        }
-        UserFault::Missing { kind } => put_field(out, b"U8 type ", u64::from(*kind)),
-        UserFault::Element { at } => put_field(out, b"U9 at ", *at as u64),
-        UserFault::Memory => put(out, b"U10"),
-        UserFault::TooLong => put(out, b"U11"),
-    }
+    put_field(out, b"U", u64::from(fault.number()))?;
+    put_user_fault_detail(out, fault)
 }
 
 /// Appends the line of a fault.

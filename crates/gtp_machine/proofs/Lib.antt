@@ -7,3 +7,4 @@ pub mod Exchange
 pub mod Requests
 pub mod Octets
 pub mod Sound
+pub mod Determined

@@ -3,6 +3,7 @@ use Rattle.std.specs.Prelude.{◌≡◌, ◌⊎◌, ℕ, [], ◌∷◌, Option, 
 use Rattle.std.specs.FinMap.{get}
 use Rattle.gtp_values.specs.declared.cause.Cause.{Cause}
 use Rattle.gtp_values.specs.FiniteMap.{Among}
+use Rattle.gtp_v2.specs.Codes.{missing_number, element_number}
 use Rattle.gtp_machine.specs.Ordered.{Unless}
 use Rattle.gtp_machine.specs.Element.{cause_at, teid_in}
 use Rattle.gtp_machine.specs.Message.{Message, Control, Echo, Echo_response, Create_session_response, Delete_session_response, Create_bearer_response, Delete_bearer_response, recovery_of}
@@ -36,10 +37,10 @@ IsNew node request = (held : Held) → Among held node.held → held.request ≡
 
 -- the printed number of the fault: H6 for a missing element, H7 for a bad one
 abbrev pub fault_number : Defect → ℕ
-fault_number Mandatory_missing = 6
-fault_number Conditional_missing = 6
-fault_number Too_short = 7
-fault_number Out_of_range = 7
+fault_number Mandatory_missing = missing_number
+fault_number Conditional_missing = missing_number
+fault_number Too_short = element_number
+fault_number Out_of_range = element_number
 
 -- the cause that a defect is answered with (7.7): mandatory or conditional element missing, invalid length, mandatory element incorrect
 abbrev pub defect_cause : Defect → ℕ

@@ -23,4 +23,5 @@ pub mod World
 pub mod Once
 pub mod Laws
 pub mod Sound
+pub mod Determined
 pub mod Exchange

@@ -15,6 +15,7 @@ use Rattle.gtp_v2.specs.declared.body.create_session_response.SessionResponseCon
 use Rattle.gtp_v2.specs.declared.body.create_bearer_request.BearerRequestContext.{BearerRequestContext}
 use Rattle.gtp_v2.specs.declared.body.create_bearer_response.BearerResponseContext.{BearerResponseContext}
 use Rattle.gtp_v2.specs.declared.body.delete_bearer_response.RemovalResponseContext.{RemovalResponseContext}
+use Rattle.gtp_v2.specs.Codes.{number_of, short_number, length_number, element_number}
 use Rattle.gtp_v2.specs.declared.fault.Head.{Head}
 use Rattle.gtp_v2.specs.declared.fault.V2Fault.{V2Fault}
 use Rattle.gtp_v2.specs.declared.fault.V2Fault.TheVariants as faults
@@ -24,6 +25,7 @@ use Rattle.gtp_v2.specs.Datagram.{IsMessage, IsFault}
 use Rattle.gtp_user.specs.declared.message.UserBody.{UserBody}
 use Rattle.gtp_user.specs.declared.message.UserBody.TheVariants as user_bodies
 use Rattle.gtp_user.specs.declared.message.UserMessage.{UserMessage}
+use Rattle.gtp_user.specs.Codes as user_codes
 use Rattle.gtp_user.specs.declared.fault.UserFault.{UserFault}
 use Rattle.gtp_user.specs.declared.fault.UserFault.TheVariants as user_faults
 use Rattle.gtp_user.specs.Message as user_messages
@@ -148,23 +150,17 @@ missing_in false = Mandatory_missing
 
 -- an element that has no value (7.7.7, 7.7.8): too short, or out of its range; one that runs past the end of its list is answered by none
 abbrev pub element_fault : Head → IeFault → ControlReading
-element_fault head (elements.Truncated at) = Control_fault 7
+element_fault head (elements.Truncated at) = Control_fault element_number
 element_fault head (elements.ShortValue kind instance at) = defect_in (request_kind head.kind) head Too_short kind instance
 element_fault head (elements.BadValue kind instance at) = defect_in (request_kind head.kind) head Out_of_range kind instance
-element_fault head elements.Memory = Control_fault 7
-element_fault head elements.TooLong = Control_fault 7
+element_fault head elements.Memory = Control_fault element_number
+element_fault head elements.TooLong = Control_fault element_number
 
 -- a control datagram at fault: by an element (7.7.6 to 7.7.8), or by the fault's printed number, H1 to H9 (7.7.2, 7.7.3)
 abbrev pub control_fault : V2Fault → ControlReading
-control_fault (faults.Short held) = Control_fault 1
-control_fault (faults.Version version) = Control_fault 2
-control_fault faults.Piggyback = Control_fault 5
-control_fault (faults.Length stated held) = Control_fault 3
-control_fault (faults.FlagT kind) = Control_fault 4
 control_fault (faults.Missing kind instance conditional head) = defect_in (request_kind head.kind) head (missing_in conditional) kind instance
 control_fault (faults.Element fault head) = element_fault head fault
-control_fault faults.Memory = Control_fault 8
-control_fault faults.TooLong = Control_fault 9
+control_fault fault = Control_fault (number_of fault)
 
 -- what the outcome of reading says: a message, or the first fault
 abbrev pub control_reading_of : Result MessageValue V2Fault → ControlReading
@@ -182,7 +178,7 @@ ControlReads octets reading = reading ≡ control_reading octets
 -- the fault of a control datagram of which only so many first octets come, by its printed number: H1, fewer than the first four of a header, or H3,
 -- fewer than these state (5.5.1)
 abbrev pub cut_fault : ℕ → ℕ
-cut_fault count = if nat_lt count 4 then 1 else 3
+cut_fault count = if nat_lt count 4 then short_number else length_number
 
 -- what a user plane message carries, by its type (TS 29.281, 6.1); the sequence number counts in Echo messages alone
 abbrev pub user_body_message : Option ℕ → UserBody → Message
@@ -200,17 +196,8 @@ user_message m = user_body_message m.seq m.body
 
 -- a user plane datagram at fault: an extension header that is needed and not known (5.2.1), or by the fault's printed number, U1 to U11
 abbrev pub user_fault : UserFault → UserReading
-user_fault (user_faults.Short held) = User_fault 1
-user_fault (user_faults.Version version) = User_fault 2
-user_fault user_faults.Protocol = User_fault 3
-user_fault (user_faults.Length stated held) = User_fault 4
-user_fault (user_faults.ExtensionZero at) = User_fault 5
-user_fault (user_faults.ExtensionPast at) = User_fault 6
 user_fault (user_faults.ExtensionNeeded kind) = Extension_needed
-user_fault (user_faults.Missing kind) = User_fault 8
-user_fault (user_faults.Element at) = User_fault 9
-user_fault user_faults.Memory = User_fault 10
-user_fault user_faults.TooLong = User_fault 11
+user_fault fault = User_fault (user_codes.number_of fault)
 
 -- what a user plane message says, by its type (6.1)
 abbrev pub user_content_message : Option ℕ → user_messages.Content → Message
@@ -242,7 +229,7 @@ UserReads octets reading = reading ≡ user_reading octets
 -- the fault of a user plane datagram of which only so many first octets come, by its printed number: U1, fewer than the first eight of a header, or U4,
 -- fewer than these state (5.1)
 abbrev pub user_cut_fault : ℕ → ℕ
-user_cut_fault count = if nat_lt count 8 then 1 else 4
+user_cut_fault count = if nat_lt count 8 then user_codes.short_number else user_codes.length_number
 
 -- Each Create Session Request that is decoded has a bearer context, and reads as one, with what its fields say.
 abbrev pub SessionRequestReads : Type 0

@@ -1,9 +1,10 @@
 -- How sessions and bearers go and close.
-use Rattle.std.specs.Prelude.{ℕ, ◌==◌, ◌||◌, Option, Some, None, Bool, false, not, if◌then◌else◌}
+use Rattle.std.specs.Prelude.{ℕ, ◌==◌, ◌||◌, Option, Some, None, Bool, false, not}
 use Rattle.std.specs.FinMap.{insert, remove}
 use Rattle.gtp_values.specs.FiniteMap.{kept, changed}
 use Rattle.gtp_machine.specs.Node.{Closing, Session, Bearer, PendingRequest, Node}
 pub use Rattle.gtp_tables.specs.Contexts.{is_pending, is_opened}
+pub use Rattle.gtp_tables.specs.Identity.{closing_bearer}
 
 -- the test of what a request is about, where it is about something
 abbrev pub on : (ℕ → Bool) → Option ℕ → Bool
@@ -40,10 +41,6 @@ finished node number p = finished_about node number p.session p.bearer
 -- the session, closing
 abbrev pub closing_session : Session → Session
 closing_session s = record s { state = Closing }
-
--- each bearer of the session is closing, whatever it was
-abbrev pub closing_bearer : ℕ → Bearer → Bearer
-closing_bearer session b = if b.session == session then record b { state = Closing } else b
 
 -- the session and its bearers are closing
 abbrev pub session_closing : Node → ℕ → Session → Node

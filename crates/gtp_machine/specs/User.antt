@@ -1,12 +1,14 @@
 -- The user plane (TS 29.281, 5 and 7), and the Echo Request that each gateway answers.
-use Rattle.std.specs.Prelude.{◌≡◌, ℕ, ◌==◌, nat_lt, ◌&&◌, List, [], ◌∷◌, Option, Some, None, Bool, true, false}
+use Rattle.std.specs.Prelude.{◌≡◌, ℕ, ◌==◌, nat_lt, ◌&&◌, List, [], ◌∷◌, Some, Bool, true, false}
 use Rattle.std.specs.FinMap.{get, insert, len}
 use Rattle.gtp_values.specs.declared.address.Endpoint.{Endpoint}
 use Rattle.gtp_values.specs.FiniteMap.{FiniteMap, kept}
+use Rattle.gtp_values.specs.Number.{is_number}
+use Rattle.gtp_tables.specs.Index.{is_default, names}
 use Rattle.gtp_machine.specs.Ordered.{Unless}
 use Rattle.gtp_machine.specs.Config.{user_end}
 use Rattle.gtp_machine.specs.Message.{Message, User, Packet_data, End_marker, Error_indication, User_echo_request, User_echo_response, Supported_extensions}
-use Rattle.gtp_machine.specs.Node.{Role, Serving, Packet, Active, Bearer, Kind, Default, Dedicated, Node}
+use Rattle.gtp_machine.specs.Node.{Role, Serving, Packet, Active, Bearer, Node}
 use Rattle.gtp_machine.specs.Input.{UserReading, User_message, Extension_needed, User_fault, Effect, Accepted, Ended, Broken, Echoed, Dropped, entry_for, nothing, says, dropped, undecodable, ContextNotActive, UnknownContext, AfterEnd, Unexpected, UnknownExtension, NotPeer}
 use Rattle.gtp_machine.specs.Choice.{HasSession, HasBearer}
 use Rattle.gtp_machine.specs.Removal.{without}
@@ -41,24 +43,9 @@ EndCame Serving target old e =
     e ≡ record { out = nothing; outcome = Ended; node = record old { bearers = insert old.bearers target (ended_bearer at.bearer) } }))
 EndCame Packet target old e = e ≡ dropped old Unexpected
 
--- the remote is this TEID
-abbrev pub is_to : ℕ → Option ℕ → Bool
-is_to remote None = false
-is_to remote (Some t) = t == remote
-
--- the bearer is the default one
-abbrev pub is_default : Kind → Bool
-is_default Default = true
-is_default Dedicated = false
-
--- the bearer under this TEID has that remote
-abbrev pub bearer_is_to : ℕ → Option Bearer → Bool
-bearer_is_to remote None = false
-bearer_is_to remote (Some b) = is_to remote b.remote
-
 -- the bearer is the session's default one and has that remote
 abbrev pub is_default_to : ℕ → ℕ → Bearer → Bool
-is_default_to remote session b = is_default b.kind && is_to remote b.remote && (b.session == session)
+is_default_to remote session b = is_default b.kind && is_number remote b.remote && (b.session == session)
 
 -- the session's default bearer has that remote: of the bearers, some are so
 abbrev pub default_among : ℕ → ℕ → FiniteMap Bearer → Bool
@@ -66,7 +53,7 @@ default_among remote session bearers = nat_lt 0 (len (kept (λ t (b : Bearer). i
 
 -- without each bearer with that remote, and the whole session where that is its default bearer
 abbrev pub broken : Node → ℕ → Node
-broken node remote = without (λ t. default_among remote t node.bearers) (λ t. bearer_is_to remote (get node.bearers t)) node
+broken node remote = without (λ t. default_among remote t node.bearers) (λ t. names remote (get node.bearers t)) node
 
 -- a bearer has that remote
 pub record HasRemote (node : Node) (remote : ℕ) : Type 0 where

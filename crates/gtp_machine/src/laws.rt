@@ -35,6 +35,7 @@ ghost use Rattle.gtp_machine.specs.Reading.{
   UserDecodedReads,
 };
 ghost use Rattle.gtp_machine.specs.Spelling.{SpelledApart, SpelledReads};
+ghost use Rattle.gtp_machine.specs.Determined.{OneIsDone, OneIsTold, OneTick, ReachedHoldsOnce};
 ghost use Rattle.gtp_machine.specs.Once.{ActsOnce, ActsOnceInTime, HeldUntilForgotten};
 ghost use Rattle.gtp_machine.specs.Exchange.{
   ExchangeSendable,
@@ -170,6 +171,23 @@ pub fn sound_nodes()
 
     // What is read from octets names the F-TEIDs that its table asks for.
     ensures whole { ReadsWhole }
+{}
+
+/// A step of a sound gateway is determined, but for what it may choose: the TEIDs of a new context,
+/// its address or identity, and the number of a new request.
+pub fn determined()
+    // Whatever is chosen, one thing is told: the outcome, the counter that was heard, the packets,
+    // how many messages are sent, and where to. Of a command's outcome the TEID may differ.
+    ensures told { OneIsTold }
+
+    // Where the choices are alike, the same messages are sent and the same gateway is left.
+    ensures done { OneIsDone }
+
+    // Nothing is chosen in a tick.
+    ensures tick { OneTick }
+
+    // A gateway that is reached from a start holds at most one answer for a request, as these ask.
+    ensures reached { ReachedHoldsOnce }
 {}
 
 /// How datagrams read.

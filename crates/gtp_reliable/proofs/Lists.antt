@@ -1,6 +1,6 @@
 -- Lists of which a tick keeps some, and loops over them.
 use Rattle.std.proofs.Common.{◌≡◌, ℕ, zero, suc, ◌+◌, ◌<◌, ◌≤◌, Bool, true, false, cond, List, [], ◌∷◌, ◌++◌, length, map, take, get_or, add-one, Option, Some, None, refl, sym, ap, subst, ◌∙◌, arith}
-use Rattle.std.specs.Prelude.{filter, is_some, unwrap_or, not}
+use Rattle.std.specs.Prelude.{filter, is_some, unwrap_or}
 use Rattle.std.specs.List.{filter_map, cons_option}
 use Rattle.std.specs.List.Retain.{RetainsInTurn}
 use Rattle.std.proofs.lemmas.List.{append-nil}
@@ -14,10 +14,6 @@ stay_by x f xs ys None e h = h
 pub stay_and_pass : {X : Type 0} (h : X → Option X) (xs : List X) → map (λ x. unwrap_or (h x) x) (filter (λ x. is_some (h x)) xs) ≡ filter_map h xs
 stay_and_pass h [] = refl
 stay_and_pass h (x ∷ xs) = stay_by x (λ x. unwrap_or (h x) x) (filter (λ x. is_some (h x)) xs) (filter_map h xs) (h x) refl (stay_and_pass h xs)
-
-pub length_map : {X : Type 0} (f : X → X) (xs : List X) → length (map f xs) ≡ length xs
-length_map f [] = refl
-length_map f (x ∷ xs) = ap (λ (n : ℕ). suc n) (length_map f xs)
 
 fewer_cons : {X : Type 0} (x : X) (xs : List X) (b : Bool) (n : ℕ) → length xs ≤ n → length (cond b (x ∷ xs) xs) ≤ suc n
 fewer_cons x xs true n h = omega arith
@@ -62,9 +58,3 @@ retained R h s step [] ys r = r
 retained R h s step (x ∷ xs) ys (b, t, y, call, zs, rest, is) =
     let k = step x b t y call in
     is ∙ (ap (λ (l : List _). cond b (y ∷ l) l) (retained R h s step xs zs (subst (λ (u : _). RetainsInTurn R u xs zs) k.2 rest)) ∙ kept_by (h x) x y b (filter_map h xs) k.0 k.1)
-
--- ---- a test
-
--- the answer of a test that was turned round
-pub told_not : {P : Type 0} (meets : P → Bool) (Tells : P → Bool → Type 0) → ((p : P) (r : Bool) → Tells p r → r ≡ meets p) → (p : P) (b r : Bool) → Tells p r → b ≡ not r → b ≡ not (meets p)
-told_not meets Tells right p b r told e = e ∙ ap not (right p r told)

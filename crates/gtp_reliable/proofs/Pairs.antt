@@ -2,7 +2,7 @@
 use Rattle.std.proofs.Common.{◌≡◌, ℕ, zero, suc, ◌+◌, ◌<◌, ◌≤◌, ◌%◌, ◌^◌, Bool, true, false, cond, List, [], ◌∷◌, ◌++◌, length, map, take, drop, get_or, insert, remove, Option, Some, None, refl, sym, ap, subst, ◌∙◌, arith, ◌⊎◌, inl, inr}
 use Rattle.std.specs.Prelude.{filter, is_some, unwrap_or, nat_lt}
 use Rattle.std.specs.List.{filter_map, cons_option}
-use Rattle.std.proofs.lemmas.List.{map_push}
+use Rattle.std.proofs.lemmas.List.{map_push, length-map}
 use Rattle.gtp_values.specs.declared.address.Endpoint.{Endpoint}
 use Rattle.gtp_reliable.specs.declared.held.Request.{Request}
 use Rattle.gtp_reliable.specs.declared.pair.Pair.{Pair}
@@ -12,7 +12,7 @@ use Rattle.gtp_reliable.specs.Aging.{seen}
 use Rattle.gtp_reliable.specs.Forgotten.{question_of}
 use Rattle.gtp_reliable.proofs.Halving.{same_count}
 use Rattle.gtp_reliable.proofs.Index.{pushed, popped_front, not_held}
-use Rattle.gtp_reliable.proofs.Lists.{filter_map_some, stay_and_pass, length_map, fewer_filter}
+use Rattle.gtp_reliable.proofs.Lists.{filter_map_some, stay_and_pass, fewer_filter}
 
 -- ---- one more
 
@@ -77,7 +77,7 @@ apart_map f (q ∷ qs) same d =
 -- after a tick there are no more of them, and they stay apart
 pub ticked_count : (hold : ℕ) (ps : List HeldPair) → length (filter_map (after_tick hold) ps) ≤ length ps
 ticked_count hold ps =
-    omega (arith, ap length (stay_and_pass (after_tick hold) ps), length_map (passed hold) (filter (stays hold) ps), fewer_filter (stays hold) ps)
+    omega (arith, ap length (stay_and_pass (after_tick hold) ps), length-map (filter (stays hold) ps) (passed hold), fewer_filter (stays hold) ps)
 
 pub ticked_apart : (hold : ℕ) (ps : List HeldPair) → AreApart ps → AreApart (filter_map (after_tick hold) ps)
 ticked_apart hold ps d =

@@ -1,39 +1,33 @@
 -- Requests after a change: they stay distinct, and a tick keeps and moves them.
 use Rattle.std.proofs.Common.{◌≡◌, ℕ, ◌+◌, ◌<◌, ◌≤◌, Bool, true, false, cond, List, [], ◌∷◌, ◌++◌, length, map, take, get_or, None, refl, sym, ap, subst, ◌∙◌, arith}
-use Rattle.std.specs.Prelude.{◌==◌, ◌||◌, filter, is_some, unwrap_or, nat_lt, All}
+use Rattle.std.specs.Prelude.{◌==◌, filter, is_some, unwrap_or, nat_lt}
 use Rattle.std.specs.List.{list_any, filter_map}
 use Rattle.std.proofs.lemmas.Bool.Decides.{nat_tests}
-use Rattle.std.proofs.lemmas.List.{map_push}
-use Rattle.std.proofs.lemmas.List.Elements.{All-get_or}
+use Rattle.std.proofs.lemmas.List.{map_push, length-map}
 use Rattle.gtp_values.specs.declared.address.Endpoint.{Endpoint}
+use Rattle.std.proofs.lemmas.Bool.{or_parts}
 use Rattle.gtp_reliable.specs.declared.pending.Resend.{Resend}
 use Rattle.gtp_reliable.specs.declared.waiting.NextTick.{NextTick}
 use Rattle.gtp_reliable.specs.declared.waiting.NextTick.TheVariants.{WaitsOn, SentAgain, GivenUp}
 use Rattle.gtp_reliable.specs.Waiting.{Waiting, Message, next_tick, after_tick_by, after_tick, sent_again_by, sent_again, given_up_by, given_up}
 use Rattle.gtp_reliable.specs.Pending.{is_pending, AreDistinct}
 use Rattle.gtp_reliable.specs.Due.{message_of}
-use Rattle.gtp_reliable.proofs.Lists.{filter_map_some, filter_map_none, stay_and_pass, length_map, fewer_filter}
-
-pub or_false : (a b : Bool) → (a || b) ≡ false → (a ≡ false) × (b ≡ false)
-or_false true b h = absurd cc
-or_false false b h = (refl, h)
+use Rattle.gtp_values.proofs.Tests.{turned}
+use Rattle.gtp_reliable.proofs.Lists.{filter_map_some, filter_map_none, stay_and_pass, fewer_filter}
 
 -- ---- one more
 
 none_push : {P : Type 0} (n : ℕ) (ws : List (Waiting P)) (w : Waiting P) → is_pending n ws ≡ false → (w.seq == n) ≡ false → is_pending n (ws ++ w ∷ []) ≡ false
 unfolding is_pending
 none_push n [] w h e = rw e refl
-none_push n (v ∷ ws) w h e = let both = or_false (v.seq == n) (list_any (λ x. x.seq == n) ws) h in rw both.0 (none_push n ws w both.1 e)
-
-other_way : (m n : ℕ) → (m == n) ≡ false → (n == m) ≡ false
-other_way m n h = grind (arith, nat_tests)
+none_push n (v ∷ ws) w h e = let both = or_parts (v.seq == n) (list_any (λ x. x.seq == n) ws) h in rw both.0 (none_push n ws w both.1 e)
 
 pub distinct_push : {P : Type 0} (ws : List (Waiting P)) (w : Waiting P) → AreDistinct ws → is_pending w.seq ws ≡ false → AreDistinct (ws ++ w ∷ [])
 unfolding is_pending
 distinct_push [] w d h = (refl, tt)
 distinct_push (v ∷ ws) w d h =
-    let both = or_false (v.seq == w.seq) (list_any (λ x. x.seq == w.seq) ws) h in
-    (none_push v.seq ws w d.0 (other_way v.seq w.seq both.0), distinct_push ws w d.1 both.1)
+    let both = or_parts (v.seq == w.seq) (list_any (λ x. x.seq == w.seq) ws) h in
+    (none_push v.seq ws w d.0 (turned w.seq v.seq ∙ both.0), distinct_push ws w d.1 both.1)
 
 -- ---- some of them
 
@@ -45,7 +39,7 @@ none_cons n v ws false e h = h
 none_filter : {P : Type 0} (n : ℕ) (p : Waiting P → Bool) (ws : List (Waiting P)) → is_pending n ws ≡ false → is_pending n (filter p ws) ≡ false
 unfolding is_pending
 none_filter n p [] h = refl
-none_filter n p (v ∷ ws) h = let both = or_false (v.seq == n) (list_any (λ x. x.seq == n) ws) h in none_cons n v (filter p ws) (p v) both.0 (none_filter n p ws both.1)
+none_filter n p (v ∷ ws) h = let both = or_parts (v.seq == n) (list_any (λ x. x.seq == n) ws) h in none_cons n v (filter p ws) (p v) both.0 (none_filter n p ws both.1)
 
 distinct_cons : {P : Type 0} (v : Waiting P) (ws : List (Waiting P)) (b : Bool) → is_pending v.seq ws ≡ false → AreDistinct ws → AreDistinct (cond b (v ∷ ws) ws)
 distinct_cons v ws true h d = (h, d)
@@ -61,7 +55,7 @@ none_map : {P : Type 0} (n : ℕ) (f : Waiting P → Waiting P) (ws : List (Wait
 unfolding is_pending
 none_map n f [] same h = refl
 none_map n f (v ∷ ws) same h =
-    let both = or_false (v.seq == n) (list_any (λ x. x.seq == n) ws) h in
+    let both = or_parts (v.seq == n) (list_any (λ x. x.seq == n) ws) h in
     let first : ((f v).seq == n) ≡ false = ap (λ (m : ℕ). m == n) (same v) ∙ both.0 in
     rw first (none_map n f ws same both.1)
 
@@ -88,7 +82,7 @@ passed_seq t3 n3 w = by_tick (next_tick t3 n3 w) where
 -- after a tick there are no more of them, and they stay distinct
 pub ticked_count : {P : Type 0} (t3 n3 : ℕ) (ws : List (Waiting P)) → length (filter_map (after_tick t3 n3) ws) ≤ length ws
 ticked_count t3 n3 ws =
-    omega (arith, ap length (stay_and_pass (after_tick t3 n3) ws), length_map (passed t3 n3) (filter (stays t3 n3) ws), fewer_filter (stays t3 n3) ws)
+    omega (arith, ap length (stay_and_pass (after_tick t3 n3) ws), length-map (filter (stays t3 n3) ws) (passed t3 n3), fewer_filter (stays t3 n3) ws)
 
 pub ticked_distinct : {P : Type 0} (t3 n3 : ℕ) (ws : List (Waiting P)) → AreDistinct ws → AreDistinct (filter_map (after_tick t3 n3) ws)
 ticked_distinct t3 n3 ws d =
@@ -142,9 +136,5 @@ pub given_none : {P : Type 0} (t3 n3 : ℕ) (ws : List (Waiting P)) (i : ℕ) (w
 given_none t3 n3 ws i w n so_far now same before lt is by none = same ∙ (before ∙ sym (filter_map_none (given_up t3 n3) ws i w lt (ap (given_up t3 n3) (sym is) ∙ (given_up_is t3 n3 w n by ∙ none))))
 
 -- where fewer than t3 ticks will have passed, the request waits on
-waits : {P : Type 0} (t3 n3 : ℕ) (w : Waiting P) → w.waited + 1 < t3 → next_tick t3 n3 w ≡ WaitsOn
+pub waits : {P : Type 0} (t3 n3 : ℕ) (w : Waiting P) → w.waited + 1 < t3 → next_tick t3 n3 w ≡ WaitsOn
 waits t3 n3 w q = let before : nat_lt (w.waited + 1) t3 ≡ true = grind (arith, nat_tests) in rw before refl
-
--- so where nothing is due no request does anything else
-pub quiet_waits : {P : Type 0} (t3 n3 : ℕ) (ws : List (Waiting P)) (i : ℕ) (w : Waiting P) (n : NextTick) → All (λ v. v.waited + 1 < t3) ws → i < length ws → w ≡ get_or ws i w → n ≡ next_tick t3 n3 w → n ≡ WaitsOn
-quiet_waits t3 n3 ws i w n q lt is by = by ∙ waits t3 n3 w (subst (λ (v : Waiting _). v.waited + 1 < t3) (sym is) (All-get_or (λ v. v.waited + 1 < t3) ws i w lt q))

@@ -195,7 +195,7 @@ filter_cons : {X : Type 0} (f : X → Bool) (b : Bool) (x : X) (xs : List X) →
 filter_cons f true x xs = refl
 filter_cons f false x xs = refl
 
-filter_twice : {X : Type 0} (f g : X → Bool) (xs : List X) → filter f (filter g xs) ≡ filter (λ x. g x && f x) xs
+pub filter_twice : {X : Type 0} (f g : X → Bool) (xs : List X) → filter f (filter g xs) ≡ filter (λ x. g x && f x) xs
 filter_twice f g [] = refl
 filter_twice f g (x ∷ xs) = filter_cons f (g x) x (filter g xs) ∙ ap (λ (l : List _). cond (g x && f x) (x ∷ l) l) (filter_twice f g xs)
 

@@ -54,13 +54,22 @@ pub record Names (first : ℕ) (index : List ℕ) (k : ℕ) : Type 0 where
   pub within : at < length index
   pub is : after first (slice_index_or index at 0) ≡ k
 
+-- all numbers before i name lower requests
+abbrev pub AreLower : ℕ → List ℕ → List Question → Question → ℕ → Type 0
+AreLower first index qs q i = (k : ℕ) → k < i
+    → question_cmp (named_at first index qs k) q ≡ Less
+
+-- all numbers from i on name higher requests
+abbrev pub AreHigher : ℕ → List ℕ → List Question → Question → ℕ → Type 0
+AreHigher first index qs q i = (k : ℕ) → i ≤ k → k < length index
+    → question_cmp (named_at first index qs k) q ≡ Greater
+
 -- all numbers before i name lower requests, and all from i on higher ones
 pub record IsGap (first : ℕ) (index : List ℕ) (qs : List Question) (q : Question) (i : ℕ)
     : Type 0 where
   pub within : i ≤ length index
-  pub lower : (k : ℕ) → k < i → question_cmp (named_at first index qs k) q ≡ Less
-  pub higher : (k : ℕ) → i ≤ k → k < length index
-      → question_cmp (named_at first index qs k) q ≡ Greater
+  pub lower : AreLower first index qs q i
+  pub higher : AreHigher first index qs q i
 
 -- the index names each entry of the queue once, in ascending order of their requests
 pub record IsIndex (first : ℕ) (index : List ℕ) (qs : List Question) : Type 0 where

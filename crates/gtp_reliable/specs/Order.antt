@@ -1,6 +1,7 @@
 -- Requests in an order: by the version of the address where one came from, then by its octets, then
--- by port, and then by the octets of the request.
-use Rattle.std.specs.Prelude.{ℕ, List}
+-- by port, then by the octets of the request from its sequence number on (TS 29.274 5.1), and then by
+-- all of them.
+use Rattle.std.specs.Prelude.{ℕ, List, drop}
 use Rattle.std.specs.declared.cmp.Ordering.{Ordering}
 use Rattle.std.specs.Cmp.Lexicographic.{slice_cmp}
 use Rattle.std.specs.Ordering.{nat_cmp, ordering_then}
@@ -25,6 +26,13 @@ ip_cmp a b =
 abbrev pub source_cmp : Endpoint → Endpoint → Ordering
 source_cmp a b = ordering_then (ip_cmp a.ip b.ip) (nat_cmp a.port b.port)
 
+-- the octets from the sequence number on
+abbrev pub from_number : List ℕ → List ℕ
+from_number octets = drop 8 octets
+
+abbrev pub octets_cmp : List ℕ → List ℕ → Ordering
+octets_cmp a b =
+    ordering_then (slice_cmp nat_cmp (from_number a) (from_number b)) (slice_cmp nat_cmp a b)
+
 abbrev pub question_cmp : Question → Question → Ordering
-question_cmp a b =
-    ordering_then (source_cmp a.source b.source) (slice_cmp nat_cmp a.octets b.octets)
+question_cmp a b = ordering_then (source_cmp a.source b.source) (octets_cmp a.octets b.octets)

@@ -1,7 +1,33 @@
 //! One answer that is held for a request that comes again.
 
+ghost use Rattle.std.specs.Prelude.{◌≡◌, drop};
+ghost use Rattle.gtp_reliable.specs.Order.{source_cmp, from_number, octets_cmp};
+
 use gtp_values::Endpoint;
 use std::cmp::Ordering;
+
+/// The octets of a request from its sequence number on (TS 29.274 5.1).
+fn from_number(request: &[u8]) -> &[u8]
+    ensures { result.now ≡ from_number request.now }
+{
+    request.get(8..).unwrap_or(&[])
+}
+
+/// How the octets of a request stand to those of another.
+fn compare_octets(one: &[u8], other: &[u8]) -> Ordering
+    ensures { result ≡ octets_cmp one.now other.now }
+{
+    from_number(one)
+        .cmp(from_number(other))
+        .then(one.cmp(other))
+}
+
+/// How a source stands to another.
+fn compare_sources(one: &Endpoint, other: &Endpoint) -> Ordering
+    ensures { result ≡ source_cmp one.now other.now }
+{
+    one.cmp(other)
+}
 
 /// An answer that is held for a request.
 #[derive(Debug, Drop)]
@@ -42,8 +68,9 @@ impl Pair {
     pub fn compare(&self, source: Endpoint, request: &[u8]) -> Ordering
         ensures { result ≡ question_cmp (asked self.now) (question source request.now) }
     {
-        self.source
-            .cmp(&source)
-            .then(self.request.as_slice().cmp(request))
+        compare_sources(&self.source, &source).then(compare_octets(
+            self.request.as_slice(),
+            request,
+        ))
     }
 }

@@ -7,7 +7,7 @@ ghost use Rattle.std.specs.List.{filter_map};
 ghost use Rattle.gtp_reliable.specs.Held.{after_tick, forgotten};
 ghost use Rattle.gtp_reliable.specs.Forgotten.{question_of};
 ghost use Rattle.gtp_reliable.specs.Index.{after, asked, question, questions, question_at, IsNamed};
-ghost use Rattle.gtp_reliable.specs.Index.{IsGap, IsIndex};
+ghost use Rattle.gtp_reliable.specs.Index.{AreLower, AreHigher, IsGap, IsIndex};
 ghost use Rattle.gtp_reliable.specs.Aging.{seen, is_due, AreAging};
 
 use crate::held::Request;
@@ -25,8 +25,73 @@ pub fn place_of(first: u64, number: u64) -> usize
     number.wrapping_sub(first) as usize
 }
 
-/// Where the index names a pair for the request, or where it would name one, by halving; and how
-/// many pairs were compared with the request.
+/// The sequence number of a request (TS 29.274 5.1).
+fn number_of(request: &[u8]) -> u32 {
+    match request.get(8..11) {
+        Some(octets) => u32::from_be_bytes([0, octets[0], octets[1], octets[2]]),
+        None => 0,
+    }
+}
+
+/// The place of the index to look at first: where the request would stand if the sequence numbers
+/// rose evenly. Any place would do.
+fn guess(pairs: &VecDeque<Pair>, index: &[u64], first: u64, request: &[u8]) -> usize
+    requires some { 0 < length index.now }
+    requires indexed { IsIndex first index.now (questions pairs.now.items) }
+    ensures { result < length index.now }
+{
+    let last = index.len() - 1;
+    let lowest = number_of(pairs[place_of(first, index[0])].request.as_slice());
+    let highest = number_of(pairs[place_of(first, index[last])].request.as_slice());
+    let above = u64::from(number_of(request).saturating_sub(lowest));
+    let range = u64::from(highest.saturating_sub(lowest)).max(1);
+    let place = above.saturating_mul(last as u64) / range;
+    place.min(last as u64) as usize
+}
+
+/// Where the index names a pair for the request, or where it would name one, by halving the places
+/// from `from` up to `to`; and how many pairs were compared with the request.
+fn halve(
+    pairs: &VecDeque<Pair>,
+    index: &[u64],
+    first: u64,
+    source: Endpoint,
+    request: &[u8],
+    from: usize,
+    to: usize,
+) -> (Result<usize, usize>, u32)
+    requires few { length index.now ≤ 4096 }
+    requires indexed { IsIndex first index.now (questions pairs.now.items) }
+    requires range { (from ≤ to) × (to ≤ length index.now) }
+    requires lower { AreLower first index.now
+        (questions pairs.now.items) (question source request.now) from }
+    requires higher { AreHigher first index.now
+        (questions pairs.now.items) (question source request.now) to }
+    ensures found { IfOk result.0
+        (IsNamed first index.now (questions pairs.now.items) (question source request.now)) }
+    ensures absent { IfErr result.0
+        (IsGap first index.now (questions pairs.now.items) (question source request.now)) }
+    ensures count { result.1 ≤ 13 }
+{
+    let mut low = from;
+    let mut high = to;
+    let mut compared: u32 = 0;
+    while low < high {
+        let middle = low + (high - low) / 2;
+        let pair = &pairs[place_of(first, index[middle])];
+        compared += 1;
+        match pair.compare(source, request) {
+            Ordering::Less => low = middle + 1,
+            Ordering::Equal => return (Ok(middle), compared),
+            Ordering::Greater => high = middle,
+        }
+    }
+    (Err(low), compared)
+}
+
+/// Where the index names a pair for the request, or where it would name one: first where its
+/// sequence number lets it be expected, and then by halving what is left; and how many pairs were
+/// compared with the request.
 pub fn find(
     pairs: &VecDeque<Pair>,
     index: &[u64],
@@ -40,22 +105,19 @@ pub fn find(
         (IsNamed first index.now (questions pairs.now.items) (question source request.now)) }
     ensures absent { IfErr result.0
         (IsGap first index.now (questions pairs.now.items) (question source request.now)) }
-    ensures count { result.1 ≤ 13 }
+    ensures count { result.1 ≤ 14 }
 {
-    let mut low = 0;
-    let mut high = index.len();
-    let mut compared: u32 = 0;
-    while low < high {
-        let middle = low + (high - low) / 2;
-        let pair = &pairs[place_of(first, index[middle])];
-        compared += 1;
-        match pair.compare(source, request) {
-            Ordering::Less => low = middle + 1,
-            Ordering::Equal => return (Ok(middle), compared),
-            Ordering::Greater => high = middle,
-        }
+    if index.is_empty() {
+        return (Err(0), 0);
     }
-    (Err(low), compared)
+    let at = guess(pairs, index, first, request);
+    let pair = &pairs[place_of(first, index[at])];
+    let (found, compared) = match pair.compare(source, request) {
+        Ordering::Less => halve(pairs, index, first, source, request, at + 1, index.len()),
+        Ordering::Equal => return (Ok(at), 1),
+        Ordering::Greater => halve(pairs, index, first, source, request, 0, at),
+    };
+    (found, compared + 1)
 }
 
 /// Keeps a pair for a request for which none is held, in the room that was prepared.

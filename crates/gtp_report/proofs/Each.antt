@@ -10,9 +10,6 @@ one_more Holds line [] x verdict lines none is = (verdict, [], is, refl, ap (λ 
 one_more Holds line (y ∷ xs) x verdict lines (first, others, holds, tells, whole) is =
     (first, others ++ line x verdict, holds, one_more Holds line xs x verdict others tells is, ap (λ ys. ys ++ line x verdict) whole ∙ append_assoc (line y first) others (line x verdict))
 
-pub adds_none : {X : Type 0} (Holds : X → Type 0) (line : X → Bool → List ℕ) (old : List ℕ) → AddsEach Holds line [] old old
-adds_none Holds line old = ([], refl, sym (append-nil old))
-
 pub adds_one : {X : Type 0} (Holds : X → Type 0) (line : X → Bool → List ℕ) (xs : List X) (x : X) (verdict : Bool) (old mid new : List ℕ) → AddsEach Holds line xs old mid → (IsTrue verdict ↔ Holds x) → new ≡ mid ++ line x verdict → AddsEach Holds line (xs ++ (x ∷ [])) old new
 adds_one Holds line xs x verdict old mid new (lines, tells, so_far) is more =
     (lines ++ line x verdict, one_more Holds line xs x verdict lines tells is, more ∙ (ap (λ ys. ys ++ line x verdict) so_far ∙ append_assoc old lines (line x verdict)))

@@ -1,9 +1,9 @@
 pub mod Counts
 pub mod Front
-pub mod Keys
 pub mod Lists
 pub mod Pools
 pub mod Spelled
 pub mod Texts
+pub mod Tokens
 pub mod Trees
 pub mod Written

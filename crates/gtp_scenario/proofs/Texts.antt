@@ -22,7 +22,7 @@ use Rattle.gtp_values.specs.Apn.{IsApn, IsApnText, ReadsApn, are_labels_from, oc
 use Rattle.gtp_values.specs.Teid.{ReadsTeid}
 use Rattle.gtp_values.proofs.Labels.{labels_are, are_labels}
 use Rattle.gtp_values.proofs.NamesAsText.{again, text_has_length, name_of_text, length_of_name, says_its_name}
-use Rattle.gtp_values.proofs.Outcomes.{both}
+use Rattle.gtp_values.proofs.Tests.{both}
 use Rattle.gtp_scenario.specs.Texts.{is_digit_code, imsi_of, apn_of, teid_of, address_of}
 
 -- a choice whose test does not hold

@@ -1,5 +1,7 @@
 -- Steps of reading, of which the first that fails decides.
 use Rattle.std.specs.Prelude.{◌≡◌, Option, Some, None, Result, Ok, Err}
+use Rattle.json.specs.declared.error.Error.{Error}
+use Rattle.json.specs.declared.error.Error.TheVariants as errors
 use Rattle.gtp_scenario.specs.declared.fault.Fault.{Fault}
 use Rattle.gtp_scenario.specs.declared.fault.Fault.TheVariants as faults
 use Rattle.gtp_scenario.specs.declared.fault.Refusal.{Refusal}
@@ -36,3 +38,10 @@ Reads view (Err fault) reading = IsRefused fault reading
 abbrev pub refused_for : Refusal → Fault → ReadFault
 refused_for refusal faults.Memory = read_faults.Memory
 refused_for refusal faults.Wrong = read_faults.Refused refusal
+
+-- the fault of a text that cannot be read
+abbrev pub fault_for : Error → Fault
+fault_for errors.OutOfMemory = faults.Memory
+fault_for errors.Invalid = faults.Wrong
+fault_for errors.TooLong = faults.Wrong
+fault_for errors.DuplicateKey = faults.Wrong

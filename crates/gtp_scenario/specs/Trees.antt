@@ -1,13 +1,12 @@
--- The data of a tree of JSON over its text.
-use Rattle.std.specs.Prelude.{ℕ, List, map, Bool, true, false, ◌&&◌, is_some, unwrap_or, Option, Some, None}
+-- The data of a text of JSON, which is read as a list of tokens.
+use Rattle.std.specs.Prelude.{ℕ, ◌+◌, ◌-◌, List, [], ◌∷◌, length, false, nat_lt, if◌then◌else◌, is_some, unwrap_or, Option, Some, None, option_map, option_and_then}
 use Rattle.std.specs.Float.{binary64}
 use Rattle.fast_float.specs.Text.{scan, nearest}
+use Rattle.json.specs.Token.{Token}
 use Rattle.json.specs.Json as json
-use Rattle.json.specs.Value.{value_view}
-use Rattle.json.specs.declared.value.Value.{Value}
+use Rattle.json.specs.Find.{InItems}
 use Rattle.serde_json.specs.Data.{Num, float, Data, null, boolean, number, string, array, object, Items, no_items, item, Members, no_members, put}
-use Rattle.serde_json.specs.Read.{number_of}
-use Rattle.serde_json.specs.View.{items_of}
+use Rattle.serde_json.specs.Read.{number_of, max_depth}
 use Rattle.gtp_scenario.specs.declared.tree.Number.{Number}
 use Rattle.gtp_scenario.specs.declared.tree.Number.TheVariants.{Whole, Other}
 
@@ -38,27 +37,49 @@ abbrev mutual
   members_said json.no_members found = found
   members_said (json.member k j ms) found = members_said ms (put k (data_of j) found)
 
--- each number is one that can be kept
-abbrev mutual
-  pub is_kept : json.Json → Bool
-  is_kept json.null = true
-  is_kept (json.boolean b) = true
-  is_kept (json.number text) = is_some (number_of text)
-  is_kept (json.string text) = true
-  is_kept (json.array js) = are_items_kept js
-  is_kept (json.object ms) = are_members_kept ms
+-- ---- what tokens say
 
-  pub are_items_kept : json.Items → Bool
-  are_items_kept json.no_items = true
-  are_items_kept (json.item j js) = is_kept j && are_items_kept js
+-- the value that tokens begin with, which nests no deeper than there are tokens
+unfoldable pub json_at : List Token → json.Json
+json_at ts = unwrap_or (option_map (λ p. p.0) (json.value (length ts) ts)) json.null
 
-  pub are_members_kept : json.Members → Bool
-  are_members_kept json.no_members = true
-  are_members_kept (json.member k j ms) = is_kept j && are_members_kept ms
+-- the items that tokens begin with
+unfoldable pub items_at : List Token → json.Items
+items_at ts = unwrap_or (option_map (λ p. p.0) (json.items (json.value (length ts)) (length ts) ts)) json.no_items
 
--- what a value of the program says
-abbrev pub view : {A : Type 0} → Value A → Data
-view v = data_of (value_view v)
+-- tokens begin with items, and with what closes their list
+abbrev pub HasItems : List Token → Type 0
+HasItems ts = (js : json.Items) × InItems ts js
 
-abbrev pub items_view : {A : Type 0} → List (Value A) → Items
-items_view vs = items_of (map view vs)
+-- what the tokens from a value on say of it
+abbrev pub view : List Token → Data
+view ts = data_of (json_at ts)
+
+-- what the tokens from an item on say of what is left of its list
+abbrev pub items_view : List Token → Items
+items_view ts = items_said (items_at ts)
+
+-- no items, or the first and the others
+abbrev pub unless_empty : Option Data → Items → Items
+unless_empty None others = no_items
+unless_empty (Some d) others = item d others
+
+-- ---- whole texts
+
+-- how many lists and objects are open after a token; none where they would be more than 127, and where a number cannot be kept
+abbrev pub depth_after : ℕ → Token → Option ℕ
+depth_after depth Token.begin_object = if nat_lt depth max_depth then Some (depth + 1) else None
+depth_after depth Token.end_object = Some (depth - 1)
+depth_after depth Token.begin_array = if nat_lt depth max_depth then Some (depth + 1) else None
+depth_after depth Token.end_array = Some (depth - 1)
+depth_after depth (Token.key s) = Some depth
+depth_after depth (Token.string s) = Some depth
+depth_after depth (Token.number s) = if is_some (number_of s) then Some depth else None
+depth_after depth (Token.boolean b) = Some depth
+depth_after depth Token.null = Some depth
+depth_after depth Token.bad = Some depth
+
+-- the same after all of these tokens
+abbrev pub depth_after_all : ℕ → List Token → Option ℕ
+depth_after_all depth [] = Some depth
+depth_after_all depth (t ∷ ts) = option_and_then (λ n. depth_after_all n ts) (depth_after depth t)

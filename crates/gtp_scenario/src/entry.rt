@@ -35,7 +35,7 @@ fn copied(alloc: Global, text: Option<&str>) -> Result<Option<String>, Fault>
 }
 
 #[tactic(auto, unfolding(crate::specs::Entries::entry_of))]
-fn entry_of(alloc: Global, value: &Tree<'_>) -> Result<Entry, Fault>
+fn entry_of(alloc: Global, value: &Tree<'_, '_>) -> Result<Entry, Fault>
     ensures { Gives entry_view result (entry_of (view value.now)) }
 {
     let word = text_at(value, "do").ok_or(Fault::Wrong)?;
@@ -53,7 +53,7 @@ fn entry_of(alloc: Global, value: &Tree<'_>) -> Result<Entry, Fault>
 
 /// An entry, where there is room for so many events.
 #[tactic(auto, unfolding(crate::specs::Entries::entry_within))]
-pub(crate) fn entry_within(alloc: Global, room: u32, value: &Tree<'_>) -> Result<Entry, Fault>
+pub(crate) fn entry_within(alloc: Global, room: u32, value: &Tree<'_, '_>) -> Result<Entry, Fault>
     ensures read { Gives entry_view result (entry_within room (view value.now)) }
     ensures fits { IfOk result (λ e. e.times ≤ room) }
 {

@@ -30,14 +30,14 @@ fn role_of(text: &str) -> Option<Role>
 }
 
 #[tactic(auto, unfolding(crate::specs::Events::node_at))]
-fn node_at(value: &Tree<'_>) -> Option<Role>
+fn node_at(value: &Tree<'_, '_>) -> Option<Role>
     ensures { result ≡ node_at (view value.now) }
 {
     role_of(text_at(value, "node")?)
 }
 
 #[tactic(auto, unfolding(crate::specs::Events::teid_at))]
-fn teid_at(value: &Tree<'_>) -> Option<Teid>
+fn teid_at(value: &Tree<'_, '_>) -> Option<Teid>
     ensures { option_map (λ teid. teid.0) result ≡ teid_at (view value.now) }
 {
     teid_of(text_at(value, "teid")?)
@@ -45,7 +45,7 @@ fn teid_at(value: &Tree<'_>) -> Option<Teid>
 
 /// The identity of a bearer.
 #[tactic(auto, unfolding(crate::specs::Events::ebi_at))]
-fn ebi_at(value: &Tree<'_>) -> Option<Ebi>
+fn ebi_at(value: &Tree<'_, '_>) -> Option<Ebi>
     ensures { result ≡ ebi_at (view value.now) }
 {
     let number = within(5, 15, number_at(value, "ebi")?)?;
@@ -53,7 +53,7 @@ fn ebi_at(value: &Tree<'_>) -> Option<Ebi>
 }
 
 #[tactic(auto, unfolding(crate::specs::Events::pdn_at))]
-fn pdn_at(value: &Tree<'_>) -> Option<PdnType>
+fn pdn_at(value: &Tree<'_, '_>) -> Option<PdnType>
     ensures { option_map (λ pdn. pdn.0) result ≡ pdn_at (view value.now) }
 {
     let number = within(0, 7, number_or(value, "pdn", 1)?)?;
@@ -61,7 +61,7 @@ fn pdn_at(value: &Tree<'_>) -> Option<PdnType>
 }
 
 #[tactic(auto, unfolding(crate::specs::Events::subscriber_at))]
-fn subscriber_at(value: &Tree<'_>) -> Option<Subscriber>
+fn subscriber_at(value: &Tree<'_, '_>) -> Option<Subscriber>
     ensures { result ≡ subscriber_at (view value.now) }
 {
     Some(Subscriber {
@@ -73,7 +73,7 @@ fn subscriber_at(value: &Tree<'_>) -> Option<Subscriber>
 
 /// A traffic flow template.
 #[tactic(auto, unfolding(crate::specs::Events::tft_at))]
-fn tft_at(alloc: Global, value: &Tree<'_>) -> Result<Tft, Fault>
+fn tft_at(alloc: Global, value: &Tree<'_, '_>) -> Result<Tft, Fault>
     ensures { Gives (λ tft. tft) result (tft_at (view value.now)) }
 {
     let text = text_at(value, "tft").ok_or(Fault::Wrong)?;
@@ -82,7 +82,7 @@ fn tft_at(alloc: Global, value: &Tree<'_>) -> Result<Tft, Fault>
 }
 
 #[tactic(auto, unfolding(crate::specs::Events::payload_at))]
-fn payload_at(alloc: Global, value: &Tree<'_>) -> Result<Vec<u8>, Fault>
+fn payload_at(alloc: Global, value: &Tree<'_, '_>) -> Result<Vec<u8>, Fault>
     ensures { Gives (λ octets. octets.items) result (payload_at (view value.now)) }
 {
     let text = text_at(value, "payload").ok_or(Fault::Wrong)?;
@@ -90,7 +90,7 @@ fn payload_at(alloc: Global, value: &Tree<'_>) -> Result<Vec<u8>, Fault>
 }
 
 #[tactic(auto, unfolding(crate::specs::Events::create_session_of))]
-fn create_session_of(value: &Tree<'_>) -> Option<Event>
+fn create_session_of(value: &Tree<'_, '_>) -> Option<Event>
     ensures { option_map event_of result ≡ create_session_of (view value.now) }
 {
     if !has_only(value, &["do", "expect", "imsi", "apn", "ebi", "pdn"]) {
@@ -103,7 +103,7 @@ fn create_session_of(value: &Tree<'_>) -> Option<Event>
 
 /// The TEID of an event that has no key of its own beside it.
 #[tactic(auto, unfolding(crate::specs::Events::lone_teid_of))]
-fn lone_teid_of(value: &Tree<'_>) -> Option<Teid>
+fn lone_teid_of(value: &Tree<'_, '_>) -> Option<Teid>
     ensures { option_map (λ teid. teid.0) result ≡ lone_teid_of (view value.now) }
 {
     if !has_only(value, &["do", "expect", "teid"]) {
@@ -113,28 +113,28 @@ fn lone_teid_of(value: &Tree<'_>) -> Option<Teid>
 }
 
 #[tactic(auto, unfolding(crate::specs::Events::delete_session_of))]
-fn delete_session_of(value: &Tree<'_>) -> Option<Event>
+fn delete_session_of(value: &Tree<'_, '_>) -> Option<Event>
     ensures { option_map event_of result ≡ delete_session_of (view value.now) }
 {
     Some(Event::DeleteSession(lone_teid_of(value)?))
 }
 
 #[tactic(auto, unfolding(crate::specs::Events::release_session_of))]
-fn release_session_of(value: &Tree<'_>) -> Option<Event>
+fn release_session_of(value: &Tree<'_, '_>) -> Option<Event>
     ensures { option_map event_of result ≡ release_session_of (view value.now) }
 {
     Some(Event::ReleaseSession(lone_teid_of(value)?))
 }
 
 #[tactic(auto, unfolding(crate::specs::Events::end_marker_of))]
-fn end_marker_of(value: &Tree<'_>) -> Option<Event>
+fn end_marker_of(value: &Tree<'_, '_>) -> Option<Event>
     ensures { option_map event_of result ≡ end_marker_of (view value.now) }
 {
     Some(Event::EndMarker(lone_teid_of(value)?))
 }
 
 #[tactic(auto, unfolding(crate::specs::Events::create_bearer_of))]
-fn create_bearer_of(alloc: Global, value: &Tree<'_>) -> Result<Event, Fault>
+fn create_bearer_of(alloc: Global, value: &Tree<'_, '_>) -> Result<Event, Fault>
     ensures { Gives event_of result (create_bearer_of (view value.now)) }
 {
     if !has_only(value, &["do", "expect", "teid", "tft"]) {
@@ -150,7 +150,7 @@ fn create_bearer_of(alloc: Global, value: &Tree<'_>) -> Result<Event, Fault>
 }
 
 #[tactic(auto, unfolding(crate::specs::Events::delete_bearer_of))]
-fn delete_bearer_of(value: &Tree<'_>) -> Option<Event>
+fn delete_bearer_of(value: &Tree<'_, '_>) -> Option<Event>
     ensures { option_map event_of result ≡ delete_bearer_of (view value.now) }
 {
     if !has_only(value, &["do", "expect", "teid", "ebi"]) {
@@ -163,7 +163,7 @@ fn delete_bearer_of(value: &Tree<'_>) -> Option<Event>
 
 /// The gateway of an event that has no key of its own beside it.
 #[tactic(auto, unfolding(crate::specs::Events::lone_node_of))]
-fn lone_node_of(value: &Tree<'_>) -> Option<Role>
+fn lone_node_of(value: &Tree<'_, '_>) -> Option<Role>
     ensures { result ≡ lone_node_of (view value.now) }
 {
     if !has_only(value, &["do", "expect", "node"]) {
@@ -173,21 +173,21 @@ fn lone_node_of(value: &Tree<'_>) -> Option<Role>
 }
 
 #[tactic(auto, unfolding(crate::specs::Events::echo_of))]
-fn echo_of(value: &Tree<'_>) -> Option<Event>
+fn echo_of(value: &Tree<'_, '_>) -> Option<Event>
     ensures { option_map event_of result ≡ echo_of (view value.now) }
 {
     Some(Event::Echo(lone_node_of(value)?))
 }
 
 #[tactic(auto, unfolding(crate::specs::Events::restart_of))]
-fn restart_of(value: &Tree<'_>) -> Option<Event>
+fn restart_of(value: &Tree<'_, '_>) -> Option<Event>
     ensures { option_map event_of result ≡ restart_of (view value.now) }
 {
     Some(Event::Restart(lone_node_of(value)?))
 }
 
 #[tactic(auto, unfolding(crate::specs::Events::tick_of))]
-fn tick_of(value: &Tree<'_>) -> Option<Event>
+fn tick_of(value: &Tree<'_, '_>) -> Option<Event>
     ensures { option_map event_of result ≡ tick_of (view value.now) }
 {
     if !has_only(value, &["do", "expect", "node", "times"]) {
@@ -197,7 +197,7 @@ fn tick_of(value: &Tree<'_>) -> Option<Event>
 }
 
 #[tactic(auto, unfolding(crate::specs::Events::send_of))]
-fn send_of(alloc: Global, value: &Tree<'_>) -> Result<Event, Fault>
+fn send_of(alloc: Global, value: &Tree<'_, '_>) -> Result<Event, Fault>
     ensures { Gives event_of result (send_of (view value.now)) }
 {
     if !has_only(value, &["do", "expect", "node", "teid", "payload"]) {
@@ -214,7 +214,7 @@ fn send_of(alloc: Global, value: &Tree<'_>) -> Result<Event, Fault>
 }
 
 #[tactic(auto, unfolding(crate::specs::Events::deliver_of))]
-fn deliver_of(value: &Tree<'_>) -> Option<Event>
+fn deliver_of(value: &Tree<'_, '_>) -> Option<Event>
     ensures { option_map event_of result ≡ deliver_of (view value.now) }
 {
     if !has_only(value, &["do", "expect", "datagram"]) {
@@ -224,7 +224,7 @@ fn deliver_of(value: &Tree<'_>) -> Option<Event>
 }
 
 #[tactic(auto, unfolding(crate::specs::Events::cut_of))]
-fn cut_of(value: &Tree<'_>) -> Option<Event>
+fn cut_of(value: &Tree<'_, '_>) -> Option<Event>
     ensures { option_map event_of result ≡ cut_of (view value.now) }
 {
     if !has_only(value, &["do", "expect", "datagram", "length"]) {
@@ -237,7 +237,7 @@ fn cut_of(value: &Tree<'_>) -> Option<Event>
 
 /// The event that the word names.
 #[tactic(auto, unfolding(crate::specs::Events::event_named))]
-pub(crate) fn event_named(alloc: Global, word: &str, value: &Tree<'_>) -> Result<Event, Fault>
+pub(crate) fn event_named(alloc: Global, word: &str, value: &Tree<'_, '_>) -> Result<Event, Fault>
     ensures { Gives event_of result (event_named word.now (view value.now)) }
 {
     match word {

@@ -3,7 +3,7 @@
 ghost use Rattle.std.specs.Prelude.{◌≡◌};
 ghost use Rattle.gtp_scenario.specs.declared.fault.Fault.TheVariants as fault;
 ghost use Rattle.gtp_scenario.specs.declared.fault.ReadFault.TheVariants as read_fault;
-ghost use Rattle.gtp_scenario.specs.Steps.{refused_for};
+ghost use Rattle.gtp_scenario.specs.Steps.{fault_for, refused_for};
 
 use std::alloc::{AllocError, AllocFailed};
 use thiserror::Error;
@@ -29,6 +29,17 @@ impl<T: Drop> From<AllocFailed<T>> for Fault {
 
     fn from(_e: AllocFailed<T>) -> Fault {
         Fault::Memory
+    }
+}
+
+impl From<json::Error> for Fault {
+    ghost from_gives = { λ error e. e ≡ fault_for error };
+
+    fn from(error: json::Error) -> Fault {
+        match error {
+            json::Error::OutOfMemory => Fault::Memory,
+            _ => Fault::Wrong,
+        }
     }
 }
 

@@ -1,15 +1,18 @@
 //! Both gateways of a scenario.
 
-ghost use Rattle.std.specs.Prelude.{◌≡◌, ◌≤◌, length, IfOk, IfSome, option_map};
+ghost use Rattle.std.specs.Prelude.{◌≡◌, ◌≤◌, length, nat_le, if◌then◌else◌, None, IfOk, IfSome, option_map};
 ghost use Rattle.std.specs.Int.{w32, from_be_bytes};
 ghost use Rattle.gtp_scenario.specs.Steps.{Gives};
+ghost use Rattle.gtp_scenario.specs.Json.{count_of};
 ghost use Rattle.gtp_scenario.specs.Heads.{AreTimers, address_at, addresses_at, counter_at, access_point_of, access_points_in, access_points_at};
 ghost use Rattle.gtp_scenario.specs.Heads.{pool_from, pool_at, no_pool, time_at, timers_at, serving_of, packet_of, set_up, setup_of, events_at};
 ghost use Rattle.gtp_scenario.specs.Trees.{view, items_view};
 ghost use Rattle.gtp_scenario.specs.Views.{serving_head, packet_head};
 
 use crate::fault::Fault;
-use crate::members::{as_list, as_text, has_only, number_at, number_or, text_at, value_at, within};
+use crate::members::{
+    Items, as_list, as_text, has_only, number_at, number_or, text_at, value_at, within,
+};
 use crate::text::{address_of, apn_of};
 use crate::tree::Tree;
 use gtp_gateway::{Addresses, Apn, Config, Counter, Ip, Pool, Timers};
@@ -36,7 +39,7 @@ struct PacketHead {
 }
 
 #[tactic(auto, unfolding(crate::specs::Heads::address_at))]
-fn address_at(value: &Tree<'_>, key: &str) -> Option<Ip>
+fn address_at(value: &Tree<'_, '_>, key: &str) -> Option<Ip>
     ensures { result ≡ address_at key.now (view value.now) }
 {
     let address = address_of(text_at(value, key)?)?;
@@ -45,7 +48,7 @@ fn address_at(value: &Tree<'_>, key: &str) -> Option<Ip>
 
 /// The address on each plane.
 #[tactic(auto, unfolding(crate::specs::Heads::addresses_at))]
-fn addresses_at(value: &Tree<'_>) -> Option<Addresses>
+fn addresses_at(value: &Tree<'_, '_>) -> Option<Addresses>
     ensures { result ≡ addresses_at (view value.now) }
 {
     Some(Addresses {
@@ -55,7 +58,7 @@ fn addresses_at(value: &Tree<'_>) -> Option<Addresses>
 }
 
 #[tactic(auto, unfolding(crate::specs::Heads::counter_at))]
-fn counter_at(value: &Tree<'_>) -> Option<Counter>
+fn counter_at(value: &Tree<'_, '_>) -> Option<Counter>
     ensures { option_map (λ counter. counter.0) result ≡ counter_at (view value.now) }
 {
     let number = within(0, 255, number_at(value, "counter")?)?;
@@ -63,34 +66,36 @@ fn counter_at(value: &Tree<'_>) -> Option<Counter>
 }
 
 #[tactic(auto, unfolding(crate::specs::Heads::access_point_of))]
-fn access_point_of(value: &Tree<'_>) -> Option<Apn>
+fn access_point_of(value: &Tree<'_, '_>) -> Option<Apn>
     ensures { result ≡ access_point_of (view value.now) }
 {
     apn_of(as_text(value)?)
 }
 
-/// Access points, in order.
-fn access_points_in(alloc: Global, values: &[Tree<'_>]) -> Result<Vec<Apn>, Fault>
-    ensures read { Gives (λ v. v.items) result (access_points_in (items_view values.now)) }
-    ensures each { IfOk result (λ v. length v.items ≡ length values.now) }
+/// Access points, in order, unless there are too many.
+fn access_points_in(alloc: Global, mut values: Items<'_, '_>) -> Result<Vec<Apn>, Fault>
+    ensures read { Gives (λ v. v.items) result
+        (if nat_le (count_of (items_view values.entry)) 16
+        then access_points_in (items_view values.entry) else None) }
+    ensures few { IfOk result (λ v. length v.items ≤ 16) }
 {
     let mut access_points = Vec::new(alloc);
-    for value in values {
-        access_points.push(access_point_of(value).ok_or(Fault::Wrong)?)?;
+    while let Some(value) = values.next() {
+        if access_points.len() == MOST_ACCESS_POINTS {
+            return Err(Fault::Wrong);
+        }
+        access_points.push(access_point_of(&value).ok_or(Fault::Wrong)?)?;
     }
     Ok(access_points)
 }
 
-#[tactic(auto, unfolding(crate::specs::Heads::access_points_at), using(crate::proofs::Keys::count_of_view))]
-fn access_points_at(alloc: Global, value: &Tree<'_>) -> Result<Vec<Apn>, Fault>
+#[tactic(auto, unfolding(crate::specs::Heads::access_points_at))]
+fn access_points_at(alloc: Global, value: &Tree<'_, '_>) -> Result<Vec<Apn>, Fault>
     ensures read { Gives (λ v. v.items) result (access_points_at (view value.now)) }
     ensures few { IfOk result (λ v. length v.items ≤ 16) }
 {
     let values = value_at(value, "apns").ok_or(Fault::Wrong)?;
-    let values = as_list(values).ok_or(Fault::Wrong)?;
-    if values.len() > MOST_ACCESS_POINTS {
-        return Err(Fault::Wrong);
-    }
+    let values = as_list(&values).ok_or(Fault::Wrong)?;
     access_points_in(alloc, values)
 }
 
@@ -103,7 +108,7 @@ fn pool_from(start: u32, count: u32) -> Option<Pool>
 }
 
 #[tactic(auto, unfolding(crate::specs::Heads::pool_at))]
-fn pool_at(value: &Tree<'_>) -> Option<Pool>
+fn pool_at(value: &Tree<'_, '_>) -> Option<Pool>
     ensures { result ≡ pool_at (view value.now) }
 {
     let start = address_of(text_at(value, "pool")?)?;
@@ -112,7 +117,7 @@ fn pool_at(value: &Tree<'_>) -> Option<Pool>
 }
 
 /// A time in ticks, which may be absent.
-fn time_at(value: &Tree<'_>, key: &str, absent: u32, low: u32, high: u32) -> Option<u32>
+fn time_at(value: &Tree<'_, '_>, key: &str, absent: u32, low: u32, high: u32) -> Option<u32>
     ensures read { result ≡ time_at key.now absent low high (view value.now) }
     ensures range { IfSome result (λ time. (low ≤ time) × (time ≤ high)) }
 {
@@ -120,7 +125,7 @@ fn time_at(value: &Tree<'_>, key: &str, absent: u32, low: u32, high: u32) -> Opt
 }
 
 #[tactic(auto, unfolding(crate::specs::Heads::timers_at))]
-fn timers_at(value: &Tree<'_>) -> Option<Timers>
+fn timers_at(value: &Tree<'_, '_>) -> Option<Timers>
     ensures read { result ≡ timers_at (view value.now) }
     ensures range { IfSome result AreTimers }
 {
@@ -133,7 +138,7 @@ fn timers_at(value: &Tree<'_>) -> Option<Timers>
 }
 
 #[tactic(auto, unfolding(crate::specs::Heads::serving_of))]
-fn serving_of(value: &Tree<'_>) -> Option<ServingHead>
+fn serving_of(value: &Tree<'_, '_>) -> Option<ServingHead>
     ensures { option_map serving_head result ≡ serving_of (view value.now) }
 {
     if !has_only(value, &["control", "user", "counter"]) {
@@ -146,7 +151,7 @@ fn serving_of(value: &Tree<'_>) -> Option<ServingHead>
 }
 
 #[tactic(auto, unfolding(crate::specs::Heads::packet_of))]
-fn packet_of(alloc: Global, value: &Tree<'_>) -> Result<PacketHead, Fault>
+fn packet_of(alloc: Global, value: &Tree<'_, '_>) -> Result<PacketHead, Fault>
     ensures read { Gives packet_head result (packet_of (view value.now)) }
     ensures few { IfOk result (λ head. length head.access_points.items ≤ 16) }
 {
@@ -205,7 +210,7 @@ fn set_up(alloc: Global, timers: Timers, serving: ServingHead, packet: PacketHea
 
 /// All of a scenario but its events.
 #[tactic(auto, unfolding(crate::specs::Heads::setup_of))]
-pub(crate) fn setup_of(alloc: Global, value: &Tree<'_>) -> Result<WorldConfig, Fault>
+pub(crate) fn setup_of(alloc: Global, value: &Tree<'_, '_>) -> Result<WorldConfig, Fault>
     ensures { Gives (λ config. config) result (setup_of (view value.now)) }
 {
     if !has_only(value, &["serving", "packet", "t3", "n3", "hold", "events"]) {
@@ -213,16 +218,16 @@ pub(crate) fn setup_of(alloc: Global, value: &Tree<'_>) -> Result<WorldConfig, F
     }
     let timers = timers_at(value).ok_or(Fault::Wrong)?;
     let serving = value_at(value, "serving").ok_or(Fault::Wrong)?;
-    let serving = serving_of(serving).ok_or(Fault::Wrong)?;
+    let serving = serving_of(&serving).ok_or(Fault::Wrong)?;
     let packet = value_at(value, "packet").ok_or(Fault::Wrong)?;
-    let packet = packet_of(alloc, packet)?;
+    let packet = packet_of(alloc, &packet)?;
     Ok(set_up(alloc, timers, serving, packet))
 }
 
 /// The list of events.
 #[tactic(auto, unfolding(crate::specs::Heads::events_at))]
-pub(crate) fn events_at<'v, 'a>(value: &'v Tree<'a>) -> Option<&'v [Tree<'a>]>
-    ensures { option_map (λ vs. items_view vs.now) result ≡ events_at (view value.now) }
+pub(crate) fn events_at<'t, 'a>(value: &Tree<'t, 'a>) -> Option<Items<'t, 'a>>
+    ensures { option_map items_view result ≡ events_at (view value.now) }
 {
-    as_list(value_at(value, "events")?)
+    as_list(&value_at(value, "events")?)
 }

@@ -1,80 +1,125 @@
 //! Members of a JSON object.
 
-ghost use Rattle.std.specs.Prelude.{◌≡◌, ◌≤◌, map, IfSome, option_map};
-ghost use Rattle.std.specs.List.{list_all};
-ghost use Rattle.serde_json.specs.Find.{get, as_str, as_array};
-ghost use Rattle.gtp_scenario.specs.Json.{text_at, whole_number, number_at, text_if, number_or, within, is_among, has_only};
-ghost use Rattle.gtp_scenario.specs.Trees.{view, items_view};
+ghost use Rattle.std.specs.Prelude.{◌≡◌, ◌≤◌, ◌<◌, map, length, IfSome, OnSome, option_map};
+ghost use Rattle.json.specs.Json as json;
+ghost use Rattle.json.specs.Find.{InMembers};
+ghost use Rattle.serde_json.specs.Data.{no_members};
+ghost use Rattle.serde_json.specs.Find.{get, as_str, as_number, as_array};
+ghost use Rattle.gtp_scenario.specs.Json.{text_at, whole_number, number_at, text_if, number_or, within, is_among, all_among, has_only};
+ghost use Rattle.gtp_scenario.specs.Trees.{view, items_view, members_said, number_said, unless_empty};
 
 use crate::tree::{Number, Tree, number_of};
-use json::Value;
+use json::Members;
+use std::marker::Model;
+
+/// What is left of a list.
+#[derive(Drop)]
+pub(crate) struct Items<'t, 'a> {
+    items: json::Items<'t, 'a>,
+}
+
+impl<'t, 'a> Model for Items<'t, 'a> {
+    ghost use Rattle.std.specs.Prelude.{List};
+    ghost use Rattle.json.specs.Token.{Token, tokens_code};
+
+    ghost Value = { List Token };
+
+    ghost coded = { tokens_code };
+
+    ghost use Rattle.gtp_scenario.specs.Trees.{HasItems};
+
+    ghost view = { λ a. a.items };
+
+    ghost invariant = { λ a. HasItems a.items };
+}
+
+impl<'t, 'a> Items<'t, 'a> {
+    /// The next item.
+    pub(crate) fn next(&mut self) -> Option<Tree<'t, 'a>>
+        ensures value { items_view self.old
+            ≡ unless_empty (option_map view result) (items_view self.new) }
+        ensures shorter { OnSome result (length self.new < length self.old) }
+    {
+        Some(Tree {
+            element: self.items.next()?,
+        })
+    }
+}
 
 /// The value of a key.
-pub(crate) fn value_at<'v, 'a>(value: &'v Tree<'a>, key: &str) -> Option<&'v Tree<'a>>
-    ensures { option_map (λ v. view v.now) result ≡ get key.now (view value.now) }
+pub(crate) fn value_at<'t, 'a>(value: &Tree<'t, 'a>, key: &str) -> Option<Tree<'t, 'a>>
+    ensures { option_map view result ≡ get key.now (view value.now) }
 {
-    value.get(key)
+    Some(Tree {
+        element: value.element.get(key)?,
+    })
 }
 
 /// The text that a value is.
-pub(crate) fn as_text<'a>(value: &Tree<'a>) -> Option<&'a str>
+pub(crate) fn as_text<'a>(value: &Tree<'_, 'a>) -> Option<&'a str>
     ensures { option_map (λ s. s.now) result ≡ as_str (view value.now) }
 {
-    value.as_str()
+    value.element.as_str()
+}
+
+/// The text of the number that a value is.
+fn as_number<'a>(value: &Tree<'_, 'a>) -> Option<&'a str>
+    ensures { option_map (λ s. number_said s.now) result ≡ as_number (view value.now) }
+{
+    value.element.as_number()
 }
 
 /// The whole number from 0 to 2^64 - 1 that a value is.
-pub(crate) fn whole_number(value: &Tree<'_>) -> Option<u64>
+pub(crate) fn whole_number(value: &Tree<'_, '_>) -> Option<u64>
     ensures { result ≡ whole_number (view value.now) }
 {
-    match number_of(value.as_number()?)? {
+    match number_of(as_number(value)?)? {
         Number::Whole(n) => Some(n),
         Number::Other => None,
     }
 }
 
 /// The items of a list.
-pub(crate) fn as_list<'v, 'a>(value: &'v Tree<'a>) -> Option<&'v [Tree<'a>]>
-    ensures { option_map (λ vs. items_view vs.now) result ≡ as_array (view value.now) }
+pub(crate) fn as_list<'t, 'a>(value: &Tree<'t, 'a>) -> Option<Items<'t, 'a>>
+    ensures { option_map items_view result ≡ as_array (view value.now) }
 {
-    match value {
-        Value::Array(items) => Some(items.as_slice()),
-        _ => None,
-    }
+    Some(Items {
+        items: value.element.items()?,
+    })
 }
 
 /// The text of a key that must be there.
-pub(crate) fn text_at<'a>(value: &Tree<'a>, key: &str) -> Option<&'a str>
+pub(crate) fn text_at<'a>(value: &Tree<'_, 'a>, key: &str) -> Option<&'a str>
     ensures { option_map (λ s. s.now) result ≡ text_at key.now (view value.now) }
 {
-    as_text(value_at(value, key)?)
+    as_text(&value_at(value, key)?)
 }
 
 /// The number of a key that must be there.
-pub(crate) fn number_at(value: &Tree<'_>, key: &str) -> Option<u64>
+pub(crate) fn number_at(value: &Tree<'_, '_>, key: &str) -> Option<u64>
     ensures { result ≡ number_at key.now (view value.now) }
 {
-    whole_number(value_at(value, key)?)
+    whole_number(&value_at(value, key)?)
 }
 
 /// The text of a key that may be absent.
-pub(crate) fn text_if<'a>(value: &Tree<'a>, key: &str) -> Option<Option<&'a str>>
+pub(crate) fn text_if<'a>(value: &Tree<'_, 'a>, key: &str) -> Option<Option<&'a str>>
     ensures { option_map (option_map (λ s. s.now)) result
         ≡ text_if (get key.now (view value.now)) }
 {
     match value_at(value, key) {
         None => Some(None),
-        Some(found) => Some(Some(as_text(found)?)),
+        Some(found) => Some(Some(as_text(&found)?)),
     }
 }
 
 /// The number of a key that may be absent, and is this one then.
-pub(crate) fn number_or(value: &Tree<'_>, key: &str, absent: u64) -> Option<u64>
+pub(crate) fn number_or(value: &Tree<'_, '_>, key: &str, absent: u64) -> Option<u64>
     ensures { result ≡ number_or absent (get key.now (view value.now)) }
 {
     match value_at(value, key) {
         None => Some(absent),
-        Some(found) => whole_number(found),
+        Some(found) => whole_number(&found),
     }
 }
 
@@ -103,18 +148,24 @@ fn is_among(keys: &[&str], key: &str) -> bool
 }
 
 /// Whether each key of the members is one of these.
-fn all_among(keys: &[&str], members: &[(&str, Tree<'_>)]) -> bool
-    ensures { result ≡ list_all (λ m. is_among (map (λ k. k.now) keys.now) m.0.now) members.now }
+fn all_among(keys: &[&str], mut members: Members<'_, '_>) -> bool
+    ensures { (ms : json.Members) → InMembers members.entry ms
+        → result ≡ all_among (map (λ k. k.now) keys.now) (members_said ms no_members) }
 {
-    members.iter().all(|member| is_among(keys, member.0))
+    while let Some((key, _)) = members.next() {
+        if !is_among(keys, key) {
+            return false;
+        }
+    }
+    true
 }
 
 /// Whether the value is an object with no keys but these.
-pub(crate) fn has_only(value: &Tree<'_>, keys: &[&str]) -> bool
+pub(crate) fn has_only(value: &Tree<'_, '_>, keys: &[&str]) -> bool
     ensures { result ≡ has_only (map (λ k. k.now) keys.now) (view value.now) }
 {
-    match value {
-        Value::Object(members) => all_among(keys, members.as_slice()),
-        _ => false,
+    match value.element.members() {
+        Some(members) => all_among(keys, members),
+        None => false,
     }
 }

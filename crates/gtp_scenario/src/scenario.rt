@@ -12,10 +12,10 @@ ghost use Rattle.gtp_scenario.specs.Views.{entry as entry_view, scenario as scen
 use crate::entry::{Entry, entry_within};
 use crate::fault::{Fault, ReadFault, Refusal};
 use crate::head::{events_at, setup_of};
-use crate::tree::{Tree, tree_of};
-use bumpalo::Bump;
+use crate::members::Items;
+use crate::tree::{Tree, tape_of};
 use gtp_world::WorldConfig;
-use json::Scratch;
+use json::{Scratch, Tape};
 use std::alloc::Global;
 
 /// The most octets of a scenario.
@@ -33,24 +33,25 @@ pub struct Scenario {
 }
 
 #[tactic(auto, unfolding(crate::specs::Scenarios::json_of))]
-fn json_of<'a>(
-    arena: &'a Bump,
-    octets: &'a [u8],
-    scratch: &'a mut Scratch,
-) -> Result<Tree<'a>, Fault>
+fn json_of<'a>(alloc: Global, octets: &'a [u8], scratch: &'a mut Scratch) -> Result<Tape<'a>, Fault>
     ensures { Gives view result (json_of octets.now) }
 {
     if octets.len() > MOST_OCTETS {
         return Err(Fault::Wrong);
     }
     match str::from_utf8(octets) {
-        Ok(text) => tree_of(arena, text, scratch),
+        Ok(text) => tape_of(alloc, text, scratch),
         Err(_) => Err(Fault::Wrong),
     }
 }
 
 /// The entry at this place.
-fn entry_at(alloc: Global, place: usize, room: u32, value: &Tree<'_>) -> Result<Entry, ReadFault>
+fn entry_at(
+    alloc: Global,
+    place: usize,
+    room: u32,
+    value: &Tree<'_, '_>,
+) -> Result<Entry, ReadFault>
     ensures read { Reads entry_view result
         (ok_or (entry_within room (view value.now)) (refusals.Event place)) }
     ensures fits { IfOk result (λ e. e.times ≤ room) }
@@ -58,14 +59,14 @@ fn entry_at(alloc: Global, place: usize, room: u32, value: &Tree<'_>) -> Result<
     entry_within(alloc, room, value).map_err(|fault| fault.refused(Refusal::Event(place)))
 }
 
-fn entries_of(alloc: Global, values: &[Tree<'_>]) -> Result<Vec<Entry>, ReadFault>
+fn entries_of(alloc: Global, mut values: Items<'_, '_>) -> Result<Vec<Entry>, ReadFault>
     ensures { Reads (λ v. map entry_view v.items) result
-        (entries_from 0 most_events (items_view values.now)) }
+        (entries_from 0 most_events (items_view values.entry)) }
 {
     let mut entries = Vec::new(alloc);
     let mut room = MOST_EVENTS;
-    for (place, value) in values.iter().enumerate() {
-        let entry = entry_at(alloc, place, room, value)?;
+    while let Some(value) = values.next() {
+        let entry = entry_at(alloc, entries.len(), room, &value)?;
         room -= entry.times;
         entries.push(entry)?;
     }
@@ -79,10 +80,10 @@ fn entries_of(alloc: Global, values: &[Tree<'_>]) -> Result<Vec<Entry>, ReadFaul
 pub fn read_scenario(alloc: Global, octets: &[u8]) -> Result<Scenario, ReadFault>
     ensures read { Reads scenario_view result (scenario_of octets.now) }
 {
-    let arena = Bump::new(alloc);
     let mut scratch = Scratch::new(alloc);
-    let tree = json_of(&arena, octets, &mut scratch);
-    let value = tree.map_err(|fault| fault.refused(Refusal::Json))?;
+    let tape = json_of(alloc, octets, &mut scratch);
+    let tape = tape.map_err(|fault| fault.refused(Refusal::Json))?;
+    let value = Tree::root(&tape);
     let config = setup_of(alloc, &value).map_err(|fault| fault.refused(Refusal::Head))?;
     let events = events_at(&value).ok_or(ReadFault::Refused(Refusal::Head))?;
     let entries = entries_of(alloc, events)?;

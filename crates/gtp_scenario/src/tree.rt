@@ -1,22 +1,55 @@
-//! JSON as a tree over its text.
+//! JSON as a list of tokens, and the values in it.
 
-ghost use Rattle.std.specs.Prelude.{◌≡◌, ◌==◌, ◌<◌, true, false, length, slice_index, option_map, IsTrue};
-ghost use Rattle.json.specs.Value.{value_view, items_view, members_view};
+ghost use Rattle.std.specs.Prelude.{◌≡◌, ◌==◌, ◌<◌, ◌≤◌, true, false, length, slice_index, option_map, map, IsTrue};
+ghost use Rattle.json.specs.Tape.{node_token};
 ghost use Rattle.serde_json.specs.Find.{as_u64};
 ghost use Rattle.serde_json.specs.Read.{number_of, number_from, float_of, read};
 ghost use Rattle.gtp_scenario.specs.Steps.{Gives};
-ghost use Rattle.gtp_scenario.specs.Trees.{whole_of, view, is_kept, are_items_kept, are_members_kept};
+ghost use Rattle.gtp_scenario.specs.Scenarios.{most_octets};
+ghost use Rattle.gtp_scenario.specs.Trees.{whole_of, view, depth_after, depth_after_all};
 
 use crate::fault::Fault;
-use bumpalo::Bump;
 use fast_float::Numeral;
-use json::{Error, Reader, Scratch, Value};
+use json::{Element, Node, Scratch, Tape};
+use std::alloc::Global;
+use std::marker::Model;
 
 /// How deep arrays and objects may nest.
 const MOST_NESTED: usize = 127;
 
-/// A text as a tree. What the tree itself takes lies in an arena, and goes with it.
-pub(crate) type Tree<'a> = Value<'a, &'a Bump>;
+// ---- values
+
+/// A value, by its place among the tokens of a text.
+#[derive(Drop)]
+pub(crate) struct Tree<'t, 'a> {
+    pub(crate) element: Element<'t, 'a>,
+}
+
+impl<'t, 'a> Model for Tree<'t, 'a> {
+    ghost use Rattle.std.specs.Prelude.{List};
+    ghost use Rattle.json.specs.Token.{Token, tokens_code};
+
+    ghost Value = { List Token };
+
+    ghost coded = { tokens_code };
+
+    ghost use Rattle.json.specs.Find.{HasValue};
+
+    ghost view = { λ a. a.element };
+
+    ghost invariant = { λ a. HasValue a.element };
+}
+
+impl<'t, 'a> Tree<'t, 'a> {
+    /// The value of a whole text.
+    pub(crate) fn root(tape: &'t Tape<'a>) -> Tree<'t, 'a>
+        ensures { result ≡ tape.now }
+    {
+        Tree {
+            element: tape.root(),
+        }
+    }
+}
 
 // ---- numbers
 
@@ -76,64 +109,44 @@ pub(crate) fn number_of(text: &str) -> Option<Number>
     }
 }
 
-// ---- whole trees
+// ---- whole texts
 
-/// Whether each number of a tree can be kept.
-#[cycle(kept)]
-fn is_kept(value: &Tree<'_>) -> bool
-    ensures { result ≡ is_kept (value_view value.now) }
+/// How many arrays and objects are open after a node. None where they would be too many, and where
+/// a number is too large for a float.
+fn depth_after(depth: usize, node: &Node<'_>) -> Option<usize>
+    ensures { result ≡ depth_after depth (node_token node.now) }
 {
-    match value {
-        Value::Number(text) => number_of(text).is_some(),
-        Value::Array(items) => are_items_kept(items),
-        Value::Object(members) => are_members_kept(members),
-        _ => true,
+    match node {
+        Node::Array(_) | Node::Object(_) => (depth < MOST_NESTED).then(|| depth + 1),
+        Node::EndArray | Node::EndObject => Some(depth.saturating_sub(1)),
+        Node::Number(text) => number_of(text).map(|_| depth),
+        _ => Some(depth),
     }
 }
 
-#[cycle(kept)]
-fn are_items_kept<'a>(items: &Vec<Tree<'a>, &'a Bump>) -> bool
-    ensures { result ≡ are_items_kept (items_view items.now.items) }
+/// The same after all of these nodes.
+fn depth_after_all(nodes: &[Node<'_>]) -> Option<usize>
+    ensures { result ≡ depth_after_all 0 (map node_token nodes.now) }
 {
-    for item in items {
-        if !is_kept(item) {
-            return false;
-        }
+    let mut depth = 0;
+    for node in nodes {
+        depth = depth_after(depth, node)?;
     }
-    true
+    Some(depth)
 }
 
-#[cycle(kept)]
-fn are_members_kept<'a>(members: &Vec<(&'a str, Tree<'a>), &'a Bump>) -> bool
-    ensures { result ≡ are_members_kept (members_view members.now.items) }
-{
-    for member in members {
-        if !is_kept(&member.1) {
-            return false;
-        }
-    }
-    true
-}
-
-/// The tree of a text, if it is JSON.
-pub(crate) fn tree_of<'a>(
-    arena: &'a Bump,
+/// The tokens of a text, if it is JSON.
+pub(crate) fn tape_of<'a>(
+    alloc: Global,
     text: &'a str,
     scratch: &'a mut Scratch,
-) -> Result<Tree<'a>, Fault>
+) -> Result<Tape<'a>, Fault>
+    requires { length text.now ≤ most_octets }
     ensures { Gives view result (read text.now) }
 {
-    let mut reader = Reader::new(text, scratch)?;
-    let value = match Value::read(arena, &mut reader, MOST_NESTED) {
-        Ok(value) => value,
-        Err(Error::OutOfMemory) => return Err(Fault::Memory),
-        Err(_) => return Err(Fault::Wrong),
-    };
-    if reader.next().is_some() {
-        return Err(Fault::Wrong);
+    let tape = Tape::parse(text, scratch, Vec::new(alloc))?;
+    match depth_after_all(tape.nodes()) {
+        Some(_) => Ok(tape),
+        None => Err(Fault::Wrong),
     }
-    if !is_kept(&value) {
-        return Err(Fault::Wrong);
-    }
-    Ok(value)
 }

@@ -1,16 +1,14 @@
 -- The default bearer of a session among the bearers with a remote.
-use Rattle.std.proofs.Common.{◌≡◌, ℕ, ◌<◌, ◌≤◌, ◌-◌, ◌&&◌, Bool, true, false, Option, Some, None, refl, sym, ap, ◌∙◌, nat_eq, arith}
+use Rattle.std.proofs.Common.{◌≡◌, ℕ, ◌<◌, ◌≤◌, ◌-◌, ◌&&◌, true, false, Option, Some, None, refl, sym, ap, ◌∙◌, nat_eq, arith}
 use Rattle.std.specs.Prelude.{IfSome, IfNone}
 use Rattle.std.specs.FinMap.{get}
-use Rattle.std.proofs.lemmas.Bool.Decides.{nat_tests}
 use Rattle.gtp_values.specs.declared.identifiers.Teid.{Teid}
 use Rattle.gtp_tables.specs.declared.context.Bearer.{Bearer}
 use Rattle.gtp_tables.specs.declared.context.Kind.{Kind}
 use Rattle.gtp_tables.specs.declared.context.Kind.TheVariants.{Default, Dedicated}
 use Rattle.gtp_values.specs.FiniteMap.{FiniteMap}
 use Rattle.gtp_tables.specs.Index.{HasRemote, HasDefault, IsUnnamed, is_default, default_of}
-use Rattle.gtp_tables.proofs.Named.{same}
-use Rattle.gtp_tables.proofs.Identities.{both, itself}
+use Rattle.gtp_values.proofs.Tests.{both, itself, same_number}
 
 -- the bearer that is looked at next is not past this TEID
 abbrev pub IsAhead : Option Teid → ℕ → Type 0
@@ -22,15 +20,15 @@ abbrev pub left_from : Option Teid → ℕ
 left_from None = 0
 left_from (Some next) = 4294967296 - next.0
 
-kind_of_is : (k : Kind) → is_default k ≡ true → k ≡ Default
-kind_of_is Default h = refl
-kind_of_is Dedicated h = absurd cc
+pub kind_is : (k : Kind) → is_default k ≡ true → k ≡ Default
+kind_is Default h = refl
+kind_is Dedicated h = absurd cc
 
 -- a default bearer that was found
 pub has_default : (m : FiniteMap Bearer) (remote session teid : ℕ) → HasRemote m remote teid → default_of session (get m teid) ≡ true → HasDefault m remote session
 has_default m remote session teid at is =
     let parts = both (is_default at.bearer.kind) (nat_eq at.bearer.session session) (ap (default_of session) (sym at.stands) ∙ is) in
-    record { teid = teid; at = at; default = kind_of_is at.bearer.kind parts.0; of = same at.bearer.session session parts.1 }
+    record { teid = teid; at = at; default = kind_is at.bearer.kind parts.left; of = same_number at.bearer.session session parts.right }
 
 is_found : (m : FiniteMap Bearer) (remote session : ℕ) (d : HasDefault m remote session) → default_of session (get m d.teid) ≡ true
 is_found m remote session d =

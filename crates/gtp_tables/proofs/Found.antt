@@ -5,11 +5,12 @@ use Rattle.std.specs.List.{list_any}
 use Rattle.std.specs.FinMap.{find, get, len, entries, values, entries_sorted, get-entries, len-entries, empty_of_len, get-empty, is_sorted}
 use Rattle.std.specs.Prelude.{slice_get, length, zero, suc, ◌+◌}
 use Rattle.std.specs.FinMap.Entries.{below_all}
-use Rattle.std.specs.Ordering.{nat_cmp, eq_by_cmp, is_lt}
+use Rattle.std.specs.Ordering.{nat_cmp, eq_by_cmp}
 use Rattle.std.proofs.lemmas.Bool.Decides.{nat_tests}
 use Rattle.std.proofs.lemmas.Option.{slice_get_within}
 use Rattle.gtp_values.specs.FiniteMap.{FiniteMap}
-use Rattle.gtp_tables.proofs.Rows.{first, second}
+use Rattle.gtp_values.proofs.Tests.{itself, less_by_cmp}
+use Rattle.gtp_tables.proofs.Rows.{turned, first, second}
 
 -- an entry whose value meets the test
 pub record Meets {X : Type 0} (p : X → Bool) (m : FiniteMap X) : Type 0 where
@@ -24,15 +25,8 @@ record Row {X : Type 0} (p : X → Bool) (es : List (ℕ × X)) : Type 0 where
   found : find nat_cmp key es ≡ Some value
   meets : p value ≡ true
 
-pub itself : (k : ℕ) → eq_by_cmp nat_cmp k k ≡ true
-itself k = grind (arith, nat_tests)
-
-other : (a b : ℕ) → T (is_lt (nat_cmp a b)) → a < b
-other a b h = at (is_lt (nat_cmp a b)) refl h
-  where
-    at : (c : Bool) → is_lt (nat_cmp a b) ≡ c → T c → a < b
-    at true is h = grind (arith, nat_tests)
-    at false is h = absurd h
+pub key_itself : (k : ℕ) → eq_by_cmp nat_cmp k k ≡ true
+key_itself k = turned k k ∙ itself k
 
 -- a key that is found is above one that all are above
 above : {X : Type 0} (x k : ℕ) (v : X) (es : List (ℕ × X)) → T (below_all nat_cmp x es) → find nat_cmp k es ≡ Some v → eq_by_cmp nat_cmp k x ≡ false
@@ -40,7 +34,7 @@ above x k v [] h found = absurd cc
 above {X} x k v (e ∷ es) h found = by (eq_by_cmp nat_cmp k e.0) refl found (above x k v es (second _ _ h))
   where
     by : (b : Bool) → eq_by_cmp nat_cmp k e.0 ≡ b → cond b (Some e.1) (find nat_cmp k es) ≡ Some v → (find nat_cmp k es ≡ Some v → eq_by_cmp nat_cmp k x ≡ false) → eq_by_cmp nat_cmp k x ≡ false
-    by true is f rest = let less : x < e.0 = other x e.0 (first _ _ h) in grind (arith, nat_tests)
+    by true is f rest = let less : x < e.0 = less_by_cmp x e.0 (first _ _ h) in grind (arith, nat_tests)
     by false is f rest = rest f
 
 row : {X : Type 0} (p : X → Bool) (es : List (ℕ × X)) → T (is_sorted nat_cmp es) → list_any p (map (λ e. e.1) es) ≡ true → Row p es
@@ -51,7 +45,7 @@ row {X} p (e ∷ es) up any = by (p e.1) refl any (row p es (second _ _ up))
     later r = record { key = r.key; value = r.value; found = rw (above e.0 r.key r.value es (first _ _ up) r.found) r.found; meets = r.meets }
 
     by : (b : Bool) → p e.1 ≡ b → (b || list_any p (map (λ e. e.1) es)) ≡ true → (list_any p (map (λ e. e.1) es) ≡ true → Row p es) → Row p (e ∷ es)
-    by true is any rest = record { key = e.0; value = e.1; found = rw (itself e.0) refl; meets = is }
+    by true is any rest = record { key = e.0; value = e.1; found = rw (key_itself e.0) refl; meets = is }
     by false is any rest = later (rest any)
 
 no_row : {X : Type 0} (p : X → Bool) (es : List (ℕ × X)) (k : ℕ) (x : X) → list_any p (map (λ e. e.1) es) ≡ false → find nat_cmp k es ≡ Some x → p x ≡ false
@@ -78,7 +72,7 @@ found_at : {X : Type 0} (es : List (ℕ × X)) (i : ℕ) (e : ℕ × X) → T (i
 found_at [] i e up at = absurd cc
 found_at {X} (x ∷ es) zero e up at =
     let same : x ≡ e = cc in
-    let key : eq_by_cmp nat_cmp e.0 x.0 ≡ true = ap (λ (y : ℕ × X). eq_by_cmp nat_cmp e.0 y.0) same ∙ itself e.0 in
+    let key : eq_by_cmp nat_cmp e.0 x.0 ≡ true = ap (λ (y : ℕ × X). eq_by_cmp nat_cmp e.0 y.0) same ∙ key_itself e.0 in
     rw key (ap (λ (y : ℕ × X). Some y.1) same)
 found_at (x ∷ es) (suc i) e up at = let rest = found_at es i e (second _ _ up) at in rw (above x.0 e.0 e.1 es (first _ _ up) rest) rest
 
@@ -92,7 +86,7 @@ found_above x k v [] h found = absurd cc
 found_above {X} x k v (e ∷ es) h found = by (eq_by_cmp nat_cmp k e.0) refl found (found_above x k v es (second _ _ h))
   where
     by : (b : Bool) → eq_by_cmp nat_cmp k e.0 ≡ b → cond b (Some e.1) (find nat_cmp k es) ≡ Some v → (find nat_cmp k es ≡ Some v → x < k) → x < k
-    by true is f rest = let less : x < e.0 = other x e.0 (first _ _ h) in grind (arith, nat_tests)
+    by true is f rest = let less : x < e.0 = less_by_cmp x e.0 (first _ _ h) in grind (arith, nat_tests)
     by false is f rest = rest f
 
 -- ---- a search from the first place on
@@ -141,8 +135,8 @@ below {X} k (e ∷ f ∷ es) (suc n) last up size at lt q x found = by (eq_by_cm
   where
     by : (b : Bool) → eq_by_cmp nat_cmp q e.0 ≡ b → cond b (Some e.1) (find nat_cmp q (f ∷ es)) ≡ Some x → ((q : ℕ) (x : X) → find nat_cmp q (f ∷ es) ≡ Some x → q < k) → q < k
     by true is found rest =
-        let next : f.0 < k = rest f.0 f.1 (rw (itself f.0) refl) in
-        let up : e.0 < f.0 = other e.0 f.0 (first _ _ (first _ _ up)) in
+        let next : f.0 < k = rest f.0 f.1 (rw (key_itself f.0) refl) in
+        let up : e.0 < f.0 = less_by_cmp e.0 f.0 (first _ _ (first _ _ up)) in
         grind (arith, nat_tests, next, up)
     by false is found rest = rest q x found
 

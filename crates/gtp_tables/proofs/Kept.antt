@@ -4,9 +4,10 @@ use Rattle.std.specs.Prelude.{filter}
 use Rattle.std.specs.Map.{lookup}
 use Rattle.std.specs.FinMap.{get, from_entries, get-retain_keys, is_sorted, nat_cmp-IsAntisymmetric}
 use Rattle.std.specs.FinMap.Entries.{below_all}
-use Rattle.std.specs.Ordering.{nat_cmp, is_lt}
+use Rattle.std.specs.Ordering.{nat_cmp}
 use Rattle.std.proofs.lemmas.Bool.Decides.{nat_tests}
 use Rattle.gtp_values.specs.FiniteMap.{FiniteMap, passes, kept}
+use Rattle.gtp_values.proofs.Tests.{apart_by_cmp}
 use Rattle.gtp_tables.proofs.Rows.{same_rows, get_row, first, second}
 
 -- what stands there, where it passes
@@ -20,15 +21,8 @@ not_found : {X : Type 0} (q : ℕ) (p : ℕ × X → Bool) (rows : List (ℕ × 
 not_found q p [] h = refl
 not_found {X} q p (e ∷ es) h = by (p e) (not_found q p es (second _ _ h))
   where
-    other : (a b : ℕ) → T (is_lt (nat_cmp a b)) → nat_eq a b ≡ false
-    other a b h = at (is_lt (nat_cmp a b)) refl h
-      where
-        at : (c : Bool) → is_lt (nat_cmp a b) ≡ c → T c → nat_eq a b ≡ false
-        at true is h = grind (arith, nat_tests)
-        at false is h = absurd h
-
     by : (b : Bool) → lookup (nat_eq q) (filter p es) ≡ None → lookup (nat_eq q) (cond b (e ∷ filter p es) (filter p es)) ≡ None
-    by true rest = rw (other q e.0 (first _ _ h)) rest
+    by true rest = rw (apart_by_cmp q e.0 (first _ _ h)) rest
     by false rest = rest
 
 lookup_filter : {X : Type 0} (test : ℕ → X → Bool) (rows : List (ℕ × X)) (q : ℕ) → T (is_sorted nat_cmp rows) → lookup (nat_eq q) (filter (λ e. test e.0 e.1) rows) ≡ passing test q (lookup (nat_eq q) rows)

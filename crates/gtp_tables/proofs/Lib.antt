@@ -5,6 +5,7 @@ pub mod Identities
 pub mod Kept
 pub mod Named
 pub mod Rows
+pub mod Ordered
 pub mod Seen
 pub mod Undrawn
 pub mod Windows

@@ -1,13 +1,13 @@
 -- Rows in order of their keys, read as a finite map.
-use Rattle.std.proofs.Common.{◌≡◌, ℕ, ◌<◌, Bool, true, false, cond, List, [], ◌∷◌, ◌++◌, map, length, Some, None, refl, sym, ◌∙◌, ap, subst, nat_eq, T, arith}
+use Rattle.std.proofs.Common.{◌≡◌, ℕ, ◌<◌, Bool, true, false, cond, List, [], ◌∷◌, ◌++◌, map, Some, None, refl, sym, ◌∙◌, ap, subst, nat_eq, T, arith}
 use Rattle.std.specs.Prelude.{◌&&◌, IsSome, filter}
 use Rattle.std.specs.Map.{lookup, set_value, remove_entry}
-use Rattle.std.specs.FinMap.{find, get, insert, remove, len, entries, from_entries, from_sorted, is_sorted, from_entries_push, get-from_entries, get-from_sorted, entries-from_sorted, get-insert, get-remove, len-entries, same_map, nat_cmp-IsAntisymmetric}
+use Rattle.std.specs.FinMap.{find, get, insert, remove, entries, from_entries, from_sorted, is_sorted, from_entries_push, get-from_entries, get-from_sorted, entries-from_sorted, get-insert, get-remove, same_map, nat_cmp-IsAntisymmetric}
 use Rattle.std.specs.Ordering.{nat_cmp, is_eq, is_lt}
 use Rattle.std.specs.Cmp.{nat_cmp_total}
 use Rattle.std.proofs.lemmas.Bool.Decides.{nat_tests}
 use Rattle.std.specs.FinMap.Entries.{below_all}
-use Rattle.gtp_values.specs.FiniteMap.{FiniteMap, with_value, changed}
+use Rattle.gtp_values.specs.FiniteMap.{FiniteMap, with_value}
 
 -- ---- rows as a map
 
@@ -33,9 +33,6 @@ pub listed : {X : Type 0} (rows : List (ℕ × X)) → T (is_sorted nat_cmp rows
 listed rows up =
     ap entries (same_map nat_cmp_total nat_cmp-IsAntisymmetric (from_entries rows) (from_sorted rows) (λ q. get-from_entries nat_cmp_total rows q ∙ sym (get-from_sorted nat_cmp rows q up)))
     ∙ entries-from_sorted nat_cmp rows up
-
-pub len_rows : {X : Type 0} (rows : List (ℕ × X)) → T (is_sorted nat_cmp rows) → len (from_entries {R = nat_cmp} rows) ≡ length rows
-len_rows rows up = len-entries (from_entries rows) ∙ ap length (listed rows up)
 
 -- ---- a change, key by key
 
@@ -139,7 +136,3 @@ below_map x f (r ∷ rs) h = both _ _ (first _ _ h) (below_map x f rs (second _ 
 pub ascend_map : {X : Type 0} (f : X → X) (rows : List (ℕ × X)) → T (is_sorted nat_cmp rows) → T (is_sorted nat_cmp (map (with_value f) rows))
 ascend_map f [] h = tt
 ascend_map f (r ∷ rs) h = both _ _ (below_map r.0 f rs (first _ _ h)) (ascend_map f rs (second _ _ h))
-
--- values that are changed row by row
-pub table_changed : {X : Type 0} (f : X → X) (rows : List (ℕ × X)) → T (is_sorted nat_cmp rows) → from_entries (map (with_value f) rows) ≡ changed f (from_entries rows)
-table_changed f rows up = ap (λ (es : List (ℕ × _)). from_entries (map (with_value f) es)) (sym (listed rows up))

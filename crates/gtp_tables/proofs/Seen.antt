@@ -1,21 +1,20 @@
 -- Sessions and bearers that are seen.
-use Rattle.std.proofs.Common.{◌≡◌, ℕ, suc, Bool, true, false, cond, List, [], ◌∷◌, map, length, Option, Some, None, refl, sym, ap, ◌∙◌, nat_eq, arith}
-use Rattle.std.specs.Prelude.{not, ◌&&◌, filter}
+use Rattle.std.proofs.Common.{◌≡◌, ℕ, Bool, true, false, cond, Option, Some, None, refl, sym, ap, ◌∙◌, nat_eq, arith}
+use Rattle.std.specs.Prelude.{not, ◌&&◌}
 use Rattle.std.specs.List.{list_any}
 use Rattle.std.specs.Cmp.{nat_cmp_total}
-use Rattle.std.specs.FinMap.{get, len, entries, values, from_entries, get-entries, entries_sorted, same_map, nat_cmp-IsAntisymmetric}
+use Rattle.std.specs.FinMap.{get, values, same_map, nat_cmp-IsAntisymmetric}
 use Rattle.std.proofs.lemmas.Bool.Decides.{nat_tests}
 use Rattle.gtp_values.specs.FiniteMap.{FiniteMap, kept}
+use Rattle.gtp_values.specs.Number.{is_number}
 use Rattle.gtp_tables.specs.declared.context.Bearer.{Bearer}
 use Rattle.gtp_tables.specs.declared.context.Session.{Session}
 use Rattle.gtp_tables.specs.Contexts.{Contexts, is_pending, is_opened, left, seen, is_seen, are_seen, takes}
 use Rattle.gtp_tables.specs.Identity.{IsUnused, IsBearerWith}
-use Rattle.gtp_tables.specs.Pool.{HasAddress, IsUnusedAddress, address_is}
+use Rattle.gtp_tables.specs.Pool.{HasAddress, IsUnusedAddress}
 use Rattle.gtp_tables.proofs.Found.{meets, meets_not}
-use Rattle.gtp_tables.proofs.Identities.{both}
-use Rattle.gtp_tables.proofs.Kept.{passing, get_kept, table_kept}
-use Rattle.gtp_tables.proofs.Named.{same}
-use Rattle.gtp_tables.proofs.Rows.{same_rows, find_row, len_rows, ascend_filter}
+use Rattle.gtp_values.proofs.Tests.{both, number_is}
+use Rattle.gtp_tables.proofs.Kept.{passing, get_kept}
 
 -- all values that pass are all that stand
 kept_all : {X : Type 0} (m : FiniteMap X) → m ≡ kept (λ _ _. true) m
@@ -80,21 +79,6 @@ gone_kept {X} test m t x stands is = get_kept (λ _ y. test y) m t ∙ (ap (pass
 pub none_kept : {X : Type 0} (test : X → Bool) (m : FiniteMap X) (t : ℕ) → get m t ≡ None → get (kept (λ _ y. test y) m) t ≡ None
 none_kept {X} test m t none = get_kept (λ _ y. test y) m t ∙ ap (passing (λ _ y. test y) t) none
 
--- ---- how many pass
-
-count_values : {X : Type 0} (test : X → Bool) (rows : List (ℕ × X)) → length (filter test (map (λ e. e.1) rows)) ≡ length (filter (λ e. test e.1) rows)
-count_values test [] = refl
-count_values test (e ∷ es) = elim (test e.1) as (λ b. length (cond b (e.1 ∷ filter test (map (λ x. x.1) es)) (filter test (map (λ x. x.1) es))) ≡ length (cond b (e ∷ filter (λ x. test x.1) es) (filter (λ x. test x.1) es))) [ true ↦ ap suc (count_values test es) | false ↦ count_values test es ]
-
-pub count_kept : {X : Type 0} (test : X → Bool) (m : FiniteMap X) → length (filter test (values m)) ≡ len (kept (λ _ x. test x) m)
-count_kept {X} test m =
-    let rows : List (ℕ × X) = entries m in
-    let same : from_entries rows ≡ m = same_rows rows m (λ q. sym (find_row rows q) ∙ sym (get-entries m q)) in
-    count_values test rows
-    ∙ (sym (len_rows (filter (λ e. test e.1) rows) (ascend_filter (λ e. test e.1) rows (entries_sorted m)))
-    ∙ (ap len (table_kept (λ _ x. test x) rows (entries_sorted m))
-    ∙ ap (λ (n : FiniteMap X). len (kept (λ _ x. test x) n)) same))
-
 -- ---- identities
 
 -- a bearer that has the identity under its session's
@@ -122,19 +106,15 @@ unused_unseen restarted c session identity is t b stands of has =
 
 -- ---- addresses
 
-address : (a : ℕ) (o : Option ℕ) → address_is a o ≡ true → o ≡ Some a
-address a None h = absurd cc
-address a (Some n) h = ap Some (same n a h)
-
 pub address_taken : (restarted : Bool) (c : Contexts) (a : ℕ) → list_any (takes restarted a) (values c.sessions) ≡ true → HasAddress (seen restarted c).sessions a
 address_taken restarted c a any =
     let r = meets (takes restarted a) c.sessions any in
-    let is = both (is_seen restarted r.value) (address_is a r.value.address) r.meets in
+    let is = both (is_seen restarted r.value) (is_number a r.value.address) r.meets in
     record {
       teid = r.key;
       session = r.value;
-      stands = ap (λ (m : FiniteMap Session). get m r.key) (seen_sessions restarted c) ∙ stands_kept (is_seen restarted) c.sessions r.key r.value r.stands is.0;
-      has = address a r.value.address is.1;
+      stands = ap (λ (m : FiniteMap Session). get m r.key) (seen_sessions restarted c) ∙ stands_kept (is_seen restarted) c.sessions r.key r.value r.stands is.left;
+      has = number_is a r.value.address is.right;
     }
 
 pub address_free : (restarted : Bool) (c : Contexts) (a : ℕ) → list_any (takes restarted a) (values c.sessions) ≡ false → IsUnusedAddress (seen restarted c).sessions a
@@ -142,6 +122,6 @@ address_free restarted c a none t s stands has =
     let p = kept_stands (is_seen restarted) c.sessions t s (ap (λ (m : FiniteMap Session). get m t) (sym (seen_sessions restarted c)) ∙ stands) in
     let not_it : takes restarted a s ≡ false = meets_not (takes restarted a) c.sessions none t s p.stands in
     let itself : nat_eq a a ≡ true = grind (arith, nat_tests) in
-    let here : address_is a s.address ≡ true = ap (address_is a) has ∙ itself in
-    let it : takes restarted a s ≡ true = ap (λ (b : Bool). b && address_is a s.address) p.is ∙ here in
+    let here : is_number a s.address ≡ true = ap (is_number a) has ∙ itself in
+    let it : takes restarted a s ≡ true = ap (λ (b : Bool). b && is_number a s.address) p.is ∙ here in
     cc

@@ -8,7 +8,7 @@ use Rattle.gtp_tables.specs.declared.context.Session.{Session}
 use Rattle.gtp_tables.specs.declared.context.State.{State}
 use Rattle.gtp_tables.specs.declared.context.State.TheVariants.{Pending, Active, Closing}
 use Rattle.gtp_values.specs.FiniteMap.{FiniteMap, kept}
-use Rattle.gtp_tables.specs.Pool.{address_is}
+use Rattle.gtp_values.specs.Number.{is_number}
 
 -- sessions and bearers, each by own TEID
 pub record Contexts : Type 0 where
@@ -47,7 +47,7 @@ is_seen restarted s = not restarted || is_pending s.state
 
 -- whether a session is seen that has the address
 abbrev pub takes : Bool → ℕ → Session → Bool
-takes restarted address s = is_seen restarted s && address_is address s.address
+takes restarted address s = is_seen restarted s && is_number address s.address
 
 -- whether the bearers of what stands there are seen: those of an opened session not after a restart
 abbrev pub are_seen : Bool → Option Session → Bool

@@ -1,10 +1,11 @@
 -- EPS bearer identities that the bearers of a session have.
-use Rattle.std.specs.Prelude.{◌≡◌, ◌≢◌, ◌==◌, ℕ, ◌≤◌, ◌<◌, Bool, false, ◌&&◌, nat_eq, Option, Some, None, if◌then◌else◌}
+use Rattle.std.specs.Prelude.{◌≡◌, ◌≢◌, ◌==◌, ℕ, ◌≤◌, ◌<◌, Bool, ◌&&◌, nat_eq, Some, if◌then◌else◌}
 use Rattle.std.specs.FinMap.{get}
 use Rattle.gtp_values.specs.Ebi.{IsEbi}
 use Rattle.gtp_tables.specs.declared.context.Bearer.{Bearer}
 use Rattle.gtp_tables.specs.declared.context.State.TheVariants.{Closing}
 use Rattle.gtp_values.specs.FiniteMap.{FiniteMap}
+use Rattle.gtp_values.specs.Number.{is_number}
 
 -- a bearer of the session has the identity, whatever its state
 pub record HasIdentity (bearers : FiniteMap Bearer) (session identity : ℕ) : Type 0 where
@@ -36,14 +37,9 @@ pub record IsLowestUnused (bearers : FiniteMap Bearer) (session identity : ℕ) 
 abbrev pub HasAll : FiniteMap Bearer → ℕ → Type 0
 HasAll bearers session = (i : ℕ) → IsEbi i → HasIdentity bearers session i
 
--- whether this is the identity
-abbrev pub number_is : ℕ → Option ℕ → Bool
-number_is identity None = false
-number_is identity (Some i) = nat_eq i identity
-
 -- whether it is a bearer of the session, with the identity
 abbrev pub has_number : ℕ → ℕ → Bearer → Bool
-has_number session identity b = nat_eq b.session session && number_is identity b.identity
+has_number session identity b = nat_eq b.session session && is_number identity b.identity
 
 -- each bearer of the session is closing, whatever it was
 abbrev pub closing_bearer : ℕ → Bearer → Bearer

@@ -1,6 +1,8 @@
 -- Bearers by the peer's TEID.
-use Rattle.std.specs.Prelude.{◌≡◌, ◌≢◌, ℕ, ◌&&◌, Bool, true, false, Option, Some, None, nat_eq}
+use Rattle.std.specs.Prelude.{◌≡◌, ◌≢◌, ℕ, ◌≤◌, ◌&&◌, List, Bool, true, false, Option, Some, None, nat_eq}
 use Rattle.std.specs.FinMap.{get}
+use Rattle.std.specs.List.{list_any}
+use Rattle.std.specs.Map.{lookup}
 use Rattle.std.specs.declared.cmp.Ordering.{Ordering}
 use Rattle.std.specs.Ordering.{nat_cmp, ordering_then}
 use Rattle.std.specs.BTreeSet.{BTreeSet, contains}
@@ -8,15 +10,11 @@ use Rattle.gtp_tables.specs.declared.context.Bearer.{Bearer}
 use Rattle.gtp_tables.specs.declared.context.Kind.{Kind}
 use Rattle.gtp_tables.specs.declared.context.Kind.TheVariants.{Default, Dedicated}
 use Rattle.gtp_values.specs.FiniteMap.{FiniteMap}
+use Rattle.gtp_values.specs.Number.{is_number}
 
 -- by remote and then by own TEID
 abbrev pub pair_cmp : ℕ × ℕ → ℕ × ℕ → Ordering
 pair_cmp p q = ordering_then (nat_cmp p.0 q.0) (nat_cmp p.1 q.1)
-
--- whether this is the remote
-abbrev pub remote_is : ℕ → Option ℕ → Bool
-remote_is remote None = false
-remote_is remote (Some t) = nat_eq t remote
 
 -- the remote of what stands at a place
 abbrev pub remote_at : Option Bearer → Option ℕ
@@ -26,11 +24,24 @@ remote_at (Some b) = b.remote
 -- whether a bearer with this remote stands at a place
 abbrev pub names : ℕ → Option Bearer → Bool
 names remote None = false
-names remote (Some b) = remote_is remote b.remote
+names remote (Some b) = is_number remote b.remote
 
 -- the index has exactly the bearers that have a remote
 abbrev pub IsIndexed : FiniteMap Bearer → BTreeSet (ℕ × ℕ) → Type 0
 IsIndexed bearers index = (remote own : ℕ) → contains pair_cmp index (remote, own) ≡ names remote (get bearers own)
+
+-- whether an own TEID is named under a remote one
+abbrev pub is_under : BTreeSet (ℕ × ℕ) → ℕ → Bool
+is_under index remote = list_any (λ k. nat_eq k.0 remote) index.keys
+
+-- this TEID or a later one, where there is one to compare with
+abbrev pub IsFrom : Option ℕ → ℕ → Type 0
+IsFrom None own = ⊥
+IsFrom (Some low) own = low ≤ own
+
+-- each bearer that has a remote is under the TEID that is noted for this remote, or under a later one
+abbrev pub AreFrom : FiniteMap Bearer → List (ℕ × ℕ) → Type 0
+AreFrom bearers noted = (remote own : ℕ) → names remote (get bearers own) ≡ true → IsFrom (lookup (nat_eq remote) noted) own
 
 -- a bearer has this remote
 pub record HasRemote (bearers : FiniteMap Bearer) (remote teid : ℕ) : Type 0 where

@@ -1,5 +1,5 @@
 -- Addresses of a pool, and the sessions that have them.
-use Rattle.std.specs.Prelude.{◌≡◌, ◌≢◌, ℕ, ◌+◌, ◌<◌, ◌≤◌, ◌^◌, Bool, false, Option, Some, None, nat_eq}
+use Rattle.std.specs.Prelude.{◌≡◌, ◌≢◌, ℕ, ◌+◌, ◌<◌, ◌≤◌, ◌^◌, Some}
 use Rattle.std.specs.FinMap.{get}
 use Rattle.gtp_tables.specs.declared.context.Session.{Session}
 use Rattle.gtp_values.specs.FiniteMap.{FiniteMap}
@@ -36,8 +36,3 @@ pub record IsLowestFree (sessions : FiniteMap Session) (pool : Range) (address :
 -- sessions have all addresses of the pool
 abbrev pub IsUsedUp : FiniteMap Session → Range → Type 0
 IsUsedUp sessions pool = (p : ℕ) → p < pool.count → HasAddress sessions (pool.start + p)
-
--- whether this is the address
-abbrev pub address_is : ℕ → Option ℕ → Bool
-address_is address None = false
-address_is address (Some a) = nat_eq a address

@@ -16,7 +16,9 @@ ghost use Rattle.gtp_tables.specs.Index.{default_of, HasDefault};
 
 use crate::context::{Bearer, Kind, State};
 use crate::fault::TablesFault;
-use crate::index::{first_named, keep_named, name_if, next_named, unname_if};
+use crate::index::{
+    first_named, forget_if, keep_named, keep_noted, name_if, next_named, noted_for, unname_if,
+};
 use crate::table::Table;
 use gtp_values::{Ebi, Memory, Teid};
 use indexmap::IndexMap;
@@ -31,13 +33,16 @@ pub struct Bearers {
     table: Table<Bearer>,
     /// Exactly the pairs of a remote and an own TEID of the bearers that have a remote.
     by_remote: BTreeSet<(u32, u32)>,
+    /// By remote TEID an own one, below which none has this remote: where it has it, it is found at
+    /// once, and the pairs need not be searched.
+    noted: IndexMap<u32, u32>,
 }
 
 impl Model for Bearers {
     ghost use Rattle.std.specs.Coded.{coded_ℕ};
     ghost use Rattle.std.specs.FinMap as map;
     ghost use Rattle.gtp_values.specs.FiniteMap.{FiniteMap};
-    ghost use Rattle.gtp_tables.specs.Index.{IsIndexed};
+    ghost use Rattle.gtp_tables.specs.Index.{IsIndexed, AreFrom};
     ghost use Rattle.gtp_tables.specs.declared.context.Bearer.{Bearer as OneBearer};
     ghost use Rattle.gtp_tables.specs.contracts.context.Bearer as bearer;
 
@@ -47,7 +52,10 @@ impl Model for Bearers {
 
     ghost view = { λ a. a.table.table };
 
-    ghost invariant = { λ a. IsIndexed a.table.table a.by_remote };
+    ghost invariant = { λ a. record {
+      indexed : IsIndexed a.table.table a.by_remote;
+      noted : AreFrom a.table.table a.noted.entries;
+    } };
 }
 
 /// Closes a bearer where it is of the session.
@@ -89,6 +97,7 @@ impl Bearers {
         Bearers {
             table: Table::new(alloc),
             by_remote: BTreeSet::new(alloc),
+            noted: IndexMap::new(alloc),
         }
     }
 
@@ -120,6 +129,12 @@ impl Bearers {
             → HasRemote self.now remote.0 t → teid.0 ≤ t) }
         ensures none { IfNone result (IsUnnamed self.now remote.0) }
     {
+        let Some(noted) = noted_for(&self.noted, remote.0) else {
+            return None;
+        };
+        if remote_of(&self.table, Teid(noted)) == Some(remote.0) {
+            return Some(Teid(noted));
+        }
         match first_named(&self.by_remote, remote.0) {
             Some(teid) => Some(Teid(teid)),
             None => None,
@@ -170,7 +185,8 @@ impl Bearers {
         ensures err { OnErr result (self.new ≡ self.old) }
     {
         self.table.reserve_one()?;
-        name_if(&mut self.by_remote, bearer.remote, teid.0)?;
+        let (index, noted) = (&mut self.by_remote, &mut self.noted);
+        name_if(index, noted, bearer.remote, teid.0)?;
         self.table.add(teid, bearer);
         Ok(())
     }
@@ -183,7 +199,8 @@ impl Bearers {
         ensures err { OnErr result (self.new ≡ self.old) }
         ensures unnamed { bearer.remote ≡ None → IsOk result }
     {
-        name_if(&mut self.by_remote, bearer.remote, teid.0)?;
+        let (index, noted) = (&mut self.by_remote, &mut self.noted);
+        name_if(index, noted, bearer.remote, teid.0)?;
         self.table.replace(teid, bearer);
         Ok(())
     }
@@ -223,6 +240,7 @@ impl Bearers {
     {
         self.table.remove_where(test);
         keep_named(&mut self.by_remote, &self.table);
+        keep_noted(&mut self.noted, &self.by_remote);
     }
 
     /// Closes the bearers of a session, whatever they were. Takes no memory.
@@ -238,6 +256,7 @@ impl Bearers {
     {
         let remote = remote_of(&self.table, teid);
         unname_if(&mut self.by_remote, remote, teid.0);
+        forget_if(&mut self.noted, &self.by_remote, remote);
         self.table.remove(teid);
     }
 }

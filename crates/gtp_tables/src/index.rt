@@ -5,11 +5,15 @@ ghost use Rattle.std.specs.Prelude.{IfSome, IfNone, IsOk, OnOk, OnErr};
 ghost use Rattle.std.specs.Prelude.{is_some};
 ghost use Rattle.std.specs.BTreeSet.{contains};
 ghost use Rattle.std.specs.FinMap.{get};
-ghost use Rattle.gtp_tables.specs.Index.{pair_cmp, remote_is};
+ghost use Rattle.std.specs.Map.{lookup};
+ghost use Rattle.gtp_values.specs.Number.{is_number};
+ghost use Rattle.indexmap.specs.IndexMap.{spare};
+ghost use Rattle.gtp_tables.specs.Index.{pair_cmp, is_under, IsFrom};
 
 use crate::context::Bearer;
-use crate::table::Table;
+use crate::table::{Table, take_out};
 use gtp_values::Teid;
+use indexmap::IndexMap;
 use std::alloc::AllocError;
 use std::collections::BTreeSet;
 use std::ops::Bound;
@@ -24,21 +28,52 @@ fn name(index: &mut BTreeSet<(u32, u32)>, remote: u32, own: u32) -> Result<(), A
     Ok(())
 }
 
-/// Names an own TEID under a remote one, where there is one.
+/// Notes an own TEID for a remote one, where a lower one is not noted.
+fn note(noted: &mut IndexMap<u32, u32>, remote: u32, own: u32)
+    requires room { 0 < spare noted.old }
+    ensures others { (r o : ℕ) → IsFrom (lookup (nat_eq r) noted.old.entries) o
+        → IsFrom (lookup (nat_eq r) noted.new.entries) o }
+    ensures own { IsFrom (lookup (nat_eq remote) noted.new.entries) own }
+{
+    let low = match noted.get(&remote) {
+        Some(there) => own.min(*there),
+        None => own,
+    };
+    if noted.insert(remote, low).is_err() {
+        unreachable!()
+    }
+}
+
+/// What is noted for a remote TEID.
+pub(crate) fn noted_for(noted: &IndexMap<u32, u32>, remote: u32) -> Option<u32>
+    ensures { result ≡ lookup (nat_eq remote) noted.now.entries }
+{
+    noted.get(&remote).copied()
+}
+
+/// Names an own TEID under a remote one, where there is one, and notes it.
 pub(crate) fn name_if(
     index: &mut BTreeSet<(u32, u32)>,
+    noted: &mut IndexMap<u32, u32>,
     remote: Option<u32>,
     own: u32,
 ) -> Result<(), AllocError>
     ensures ok { OnOk result ((r o : ℕ) → contains pair_cmp index.new (r, o)
-        ≡ cond (remote_is r remote && nat_eq own o) true (contains pair_cmp index.old (r, o))) }
+        ≡ cond (is_number r remote && nat_eq own o) true (contains pair_cmp index.old (r, o))) }
+    ensures noted { (r o : ℕ) → IsFrom (lookup (nat_eq r) noted.old.entries) o
+        → IsFrom (lookup (nat_eq r) noted.new.entries) o }
+    ensures own { OnOk result ((r : ℕ) → is_number r remote ≡ true
+        → IsFrom (lookup (nat_eq r) noted.new.entries) own) }
     ensures err { OnErr result (index.new.keys ≡ index.old.keys) }
     ensures none { remote ≡ None → IsOk result }
 {
-    match remote {
-        Some(remote) => name(index, remote, own),
-        None => Ok(()),
-    }
+    let Some(remote) = remote else {
+        return Ok(());
+    };
+    noted.reserve(1)?;
+    name(index, remote, own)?;
+    note(noted, remote, own);
+    Ok(())
 }
 
 /// Names an own TEID no more under a remote one.
@@ -52,7 +87,7 @@ fn unname(index: &mut BTreeSet<(u32, u32)>, remote: u32, own: u32)
 /// Names an own TEID no more under a remote one, where there is one.
 pub(crate) fn unname_if(index: &mut BTreeSet<(u32, u32)>, remote: Option<u32>, own: u32)
     ensures { (r o : ℕ) → contains pair_cmp index.new (r, o)
-        ≡ cond (remote_is r remote && nat_eq own o) false (contains pair_cmp index.old (r, o)) }
+        ≡ cond (is_number r remote && nat_eq own o) false (contains pair_cmp index.old (r, o)) }
 {
     if let Some(remote) = remote {
         unname(index, remote, own);
@@ -98,4 +133,50 @@ pub(crate) fn keep_named(index: &mut BTreeSet<(u32, u32)>, table: &Table<Bearer>
             ensures { result ≡ is_some (get table.entry.now.table pair.now.1) }
         { table.get(Teid(pair.1)).is_some() },
     );
+}
+
+/// Notes nothing more for a remote TEID under which none is named any more.
+fn forget(noted: &mut IndexMap<u32, u32>, index: &BTreeSet<(u32, u32)>, remote: u32)
+    ensures { (r o : ℕ) → contains pair_cmp index.now (r, o) ≡ true
+        → IsFrom (lookup (nat_eq r) noted.old.entries) o
+        → IsFrom (lookup (nat_eq r) noted.new.entries) o }
+{
+    if !is_under(index, remote) {
+        take_out(noted, remote);
+    }
+}
+
+/// Notes nothing more for a remote TEID, where there is one, under which none is named any more.
+pub(crate) fn forget_if(
+    noted: &mut IndexMap<u32, u32>,
+    index: &BTreeSet<(u32, u32)>,
+    remote: Option<u32>,
+)
+    ensures { (r o : ℕ) → contains pair_cmp index.now (r, o) ≡ true
+        → IsFrom (lookup (nat_eq r) noted.old.entries) o
+        → IsFrom (lookup (nat_eq r) noted.new.entries) o }
+{
+    if let Some(remote) = remote {
+        forget(noted, index, remote);
+    }
+}
+
+/// Notes something only for remote TEIDs under which one is named.
+pub(crate) fn keep_noted(noted: &mut IndexMap<u32, u32>, index: &BTreeSet<(u32, u32)>)
+    ensures { (r o : ℕ) → contains pair_cmp index.now (r, o) ≡ true
+        → IsFrom (lookup (nat_eq r) noted.old.entries) o
+        → IsFrom (lookup (nat_eq r) noted.new.entries) o }
+{
+    noted.retain(
+        |remote: &u32, own: &mut u32| -> bool
+            ensures { (result ≡ is_under index.entry.now remote.now) × (own.new ≡ own.old) }
+        { is_under(index, *remote) },
+    );
+}
+
+/// Whether an own TEID is named under a remote one.
+fn is_under(index: &BTreeSet<(u32, u32)>, remote: u32) -> bool
+    ensures { result ≡ is_under index.now remote }
+{
+    first_named(index, remote).is_some()
 }

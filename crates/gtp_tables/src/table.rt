@@ -2,14 +2,17 @@
 
 ghost use Rattle.std.specs.Prelude.{◌≡◌, ◌↔◌, ◌<◌, ◌≤◌, ℕ, Bool, Option, None, Some, true, false, not};
 ghost use Rattle.std.specs.Prelude.{IsSome, IsTrue, IsOk, OnOk, OnErr};
-ghost use Rattle.std.specs.Prelude.{filter, option_map, slice_get};
+ghost use Rattle.std.specs.Prelude.{filter, option_map, slice_get, is_some, length};
+ghost use Rattle.std.specs.Prelude.{vec_len, vec_capacity};
+ghost use Rattle.std.specs.List.{list_any, IsDistinct};
 ghost use Rattle.std.specs.Fn.{FnReturnsAt};
 ghost use Rattle.std.specs.Prelude.{[], ◌∷◌, ◌++◌, cond, nat_eq};
 ghost use Rattle.std.specs.FinMap as map;
-ghost use Rattle.std.specs.Map.{lookup, set_value, remove_entry};
+ghost use Rattle.std.specs.Map.{lookup, set_value, keys_of};
 ghost use Rattle.indexmap.specs.IndexMap.{spare};
 ghost use Rattle.gtp_values.specs.FiniteMap.{Each, kept};
 ghost use Rattle.gtp_tables.specs.Deciding.{Answers};
+ghost use Rattle.gtp_tables.specs.Rows.{AreRising};
 
 use gtp_values::{Memory, Teid};
 use indexmap::IndexMap;
@@ -20,12 +23,17 @@ use std::marker::Model;
 /// map, and whether one more can be added without an allocation.
 #[derive(Drop)]
 pub struct Table<V: Copy> {
+    /// In no order, so that a removal moves one row and not all that come after it.
     pub(crate) rows: IndexMap<u32, V>,
+    /// The TEIDs of the rows, ascending.
+    keys: Vec<u32>,
     ready: bool,
 }
 
 impl<V: Copy> Model for Table<V> {
-    ghost use Rattle.std.specs.Prelude.{◌≡◌, ◌<◌, true, T};
+    ghost use Rattle.std.specs.Prelude.{◌≡◌, ◌<◌, true, nat_eq, vec_len, vec_capacity};
+    ghost use Rattle.std.specs.List.{IsDistinct};
+    ghost use Rattle.std.specs.Map.{keys_of};
     ghost use Rattle.std.specs.FinMap as map;
     ghost use Rattle.std.specs.Ordering.{nat_cmp};
     ghost use Rattle.indexmap.specs.IndexMap.{spare};
@@ -38,8 +46,9 @@ impl<V: Copy> Model for Table<V> {
     ghost view = { λ a. record { table = map.from_entries a.rows.entries; has_room = a.ready } };
 
     ghost invariant = { λ a. record {
-      ascend : T (map.is_sorted nat_cmp a.rows.entries);
-      room : a.ready ≡ true → 0 < spare a.rows;
+      keys : a.keys.items ≡ map.keys (map.from_entries {R = nat_cmp} a.rows.entries);
+      distinct : IsDistinct nat_eq (keys_of a.rows.entries);
+      room : a.ready ≡ true → (0 < spare a.rows) × (vec_len a.keys < vec_capacity a.keys);
     } };
 }
 
@@ -50,6 +59,7 @@ impl<V: Copy> Table<V> {
     {
         Table {
             rows: IndexMap::new(alloc),
+            keys: Vec::new(alloc),
             ready: false,
         }
     }
@@ -58,7 +68,7 @@ impl<V: Copy> Table<V> {
     pub fn len(&self) -> usize
         ensures { result ≡ map.len self.now.table }
     {
-        self.rows.len()
+        self.keys.len()
     }
 
     /// What stands under a TEID.
@@ -77,6 +87,7 @@ impl<V: Copy> Table<V> {
     {
         if !self.ready {
             self.rows.reserve(1)?;
+            self.keys.try_reserve(1)?;
             self.ready = true;
         }
         Ok(())
@@ -90,6 +101,9 @@ impl<V: Copy> Table<V> {
         ensures table { self.new.table ≡ map.insert self.old.table teid.0 value }
     {
         put_last(&mut self.rows, teid.0, value);
+        if self.keys.push(teid.0).is_err() {
+            unreachable!()
+        }
         self.ready = false;
     }
 
@@ -120,15 +134,19 @@ impl<V: Copy> Table<V> {
         ensures { option_map (λ e. (e.0.0, e.1)) result
             ≡ slice_get (map.entries self.now.table) index }
     {
-        match self.rows.get_index(index) {
-            Some((key, value)) => Some((Teid(*key), *value)),
-            None => None,
+        let teid = Teid(key_at(self.keys.as_slice(), index)?);
+        match self.get(teid) {
+            Some(value) => Some((teid, value)),
+            None => unreachable!(),
         }
     }
 
-    /// What stands there, in order of the TEIDs.
+    /// What stands there, in any order: whether a test is met, and how often, is the same in each.
     pub(crate) fn values(&self) -> &[V]
-        ensures { result.now ≡ map.values self.now.table }
+        ensures any { (p : V → Bool) → list_any p result.now
+            ≡ list_any p (map.values self.now.table) }
+        ensures count { (p : V → Bool) → length (filter p result.now)
+            ≡ map.len (kept (λ _ x. p x) self.now.table) }
     {
         self.rows.values().as_slice()
     }
@@ -141,6 +159,7 @@ impl<V: Copy> Table<V> {
             → self.new ≡ record self.old { table = kept (λ _ x. not (goes x)) self.old.table } }
     {
         drop_where(&mut self.rows, test);
+        keep_keys(&mut self.keys, &self.rows);
     }
 
     /// Removes what stands under each TEID that meets the test, whose answer a TEID determines. Takes
@@ -152,6 +171,7 @@ impl<V: Copy> Table<V> {
             → self.new ≡ record self.old { table = kept (λ t _. not (goes t)) self.old.table } }
     {
         drop_keys_where(&mut self.rows, test);
+        keep_keys(&mut self.keys, &self.rows);
     }
 
     /// Removes what stands under a TEID, if anything does. Takes no memory.
@@ -159,7 +179,15 @@ impl<V: Copy> Table<V> {
         ensures { self.new ≡ record self.old { table = map.remove self.old.table teid.0 } }
     {
         take_out(&mut self.rows, teid.0);
+        cut_key(&mut self.keys, teid.0);
     }
+}
+
+/// The key at a place.
+fn key_at(keys: &[u32], index: usize) -> Option<u32>
+    ensures { result ≡ slice_get keys.now index }
+{
+    keys.get(index).copied()
 }
 
 /// Adds a row under a new key.
@@ -167,6 +195,7 @@ fn put_last<V: Copy>(rows: &mut IndexMap<u32, V>, key: u32, value: V)
     requires room { 0 < spare rows.old }
     requires new { lookup (nat_eq key) rows.old.entries ≡ None }
     ensures entries { rows.new.entries ≡ rows.old.entries ++ (key, value) ∷ [] }
+    ensures distinct { IsDistinct nat_eq (keys_of rows.new.entries) }
 {
     if rows.insert(key, value).is_err() {
         unreachable!()
@@ -177,6 +206,7 @@ fn put_last<V: Copy>(rows: &mut IndexMap<u32, V>, key: u32, value: V)
 fn put_there<V: Copy>(rows: &mut IndexMap<u32, V>, key: u32, value: V)
     requires stands { IsSome (lookup (nat_eq key) rows.old.entries) }
     ensures entries { rows.new.entries ≡ set_value (nat_eq key) rows.old.entries value }
+    ensures distinct { IsDistinct nat_eq (keys_of rows.new.entries) }
     ensures room { spare rows.old ≡ spare rows.new }
 {
     match rows.get_mut(&key) {
@@ -186,13 +216,39 @@ fn put_there<V: Copy>(rows: &mut IndexMap<u32, V>, key: u32, value: V)
 }
 
 /// Takes a row out.
-fn take_out<V: Copy>(rows: &mut IndexMap<u32, V>, key: u32)
-    ensures entries { rows.new.entries ≡ remove_entry (nat_eq key) rows.old.entries }
+pub(crate) fn take_out<V: Copy>(rows: &mut IndexMap<u32, V>, key: u32)
+    ensures distinct { IsDistinct nat_eq (keys_of rows.new.entries) }
     ensures rows { (q : ℕ) → lookup (nat_eq q) rows.new.entries
         ≡ cond (nat_eq key q) None (lookup (nat_eq q) rows.old.entries) }
     ensures room { spare rows.old ≤ spare rows.new }
 {
-    rows.shift_remove(&key);
+    rows.swap_remove(&key);
+}
+
+/// Takes a key out, where it is there.
+fn cut_key(keys: &mut Vec<u32>, key: u32)
+    requires rising { AreRising keys.old.items }
+    ensures keys { keys.new.items ≡ filter (λ k. not (nat_eq key k)) keys.old.items }
+    ensures room { vec_len keys.old < vec_capacity keys.old
+        → vec_len keys.new < vec_capacity keys.new }
+{
+    if let Ok(at) = keys.binary_search(&key) {
+        keys.remove(at);
+    }
+}
+
+/// Keeps the keys that have a row.
+fn keep_keys<V: Copy>(keys: &mut Vec<u32>, rows: &IndexMap<u32, V>)
+    ensures keys { keys.new.items
+        ≡ filter (λ k. is_some (lookup (nat_eq k) rows.now.entries)) keys.old.items }
+    ensures room { vec_len keys.old < vec_capacity keys.old
+        → vec_len keys.new < vec_capacity keys.new }
+{
+    keys.retain(
+        |key: &u32| -> bool
+            ensures { result ≡ is_some (lookup (nat_eq key.now) rows.entry.now.entries) }
+        { rows.contains_key(key) },
+    );
 }
 
 /// Drops the rows whose value meets the test.
@@ -200,6 +256,7 @@ fn drop_where<V: Copy, F: Fn(&V) -> bool>(rows: &mut IndexMap<u32, V>, test: F)
     requires callable { F.IsAlwaysCallable test }
     ensures entries { (goes : V → Bool) → Answers (FnReturnsAt F.Fn test) goes
         → rows.new.entries ≡ filter (λ e. not (goes e.1)) rows.old.entries }
+    ensures distinct { IsDistinct nat_eq (keys_of rows.new.entries) }
     ensures room { spare rows.old ≤ spare rows.new }
 {
     rows.retain(
@@ -216,6 +273,7 @@ fn drop_keys_where<V: Copy, F: Fn(&u32) -> bool>(rows: &mut IndexMap<u32, V>, te
     requires callable { F.IsAlwaysCallable test }
     ensures entries { (goes : ℕ → Bool) → Answers (FnReturnsAt F.Fn test) goes
         → rows.new.entries ≡ filter (λ e. not (goes e.0)) rows.old.entries }
+    ensures distinct { IsDistinct nat_eq (keys_of rows.new.entries) }
     ensures room { spare rows.old ≤ spare rows.new }
 {
     rows.retain(

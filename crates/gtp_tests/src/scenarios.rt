@@ -115,7 +115,7 @@ fn octets_that_are_no_scenario(rt: HostRuntime) {
     are_refused(&rt, rt.alloc(), &NO_HEAD, Refusal::Head);
 }
 
-/// Lists in one another, so many.
+/// Nested lists, so many.
 fn nested(alloc: Global, depth: u32) -> Result<String, Fail> {
     let mut text = String::new(alloc);
     for _ in 0..depth {
@@ -127,7 +127,7 @@ fn nested(alloc: Global, depth: u32) -> Result<String, Fail> {
     Ok(text)
 }
 
-/// Lists in one another are refused for this, and so is an unknown key that is one list fewer.
+/// Nested lists are refused for this, and so is an unknown key that is one list fewer.
 fn nesting_is(rt: &impl Abort, alloc: Global, depth: u32, refusal: Refusal) -> Result<(), Fail> {
     let text = nested(alloc, depth)?;
     is_read(rt, alloc, text.as_str(), Some(refusal));

@@ -482,18 +482,16 @@ fn begin_both(
 ) -> Result<bool, Fail> {
     assert!(rt; pending.is_full() == listed.is_full());
     let octets = vec![in alloc; purpose, 7]?;
-    match pending.prepare() {
-        Ok(seq) => {
-            assert!(rt; !listed.is_full() && seq.number() == listed.next_free());
-            listed.begin(seq, place(2123), octets.clone()?, purpose)?;
-            pending.begin(seq, place(2123), octets, purpose);
-            Ok(false)
-        }
-        Err(fault) => {
-            assert!(rt; listed.is_full() && fault == ReliableFault::PendingFull);
-            Ok(true)
-        }
+    let prepared = pending.prepare();
+    if listed.is_full() {
+        assert!(rt; prepared.err() == Some(ReliableFault::PendingFull));
+        return Ok(true);
     }
+    let seq = prepared?;
+    assert!(rt; seq.number() == listed.next_free());
+    listed.begin(seq, place(2123), octets.clone()?, purpose)?;
+    pending.begin(seq, place(2123), octets, purpose);
+    Ok(false)
 }
 
 /// What the next tick does, alike in both forms; tells how many requests that is.

@@ -5,10 +5,12 @@ use Rattle.std.specs.Int.{w32, from_be_bytes}
 use Rattle.std.proofs.lemmas.Bool.Decides.{nat_tests}
 use Rattle.std.proofs.lemmas.Bool.{ltb-false, le-ltb}
 use Rattle.std.proofs.lemmas.List.{take-append-drop, length-take, length-append, take_at, drop_at}
+use Rattle.std.proofs.lemmas.Option.{same_Some}
 use Rattle.gtp_values.specs.declared.address.Ip.TheVariants as addresses
 use Rattle.gtp_user.specs.Element.{Element, Recovery, TeidData, Peer, Types, Skipped, BeginsElement}
 use Rattle.gtp_user.specs.Elements.{split, split_body, recovery_at, teid_at, types_of, types_at, address_of, with_rest, peer_of, skipped_of, element_at}
-use Rattle.gtp_values.proofs.Outcomes.{some_same, none_some}
+use Rattle.gtp_values.proofs.Outcomes.{none_some}
+use Rattle.gtp_values.proofs.Tests.{unequal}
 
 -- what a test chose
 if_some : {X : Type 0} (P : Type 0) (b : Bool) (r s : Option X) (x : X) → (b ≡ true → r ≡ Some x → P) → (b ≡ false → s ≡ Some x → P) → cond b r s ≡ Some x → P
@@ -20,7 +22,7 @@ found e rest = (e, rest)
 
 -- what begins the octets, found under another name
 as_found : (octets : List ℕ) (d e : Element) (after rest : List ℕ) → BeginsElement octets d after → Some (found d after) ≡ Some (found e rest) → BeginsElement octets e rest
-as_found octets d e after rest b h = subst (λ (p : Element × List ℕ). BeginsElement octets p.0 p.1) (some_same (found d after) (found e rest) h) b
+as_found octets d e after rest b h = subst (λ (p : Element × List ℕ). BeginsElement octets p.0 p.1) (same_Some (found d after) (found e rest) h) b
 
 -- two parts of octets
 record AreParts (size : ℕ) (octets a b : List ℕ) : Type 0 where
@@ -34,7 +36,7 @@ split_parts : (size : ℕ) (octets a b : List ℕ) → split size octets ≡ Som
 split_parts size octets a b h =
     if_some (AreParts size octets a b) (ltb (length octets) size) None (Some (parts (take size octets) (drop size octets))) (parts a b) (λ t g. absurd (none_some (parts a b) g))
     (λ t g.
-    let e = some_same (parts (take size octets) (drop size octets)) (parts a b) g in
+    let e = same_Some (parts (take size octets) (drop size octets)) (parts a b) g in
     let enough : size ≤ length octets = ltb-false _ _ t in
     subst (λ (p : List ℕ × List ℕ). AreParts size octets p.0 p.1) e (record { whole = sym (take-append-drop size octets); size_is = omega (arith, length-take size octets) })) h
 
@@ -142,10 +144,7 @@ element_begins (kind ∷ tail) e rest h =
     if_some (BeginsElement (kind ∷ tail) e rest) (kind == 133) (peer_of (split_body tail)) (from_141 kind tail) x (λ t g. of_type 133 kind tail e rest t (peer_begins tail (split_body tail) refl e rest g)) (λ c g.
     if_some (BeginsElement (kind ∷ tail) e rest) (kind == 141) (types_at tail) (from_128 kind tail) x (λ t g. of_type 141 kind tail e rest t (types_begins tail e rest g)) (λ d g.
     if_some (BeginsElement (kind ∷ tail) e rest) (nat_lt kind 128) None (skipped_of (split_body tail)) x (λ t g. absurd (none_some x g)) (λ t g.
-    skipped_begins_by kind tail (grind (arith, nat_tests)) (apart_from kind 133 c) (apart_from kind 141 d) (split_body tail) refl e rest g) g) g) g) g) h
-  where
-    apart_from : (k n : ℕ) → (k == n) ≡ false → k ≢ n
-    apart_from k n t = grind (arith, nat_tests)
+    skipped_begins_by kind tail (grind (arith, nat_tests)) (unequal kind 133 c) (unequal kind 141 d) (split_body tail) refl e rest g) g) g) g) g) h
 
 -- and what begins the octets is found
 pub begins_element : (octets : List ℕ) (e : Element) (rest : List ℕ) → BeginsElement octets e rest → element_at octets ≡ Some (found e rest)

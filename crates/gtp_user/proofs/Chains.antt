@@ -3,13 +3,14 @@ use Rattle.std.proofs.Common.{◌≡◌, ℕ, zero, suc, ◌+◌, ◌-◌, ◌*�
 use Rattle.std.specs.Prelude.{◌==◌, nat_lt, nat_le, slice_index}
 use Rattle.std.proofs.lemmas.Bool.Decides.{nat_tests}
 use Rattle.std.proofs.lemmas.List.{length-take, length-append, take_at, append-nil}
+use Rattle.std.proofs.lemmas.Option.{same_Some}
 use Rattle.gtp_user.specs.declared.fault.UserFault.{UserFault}
 use Rattle.gtp_user.specs.declared.fault.UserFault.TheVariants as faults
 use Rattle.gtp_values.specs.Steps.{◌>>=◌}
 use Rattle.gtp_values.specs.Decides.{Decides, First_or_later}
 use Rattle.gtp_user.specs.Chain.{Extension, BeginsExtension, Leads, IsChain, ExtensionFails, ChainFails, WholeChainFails, first_kind, chain_encoding, AreExtensions}
 use Rattle.gtp_user.specs.Walk.{Front, front_at, Chained, with_front, walk, chain_at, headers_of, rest_of, with_no_rest, whole_at}
-use Rattle.gtp_values.proofs.Outcomes.{some_same, ok_same, err_same, apart, decided_by}
+use Rattle.gtp_values.proofs.Outcomes.{ok_same, err_same, apart, decided_by}
 use Rattle.gtp_values.proofs.Decided.{bind_at, bind_at_err, decide_bind, decide_map, decide_as, known_ok, known_err}
 
 -- the header that a front is
@@ -309,7 +310,7 @@ pub record IsWhole (first : ℕ) (octets : List ℕ) (es : List Extension) : Typ
   pub extensions : AreExtensions es
 
 rest_is : (r : Result Chained UserFault) → rest_of r ≡ Some [] → r ≡ Ok (chained (headers_of r) [])
-rest_is (Ok c) h = ap (λ (xs : List ℕ). Ok (chained c.headers xs)) (some_same c.rest [] h)
+rest_is (Ok c) h = ap (λ (xs : List ℕ). Ok (chained c.headers xs)) (same_Some c.rest [] h)
 rest_is (Err f) h = absurd cc
 
 pub whole_chain : (first : ℕ) (octets : List ℕ) → rest_of (chain_at (length octets) first octets) ≡ Some [] → IsChain first octets (headers_of (chain_at (length octets) first octets)) []

@@ -8,14 +8,12 @@ use Rattle.gtp_user.specs.declared.fault.UserFault.{UserFault}
 use Rattle.gtp_user.specs.declared.fault.UserFault.TheVariants as faults
 use Rattle.gtp_values.specs.Decides.{Decides}
 use Rattle.gtp_user.specs.Headed.{Headed, where_set, header_at, after_flags}
-use Rattle.gtp_user.specs.Header.{Flags, bit, bits, Opens, HeadedPlain, HeadedByFlags, IsHeaded, HeaderFails}
+use Rattle.gtp_user.specs.Header.{Flags, bits, Opens, HeadedPlain, HeadedByFlags, IsHeaded, HeaderFails}
+use Rattle.gtp_values.specs.Bit.{bit}
 use Rattle.gtp_values.proofs.Outcomes.{decided_by}
+use Rattle.gtp_values.proofs.Tests.{unequal, at_most_one}
 
 -- ---- bits
-
-bit_small : (b : Bool) → bit b < 2
-bit_small true = omega arith
-bit_small false = omega arith
 
 flag_is : (b : Bool) (n : ℕ) → n ≡ bit b → (n == 1) ≡ b
 flag_is true n h = rw h refl
@@ -37,9 +35,9 @@ record AreFlags (first : ℕ) (flags : Flags) : Type 0 where
 
 flags_are : (spare : ℕ) (flags : Flags) → spare < 2 → AreFlags (48 + 8 * spare + bits flags) flags
 flags_are spare flags lt =
-    let x = bit_small flags.chain in
-    let y = bit_small flags.seq in
-    let z = bit_small flags.npdu in
+    let x = at_most_one flags.chain in
+    let y = at_most_one flags.seq in
+    let z = at_most_one flags.npdu in
     record {
       version = omega arith;
       protocol = omega arith;
@@ -227,10 +225,7 @@ by_flags first kind high low a b c d tail i same false e = by_tail first kind hi
 by_length : (first kind high low a b c d : ℕ) (tail : List ℕ) (i : IsFirst first) (t : Bool) → (256 * high + low == length tail) ≡ t → Sorted (begins first kind high low a b c d tail)
 by_length first kind high low a b c d tail i true e = by_flags first kind high low a b c d tail i (eqb-true _ _ e) (i.flags % 8 == 0) refl
 by_length first kind high low a b c d tail i false e =
-    inr (faults.Length (256 * high + low) (length tail), inr (first, kind, high, low, a, b, c, d, tail, refl, inr (inr (inl (i.flags, i.small, i.is, differ (256 * high + low) (length tail) e, refl)))))
-  where
-    differ : (m n : ℕ) → (m == n) ≡ false → m ≢ n
-    differ m n h = grind (arith, nat_tests)
+    inr (faults.Length (256 * high + low) (length tail), inr (first, kind, high, low, a, b, c, d, tail, refl, inr (inr (inl (i.flags, i.small, i.is, unequal (256 * high + low) (length tail) e, refl)))))
 
 sorted_by : (first kind high low a b c d : ℕ) (tail : List ℕ) → Sorted (begins first kind high low a b c d tail)
 sorted_by first kind high low a b c d tail = elim (cases_lt first 32) [

@@ -2,6 +2,7 @@
 use Rattle.std.proofs.Common.{◌≡◌, ◌≢◌, ℕ, Bool, true, false, cond, List, length, Option, Some, None, Result, Ok, Err, ◌⊎◌, inl, inr, refl, sym, ap, subst, ◌∙◌, arith}
 use Rattle.std.specs.Prelude.{◌==◌}
 use Rattle.std.proofs.lemmas.Bool.Decides.{nat_tests}
+use Rattle.std.proofs.lemmas.Option.{same_Some}
 use Rattle.gtp_values.specs.declared.address.Ip.{Ip}
 use Rattle.gtp_user.specs.declared.fault.UserFault.{UserFault}
 use Rattle.gtp_user.specs.declared.fault.UserFault.TheVariants as faults
@@ -21,7 +22,7 @@ use Rattle.gtp_values.proofs.Decided.{decide_bind, decide_map, decide_ok, decide
 use Rattle.gtp_user.proofs.Headers.{header_decided}
 use Rattle.gtp_user.proofs.Chains.{IsChained, chained, chain_decided}
 use Rattle.gtp_user.proofs.Spanned.{elements_decided}
-use Rattle.gtp_values.proofs.Outcomes.{some_same, none_some}
+use Rattle.gtp_values.proofs.Outcomes.{none_some}
 
 -- ---- elements that a message must have
 
@@ -29,7 +30,7 @@ abbrev IsAbsent : {X : Type 0} → ℕ → Option X → UserFault → Type 0
 IsAbsent kind o f = (o ≡ None) × (f ≡ faults.Missing kind)
 
 needed_decided : {X : Type 0} (kind : ℕ) (o : Option X) → Decides (needed kind o) (λ x. o ≡ Some x) (IsAbsent kind o)
-needed_decided kind (Some x) = known_ok x (λ y. Some x ≡ Some y) (IsAbsent kind (Some x)) refl (λ y h. sym (some_same x y h)) (λ f h. none_some x (sym h.0))
+needed_decided kind (Some x) = known_ok x (λ y. Some x ≡ Some y) (IsAbsent kind (Some x)) refl (λ y h. sym (same_Some x y h)) (λ f h. none_some x (sym h.0))
 needed_decided kind None = known_err (faults.Missing kind) (λ y. None ≡ Some y) (IsAbsent kind None) (refl, refl) (λ y h. none_some y h) (λ f h. h.1)
 
 -- elements, and then what they must have
@@ -255,7 +256,7 @@ body_decided end kind teid octets =
 
 -- ---- the whole datagram
 
-abbrev message_by : Option ℕ → Option ℕ → List Extension → Content → MessageValue
+abbrev pub message_by : Option ℕ → Option ℕ → List Extension → Content → MessageValue
 message_by seq npdu ext content = record { seq = seq; npdu = npdu; ext = ext; content = content }
 
 -- what is read after a header

@@ -1,9 +1,10 @@
 -- A proper prefix of a datagram is at fault.
-use Rattle.std.proofs.Common.{◌≡◌, ℕ, suc, ◌+◌, ◌-◌, ◌*◌, ◌<◌, ◌≤◌, Bool, true, false, List, ◌∷◌, length, take, inl, inr, refl, sym, ap, subst, ◌∙◌, arith}
+use Rattle.std.proofs.Common.{◌≡◌, ℕ, suc, ◌+◌, ◌-◌, ◌*◌, ◌<◌, ◌≤◌, false, List, ◌∷◌, length, take, inl, inr, refl, sym, ap, subst, ◌∙◌, arith}
 use Rattle.std.proofs.lemmas.List.{length-take}
 use Rattle.gtp_user.specs.declared.fault.UserFault.TheVariants as faults
 use Rattle.gtp_user.specs.Headed.{Headed}
-use Rattle.gtp_user.specs.Header.{Flags, bit, bits, Opens, IsHeaded, HeaderFails}
+use Rattle.gtp_values.proofs.Tests.{at_most_one}
+use Rattle.gtp_user.specs.Header.{Flags, bits, Opens, IsHeaded, HeaderFails}
 use Rattle.gtp_user.specs.Message.{MessageValue}
 use Rattle.gtp_user.specs.Datagram.{IsUserMessage, IsUserFault}
 
@@ -40,10 +41,7 @@ opened_by octets flags kind teid tail (spare, high, low, a, b, c, d, whole, smal
   small = omega (arith, small, at_most_one flags.chain, at_most_one flags.seq, at_most_one flags.npdu);
   first_is = omega arith;
   stated = stated;
-} where
-  at_most_one : (b : Bool) → bit b ≤ 1
-  at_most_one true = omega arith
-  at_most_one false = omega arith
+}
 
 opened : (octets : List ℕ) (h : Headed) → IsHeaded octets h → IsOpened octets
 opened octets h (inl p) = opened_by octets (record { chain = false; seq = false; npdu = false }) h.kind h.teid h.rest p.0

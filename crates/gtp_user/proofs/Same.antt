@@ -1,22 +1,22 @@
 -- Where `==` is true, contracts see the same.
-use Rattle.std.proofs.Common.{◌≡◌, ℕ, false, List, Option, Some, None, refl, ap, sym, ◌∙◌, arith}
+use Rattle.std.proofs.Common.{◌≡◌, ℕ, false, List, refl, ap, sym, ◌∙◌, arith}
 use Rattle.std.specs.Prelude.{◌==◌, ◌&&◌, nat_eq}
 use Rattle.std.specs.Bool.{Decides}
 use Rattle.std.specs.Cmp.Lexicographic.{pointwise, pointwise_decides, bytes_decides}
 use Rattle.std.proofs.lemmas.Bool.Decides.{nat_tests, Decides-eqb, Decides-and, Decides-like, same_from_decides}
 use Rattle.std.specs.Option.{option_eq}
-use Rattle.gtp_values.specs.declared.address.Ip.{Ip}
-use Rattle.gtp_values.specs.declared.address.Ip.TheVariants as addresses
 use Rattle.gtp_values.specs.contracts.address.IpPartialEq.TheImpl as ips
+use Rattle.gtp_values.proofs.Same.{ip_same, options_same}
 use Rattle.gtp_user.specs.declared.message.UserBody.{UserBody}
 use Rattle.gtp_user.specs.declared.message.UserBody.TheVariants as bodies
 use Rattle.gtp_user.specs.declared.message.UserMessage.{UserMessage}
 use Rattle.gtp_user.specs.contracts.message.UserBodyPartialEq.TheImpl as user_bodies
 use Rattle.gtp_user.specs.contracts.message.UserMessagePartialEq.TheImpl as messages
-use Rattle.gtp_user.specs.Message.{Content, ErrorIndication, Notification, EndMarker, Packet, Other, MessageValue, content_of, message_value}
+use Rattle.gtp_user.specs.Message.{ErrorIndication, Notification, EndMarker, Packet, Other, content_of, message_value}
 use Rattle.gtp_user.specs.Chain.{Extension, header_eq, first_kind, chain_encoding}
 use Rattle.gtp_user.specs.Walk.{headers_in, HasNoRest}
 use Rattle.gtp_user.proofs.Chains.{whole_is}
+use Rattle.gtp_user.proofs.Messages.{message_by}
 
 -- a test of two lists of headers
 header_decided : (x y : Extension) → Decides (header_eq x y) (x ≡ y)
@@ -57,21 +57,11 @@ other_first f g xs ys p q n =
 
 -- ---- messages
 
-ips_decided : (a b : Ip) → Decides ((ips.ghosts).eq a b) (a ≡ b)
-ips_decided (addresses.V4 a) (addresses.V4 b) = Decides-like (pointwise nat_eq a b) (λ e. ap (λ x. addresses.V4 x) e) (λ e. cc) (bytes_decides a b)
-ips_decided (addresses.V6 a) (addresses.V6 b) = Decides-like (pointwise nat_eq a b) (λ e. ap (λ x. addresses.V6 x) e) (λ e. cc) (bytes_decides a b)
-ips_decided a b = (λ e. absurd cc, λ e. absurd cc)
-
-options_decided : (p q : Option ℕ) → Decides (option_eq nat_eq p q) (p ≡ q)
-options_decided (Some x) (Some y) = Decides-like (nat_eq x y) (λ e. ap (λ n. Some n) e) (λ e. cc) (Decides-eqb x y)
-options_decided None None = (λ e. refl, λ e. refl)
-options_decided p q = (λ e. absurd cc, λ e. absurd cc)
-
 bodies_decided : (x y : UserBody) → Decides ((user_bodies.ghosts).eq x y) (content_of x ≡ content_of y)
 bodies_decided bodies.EchoRequest bodies.EchoRequest = (λ e. refl, λ e. refl)
 bodies_decided bodies.EchoResponse bodies.EchoResponse = (λ e. refl, λ e. refl)
 bodies_decided (bodies.ErrorIndication t p) (bodies.ErrorIndication u q) =
-    Decides-like (nat_eq t.0 u.0 && (ips.ghosts).eq p q) (λ e. ap (λ n. ErrorIndication n p) e.0 ∙ ap (λ a. ErrorIndication u.0 a) e.1) (λ e. (cc, cc)) (Decides-and (nat_eq t.0 u.0) ((ips.ghosts).eq p q) (Decides-eqb t.0 u.0) (ips_decided p q))
+    Decides-like (nat_eq t.0 u.0 && (ips.ghosts).eq p q) (λ e. ap (λ n. ErrorIndication n p) e.0 ∙ ap (λ a. ErrorIndication u.0 a) e.1) (λ e. (cc, cc)) (Decides-and (nat_eq t.0 u.0) ((ips.ghosts).eq p q) (Decides-eqb t.0 u.0) (ip_same p q))
 bodies_decided (bodies.Notification xs) (bodies.Notification ys) = Decides-like (pointwise nat_eq xs.now ys.now) (λ e. ap (λ zs. Notification zs) e) (λ e. cc) (bytes_decides xs.now ys.now)
 bodies_decided (bodies.EndMarker t) (bodies.EndMarker u) = Decides-like (nat_eq t.0 u.0) (λ e. ap (λ n. EndMarker n) e) (λ e. cc) (Decides-eqb t.0 u.0)
 bodies_decided (bodies.Packet t xs) (bodies.Packet u ys) =
@@ -81,20 +71,17 @@ bodies_decided (bodies.Other k t xs) (bodies.Other l u ys) =
     (Decides-and (nat_eq k l) (nat_eq t.0 u.0 && pointwise nat_eq xs.now ys.now) (Decides-eqb k l) (Decides-and (nat_eq t.0 u.0) (pointwise nat_eq xs.now ys.now) (Decides-eqb t.0 u.0) (bytes_decides xs.now ys.now)))
 bodies_decided x y = (λ e. absurd cc, λ e. absurd cc)
 
-abbrev value : Option ℕ → Option ℕ → List Extension → Content → MessageValue
-value seq npdu ext content = record { seq = seq; npdu = npdu; ext = ext; content = content }
-
 pub messages_decided : (a b : UserMessage) → Decides ((messages.ghosts).eq a b) (message_value a ≡ message_value b)
 messages_decided a b =
     Decides-like ((messages.ghosts).eq a b) join parts
-    (Decides-and (option_eq nat_eq a.seq b.seq) (option_eq nat_eq a.npdu b.npdu && (pointwise header_eq a.ext b.ext && (user_bodies.ghosts).eq a.body b.body)) (options_decided a.seq b.seq)
-    (Decides-and (option_eq nat_eq a.npdu b.npdu) (pointwise header_eq a.ext b.ext && (user_bodies.ghosts).eq a.body b.body) (options_decided a.npdu b.npdu)
+    (Decides-and (option_eq nat_eq a.seq b.seq) (option_eq nat_eq a.npdu b.npdu && (pointwise header_eq a.ext b.ext && (user_bodies.ghosts).eq a.body b.body)) (options_same nat_eq Decides-eqb a.seq b.seq)
+    (Decides-and (option_eq nat_eq a.npdu b.npdu) (pointwise header_eq a.ext b.ext && (user_bodies.ghosts).eq a.body b.body) (options_same nat_eq Decides-eqb a.npdu b.npdu)
     (Decides-and (pointwise header_eq a.ext b.ext) ((user_bodies.ghosts).eq a.body b.body) (headers_decided a.ext b.ext) (bodies_decided a.body b.body))))
   where
     join : (a.seq ≡ b.seq) × ((a.npdu ≡ b.npdu) × ((a.ext ≡ b.ext) × (content_of a.body ≡ content_of b.body))) → message_value a ≡ message_value b
     join (seq, (npdu, (ext, content))) =
-        ap (λ s. value s a.npdu a.ext (content_of a.body)) seq ∙ (ap (λ n. value b.seq n a.ext (content_of a.body)) npdu
-        ∙ (ap (λ es. value b.seq b.npdu es (content_of a.body)) ext ∙ ap (λ c. value b.seq b.npdu b.ext c) content))
+        ap (λ s. message_by s a.npdu a.ext (content_of a.body)) seq ∙ (ap (λ n. message_by b.seq n a.ext (content_of a.body)) npdu
+        ∙ (ap (λ es. message_by b.seq b.npdu es (content_of a.body)) ext ∙ ap (λ c. message_by b.seq b.npdu b.ext c) content))
 
     parts : message_value a ≡ message_value b → (a.seq ≡ b.seq) × ((a.npdu ≡ b.npdu) × ((a.ext ≡ b.ext) × (content_of a.body ≡ content_of b.body)))
     parts e = (ap (λ m. m.seq) e, (ap (λ m. m.npdu) e, (ap (λ m. m.ext) e, ap (λ m. m.content) e)))

@@ -1,5 +1,6 @@
 -- Reading elements decides which ones octets are.
 use Rattle.std.proofs.Common.{◌≡◌, ℕ, zero, suc, ◌-◌, ◌<◌, ◌≤◌, List, [], ◌∷◌, length, Option, Some, None, Result, Ok, Err, refl, sym, ap, subst, ◌∙◌, arith}
+use Rattle.std.proofs.lemmas.Option.{same_Some}
 use Rattle.gtp_user.specs.declared.fault.UserFault.{UserFault}
 use Rattle.gtp_user.specs.declared.fault.UserFault.TheVariants as faults
 use Rattle.gtp_values.specs.Steps.{◌>>=◌}
@@ -8,7 +9,7 @@ use Rattle.gtp_user.specs.Element.{Element, BeginsElement, Spans, AreElements, I
 use Rattle.gtp_user.specs.Elements.{element_at, go_on, elements_in, elements_at}
 use Rattle.gtp_user.proofs.Begun.{found, element_begins, begins_element, begins_shorter}
 use Rattle.gtp_values.proofs.Decided.{decide_map, decide_as, known_ok, known_err}
-use Rattle.gtp_values.proofs.Outcomes.{some_same, none_some}
+use Rattle.gtp_values.proofs.Outcomes.{none_some}
 
 abbrev whole_so_far : List Element → Result (List Element) UserFault
 whole_so_far es = Ok es
@@ -17,7 +18,7 @@ abbrev cut : UserFault → Result (List Element) UserFault
 cut f = Err f
 
 begin_alike : (octets : List ℕ) (e d : Element) (rest after : List ℕ) → element_at octets ≡ Some (found e rest) → BeginsElement octets d after → found d after ≡ found e rest
-begin_alike octets e d rest after h b = some_same (found d after) (found e rest) (sym (begins_element octets d after b) ∙ h)
+begin_alike octets e d rest after h b = same_Some (found d after) (found e rest) (sym (begins_element octets d after b) ∙ h)
 
 -- no octets are no elements
 empty_decided : (end : ℕ) → Decides (whole_so_far []) (AreElements []) (IsCut end [])

@@ -1,6 +1,7 @@
 -- The header of a datagram (TS 29.281 5.1), and which fault of one is the first.
-use Rattle.std.specs.Prelude.{◌≡◌, ◌≢◌, ℕ, ◌+◌, ◌*◌, ◌/◌, ◌%◌, ◌<◌, Bool, true, false, List, [], ◌∷◌, length, None, ◌⊎◌, if◌then◌else◌}
+use Rattle.std.specs.Prelude.{◌≡◌, ◌≢◌, ℕ, ◌+◌, ◌*◌, ◌/◌, ◌%◌, ◌<◌, Bool, false, List, [], ◌∷◌, length, None, ◌⊎◌, if◌then◌else◌}
 use Rattle.std.specs.Int.{w32, from_be_bytes}
+use Rattle.gtp_values.specs.Bit.{bit}
 use Rattle.gtp_user.specs.declared.fault.UserFault.{UserFault}
 use Rattle.gtp_user.specs.declared.fault.UserFault.TheVariants as faults
 use Rattle.gtp_user.specs.Headed.{Headed, where_set}
@@ -10,11 +11,6 @@ pub record Flags : Type 0 where
   pub chain : Bool
   pub seq : Bool
   pub npdu : Bool
-
--- 1 or 0
-abbrev pub bit : Bool → ℕ
-bit true = 1
-bit false = 0
 
 -- the three lowest bits of the first octet
 abbrev pub bits : Flags → ℕ

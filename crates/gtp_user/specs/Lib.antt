@@ -10,3 +10,4 @@ pub mod Message
 pub mod Reading
 pub mod Datagram
 pub mod Encoding
+pub mod Codes

@@ -1,6 +1,7 @@
 //! What can be wrong with a datagram of the user plane.
 
 ghost use Rattle.std.specs.Prelude.{◌≡◌};
+ghost use Rattle.gtp_user.specs.Codes.{number_of};
 ghost use Rattle.gtp_user.specs.declared.fault.UserFault.TheVariants.{Memory};
 
 use std::alloc::AllocError;
@@ -45,6 +46,27 @@ pub enum UserFault {
     /// U11: the length passes what two octets can state.
     #[error("the length is above 65535")]
     TooLong,
+}
+
+impl UserFault {
+    /// The printed number, after U.
+    pub fn number(&self) -> u8
+        ensures { result ≡ number_of self.now }
+    {
+        match self {
+            UserFault::Short { .. } => 1,
+            UserFault::Version { .. } => 2,
+            UserFault::Protocol => 3,
+            UserFault::Length { .. } => 4,
+            UserFault::ExtensionZero { .. } => 5,
+            UserFault::ExtensionPast { .. } => 6,
+            UserFault::ExtensionNeeded { .. } => 7,
+            UserFault::Missing { .. } => 8,
+            UserFault::Element { .. } => 9,
+            UserFault::Memory => 10,
+            UserFault::TooLong => 11,
+        }
+    }
 }
 
 impl From<AllocError> for UserFault {

@@ -10,7 +10,7 @@ use Rattle.gtp_ie.specs.Element.{Element, elements_of, all_of}
 use Rattle.gtp_ie.specs.Value.{Value, encoding_of}
 use Rattle.gtp_ie.specs.Spelling.{Spells}
 use Rattle.gtp_ie.proofs.Placed.{placed, IsPlain, element_octets, spans_placed, bodies, bodies-placed, first_from_bodies, none_from_bodies, HaveBodies, all_from_bodies}
-use Rattle.gtp_values.proofs.Outcomes.{both}
+use Rattle.gtp_values.proofs.Tests.{both}
 use Rattle.gtp_ie.proofs.Slots.{Slot, element_with, slot_elements, slots_elements, is_fresh, are_distinct, IsFound, all_found}
 use Rattle.gtp_v2.specs.Table.{Row, Mandatory, Conditional, Accepted, Optional, Line, Single, Grouped, Several, Field, Plain, Groups, State, start}
 use Rattle.gtp_v2.specs.Rows.{accepts, after, kind_of, instance_of, whole, lines_at}

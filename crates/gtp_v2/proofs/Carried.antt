@@ -1,24 +1,19 @@
 -- The elements that a datagram carries.
-use Rattle.std.proofs.Common.{◌≡◌, ℕ, ◌≤◌, Bool, true, false, cond, List, length, drop, Option, Some, None, Ok, Err, inl, inr, sym, ap, subst, ◌∙◌, arith}
-use Rattle.std.specs.Prelude.{is_some}
-use Rattle.std.specs.Bool.{beq}
-use Rattle.gtp_values.specs.Steps.{◌>>=◌}
+use Rattle.std.proofs.Common.{◌≡◌, ℕ, ◌≤◌, List, length, drop, Option, Some, None, Ok, inl, inr, sym, ap, subst, ◌∙◌, arith}
 use Rattle.gtp_values.proofs.Decided.{bind_ok}
 use Rattle.gtp_ie.specs.Element.{Element, elements_of, list_of}
 use Rattle.gtp_ie.specs.Octets.{AreElements}
-use Rattle.gtp_v2.specs.declared.fault.V2Fault.TheVariants as faults
-use Rattle.gtp_v2.specs.Table.{Line, Field, start, Table}
-use Rattle.gtp_v2.specs.Rows.{lines_at, whole}
+use Rattle.gtp_v2.specs.Table.{Table}
 use Rattle.gtp_v2.specs.Checked.{forgotten}
 use Rattle.gtp_v2.specs.Tables.{table_of}
 use Rattle.gtp_v2.specs.Headed.{Headed, header_at}
 use Rattle.gtp_v2.specs.Header.{IsHeaded}
-use Rattle.gtp_v2.specs.Message.{Content, Fields, with_content, raw_of, head_of, told, sender_of, typed_at, by_table, content_at}
+use Rattle.gtp_v2.specs.Message.{Content, Fields, with_content, raw_of, typed_at, by_table, content_at}
 use Rattle.gtp_v2.specs.Viewed.{Viewed, viewed, IsViewed, content_or_none, elements_by, list_or_none, place_of, ElementsAre, Carries}
 use Rattle.gtp_v2.proofs.Checks.{was_read}
 use Rattle.gtp_v2.proofs.Decided.{whole_decided}
 use Rattle.gtp_v2.proofs.Headers.{header_decided}
-use Rattle.gtp_v2.proofs.Views.{told_is, whole_is, content_is, content_ok}
+use Rattle.gtp_v2.proofs.Views.{typed_whole, whole_is, content_is, content_ok}
 
 -- where the octets after a header begin
 pub record IsAfter (octets : List ℕ) (h : Headed) : Type 0 where
@@ -38,16 +33,6 @@ after_header octets h is = elim is [
       record { place = teid ∙ sym at; rest = ap (λ (n : ℕ). drop n octets) at ∙ ap (drop 12) text; room = omega (arith, at, ap length text) }
 ]
 
-typed_whole : (has_teid : Bool) (lines : List Line) (h : Headed) (fields : List Field) → typed_at has_teid lines h ≡ Ok fields → (es : List Element) × (whole (elements_of h.at h.rest) ≡ Ok es)
-unfolding typed_at
-typed_whole has_teid lines h fields is = by_flag (beq (is_some h.teid) has_teid) is where
-  by_flag : (b : Bool) → cond b (told (head_of h None) (whole (elements_of h.at h.rest)) >>= λ es. told (head_of h (sender_of h.kind es)) (lines_at start lines es)) (Err (faults.FlagT h.kind)) ≡ Ok fields
-      → (es : List Element) × (whole (elements_of h.at h.rest) ≡ Ok es)
-  by_flag true is =
-      let b = bind_ok (told (head_of h None) (whole (elements_of h.at h.rest))) (λ es. told (head_of h (sender_of h.kind es)) (lines_at start lines es)) fields is in
-      (b.0, told_is (whole (elements_of h.at h.rest)) (head_of h None) b.0 b.1)
-  by_flag false is = absurd cc
-
 carried_by : (octets : List ℕ) (h : Headed) (elements : Option (List Element)) (table : Option Table) → IsAfter octets h → forgotten (by_table table h) ≡ Ok tt → elements ≡ elements_by table h
     → ElementsAre octets (with_content h (content_or_none (by_table table h))) (content_or_none (by_table table h)) (list_or_none elements)
 carried_by octets h elements None is reads walked = ap list_or_none walked
@@ -56,8 +41,8 @@ carried_by octets h elements (Some table) is reads walked =
     let b = bind_ok (typed_at table.has_teid table.lines h) (λ fields. content_ok (Fields fields)) r.0 r.1 in
     let content : content_or_none (by_table (Some table) h) ≡ Fields b.0 = content_is (by_table (Some table) h) r.0 r.1 ∙ sym (content_is (content_ok (Fields b.0)) r.0 b.2) in
     let w = typed_whole table.has_teid table.lines h b.0 b.1 in
-    let all : list_or_none elements ≡ w.0 = ap list_or_none walked ∙ whole_is (elements_of h.at h.rest) w.0 w.1 in
-    let are : AreElements h.at h.rest w.0 = (whole_decided h.at h.rest).ok w.0 w.1 in
+    let all : list_or_none elements ≡ w.0 = ap list_or_none walked ∙ whole_is (elements_of h.at h.rest) w.0 w.1.0 in
+    let are : AreElements h.at h.rest w.0 = (whole_decided h.at h.rest).ok w.0 w.1.0 in
     let rest : AreElements h.at (drop h.at octets) w.0 = subst (λ (xs : List ℕ). AreElements h.at xs w.0) (sym is.rest) are in
     let placed : AreElements (place_of h.teid) (drop (place_of h.teid) octets) w.0 = subst (λ (n : ℕ). AreElements n (drop n octets) w.0) (sym is.place) rest in
     subst (λ (c : Content). ElementsAre octets (with_content h c) c (list_or_none elements)) (sym content) (subst (λ (es : List Element). AreElements (place_of h.teid) (drop (place_of h.teid) octets) es) (sym all) placed)

@@ -4,7 +4,7 @@ use Rattle.std.specs.Prelude.{◌==◌, is_some}
 use Rattle.byteorder.specs.Endian.{big_number}
 use Rattle.gtp_values.proofs.Decided.{bind_ok}
 use Rattle.gtp_ie.specs.Element.{elements_of}
-use Rattle.gtp_values.proofs.Outcomes.{both}
+use Rattle.gtp_values.proofs.Tests.{both}
 use Rattle.gtp_v2.specs.Table.{start, Table}
 use Rattle.gtp_v2.specs.Rows.{whole, lines_at}
 use Rattle.gtp_v2.specs.Apart.{lines_apart, all_fit, is_table}

@@ -10,6 +10,7 @@ use Rattle.gtp_v2.specs.declared.fault.V2Fault.TheVariants as faults
 use Rattle.gtp_v2.specs.Headed.{Headed, header_at, after_teid, after_no_teid}
 use Rattle.gtp_v2.specs.Header.{HeadedPlain, HeadedByTeid, IsHeaded, HeaderFails}
 use Rattle.gtp_values.proofs.Outcomes.{decided_by}
+use Rattle.gtp_values.proofs.Tests.{unequal}
 
 -- the parts of what was read are those of the octets: each form is read as itself
 plain_is : (octets : List ℕ) (h : Headed) → HeadedPlain octets h → header_at octets ≡ Ok h
@@ -104,9 +105,6 @@ fault_is octets f (inr (first, kind, high, low, following, text, inr (inr (inr (
     ap header_at (text ∙ ap (λ n. begins n kind high low following) is) ∙ (at_plain flags kind high low following lt long ∙ (few_plain kind following shorter ∙ ap (λ (x : V2Fault). Err x) (sym e)))
 fault_is octets f (inr (first, kind, high, low, following, text, inr (inr (inr (inr (flags, lt, is, long, shorter, e)))))) =
     ap header_at (text ∙ ap (λ n. begins n kind high low following) is) ∙ (at_teid flags kind high low following lt long ∙ (few_teid (72 + flags) kind following shorter ∙ ap (λ (x : V2Fault). Err x) (sym e)))
-
-pub unequal : (m n : ℕ) → (m == n) ≡ false → m ≡ n → ⊥
-unequal m n t e = grind (arith, nat_tests)
 
 -- ---- each list of octets is a header or at fault
 

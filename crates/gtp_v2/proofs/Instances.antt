@@ -17,7 +17,7 @@ use Rattle.gtp_v2.specs.Message.{with_head}
 use Rattle.gtp_v2.specs.Tables.{table_of}
 use Rattle.gtp_v2.specs.Datagram.{FailsBy, IsFault}
 use Rattle.gtp_v2.specs.Instances.{RowInstanceIsSmall, InstanceIsSmall}
-use Rattle.gtp_values.proofs.Outcomes.{both}
+use Rattle.gtp_values.proofs.Tests.{both}
 use Rattle.gtp_v2.proofs.Encoded.{tables_fit}
 
 needed_small : (conditional : Bool) (kind instance : ℕ) (es : List Element) (f : RowFault) → instance < 16 → NeededFails conditional kind instance es f → RowInstanceIsSmall f

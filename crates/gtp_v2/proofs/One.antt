@@ -4,9 +4,8 @@ use Rattle.std.specs.Prelude.{option_map, option_to_list}
 use Rattle.gtp_values.proofs.Same.{app}
 use Rattle.gtp_ie.specs.Value.{Value}
 use Rattle.gtp_v2.specs.Table.{Field, Plain, Groups, Table}
-use Rattle.gtp_v2.specs.Message.{Fields, Raw}
 use Rattle.gtp_v2.specs.Body.{by}
-use Rattle.gtp_v2.proofs.Same.{kept}
+use Rattle.gtp_v2.proofs.Same.{kept, same_fields, same_octets}
 
 -- a view by which no two are the same
 abbrev pub Determines : {X Y : Type 0} → (X → Y) → Type 0
@@ -41,15 +40,11 @@ list_one (x ∷ xs) (y ∷ ys) view one e = app (ap (λ z zs. z ∷ zs) (one x y
 list_one xs ys view one e = absurd cc
 
 pub kind_one : {f g : List Field} (table : Table) → by table f ≡ by table g → f ≡ g
-kind_one {f = f} {g = g} table e = of_fields (ap (λ s. s.content) e) where
-  of_fields : Fields f ≡ Fields g → f ≡ g
-  of_fields e = cc
+kind_one {f = f} {g = g} table e = same_fields f g (ap (λ s. s.content) e)
 
 -- octets that are kept
 pub kept_one : {k l : ℕ} {xs ys : List ℕ} → kept k xs ≡ kept l ys → (k ≡ l) × (xs ≡ ys)
-kept_one {xs = xs} {ys = ys} e = (ap (λ s. s.kind) e, of_octets (ap (λ s. s.content) e)) where
-  of_octets : Raw xs ≡ Raw ys → xs ≡ ys
-  of_octets e = cc
+kept_one {xs = xs} {ys = ys} e = (ap (λ s. s.kind) e, same_octets xs ys (ap (λ s. s.content) e))
 
 -- a number in a struct of its own, where there is one
 pub number_one : {X : Type 0} (o p : Option X) (view : X → ℕ) → Determines view → option_map view o ≡ option_map view p → o ≡ p

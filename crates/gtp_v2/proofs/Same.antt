@@ -44,14 +44,14 @@ pub first_same : {X : Type 0} {p q : Bool} {x y : X} {xs ys : List X} → Decide
 first_same d others = whole_by (λ e. app (ap (λ z zs. z ∷ zs) e.0) e.1) (λ e. (cc, cc)) (and_then d others)
 
 -- the fields of a table
-same_fields : (f g : List Field) → Fields f ≡ Fields g → f ≡ g
+pub same_fields : (f g : List Field) → Fields f ≡ Fields g → f ≡ g
 same_fields f g e = cc
 
 pub kind_same : {p : Bool} {f g : List Field} (table : Table) → Decides p (f ≡ g) → Decides p (by table f ≡ by table g)
 kind_same {f = f} {g = g} table d = whole_by (λ e. ap (λ fields. by table fields) e) (λ e. same_fields f g (ap (λ s. s.content) e)) d
 
 -- octets that are kept
-same_octets : (xs ys : List ℕ) → Raw xs ≡ Raw ys → xs ≡ ys
+pub same_octets : (xs ys : List ℕ) → Raw xs ≡ Raw ys → xs ≡ ys
 same_octets xs ys e = cc
 
 abbrev pub kept : ℕ → List ℕ → Said

@@ -2,8 +2,10 @@
 use Rattle.std.proofs.Common.{rules, ◌≡◌, ℕ, Bool, true, false, cond, ◌&&◌, List, [], ◌∷◌, Option, Some, None, Result, Ok, Err, refl, sym, ap, subst, ◌∙◌}
 use Rattle.std.specs.Prelude.{IfOk, IfErr, IsOkAnd, ◌==◌, option_to_list, is_some}
 use Rattle.std.specs.Bool.{beq}
+use Rattle.std.proofs.lemmas.Option.{same_Some}
 use Rattle.gtp_values.specs.Steps.{◌>>=◌, Gives}
 use Rattle.gtp_values.proofs.Decided.{bind_ok}
+use Rattle.gtp_values.proofs.Outcomes.{done, ok_same, err_same, apart}
 use Rattle.gtp_ie.specs.declared.fault.ReadFault.{ReadFault}
 use Rattle.gtp_ie.specs.declared.fault.ReadFault.TheVariants.{Short, Bad}
 use Rattle.gtp_ie.specs.Element.{Element, elements_of, list_of, first_of}
@@ -33,36 +35,15 @@ pub fault : {X : Type 0} (view : X → MessageValue) (r : Result X V2Fault) (oct
 fault view (Ok v) octets h = tt
 fault view (Err f) octets h = (message_decided octets).err f h
 
-abbrev message_ok : MessageValue → Result MessageValue V2Fault
-message_ok m = Ok m
-
-abbrev message_err : V2Fault → Result MessageValue V2Fault
-message_err f = Err f
-
-same_message : (m n : MessageValue) → message_ok m ≡ Ok n → m ≡ n
-same_message m n h = cc
-
-same_fault : (f g : V2Fault) → message_err f ≡ Err g → f ≡ g
-same_fault f g h = cc
-
-no_fault : (m : MessageValue) (f : V2Fault) → message_ok m ≡ Err f → ⊥
-no_fault m f h = cc
-
 pub only : {X : Type 0} (view : X → MessageValue) (r : Result X V2Fault) (octets : List ℕ) → Gives view r (message_at octets) → (m : MessageValue) → IsMessage octets m → IsOkAnd r (λ v. view v ≡ m)
-only view (Ok v) octets h m is = same_message (view v) m (sym h ∙ (message_decided octets).is m is)
-only view (Err f) octets h m is = absurd (no_fault m f (sym ((message_decided octets).is m is) ∙ h))
+only view (Ok v) octets h m is = ok_same V2Fault (view v) m (sym h ∙ (message_decided octets).is m is)
+only view (Err f) octets h m is = absurd (apart m f (sym ((message_decided octets).is m is) ∙ h))
 
 pub first : {X : Type 0} (view : X → MessageValue) (r : Result X V2Fault) (octets : List ℕ) → Gives view r (message_at octets) → (f : V2Fault) → IsFault octets f → r ≡ Err f
-first view (Ok v) octets h f is = absurd (no_fault (view v) f (sym h ∙ (message_decided octets).fails f is))
-first view (Err g) octets h f is = ap (λ (e : V2Fault). Err e) (same_fault g f (sym h ∙ (message_decided octets).fails f is))
+first view (Ok v) octets h f is = absurd (apart (view v) f (sym h ∙ (message_decided octets).fails f is))
+first view (Err g) octets h f is = ap (λ (e : V2Fault). Err e) (err_same MessageValue g f (sym h ∙ (message_decided octets).fails f is))
 
 -- ---- what a row has, an element has
-
-abbrev pub list_ok : List Value → Result (List Value) RowFault
-list_ok values = Ok values
-
-pub same_list : (a b : List Value) → list_ok a ≡ Ok b → a ≡ b
-same_list a b h = cc
 
 one_is : (kind instance : ℕ) (e : Element) (v : Value) → one_at kind instance e ≡ Ok v → value_or_none (value_at kind e.body) ≡ Some v
 unfolding one_at
@@ -81,17 +62,17 @@ needed_is conditional kind instance es v h = by_first (first_of kind instance es
 
 needed_row : (conditional : Bool) (kind instance : ℕ) (es : List Element) (values : List Value) → (needed_at conditional kind instance es >>= λ v. Ok (v ∷ [])) ≡ Ok values → optional_at kind instance es ≡ front_value values
 needed_row conditional kind instance es values h =
-    let b = bind_ok (needed_at conditional kind instance es) (λ v. list_ok (v ∷ [])) values h in
-    needed_is conditional kind instance es b.0 b.1 ∙ ap front_value (same_list (b.0 ∷ []) values b.2)
+    let b = bind_ok (needed_at conditional kind instance es) (λ v. done RowFault (v ∷ [])) values h in
+    needed_is conditional kind instance es b.0 b.1 ∙ ap front_value (ok_same RowFault (b.0 ∷ []) values b.2)
 
-optional_row : (o : Option Value) (values : List Value) → list_ok (option_to_list o) ≡ Ok values → o ≡ front_value values
-optional_row None values h = ap front_value (same_list [] values h)
-optional_row (Some v) values h = ap front_value (same_list (v ∷ []) values h)
+optional_row : (o : Option Value) (values : List Value) → done RowFault (option_to_list o) ≡ Ok values → o ≡ front_value values
+optional_row None values h = ap front_value (ok_same RowFault [] values h)
+optional_row (Some v) values h = ap front_value (ok_same RowFault (v ∷ []) values h)
 
 accepted_row : (accepting : Bool) (kind instance : ℕ) (es : List Element) (values : List Value) → (needed_if_at accepting kind instance es >>= λ o. Ok (option_to_list o)) ≡ Ok values → optional_at kind instance es ≡ front_value values
 unfolding needed_if_at
 accepted_row true kind instance es values h = needed_row true kind instance es values (sym (twice (needed_at true kind instance es)) ∙ h) where
-  twice : (r : Result Value RowFault) → ((r >>= λ v. Ok (Some v)) >>= λ o. list_ok (option_to_list o)) ≡ (r >>= λ v. Ok (v ∷ []))
+  twice : (r : Result Value RowFault) → ((r >>= λ v. Ok (Some v)) >>= λ o. done RowFault (option_to_list o)) ≡ (r >>= λ v. Ok (v ∷ []))
   twice (Ok v) = refl
   twice (Err f) = refl
 accepted_row false kind instance es values h = optional_row (optional_at kind instance es) values h
@@ -102,24 +83,6 @@ row_is accepting (Conditional kind instance) es values h = needed_row true kind 
 row_is accepting (Accepted kind instance) es values h = accepted_row accepting kind instance es values h
 row_is accepting (Optional kind instance) es values h = optional_row (optional_at kind instance es) values h
 
-abbrev values_some : List Value → Option (List Value)
-values_some values = Some values
-
-same_some : (a b : List Value) → values_some a ≡ Some b → a ≡ b
-same_some a b h = cc
-
-abbrev pub field_ok : Field → Result Field RowFault
-field_ok field = Ok field
-
-abbrev pub fields_ok : List Field → Result (List Field) RowFault
-fields_ok fields = Ok fields
-
-pub same_field : (a b : Field) → field_ok a ≡ Ok b → a ≡ b
-same_field a b h = cc
-
-pub same_fields : (a b : List Field) → fields_ok a ≡ Ok b → a ≡ b
-same_fields a b h = cc
-
 pub both_same : (a b c d : ℕ) → ((a == b) && (c == d)) ≡ true → (a ≡ b) × (c ≡ d)
 both_same a b c d h = search rules
 
@@ -128,7 +91,7 @@ at_row : (kind instance : ℕ) (accepting : Bool) (row : Row) (es : List Element
 at_row kind instance accepting row es vs values rest true same h others is =
     let p = both_same (kind_of row) kind (instance_of row) instance same in
     subst (λ (k : ℕ). optional_at k instance es ≡ front_value values) p.0
-    (subst (λ (i : ℕ). optional_at (kind_of row) i es ≡ front_value values) p.1 (row_is accepting row es vs h ∙ ap front_value (same_some vs values is)))
+    (subst (λ (i : ℕ). optional_at (kind_of row) i es ≡ front_value values) p.1 (row_is accepting row es vs h ∙ ap front_value (same_Some vs values is)))
 at_row kind instance accepting row es vs values rest false same h others is = others is
 
 not_here : (goal : Type 0) (values : List Value) (rest : Option (List Value)) (b : Bool) → (rest ≡ Some values → goal) → cond b None rest ≡ Some values → goal
@@ -139,9 +102,9 @@ line_is : (kind instance : ℕ) (state : State) (line : Line) (lines : List Line
     → line_at state line es ≡ Ok field → (values_among kind instance lines fields ≡ Some values → optional_at kind instance es ≡ front_value values)
     → values_among kind instance (line ∷ lines) (field ∷ fields) ≡ Some values → optional_at kind instance es ≡ front_value values
 line_is kind instance state (Single row) lines es field fields values one others is =
-    let b = bind_ok (row_at state.accepting row es) (λ vs. field_ok (Plain vs)) field one in
+    let b = bind_ok (row_at state.accepting row es) (λ vs. done RowFault (Plain vs)) field one in
     at_row kind instance state.accepting row es b.0 values (values_among kind instance lines fields) ((kind_of row == kind) && (instance_of row == instance)) refl b.1 others
-    (subst (λ (f : Field). values_among kind instance (Single row ∷ lines) (f ∷ fields) ≡ Some values) (sym (same_field (Plain b.0) field b.2)) is)
+    (subst (λ (f : Field). values_among kind instance (Single row ∷ lines) (f ∷ fields) ≡ Some values) (sym (ok_same RowFault (Plain b.0) field b.2)) is)
 line_is kind instance state (Grouped row rows) lines es field fields values one others is = others is
 line_is kind instance state (Several k i missed) lines es field fields values one others is =
     not_here (optional_at kind instance es ≡ front_value values) values (values_among kind instance lines fields) ((k == kind) && (i == instance)) others is
@@ -151,13 +114,10 @@ lines_is : (kind instance : ℕ) (state : State) (lines : List Line) (es : List 
 unfolding lines_at
 lines_is kind instance state [] es fields values h is = absurd cc
 lines_is kind instance state (line ∷ lines) es fields values h is =
-    let b = bind_ok (line_at state line es) (λ field. lines_at (after state field) lines es >>= λ others. fields_ok (field ∷ others)) fields h in
-    let d = bind_ok (lines_at (after state b.0) lines es) (λ others. fields_ok (b.0 ∷ others)) fields b.2 in
+    let b = bind_ok (line_at state line es) (λ field. lines_at (after state field) lines es >>= λ others. done RowFault (field ∷ others)) fields h in
+    let d = bind_ok (lines_at (after state b.0) lines es) (λ others. done RowFault (b.0 ∷ others)) fields b.2 in
     line_is kind instance state line lines es b.0 d.0 values b.1 (λ rest. lines_is kind instance (after state b.0) lines es d.0 values d.1 rest)
-    (subst (λ (fs : List Field). values_among kind instance (line ∷ lines) fs ≡ Some values) (sym (same_fields (b.0 ∷ d.0) fields d.2)) is)
-
-abbrev told_ok : {X : Type 0} → X → Result X V2Fault
-told_ok x = Ok x
+    (subst (λ (fs : List Field). values_among kind instance (line ∷ lines) fs ≡ Some values) (sym (ok_same RowFault (b.0 ∷ d.0) fields d.2)) is)
 
 pub told_is : {X : Type 0} (r : Result X RowFault) (head : Head) (x : X) → told head r ≡ Ok x → r ≡ Ok x
 told_is (Ok y) head x h = cc
@@ -167,25 +127,25 @@ pub whole_is : (r : Result (List Element) ℕ) (es : List Element) → whole r �
 whole_is (Ok xs) es h = cc
 whole_is (Err at) es h = absurd cc
 
-pub typed_is : (has_teid : Bool) (lines : List Line) (h : Headed) (fields : List Field) → typed_at has_teid lines h ≡ Ok fields → lines_at start lines (list_of (elements_of h.at h.rest)) ≡ Ok fields
+-- where a typed message reads, its list is whole, and its rows are read of it
+pub typed_whole : (has_teid : Bool) (lines : List Line) (h : Headed) (fields : List Field) → typed_at has_teid lines h ≡ Ok fields
+    → (es : List Element) × ((whole (elements_of h.at h.rest) ≡ Ok es) × (lines_at start lines es ≡ Ok fields))
 unfolding typed_at
-typed_is has_teid lines h fields is = by_flag (beq (is_some h.teid) has_teid) is where
+typed_whole has_teid lines h fields is = by_flag (beq (is_some h.teid) has_teid) is where
   by_flag : (b : Bool) → cond b (told (head_of h None) (whole (elements_of h.at h.rest)) >>= λ es. told (head_of h (sender_of h.kind es)) (lines_at start lines es)) (Err (faults.FlagT h.kind)) ≡ Ok fields
-      → lines_at start lines (list_of (elements_of h.at h.rest)) ≡ Ok fields
+      → (es : List Element) × ((whole (elements_of h.at h.rest) ≡ Ok es) × (lines_at start lines es ≡ Ok fields))
   by_flag true is =
       let b = bind_ok (told (head_of h None) (whole (elements_of h.at h.rest))) (λ es. told (head_of h (sender_of h.kind es)) (lines_at start lines es)) fields is in
-      let all = whole_is (elements_of h.at h.rest) b.0 (told_is (whole (elements_of h.at h.rest)) (head_of h None) b.0 b.1) in
-      rw all (told_is (lines_at start lines b.0) (head_of h (sender_of h.kind b.0)) fields b.2)
+      (b.0, (told_is (whole (elements_of h.at h.rest)) (head_of h None) b.0 b.1, told_is (lines_at start lines b.0) (head_of h (sender_of h.kind b.0)) fields b.2))
   by_flag false is = absurd cc
+
+pub typed_is : (has_teid : Bool) (lines : List Line) (h : Headed) (fields : List Field) → typed_at has_teid lines h ≡ Ok fields → lines_at start lines (list_of (elements_of h.at h.rest)) ≡ Ok fields
+typed_is has_teid lines h fields is =
+    let t = typed_whole has_teid lines h fields is in
+    rw (whole_is (elements_of h.at h.rest) t.0 t.1.0) t.1.1
 
 abbrev pub content_ok : Content → Result Content V2Fault
 content_ok content = Ok content
-
-abbrev pub es_some : List Element → Option (List Element)
-es_some es = Some es
-
-pub same_elements : (a b : List Element) → es_some a ≡ Some b → a ≡ b
-same_elements a b h = cc
 
 pub content_is : (r : Result Content V2Fault) (c : Content) → r ≡ Ok c → content_or_none r ≡ c
 content_is r c h = ap content_or_none h
@@ -197,7 +157,7 @@ by_table_is kind instance (Some table) h es values reads walked is =
     let r = was_read (by_table (Some table) h) reads in
     let b = bind_ok (typed_at table.has_teid table.lines h) (λ fields. content_ok (Fields fields)) r.0 r.1 in
     let content : content_or_none (by_table (Some table) h) ≡ Fields b.0 = content_is (by_table (Some table) h) r.0 r.1 ∙ sym (content_is (content_ok (Fields b.0)) r.0 b.2) in
-    let all : es ≡ list_of (elements_of h.at h.rest) = same_elements es (list_of (elements_of h.at h.rest)) walked in
+    let all : es ≡ list_of (elements_of h.at h.rest) = same_Some es (list_of (elements_of h.at h.rest)) walked in
     subst (λ (xs : List Element). optional_at kind instance xs ≡ front_value values) (sym all)
     (lines_is kind instance start table.lines (list_of (elements_of h.at h.rest)) b.0 values (typed_is table.has_teid table.lines h b.0 b.1)
     (subst (λ (c : Content). values_by kind instance (Some table) c ≡ Some values) content is))

@@ -20,6 +20,7 @@ pub mod Instances
 pub mod Encoding
 pub mod Lines
 pub mod Checked
+pub mod Codes
 pub mod Viewed
 -- the messages
 pub mod EchoRequest

@@ -1,6 +1,7 @@
 //! What can be wrong with a datagram.
 
 ghost use Rattle.std.specs.Prelude.{◌≡◌};
+ghost use Rattle.gtp_v2.specs.Codes.{number_of};
 ghost use Rattle.gtp_v2.specs.Needs.{need_where};
 ghost use Rattle.gtp_v2.specs.declared.fault.BodyFault.TheVariants.{Row};
 ghost use Rattle.gtp_v2.specs.declared.fault.V2Fault.TheVariants as faults;
@@ -122,6 +123,31 @@ pub enum V2Fault {
     /// H9: answered by `encode` alone.
     #[error("the length is above 65535")]
     TooLong,
+}
+
+/// The printed number of an element that is missing, after H.
+pub const MISSING_ELEMENT: u8 = 6;
+
+/// The printed number of an element that does not read, and of a list that is not whole, after H.
+pub const BAD_ELEMENT: u8 = 7;
+
+impl V2Fault {
+    /// The printed number, after H.
+    pub fn number(&self) -> u8
+        ensures { result ≡ number_of self.now }
+    {
+        match self {
+            V2Fault::Short { .. } => 1,
+            V2Fault::Version(_) => 2,
+            V2Fault::Length { .. } => 3,
+            V2Fault::FlagT { .. } => 4,
+            V2Fault::Piggyback => 5,
+            V2Fault::Missing { .. } => MISSING_ELEMENT,
+            V2Fault::Element { .. } => BAD_ELEMENT,
+            V2Fault::Memory => 8,
+            V2Fault::TooLong => 9,
+        }
+    }
 }
 
 impl From<AllocError> for V2Fault {

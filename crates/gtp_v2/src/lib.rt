@@ -29,7 +29,7 @@ pub use body::{
     SessionRequestContext, SessionResponseContext, VersionNotSupported, type_name,
 };
 pub use contexts::{ContextView, Contexts};
-pub use fault::{Head, V2Fault};
+pub use fault::{BAD_ELEMENT, Head, MISSING_ELEMENT, V2Fault};
 pub use groups::BEARER_CONTEXT;
 pub use listed::Listed;
 pub use message::{Datagram, Message, decode, encode};

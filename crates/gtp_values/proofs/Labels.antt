@@ -3,8 +3,8 @@ use Rattle.std.proofs.Common.{◌≡◌, ℕ, zero, suc, ◌+◌, ◌-◌, get_o
 use Rattle.std.specs.Prelude.{IsTrue}
 use Rattle.std.specs.List.{AllByRecursion}
 use Rattle.std.proofs.lemmas.Bool.Decides.{nat_tests}
-use Rattle.std.proofs.lemmas.List.{at_drop_more}
-use Rattle.gtp_values.proofs.Outcomes.{both}
+use Rattle.std.proofs.lemmas.List.{at_drop_more, nil_from_length}
+use Rattle.gtp_values.proofs.Tests.{both}
 use Rattle.gtp_values.specs.Apn.{is_label_octet, is_label_length, IsLabel, labels_text, AreLabels, are_labels_from}
 
 -- the rest of a label, and then labels
@@ -47,10 +47,7 @@ labels_are octets h = ap (are_labels_from 0) h.2 ∙ found [] h.0 tt h.1
 
 pub are_labels : (octets : List ℕ) → are_labels_from 0 octets ≡ true → AreLabels octets
 are_labels octets h =
-    let c = continues 0 octets h in (c.labels, c.each, c.text ∙ ap (λ (xs : List ℕ). xs ++ labels_text c.labels) (none c.part c.count)) where
-      none : (part : List ℕ) → length part ≡ 0 → part ≡ []
-      none [] e = refl
-      none (x ∷ xs) e = absurd (omega arith)
+    let c = continues 0 octets h in (c.labels, c.each, c.text ∙ ap (λ (xs : List ℕ). xs ++ labels_text c.labels) (nil_from_length c.part c.count))
 
 -- ---- one step of the loop
 

@@ -6,4 +6,5 @@ pub mod Labels
 pub mod Fills
 pub mod Digits
 pub mod Outcomes
+pub mod Tests
 pub mod Decided

@@ -6,7 +6,7 @@ use Rattle.std.specs.Option.{unwrap_or}
 use lib.Dec.{ltb}
 use Rattle.gtp_values.specs.Apn.{is_label_octet, are_labels_from, IsApn, IsApnText, HasApnTextLength, HasApnLength, joined_from, joined, after_dots, labels_text, apn_text, label_length, lengths_for_dots, octets_of_text}
 use Rattle.gtp_values.proofs.Labels.{labels_are}
-use Rattle.gtp_values.proofs.Outcomes.{Both, both}
+use Rattle.gtp_values.proofs.Tests.{Both, both}
 
 -- one more character at the start
 by_dot : (octet : ℕ) (octets : List ℕ) (b : Bool) → (octet == 46) ≡ b → joined_from (label_length octets) (lengths_for_dots octets) ≡ octets

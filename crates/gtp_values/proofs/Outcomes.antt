@@ -1,5 +1,5 @@
--- What is told by equal outcomes, and by tests that hold together.
-use Rattle.std.proofs.Common.{◌≡◌, ◌∙◌, Bool, true, false, ◌&&◌, Option, Some, None, Result, Ok, Err, ◌⊎◌, inl, inr, refl, sym, subst}
+-- What is told by equal outcomes.
+use Rattle.std.proofs.Common.{◌≡◌, ◌∙◌, Option, Some, None, Result, Ok, Err, ◌⊎◌, inl, inr, sym, subst}
 use Rattle.gtp_values.specs.Decides.{Decides}
 
 -- an answer and a fault, each with the type of the other
@@ -11,9 +11,6 @@ failed X f = Err f
 
 abbrev pub nothing : (X : Type 0) → Option X
 nothing X = None
-
-pub some_same : {X : Type 0} (x y : X) → Some x ≡ Some y → x ≡ y
-some_same x y h = cc
 
 pub none_some : {X : Type 0} (x : X) → nothing X ≡ Some x → ⊥
 none_some x h = cc
@@ -35,12 +32,3 @@ decided_by {X = X} {E = E} r P F one is fails = record {
   err = λ f e. elim one [ inl s ↦ absurd (apart s.0 f (sym (is s.0 s.1) ∙ e)) | inr s ↦ subst F (err_same X s.0 f (sym (fails s.0 s.1) ∙ e)) s.1 ];
   fails = fails;
 }
-
--- two tests that hold together
-pub record Both (a b : Bool) : Type 0 where
-  pub left : a ≡ true
-  pub right : b ≡ true
-
-pub both : (a b : Bool) → (a && b) ≡ true → Both a b
-both true b h = record { left = refl; right = h }
-both false b h = absurd cc

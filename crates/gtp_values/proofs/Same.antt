@@ -6,6 +6,9 @@ use Rattle.std.specs.Option.{option_eq}
 use Rattle.std.specs.Cmp.{booleans_Decides}
 use Rattle.std.specs.Cmp.Lexicographic.{pointwise, bytes_decides}
 use Rattle.std.proofs.lemmas.Bool.Decides.{Decides-eqb, Decides-and, Decides-like}
+use Rattle.gtp_values.specs.declared.address.Ip.{Ip}
+use Rattle.gtp_values.specs.declared.address.Ip.TheVariants as addresses
+use Rattle.gtp_values.specs.declared.address.Endpoint.{Endpoint}
 use Rattle.gtp_values.specs.declared.cause.Cause.{Cause}
 use Rattle.gtp_values.specs.declared.cause.Offending.{Offending}
 use Rattle.gtp_values.specs.declared.paa.Paa.{Paa}
@@ -15,6 +18,8 @@ use Rattle.gtp_values.specs.declared.qos.Rates.{Rates}
 use Rattle.gtp_values.specs.declared.qos.Qos.{Qos}
 use Rattle.gtp_values.specs.TunnelEnd.{TunnelEnd}
 use Rattle.gtp_values.specs.Plmn.{Network}
+use Rattle.gtp_values.specs.contracts.address.IpPartialEq.TheImpl as ips
+use Rattle.gtp_values.specs.contracts.address.EndpointPartialEq.TheImpl as endpoints
 use Rattle.gtp_values.specs.contracts.imsi.ImsiPartialEq.TheImpl as imsis
 use Rattle.gtp_values.specs.contracts.apn.ApnPartialEq.TheImpl as apns
 use Rattle.gtp_values.specs.contracts.tft.TftPartialEq.TheImpl as tfts
@@ -48,6 +53,17 @@ options_same eq same (Some x) (Some y) = whole_by (λ e. ap (λ z. Some z) e) (�
 options_same eq same None None = (λ e. refl, λ e. refl)
 options_same eq same o p = (λ e. absurd cc, λ e. absurd cc)
 
+pub ip_same : (a b : Ip) → Decides ((ips.ghosts).eq a b) (a ≡ b)
+ip_same (addresses.V4 a) (addresses.V4 b) = whole_by (λ e. ap (λ x. addresses.V4 x) e) (λ e. cc) (bytes_decides a b)
+ip_same (addresses.V6 a) (addresses.V6 b) = whole_by (λ e. ap (λ x. addresses.V6 x) e) (λ e. cc) (bytes_decides a b)
+ip_same a b = (λ e. absurd cc, λ e. absurd cc)
+
+abbrev endpoint : Ip → ℕ → Endpoint
+endpoint ip port = record { ip = ip; port = port }
+
+pub endpoint_same : (a b : Endpoint) → Decides ((endpoints.ghosts).eq a b) (a ≡ b)
+endpoint_same a b = whole_by (λ e. app (ap endpoint e.0) e.1) (λ e. (ap (λ k. k.ip) e, ap (λ k. k.port) e)) (and_then (ip_same a.ip b.ip) (Decides-eqb a.port b.port))
+
 pub imsi_same : (a b : List ℕ) → Decides ((imsis.ghosts).eq a b) (a ≡ b)
 imsi_same a b = bytes_decides a b
 
@@ -57,34 +73,34 @@ apn_same a b = bytes_decides a b
 pub tft_same : (a b : List ℕ) → Decides ((tfts.ghosts).eq a b) (a ≡ b)
 tft_same a b = bytes_decides a b
 
-abbrev network : List ℕ → List ℕ → Network
-network mcc mnc = record { mcc = mcc; mnc = mnc }
+abbrev pub network_with : List ℕ → List ℕ → Network
+network_with mcc mnc = record { mcc = mcc; mnc = mnc }
 
 pub plmn_same : (a b : Network) → Decides ((plmns.ghosts).eq a b) (a ≡ b)
 plmn_same a b =
-    whole_by (λ e. app (ap network e.0) e.1) (λ e. (ap (λ n. n.mcc) e, ap (λ n. n.mnc) e)) (and_then (bytes_decides a.mcc b.mcc) (bytes_decides a.mnc b.mnc))
+    whole_by (λ e. app (ap network_with e.0) e.1) (λ e. (ap (λ n. n.mcc) e, ap (λ n. n.mnc) e)) (and_then (bytes_decides a.mcc b.mcc) (bytes_decides a.mnc b.mnc))
 
-abbrev tunnel_end : ℕ → ℕ → Option (List ℕ) → Option (List ℕ) → TunnelEnd
-tunnel_end interface teid v4 v6 = record { interface = interface; teid = teid; v4 = v4; v6 = v6 }
+abbrev pub end_with : ℕ → ℕ → Option (List ℕ) → Option (List ℕ) → TunnelEnd
+end_with interface teid v4 v6 = record { interface = interface; teid = teid; v4 = v4; v6 = v6 }
 
 pub fteid_same : (a b : TunnelEnd) → Decides ((fteids.ghosts).eq a b) (a ≡ b)
 fteid_same a b =
-    whole_by (λ e. app (app (app (ap tunnel_end e.0) e.1.0) e.1.1.0) e.1.1.1) (λ e. (ap (λ t. t.interface) e, (ap (λ t. t.teid) e, (ap (λ t. t.v4) e, ap (λ t. t.v6) e))))
+    whole_by (λ e. app (app (app (ap end_with e.0) e.1.0) e.1.1.0) e.1.1.1) (λ e. (ap (λ t. t.interface) e, (ap (λ t. t.teid) e, (ap (λ t. t.v4) e, ap (λ t. t.v6) e))))
     (and_then (Decides-eqb a.interface b.interface) (and_then (Decides-eqb a.teid b.teid) (and_then (options_same (pointwise nat_eq) bytes_decides a.v4 b.v4) (options_same (pointwise nat_eq) bytes_decides a.v6 b.v6))))
 
-abbrev offending : ℕ → ℕ → Offending
-offending kind instance = record { kind = kind; instance = instance }
+abbrev pub offending_with : ℕ → ℕ → Offending
+offending_with kind instance = record { kind = kind; instance = instance }
 
 offending_same : (a b : Offending) → Decides ((offendings.ghosts).eq a b) (a ≡ b)
 offending_same a b =
-    whole_by (λ e. app (ap offending e.0) e.1) (λ e. (ap (λ o. o.kind) e, ap (λ o. o.instance) e)) (and_then (Decides-eqb a.kind b.kind) (Decides-eqb a.instance b.instance))
+    whole_by (λ e. app (ap offending_with e.0) e.1) (λ e. (ap (λ o. o.kind) e, ap (λ o. o.instance) e)) (and_then (Decides-eqb a.kind b.kind) (Decides-eqb a.instance b.instance))
 
-abbrev cause : ℕ → Bool → Bool → Bool → Option Offending → Cause
-cause value pce bce cs offending = record { value = value; pce = pce; bce = bce; cs = cs; offending = offending }
+abbrev pub cause_with : ℕ → Bool → Bool → Bool → Option Offending → Cause
+cause_with value pce bce cs offending = record { value = value; pce = pce; bce = bce; cs = cs; offending = offending }
 
 pub cause_same : (a b : Cause) → Decides ((causes.ghosts).eq a b) (a ≡ b)
 cause_same a b =
-    whole_by (λ e. app (app (app (app (ap cause e.0) e.1.0) e.1.1.0) e.1.1.1.0) e.1.1.1.1)
+    whole_by (λ e. app (app (app (app (ap cause_with e.0) e.1.0) e.1.1.0) e.1.1.1.0) e.1.1.1.1)
     (λ e. (ap (λ c. c.value) e, (ap (λ c. c.pce) e, (ap (λ c. c.bce) e, (ap (λ c. c.cs) e, ap (λ c. c.offending) e)))))
     (and_then (Decides-eqb a.value b.value) (and_then (booleans_Decides a.pce b.pce) (and_then (booleans_Decides a.bce b.bce) (and_then (booleans_Decides a.cs b.cs) (options_same ((offendings.ghosts).eq) offending_same a.offending b.offending)))))
 
@@ -96,17 +112,17 @@ paa_same (paas.V4V6 p a x) (paas.V4V6 q b y) =
 paa_same (paas.Other a) (paas.Other b) = whole_by (λ e. ap (λ n. paas.Other n) e) (λ e. cc) (Decides-eqb a b)
 paa_same a b = (λ e. absurd cc, λ e. absurd cc)
 
-abbrev ambr : ℕ → ℕ → Ambr
-ambr up down = record { up = up; down = down }
+abbrev pub ambr_with : ℕ → ℕ → Ambr
+ambr_with up down = record { up = up; down = down }
 
 pub ambr_same : (a b : Ambr) → Decides ((ambrs.ghosts).eq a b) (a ≡ b)
-ambr_same a b = whole_by (λ e. app (ap ambr e.0) e.1) (λ e. (ap (λ r. r.up) e, ap (λ r. r.down) e)) (and_then (Decides-eqb a.up b.up) (Decides-eqb a.down b.down))
+ambr_same a b = whole_by (λ e. app (ap ambr_with e.0) e.1) (λ e. (ap (λ r. r.up) e, ap (λ r. r.down) e)) (and_then (Decides-eqb a.up b.up) (Decides-eqb a.down b.down))
 
-abbrev rates : ℕ → ℕ → Rates
-rates up down = record { up = up; down = down }
+abbrev pub rates_with : ℕ → ℕ → Rates
+rates_with up down = record { up = up; down = down }
 
 rates_same : (a b : Rates) → Decides ((all_rates.ghosts).eq a b) (a ≡ b)
-rates_same a b = whole_by (λ e. app (ap rates e.0) e.1) (λ e. (ap (λ r. r.up) e, ap (λ r. r.down) e)) (and_then (Decides-eqb a.up b.up) (Decides-eqb a.down b.down))
+rates_same a b = whole_by (λ e. app (ap rates_with e.0) e.1) (λ e. (ap (λ r. r.up) e, ap (λ r. r.down) e)) (and_then (Decides-eqb a.up b.up) (Decides-eqb a.down b.down))
 
 abbrev quality : Bool → ℕ → Bool → ℕ → Rates → Rates → Qos
 quality pci pl pvi qci mbr gbr = record { pci = pci; pl = pl; pvi = pvi; qci = qci; mbr = mbr; gbr = gbr }

@@ -1,9 +1,11 @@
 pub mod Address
 pub mod Apn
+pub mod Bit
 pub mod Cause
 pub mod Counter
 pub mod Ebi
 pub mod Imsi
+pub mod Number
 pub mod Numbers
 pub mod Padded
 pub mod Paa

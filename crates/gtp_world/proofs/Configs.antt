@@ -9,6 +9,7 @@ use Rattle.gtp_machine.specs.Input.{Input, Commanded, Effect}
 use Rattle.gtp_machine.specs.Tick.{ticked}
 use Rattle.gtp_machine.specs.Step.{Done}
 use Rattle.gtp_machine.specs.World.{World, Note, Event, Does, Tick, Deliver, Cut, Restart, HasSent, Happens, Delivers, Moves, Run, other, side_of, with_side, with_steps, noted, moved, logged, late_once, arrival, restarted, start, quiet_note, next_counter, No_such_datagram, Cut_too_long, Restarts_used, Restarted}
+use Rattle.gtp_machine.proofs.Basics.FiniteMaps.{among_at}
 use Rattle.gtp_machine.proofs.Exchange.Held.{tick_config}
 use Rattle.gtp_machine.proofs.Rows.Stepping.{Carried}
 use Rattle.gtp_machine.proofs.Worlds.Runs as run
@@ -66,7 +67,7 @@ module _ (own : Addresses) where
   happens w inv (Does role command) new m = moves w inv role (Commanded command) tt new m
   happens w inv (Tick role) new t = to_new w _ new t.becomes (stepped w role (ticked t.out t.after) _ _ (tick_config (side_of w role).node t.moves t.out t.after t.tick))
   happens w inv (Deliver number) new (inl none) = to_new w _ new none.1 (same_noted w (quiet_note No_such_datagram))
-  happens w inv (Deliver number) new (inr (found, d)) = delivers w inv found.sent.role found.sent.what (run.found_sent own w.history number found.sent found.is) new d
+  happens w inv (Deliver number) new (inr (found, d)) = delivers w inv found.sent.role found.sent.what (among_at w.history number found.sent found.is) new d
   happens w inv (Cut number count) new (inl none) = to_new w _ new none.1 (same_noted w (quiet_note No_such_datagram))
   happens w inv (Cut number count) new (inr (found, inl long)) = to_new w _ new long.1 (same_noted w (quiet_note Cut_too_long))
   happens w inv (Cut number count) new (inr (found, inr (short, c))) = moves w inv (other found.sent.role) _ (run.cut_carried own (other found.sent.role) (plane_of found.sent.what) _ found.sent.what count w.history (side_of w (other found.sent.role)).node) new c

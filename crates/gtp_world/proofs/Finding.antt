@@ -5,7 +5,7 @@ use Rattle.std.proofs.Math.Seq.{take-length}
 use Rattle.std.proofs.lemmas.List.{length-map}
 use Rattle.std.proofs.lemmas.Option.{slice_get-map, slice_get-get_or, slice_get_past, same_Some}
 use Rattle.std.specs.Result.{is_ok, is_err}
-use Rattle.std.specs.Prelude.{IsTrue, IfOk, IfSome, OnOk, OnErr}
+use Rattle.std.specs.Prelude.{IsTrue, IfSome, OnOk, OnErr}
 use Rattle.gtp_machine.specs.declared.role.Role.{Role}
 use Rattle.gtp_machine.specs.Spelling.{Datagram as Sent}
 use Rattle.gtp_machine.specs.World.{By, other, Deliver}
@@ -50,16 +50,6 @@ pub all_of : (old : Kept) (late : Bool) (new : Kept) (count : ℕ) (datagrams : 
 all_of old late new count datagrams index d found at long t =
     let whole = ap (λ n. take n found.sent.what.octets) (long ∙ sym (octets_at datagrams index d found at)) ∙ take-length found.sent.what.octets in
     subst (λ (o : List ℕ). Brings old found.sent o late new) whole t
-
--- what follows where there is a value
-pub so_on_ok : {X E : Type 0} (r : Result X E) (P Q : Type 0) → (P → Q) → OnOk r P → OnOk r Q
-so_on_ok (Ok x) P Q so p = so p
-so_on_ok (Err e) P Q so p = p
-
--- what follows of the value, by what is known of it
-pub so_on_value : {X E : Type 0} (r : Result X E) (P Q : X → Type 0) → ((x : X) → P x → Q x) → IfOk r P → IfOk r Q
-so_on_value (Ok x) P Q so p = so x p
-so_on_value (Err e) P Q so p = p
 
 -- what holds where there is a value, where there is one
 pub on_ok : {X E : Type 0} (r : Result X E) (P : Type 0) → is_ok r ≡ true → OnOk r P → P

@@ -5,14 +5,13 @@ use Rattle.std.specs.FinMap.{find, get, entries, get-entries}
 use Rattle.std.specs.List.{filter_map, cons_option}
 use Rattle.std.specs.Ordering.{nat_cmp, eq_by_cmp}
 use Rattle.std.proofs.lemmas.Bool.Decides.{nat_tests}
-use Rattle.std.proofs.lemmas.Option.{same_Some}
 use Rattle.gtp_values.specs.FiniteMap.{FiniteMap, Among}
 use Rattle.gtp_tables.specs.declared.context.State.{State}
 use Rattle.gtp_tables.proofs.Found.{stands_at}
 use Rattle.gtp_machine.specs.Node.{Session, Bearer, Pending, Active, Closing}
 use Rattle.gtp_machine.proofs.Basics.FiniteMaps.{Among-left, Among-right, Among-cases}
 use Rattle.gtp_world.specs.Kept.{Kept}
-use Rattle.gtp_world.specs.Naming.{Pair, Sessions, Bearers, leads_to, back_from, partner, session_leads, bearer_leads, session_pairs, bearer_pairs, mutual_pairs, NameEachOther, DoAgree}
+use Rattle.gtp_world.specs.Naming.{Pair, Sessions, Bearers, leads_to, back_from, partner, session_leads, bearer_leads, pairs_of, session_pairs, bearer_pairs, mutual_pairs, NameEachOther, DoAgree}
 use Rattle.gtp_world.specs.Runs.{IsReached}
 use Rattle.gtp_world.proofs.Safe.{run_safe}
 
@@ -116,6 +115,30 @@ paired : (pair : ℕ → ℕ → Pair) (own : ℕ) (o : Option ℕ) (p : Pair) �
 paired pair own None p is = absurd (cc is)
 paired pair own (Some there) p is = (there, refl, cc is)
 
+-- a context of the serving gateway and one of the packet gateway that lead to each other
+record Named {X : Type 0} (leads : X → Option ℕ) (sgw pgw : FiniteMap X) (c d : ℕ) : Type 0 where
+  own : X
+  other : X
+  serving : get sgw c ≡ Some own
+  packet : get pgw d ≡ Some other
+  to : leads own ≡ Some d
+  back : leads other ≡ Some c
+
+named : {X : Type 0} (leads : X → Option ℕ) (pair : ℕ → ℕ → Pair) → ((a b c d : ℕ) → pair a b ≡ pair c d → (a ≡ c) × (b ≡ d)) → (sgw pgw : FiniteMap X) (c d : ℕ) → Among (pair c d) (pairs_of leads pair pgw (entries sgw)) → Named leads sgw pgw c d
+named leads pair apart sgw pgw c d among =
+    let g = given_from _ (entries sgw) (pair c d) among in
+    let p = paired pair g.of.0 (partner leads pgw g.of.0 g.of.1) (pair c d) g.gives in
+    let keys = apart g.of.0 p.0 c d p.2 in
+    let l = partner_from leads pgw g.of.0 g.of.1 p.0 p.1 in
+    record { own = g.of.1; other = l.other; serving = ap (get sgw) (sym keys.0) ∙ entry_stands sgw g.of g.among; packet = ap (get pgw) (sym keys.1) ∙ l.stands; to = l.to ∙ ap Some keys.1; back = l.back ∙ ap Some keys.0 }
+
+-- a pair of the other kind is not among them
+unlisted : {X : Type 0} (leads : X → Option ℕ) (pair : ℕ → ℕ → Pair) (p : Pair) → ((own there : ℕ) → pair own there ≡ p → ⊥) → (others : FiniteMap X) (es : List (ℕ × X)) → Among p (pairs_of leads pair others es) → ⊥
+unlisted leads pair p apart others es among =
+    let g = given_from _ es p among in
+    let of = paired pair g.of.0 (partner leads others g.of.0 g.of.1) p g.gives in
+    apart g.of.0 of.0 of.2
+
 module _ (v : Kept) where
   abbrev sessions : List (ℕ × Session)
   sessions = entries v.serving.station.node.sessions
@@ -123,68 +146,24 @@ module _ (v : Kept) where
   abbrev bearers : List (ℕ × Bearer)
   bearers = entries v.serving.station.node.bearers
 
-  no_bearers : (c d : ℕ) (bs : List (ℕ × Bearer)) → Among (Sessions c d) (bearer_pairs v.packet.station.node.bearers bs) → ⊥
-  no_bearers c d bs among =
-      let g = given_from _ bs (Sessions c d) among in
-      let p = paired Bearers g.of.0 (partner bearer_leads v.packet.station.node.bearers g.of.0 g.of.1) (Sessions c d) g.gives in
-      cc p.2
-
-  no_sessions : (c d : ℕ) (ss : List (ℕ × Session)) → Among (Bearers c d) (session_pairs v.packet.station.node.sessions ss) → ⊥
-  no_sessions c d ss among =
-      let g = given_from _ ss (Bearers c d) among in
-      let p = paired Sessions g.of.0 (partner session_leads v.packet.station.node.sessions g.of.0 g.of.1) (Bearers c d) g.gives in
-      cc p.2
-
   session_named : (c d : ℕ) → Among (Sessions c d) (session_pairs v.packet.station.node.sessions sessions) → NameEachOther v (Sessions c d)
   session_named c d among =
-      let g = given_from _ sessions (Sessions c d) among in
-      let own = g.of.0 in
-      let s = g.of.1 in
-      let p = paired Sessions own (partner session_leads v.packet.station.node.sessions own s) (Sessions c d) g.gives in
-      let is_own : own ≡ c = cc p.2 in
-      let is_there : p.0 ≡ d = cc p.2 in
-      let l = partner_from session_leads v.packet.station.node.sessions own s p.0 p.1 in
-      let here = active s.state s.remote p.0 l.to in
-      let there = active l.other.state l.other.remote own l.back in (
-        s,
-        l.other,
-        record {
-          serving = ap (get v.serving.station.node.sessions) (sym is_own) ∙ entry_stands v.serving.station.node.sessions g.of g.among;
-          packet = ap (get v.packet.station.node.sessions) (sym is_there) ∙ l.stands;
-          serving_active = here.0;
-          packet_active = there.0;
-          there = here.1 ∙ ap Some is_there;
-          back = there.1 ∙ ap Some is_own;
-        },
-      )
+      let n = named session_leads Sessions (λ a b x y same. (cc same, cc same)) v.serving.station.node.sessions v.packet.station.node.sessions c d among in
+      let here = active n.own.state n.own.remote d n.to in
+      let there = active n.other.state n.other.remote c n.back in
+      (n.own, n.other, record { serving = n.serving; packet = n.packet; serving_active = here.0; packet_active = there.0; there = here.1; back = there.1 })
 
   bearer_named : (c d : ℕ) → Among (Bearers c d) (bearer_pairs v.packet.station.node.bearers bearers) → NameEachOther v (Bearers c d)
   bearer_named c d among =
-      let g = given_from _ bearers (Bearers c d) among in
-      let own = g.of.0 in
-      let s = g.of.1 in
-      let p = paired Bearers own (partner bearer_leads v.packet.station.node.bearers own s) (Bearers c d) g.gives in
-      let is_own : own ≡ c = cc p.2 in
-      let is_there : p.0 ≡ d = cc p.2 in
-      let l = partner_from bearer_leads v.packet.station.node.bearers own s p.0 p.1 in
-      let here = active s.state s.remote p.0 l.to in
-      let there = active l.other.state l.other.remote own l.back in (
-        s,
-        l.other,
-        record {
-          serving = ap (get v.serving.station.node.bearers) (sym is_own) ∙ entry_stands v.serving.station.node.bearers g.of g.among;
-          packet = ap (get v.packet.station.node.bearers) (sym is_there) ∙ l.stands;
-          serving_active = here.0;
-          packet_active = there.0;
-          there = here.1 ∙ ap Some is_there;
-          back = there.1 ∙ ap Some is_own;
-        },
-      )
+      let n = named bearer_leads Bearers (λ a b x y same. (cc same, cc same)) v.serving.station.node.bearers v.packet.station.node.bearers c d among in
+      let here = active n.own.state n.own.remote d n.to in
+      let there = active n.other.state n.other.remote c n.back in
+      (n.own, n.other, record { serving = n.serving; packet = n.packet; serving_active = here.0; packet_active = there.0; there = here.1; back = there.1 })
 
   -- what is listed names each other
   pub listed : (pair : Pair) → Among pair (mutual_pairs v) → NameEachOther v pair
-  listed (Sessions c d) among = ⊎_elim (session_named c d) (λ has. absurd (no_bearers c d bearers has)) (Among-cases (Sessions c d) (session_pairs v.packet.station.node.sessions sessions) (bearer_pairs v.packet.station.node.bearers bearers) among)
-  listed (Bearers c d) among = ⊎_elim (λ has. absurd (no_sessions c d sessions has)) (bearer_named c d) (Among-cases (Bearers c d) (session_pairs v.packet.station.node.sessions sessions) (bearer_pairs v.packet.station.node.bearers bearers) among)
+  listed (Sessions c d) among = ⊎_elim (session_named c d) (λ has. absurd (unlisted bearer_leads Bearers (Sessions c d) (λ own there same. cc same) v.packet.station.node.bearers bearers has)) (Among-cases (Sessions c d) (session_pairs v.packet.station.node.sessions sessions) (bearer_pairs v.packet.station.node.bearers bearers) among)
+  listed (Bearers c d) among = ⊎_elim (λ has. absurd (unlisted session_leads Sessions (Bearers c d) (λ own there same. cc same) v.packet.station.node.sessions sessions has)) (bearer_named c d) (Among-cases (Bearers c d) (session_pairs v.packet.station.node.sessions sessions) (bearer_pairs v.packet.station.node.bearers bearers) among)
 
   -- and what names each other is listed
   pub is_listed : (pair : Pair) → NameEachOther v pair → Among pair (mutual_pairs v)
@@ -196,12 +175,6 @@ module _ (v : Kept) where
       let l = partner_to bearer_leads v.packet.station.node.bearers c s d (record { to = leads s.state s.remote d m.serving_active m.there; other = p; stands = m.packet; back = leads p.state p.remote c m.packet_active m.back }) in
       Among-right (Bearers c d) (session_pairs v.packet.station.node.sessions sessions) (bearer_pairs v.packet.station.node.bearers bearers)
       (among_given _ bearers (c, s) (Bearers c d) (among_entries v.serving.station.node.bearers c s m.serving) (ap (option_map (Bearers c)) l))
-
--- what stands at a place of a list is among it
-pub among_at : {X : Type 0} (xs : List X) (i : ℕ) (x : X) → slice_get xs i ≡ Some x → Among x xs
-among_at [] i x is = absurd (cc is)
-among_at (y ∷ xs) zero x is = inl (sym (same_Some y x is))
-among_at (y ∷ xs) (suc i) x is = inr (among_at xs i x is)
 
 -- at the end of a run, what names each other agrees
 pub agreeing : (v : Kept) → IsReached v → (pair : Pair) → NameEachOther v pair → DoAgree v pair

@@ -40,11 +40,15 @@ session_leads s = leads_to s.state s.remote
 abbrev pub bearer_leads : Bearer → Option ℕ
 bearer_leads b = leads_to b.state b.remote
 
+-- the pairs of one kind, of contexts that lead to each other
+abbrev pub pairs_of : {X : Type 0} → (X → Option ℕ) → (ℕ → ℕ → Pair) → FiniteMap X → List (ℕ × X) → List Pair
+pairs_of leads pair others es = filter_map (λ e. option_map (pair e.0) (partner leads others e.0 e.1)) es
+
 abbrev pub session_pairs : FiniteMap Session → List (ℕ × Session) → List Pair
-session_pairs others sessions = filter_map (λ e. option_map (Sessions e.0) (partner session_leads others e.0 e.1)) sessions
+session_pairs others sessions = pairs_of session_leads Sessions others sessions
 
 abbrev pub bearer_pairs : FiniteMap Bearer → List (ℕ × Bearer) → List Pair
-bearer_pairs others bearers = filter_map (λ e. option_map (Bearers e.0) (partner bearer_leads others e.0 e.1)) bearers
+bearer_pairs others bearers = pairs_of bearer_leads Bearers others bearers
 
 -- sessions before bearers, each in order of the serving gateway's TEIDs
 abbrev pub mutual_pairs : Kept → List Pair

@@ -5,6 +5,7 @@ use Rattle.std.specs.FinMap.{get, insert, remove, len, find, from_entries, entri
 use Rattle.std.specs.Ordering.{nat_cmp, eq_by_cmp}
 use Rattle.std.specs.Cmp.{nat_cmp_total}
 use Rattle.std.proofs.lemmas.Bool.Decides.{nat_tests}
+use Rattle.std.proofs.lemmas.List.Sums.{length-filter, count_by-le-length}
 use Rattle.gtp_values.specs.FiniteMap.{FiniteMap, kept, passes}
 
 pub tied : (q k : ℕ) → eq_by_cmp nat_cmp q k ≡ true → q ≡ k
@@ -25,14 +26,6 @@ module _ {X : Type 0} where
       by_tests true false is drops rest = let same : p q ≡ false = ap p (tied q e.0 is) ∙ drops in rest ∙ rw same refl
       by_tests false true is keeps rest = rw is rest
       by_tests false false is drops rest = rest
-
-  length-by : (p : ℕ × X → Bool) (es : List (ℕ × X)) → length (filter p es) ≤ length es
-  length-by p [] = omega arith
-  length-by p (e ∷ es) = by_test (p e) (length-by p es)
-    where
-      by_test : (b : Bool) → length (filter p es) ≤ length es → length (cond b (e ∷ filter p es) (filter p es)) ≤ length (e ∷ es)
-      by_test true rest = omega (arith, rest)
-      by_test false rest = omega (arith, rest)
 
   pub len-insert_most : (table : FiniteMap X) (key : ℕ) (x : X) → len (insert table key x) ≤ len table + 1
   len-insert_most table key x = grind (arith, gets)
@@ -57,4 +50,4 @@ module _ {X : Type 0} where
       ∙ (ap (λ o. cond (p q) o None) (get-entries table q)
       ∙ (sym (find-by_key p (entries table) q)
       ∙ sym (get-from_entries nat_cmp_total (filter (λ e. p e.0) (entries table)) q)))) in
-      omega (arith, ap len same, len-from_entries (filter (λ e. p e.0) (entries table)), length-by (λ e. p e.0) (entries table), len-entries table)
+      omega (arith, ap len same, len-from_entries (filter (λ e. p e.0) (entries table)), length-filter (λ e. p e.0) (entries table), count_by-le-length (λ e. p e.0) (entries table), len-entries table)

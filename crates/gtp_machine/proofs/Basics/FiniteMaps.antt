@@ -1,7 +1,8 @@
 -- What a change of a finite map or of a list leaves of what holds of each entry.
-use Rattle.std.proofs.Common.{◌≡◌, ◌≢◌, ◌⊎◌, inl, inr, ⊎_elim, ℕ, Bool, true, false, cond, List, [], ◌∷◌, ◌++◌, map, Option, Some, None, refl, sym, ◌∙◌, ap, subst, arith}
+use Rattle.std.proofs.Common.{◌≡◌, ◌≢◌, ◌⊎◌, inl, inr, ⊎_elim, ℕ, Bool, true, false, cond, List, [], ◌∷◌, ◌++◌, map, Option, Some, None, refl, sym, ◌∙◌, ap, subst, arith, zero, suc, slice_get}
 use Rattle.std.specs.FinMap.{get, insert, remove, get-retain_keys, get-entries, get-from_entries, entries, find, empty, gets, nat_cmp-IsAntisymmetric}
 use Rattle.std.proofs.lemmas.Bool.Decides.{nat_tests}
+use Rattle.std.proofs.lemmas.Option.{same_Some}
 use Rattle.std.specs.Ordering.{nat_cmp, eq_by_cmp}
 use Rattle.std.specs.Cmp.{nat_cmp_total}
 use Rattle.gtp_values.specs.FiniteMap.{FiniteMap, Each, kept, passes, changed, with_value, Among}
@@ -40,6 +41,12 @@ Each-empty P q y e = absurd (found-empty q y e)
 
 pub Each-weaker : {X : Type 0} (P Q : ℕ → X → Type 0) (m : FiniteMap X) → ((key : ℕ) (x : X) → P key x → Q key x) → Each P m → Each Q m
 Each-weaker P Q m weaker each q y e = weaker q y (each q y e)
+
+-- what stands at a place of a list is among it
+pub among_at : {X : Type 0} (xs : List X) (i : ℕ) (x : X) → slice_get xs i ≡ Some x → Among x xs
+among_at [] i x is = absurd (cc is)
+among_at (y ∷ xs) zero x is = inl (sym (same_Some y x is))
+among_at (y ∷ xs) (suc i) x is = inr (among_at xs i x is)
 
 pub Among-left : {X : Type 0} (x : X) (xs ys : List X) → Among x xs → Among x (xs ++ ys)
 Among-left x (y ∷ xs) ys (inl here) = inl here

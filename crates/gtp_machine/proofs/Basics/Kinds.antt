@@ -1,10 +1,10 @@
 -- A message by what a gateway does with it: it is of one of the six kinds that the gateway takes, or it is dropped.
-use Rattle.std.proofs.Common.{◌≡◌, Bool, true, false}
+use Rattle.std.proofs.Common.{◌≡◌, Bool, true, false, ap}
 use Rattle.gtp_machine.specs.Message.{Echo, CreateSessionRequest, CreateSessionResponse, DeleteSessionRequest, DeleteSessionResponse, CreateBearerRequest, CreateBearerResponse, DeleteBearerRequest, DeleteBearerResponse, Message, Echo_request, Echo_response, Create_session_request, Create_session_response, Delete_session_request, Delete_session_response, Create_bearer_request, Create_bearer_response, Delete_bearer_request, Delete_bearer_response, Other_control, Packet_data, End_marker, Error_indication, User_echo_request, User_echo_response, Supported_extensions, Other_user}
 use Rattle.gtp_machine.specs.Node.{Role, Serving, Packet, Arrival, Node}
-use Rattle.gtp_machine.specs.Input.{Effect, dropped, Unexpected}
-use Rattle.gtp_machine.specs.Serving.{ServingTakes}
-use Rattle.gtp_machine.specs.Packet.{PacketTakes}
+use Rattle.gtp_machine.specs.Input.{FaultyRequest, RequestKind, Of_create_session, Of_delete_session, Of_create_bearer, Of_delete_bearer, Effect, dropped, Unexpected}
+use Rattle.gtp_machine.specs.Serving.{ServingTakes, ServingFaulted}
+use Rattle.gtp_machine.specs.Packet.{PacketTakes, PacketFaulted}
 
 -- a request by which this gateway makes a session or a bearer
 abbrev pub creates : Role → Message → Bool
@@ -22,6 +22,22 @@ is_create_answer m = false
 pub record IsDropped (Takes : Arrival → Message → Node → Effect → Type 0) (m : Message) : Type 0 where
   pub only : (request : Arrival) (old : Node) (e : Effect) → Takes request m old e → e ≡ dropped old Unexpected
   pub so : (request : Arrival) (old : Node) (e : Effect) → e ≡ dropped old Unexpected → Takes request m old e
+
+-- a faulty request leaves the gateway as it is
+abbrev pub LeavesNode : (Arrival → FaultyRequest → RequestKind → Node → Effect → Type 0) → Type 0
+LeavesNode Faulted = (request : Arrival) (f : FaultyRequest) (kind : RequestKind) (old : Node) (e : Effect) → Faulted request f kind old e → e.node ≡ old
+
+pub serving_faulted : LeavesNode ServingFaulted
+serving_faulted request f Of_create_session old e r = ap (λ (k : Effect). k.node) r
+serving_faulted request f Of_delete_session old e r = ap (λ (k : Effect). k.node) r
+serving_faulted request f Of_create_bearer old e r = ap (λ (k : Effect). k.node) r
+serving_faulted request f Of_delete_bearer old e r = ap (λ (k : Effect). k.node) r
+
+pub packet_faulted : LeavesNode PacketFaulted
+packet_faulted request f Of_create_session old e r = ap (λ (k : Effect). k.node) r
+packet_faulted request f Of_delete_session old e r = ap (λ (k : Effect). k.node) r
+packet_faulted request f Of_create_bearer old e r = ap (λ (k : Effect). k.node) r
+packet_faulted request f Of_delete_bearer old e r = ap (λ (k : Effect). k.node) r
 
 module _ (P : Message → Type 0) where
   -- at the serving gateway

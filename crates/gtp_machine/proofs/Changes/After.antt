@@ -17,7 +17,7 @@ use Rattle.gtp_machine.specs.World.{other, Sent, HasSent, signed}
 use Rattle.gtp_machine.specs.Laws.{ClosesWhole}
 use Rattle.gtp_machine.proofs.Basics.FiniteMaps.{Each-insert, Each-weaker, get-insert_other, Among-left, Among-one_more}
 use Rattle.gtp_machine.proofs.Origins.Drawing.{Extends, Extends-signed, Draws, Draws-nothing, Draws-one, IsMadeNow, by_now}
-use Rattle.gtp_machine.proofs.Origins.Contexts.{ServingContexts, ServingContexts-later, ServingContexts-shrinks, PacketContexts, PacketContexts-later, PacketContexts-shrinks, closes-shrinks}
+use Rattle.gtp_machine.proofs.Origins.Contexts.{IsAt, ServingContexts, ServingContexts-later, ServingContexts-shrinks, PacketContexts, PacketContexts-later, PacketContexts-shrinks, closes-shrinks}
 use Rattle.gtp_machine.proofs.Changes.Shrinking.{NodeShrinks, Shrunk, Shrunk-itself}
 use Rattle.gtp_machine.proofs.Changes.Matching.{IsMatched, IsMatched-shrinks, IsMatched-session, IsMatched-bearer}
 use Rattle.gtp_machine.proofs.Changes.Steps.{Logs, Logs-silent, Logs-plain, Logs-repeat, IsPlain, NothingOwns}
@@ -108,8 +108,12 @@ pub matched_session : (history : List Sent) (role : Role) (node : Node) → Noth
 matched_session history role node unowned pending key s free each number p e = IsMatched-session node.sessions node.bearers key s number p (new_session history role node unowned number p (pending number p e) key free) (each number p e)
 
 -- a session that is put under a new TEID leaves each other where it stands
-pub still_stands : (history : List Sent) (role : Role) (node : Node) → Knows role history node → (key : ℕ) (new : Session) → (Among key node.drawn → ⊥) → (t : ℕ) (s : Session) → get node.sessions t ≡ Some s → get (insert node.sessions key new) t ≡ Some s
+still_stands : (history : List Sent) (role : Role) (node : Node) → Knows role history node → (key : ℕ) (new : Session) → (Among key node.drawn → ⊥) → (t : ℕ) (s : Session) → get node.sessions t ≡ Some s → get (insert node.sessions key new) t ≡ Some s
 still_stands history role node knows key new undrawn t s stands = get-insert_other node.sessions key new t (λ same. undrawn (subst (λ k. Among k node.drawn) same (knows.drawn t s stands))) ∙ stands
+
+-- a session that comes under a new TEID leaves each bearer with its session
+pub with_new_session : (history : List Sent) (role : Role) (node : Node) → Knows role history node → (Origin : ℕ → Bearer → Session → Type 0) (key : ℕ) (new : Session) → (Among key node.drawn → ⊥) → Each (IsAt Origin node.sessions) node.bearers → Each (IsAt Origin (insert node.sessions key new)) node.bearers
+with_new_session history role node knows Origin key new undrawn each t b e = let at = each t b e in record { session = at.session; stands = still_stands history role node knows key new undrawn b.session at.session at.stands; origin = at.origin }
 
 pub matched_bearer : (history : List Sent) (role : Role) (node : Node) → NothingOwns history role node → Each (IsPending history role) node.pending → (sessions : FiniteMap Session) (key : ℕ) (b : Bearer) → IsFree node key → Each (IsMatched sessions node.bearers) node.pending → Each (IsMatched sessions (insert node.bearers key b)) node.pending
 matched_bearer history role node unowned pending sessions key b free each number p e = IsMatched-bearer sessions node.bearers key b number p (λ r is same. absurd (new_bearer history role node unowned number p (pending number p e) key free r is same)) (each number p e)

@@ -1,7 +1,7 @@
 -- The changes by which sessions and bearers only go or close.
 use Rattle.std.proofs.Common.{◌≡◌, ◌≢◌, ◌⊎◌, inl, inr, ⊎_elim, ℕ, Bool, true, false, not, eqb, cond, ◌||◌, List, [], ◌∷◌, Option, Some, None, refl, sym, ◌∙◌, ap, subst}
 use Rattle.std.specs.FinMap.{get, insert}
-use Rattle.std.proofs.lemmas.Bool.{cases_eq}
+use Rattle.std.proofs.lemmas.Bool.{cases_eq, eq-eqb}
 use Rattle.gtp_values.specs.FiniteMap.{FiniteMap, kept}
 use Rattle.gtp_machine.specs.Node.{State, Pending, Active, Closing, Session, Bearer, PendingRequest, Node}
 use Rattle.gtp_machine.specs.Removal.{on, without, without_bearer, finished_about, closing_session, closing_bearer, session_closing, is_pending, is_opened}
@@ -11,7 +11,7 @@ use Rattle.gtp_machine.specs.User.{ended_bearer}
 use Rattle.gtp_machine.specs.Serving.{RemovesEach}
 use Rattle.gtp_machine.proofs.Basics.FiniteMaps.{found-insert, found-remove, found-kept, found-changed, get-kept, get-insert_same, get-insert_other}
 use Rattle.gtp_machine.proofs.Origins.Contexts.{IsSame, IsSameBearer, IsSame-itself, IsSameBearer-itself, WasSession, StaysSession, Shrinks}
-use Rattle.gtp_machine.proofs.Basics.Facts.{eqb_same, pending_active}
+use Rattle.gtp_machine.proofs.Basics.Facts.{pending_active}
 
 -- the change of one node into another only shrinks its sessions and bearers
 abbrev pub NodeShrinks : Node → Node → Type 0
@@ -186,7 +186,7 @@ same_if false b = IsSameBearer-itself b
 
 -- a bearer of the session is closing
 closes_if : (b : Bearer) (session : ℕ) → b.session ≡ session → (closing_bearer session b).state ≡ Closing
-closes_if b session same = ap (λ t. (cond t (record b { state = Closing }) b).state) (eqb_same b.session session same)
+closes_if b session same = ap (λ t. (cond t (record b { state = Closing }) b).state) (eq-eqb b.session session same)
 
 closed : (node : Node) (session : ℕ) (s : Session) → get node.sessions session ≡ Some s → s.state ≡ Active → (t : ℕ) (x : Session) → get node.sessions t ≡ Some x → (t ≡ session) ⊎ (t ≢ session) → StaysSession (insert node.sessions session (closing_session s)) t x
 closed node session s stands active t x e (inl same) =

@@ -6,15 +6,16 @@ use Rattle.gtp_machine.specs.Reading.{cut_fault, user_cut_fault}
 use Rattle.gtp_machine.specs.Config.{Addresses, Config, user_end}
 use Rattle.gtp_machine.specs.Message.{Message, Plane, Control, User, plane_of}
 use Rattle.gtp_machine.specs.Node.{Role, Serving, Packet, Arrival, Held, Node}
-use Rattle.gtp_machine.specs.Input.{Move, Resend, Give_up, Forget, Input, Command, Commanded, Control_came, User_came, ControlReading, Control_message, Control_fault, UserReading, User_message, User_fault, Out, Effect, messages}
+use Rattle.gtp_machine.specs.Input.{Move, Resend, Give_up, Forget, Input, Command, Commanded, Control_came, User_came, Control_message, Control_fault, UserReading, User_message, User_fault, Out, Effect, messages}
 use Rattle.gtp_machine.specs.Move.{MoveStep, AreLeft}
 use Rattle.gtp_machine.specs.Tick.{TickStep, ticked}
 use Rattle.gtp_machine.specs.Step.{Step}
+use Rattle.gtp_machine.specs.Answer.{IsNew}
 use Rattle.gtp_machine.specs.World.{World, Sent, HasSent, Note, Event, Does, Tick, Deliver, Cut, Restart, Happens, Delivers, Moves, Run, other, side_of, with_side, with_steps, signed, moved, noted, late_once, arrival, delivered_on, cut_on, restarted, start, quiet_note, No_such_datagram, Cut_too_long, Restarts_used}
-use Rattle.gtp_machine.proofs.Basics.FiniteMaps.{Among-cases}
+use Rattle.gtp_machine.proofs.Basics.FiniteMaps.{Among-one_more, among_at}
 use Rattle.gtp_machine.proofs.Origins.Drawing.{by_before}
 use Rattle.gtp_machine.proofs.Changes.Shrinking.{Shrunk-finished}
-use Rattle.gtp_machine.proofs.Requests.Holding.{Holds, command_held, user_held, serving_reads_holds, packet_reads_holds}
+use Rattle.gtp_machine.proofs.Requests.Holding.{Keeps, Adds, command_held, user_held, control_held}
 use Rattle.gtp_machine.proofs.Rows.Stepping.{Carried}
 use Rattle.gtp_machine.proofs.Worlds.Runs as run
 
@@ -22,17 +23,9 @@ use Rattle.gtp_machine.proofs.Worlds.Runs as run
 abbrev HeldBy : Arrival → Node → Effect → Type 0
 HeldBy request old e = (h : Held) → Among h e.node.held → Among h old.held ⊎ (h.request ≡ request)
 
-held_by : (request : Arrival) (old : Node) (e : Effect) → Holds request old e → HeldBy request old e
+held_by : (request : Arrival) (old : Node) (e : Effect) → Keeps old e ⊎ (IsNew old request × Adds request old e) → HeldBy request old e
 held_by request old e (inl kept) h among = inl (subst (λ l. Among h l) kept among)
-held_by request old e (inr adds) h among = ⊎_elim (λ was. inl was) (λ now. ⊎_elim (λ is. inr (ap (λ (k : Held). k.request) is)) (λ none. absurd none) now) (Among-cases h old.held _ (subst (λ l. Among h l) adds.held among))
-
-control_held : (role : Role) (request : Arrival) (reading : ControlReading) (old : Node) (e : Effect) → Step role old (Control_came request reading) e → HeldBy request old e
-control_held Serving request reading old e (inl f) = held_by request old e (inl (ap (λ (k : Effect). k.node.held) f.1))
-control_held Serving request reading old e (inr (peer, inl again)) = held_by request old e (inl (ap (λ (k : Effect). k.node.held) again.gives))
-control_held Serving request reading old e (inr (peer, inr (new, reads))) = held_by request old e (serving_reads_holds reading request old e reads)
-control_held Packet request reading old e (inl f) = held_by request old e (inl (ap (λ (k : Effect). k.node.held) f.1))
-control_held Packet request reading old e (inr (peer, inl again)) = held_by request old e (inl (ap (λ (k : Effect). k.node.held) again.gives))
-control_held Packet request reading old e (inr (peer, inr (new, reads))) = held_by request old e (packet_reads_holds reading request old e reads)
+held_by request old e (inr adds) h among = ⊎_elim (λ was. inl was) (λ is. inr (ap (λ (k : Held). k.request) is)) (Among-one_more h (record { request = request; answer = adds.1.answer }) old.held (subst (λ l. Among h l) adds.1.held among))
 
 -- what is left was held
 was_held : (request : Arrival) (held left : List Held) → AreLeft request held left → (h : Held) → Among h left → Among h held
@@ -121,38 +114,26 @@ module _ (own : Addresses) where
   moves_held w inv held role input new m carried now = subst HeldOfSent (sym m.becomes) (stepped_held w role m.effect _ _ held (run.config_stays own w inv role input m.effect carried m.step) now)
 
   -- a datagram comes
-  brought : (w : World) → run.Invariant own w → HeldOfSent w → (role : Role) (p : Plane) (m : Message) → HasSent w.history (other role) m → plane_of m ≡ p → (new : World) → Carried role w.history (side_of w role).node (delivered_on p (side_of w (other role)).node.config.own m) → Moves w role (delivered_on p (side_of w (other role)).node.config.own m) new → HeldOfSent new
-  brought w inv held role Control m sent on new carried d = moves_held w inv held role _ new d carried (λ h among. ⊎_elim (λ was. inl was) (λ is. inr (record { message = m; sent = sent; control = on; is = is })) (control_held role _ (Control_message m) (side_of w role).node d.effect d.step h among))
-  brought w inv held role User m sent on new carried d = moves_held w inv held role _ new d carried (λ h among. inl (user_came_held role _ (User_message m) (side_of w role).node d.effect d.step h among))
+  brought : (w : World) → run.Invariant own w → HeldOfSent w → (role : Role) (p : Plane) (m : Message) → HasSent w.history (other role) m → plane_of m ≡ p → (new : World) → Moves w role (delivered_on p (side_of w (other role)).node.config.own m) new → HeldOfSent new
+  brought w inv held role Control m sent on new d = moves_held w inv held role _ new d (run.carried own w inv role Control m sent) (λ h among. ⊎_elim (λ was. inl was) (λ is. inr (record { message = m; sent = sent; control = on; is = is })) (held_by _ (side_of w role).node d.effect (control_held role _ (Control_message m) (side_of w role).node d.effect d.step) h among))
+  brought w inv held role User m sent on new d = moves_held w inv held role _ new d sent (λ h among. inl (user_came_held role _ (User_message m) (side_of w role).node d.effect d.step h among))
 
   cut_held : (w : World) → run.Invariant own w → HeldOfSent w → (role : Role) (p : Plane) (from : Addresses) (m : Message) (count : ℕ) (new : World) → Moves w role (cut_on p from m count) new → HeldOfSent new
   cut_held w inv held role Control from m count new d = moves_held w inv held role _ new d tt (λ h among. inl (fault_held role _ (cut_fault count) (side_of w role).node d.effect d.step h among))
   cut_held w inv held role User from m count new d = moves_held w inv held role _ new d tt (λ h among. inl (user_came_held role (user_end from.user) (User_fault (user_cut_fault count)) (side_of w role).node d.effect d.step h among))
 
   -- a datagram that its sender sent comes, on time or late
-  to_serving : (w : World) → run.Invariant own w → HeldOfSent w → (m : Message) → HasSent w.history Packet m → (new : World) → Delivers w Packet m new → HeldOfSent new
-  to_serving w inv held m sent new (inl d) = brought w inv held Serving (plane_of m) m sent refl new (run.serving_carried own w inv (plane_of m) m sent) d.1
-  to_serving w inv held m sent new (inr d) =
-      let a = arrival w.packet.node.config.own m in
-      let late = run.late_keeps own w inv Serving a in
-      brought (late_once w Serving a) late (late_held w Serving a held) Serving (plane_of m) m sent refl new (run.serving_carried own (late_once w Serving a) late (plane_of m) m sent) d.1
-
-  to_packet : (w : World) → run.Invariant own w → HeldOfSent w → (m : Message) → HasSent w.history Serving m → (new : World) → Delivers w Serving m new → HeldOfSent new
-  to_packet w inv held m sent new (inl d) = brought w inv held Packet (plane_of m) m sent refl new (run.packet_carried own w inv (plane_of m) m sent) d.1
-  to_packet w inv held m sent new (inr d) =
-      let a = arrival w.serving.node.config.own m in
-      let late = run.late_keeps own w inv Packet a in
-      brought (late_once w Packet a) late (late_held w Packet a held) Packet (plane_of m) m sent refl new (run.packet_carried own (late_once w Packet a) late (plane_of m) m sent) d.1
-
   delivers : (w : World) → run.Invariant own w → HeldOfSent w → (sender : Role) (m : Message) → HasSent w.history sender m → (new : World) → Delivers w sender m new → HeldOfSent new
-  delivers w inv held Packet m sent new d = to_serving w inv held m sent new d
-  delivers w inv held Serving m sent new d = to_packet w inv held m sent new d
+  delivers w inv held Packet m sent new (inl d) = brought w inv held Serving (plane_of m) m sent refl new d.1
+  delivers w inv held Packet m sent new (inr d) = brought (late_once w Serving _) (run.late_keeps own w inv Serving _) (late_held w Serving _ held) Serving (plane_of m) m sent refl new d.1
+  delivers w inv held Serving m sent new (inl d) = brought w inv held Packet (plane_of m) m sent refl new d.1
+  delivers w inv held Serving m sent new (inr d) = brought (late_once w Packet _) (run.late_keeps own w inv Packet _) (late_held w Packet _ held) Packet (plane_of m) m sent refl new d.1
 
   happens : (w : World) → run.Invariant own w → HeldOfSent w → (event : Event) (new : World) → Happens w event new → HeldOfSent new
   happens w inv held (Does role command) new m = moves_held w inv held role (Commanded command) new m tt (λ h among. inl (commanded_held role command (side_of w role).node m.effect m.step h among))
   happens w inv held (Tick role) new t = subst HeldOfSent (sym t.becomes) (stepped_held w role (ticked t.out t.after) _ _ held (tick_config (side_of w role).node t.moves t.out t.after t.tick) (λ h among. inl (tick_held (side_of w role).node t.moves t.out t.after t.tick h among)))
   happens w inv held (Deliver number) new (inl none) = subst HeldOfSent (sym none.1) (noted_held w (quiet_note No_such_datagram) held)
-  happens w inv held (Deliver number) new (inr (found, d)) = delivers w inv held found.sent.role found.sent.what (run.found_sent own w.history number found.sent found.is) new d
+  happens w inv held (Deliver number) new (inr (found, d)) = delivers w inv held found.sent.role found.sent.what (among_at w.history number found.sent found.is) new d
   happens w inv held (Cut number count) new (inl none) = subst HeldOfSent (sym none.1) (noted_held w (quiet_note No_such_datagram) held)
   happens w inv held (Cut number count) new (inr (found, inl long)) = subst HeldOfSent (sym long.1) (noted_held w (quiet_note Cut_too_long) held)
   happens w inv held (Cut number count) new (inr (found, inr (short, c))) = cut_held w inv held (other found.sent.role) (plane_of found.sent.what) _ found.sent.what count new c

@@ -2,6 +2,7 @@
 use Rattle.std.proofs.Common.{◌≡◌, ◌≢◌, ◌⊎◌, inl, inr, ⊎_elim, ℕ, ◌+◌, ◌%◌, ◌^◌, ◌≤◌, ◌<◌, ◌==◌, length, List, [], ◌∷◌, ◌++◌, Option, Some, Bool, true, false, if◌then◌else◌, slice_get, refl, sym, ◌∙◌, ap, subst, arith}
 use Rattle.std.specs.FinMap.{get}
 use Rattle.std.proofs.lemmas.List.{append-nil}
+use Rattle.std.proofs.lemmas.Option.{same_Some}
 use Rattle.gtp_values.specs.Counter.{age_of}
 use Rattle.gtp_values.specs.FiniteMap.{Among}
 use Rattle.gtp_values.specs.declared.address.Endpoint.{Endpoint}
@@ -22,7 +23,6 @@ use Rattle.gtp_machine.specs.Spelling.{ReadsAs, spelled, IsSendable}
 use Rattle.gtp_machine.specs.Step.{Step}
 use Rattle.gtp_machine.specs.World.{World, Sent, HasSent, Side, Event, Does, Deliver, Happens, Delivers, Moves, Run, Came_to, other, side_of, signed, late_once, arrival, delivered_on, start}
 use Rattle.gtp_machine.specs.Exchange.{AllRead, IsOnePath, IsConfigured, IsSpecified, CanExchange, CameTo, Carries, IsMade, Exchanged, FairExchange, ExchangeSendable}
-use Rattle.gtp_values.proofs.Outcomes.{some_same}
 use Rattle.gtp_machine.proofs.Basics.Ages.{earlier_start}
 use Rattle.gtp_machine.proofs.Basics.FiniteMaps.{get-insert_same, Among-left, Among-last}
 use Rattle.gtp_machine.proofs.Origins.Drawing.{Drawing, unowned, by_cases}
@@ -75,7 +75,7 @@ delivered_is old Packet m new (inr d) = record { before = late_once old Serving 
 brought : (old : World) (sender : Role) (m : Message) (number : ℕ) (new : World) → slice_get old.history number ≡ Some (record { role = sender; what = m }) → Happens old (Deliver number) new → IsBrought old sender m new
 brought old sender m number new stands h =
     let found = pass (record { sent = record { role = sender; what = m }; is = stands }) h in
-    delivered_is old sender m new (subst (λ (s : Sent). Delivers old s.role s.what new) (some_same found.0.sent (record { role = sender; what = m }) (sym found.0.is ∙ stands)) found.1)
+    delivered_is old sender m new (subst (λ (s : Sent). Delivers old s.role s.what new) (same_Some found.0.sent (record { role = sender; what = m }) (sym found.0.is ∙ stands)) found.1)
 
 -- the counter that a gateway tells is not earlier than one that was heard of it
 not_earlier : (peer : Side) (role : Role) (history : List Sent) (known : Option ℕ) (seen : List ℕ) (counter : ℕ) → Drawing peer role history → Hearing peer known seen → counter ≡ peer.node.counter → (k : ℕ) → known ≡ Some k → age_of k counter ≢ Earlier
@@ -111,7 +111,7 @@ sends_so role bearer payload node e b stands active unended short step = by (as_
     by : PacketSent role bearer payload node e → SendsPacket node b payload e
     by r =
         let at = pass (record { bearer = b; stands = stands }) r in
-        let same : b ≡ at.0.bearer = some_same b at.0.bearer (sym stands ∙ at.0.stands) in
+        let same : b ≡ at.0.bearer = same_Some b at.0.bearer (sym stands ∙ at.0.stands) in
         let sends = (pass short (pass (subst (λ k. MayGo role k) same (may_go role)) (pass (ap (λ (k : Bearer). k.state) (sym same) ∙ active) at.1).1).1).1 in
         subst (λ k. SendsPacket node k payload e) (sym same) sends
 
@@ -130,7 +130,7 @@ accepts_so role source bearer payload node e b peer stands active unended step =
     by : UserStep role source (User_message (Packet_data bearer payload)) node e → Accepts node bearer payload b e
     by r =
         let at = pass (record { bearer = b; stands = stands }) (pass peer r).1 in
-        let same : b ≡ at.0.bearer = some_same b at.0.bearer (sym stands ∙ at.0.stands) in
+        let same : b ≡ at.0.bearer = same_Some b at.0.bearer (sym stands ∙ at.0.stands) in
         let takes = (pass (subst (λ k. MayCome role k) same (may_come role)) (pass (ap (λ (k : Bearer). k.state) (sym same) ∙ active) at.1).1).1 in
         subst (λ k. Accepts node bearer payload k e) (sym same) takes
 
@@ -168,9 +168,9 @@ carries w role bearer there ends payload sent came short h1 h2 =
     let packet : Entry = entry_for there payload ends.session.subscriber ends.here.identity in
     let handed : m1.effect.out.handed ≡ packet ∷ [] =
     ap (λ (f : Effect). f.out.handed) sends.gives ∙ ap (λ r. entry_for (written r) payload sends.of.session.subscriber ends.here.identity ∷ []) ends.remote
-    ∙ ap (λ (s : Session). entry_for there payload s.subscriber ends.here.identity ∷ []) (some_same sends.of.session ends.session (sym sends.of.stands ∙ ends.of)) in
+    ∙ ap (λ (s : Session). entry_for there payload s.subscriber ends.here.identity ∷ []) (same_Some sends.of.session ends.session (sym sends.of.stands ∙ ends.of)) in
     let accepted : d.moves.effect.out.accepted ≡ packet ∷ [] =
-    ap (λ (f : Effect). f.out.accepted) takes.gives ∙ ap (λ (s : Session). entry_for there payload s.subscriber ends.at.identity ∷ []) (some_same takes.of.session ends.session_there (sym takes.of.stands ∙ ends.of_there))
+    ap (λ (f : Effect). f.out.accepted) takes.gives ∙ ap (λ (s : Session). entry_for there payload s.subscriber ends.at.identity ∷ []) (same_Some takes.of.session ends.session_there (sym takes.of.stands ∙ ends.of_there))
     ∙ (λ i. entry_for there payload (ends.subscriber i) (ends.identity i) ∷ []) in
     record {
       outcome = record { note = f2.note.note; before = f2.note.before; notes = f2.note.notes; is = f2.note.is ∙ ap (λ (f : Effect). Came_to f.outcome) takes.gives };

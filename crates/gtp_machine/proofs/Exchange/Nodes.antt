@@ -1,6 +1,7 @@
 -- What the rows of each gateway give where nothing stands in the way.
 use Rattle.std.proofs.Common.{◌≡◌, ◌≢◌, ◌⊎◌, inl, inr, ℕ, ◌+◌, ◌<◌, ◌≤◌, length, List, [], ◌∷◌, Option, Some, None, false, not, ◌||◌, refl, sym, ◌∙◌, ap, subst, arith}
 use Rattle.std.specs.FinMap.{get, insert, remove, len}
+use Rattle.std.proofs.lemmas.Option.{same_Some}
 use Rattle.gtp_values.specs.Counter.{age_of}
 use Rattle.gtp_values.specs.FiniteMap.{Among}
 use Rattle.gtp_values.specs.declared.counter.Age.{Age}
@@ -20,7 +21,6 @@ use Rattle.gtp_machine.specs.Serving.{opened_session, opened_bearer, SessionAnsw
 use Rattle.gtp_machine.specs.Packet.{MakesSession, SessionAsked, PacketTakes}
 use Rattle.gtp_machine.specs.Step.{Step}
 use Rattle.gtp_machine.proofs.Basics.Counting.{len-kept_most}
-use Rattle.gtp_values.proofs.Outcomes.{some_same}
 use Rattle.gtp_machine.proofs.Basics.FiniteMaps.{found-kept, get-kept}
 
 -- a rule whose condition holds
@@ -175,17 +175,17 @@ pub record OpensBy (a : CreateSessionResponse) (q : CreateSessionRequest) (addre
 opens : (a : CreateSessionResponse) (q : CreateSessionRequest) (mid : Node) (e : Effect) (address : ℕ) → Waits mid q → OpensBy a q address → SessionAnswered a mid e → e ≡ opening a q mid address
 opens a q mid e address waits by r =
     let at = pass (record { pending = waiting_for q; waits = ap (λ n. get mid.pending n) by.number ∙ waits.request }) r in
-    let same_p : waiting_for q ≡ at.0.pending = some_same _ _ (sym (ap (λ n. get mid.pending n) by.number ∙ waits.request) ∙ at.0.waits) in
+    let same_p : waiting_for q ≡ at.0.pending = same_Some _ _ (sym (ap (λ n. get mid.pending n) by.number ∙ waits.request) ∙ at.0.waits) in
     let fits = pass (record { request = q; asked = ap (λ (p : PendingRequest). p.request) (sym same_p); session = q.control.teid; about = ap (λ (p : PendingRequest). p.session) (sym same_p); named = inl (ap (λ (p : PendingRequest). p.session) (sym same_p) ∙ ap (λ t. Some t) (sym by.header)) }) at.1 in
     let same_q : q ≡ fits.0.request = request_same q fits.0.request (ap (λ (p : PendingRequest). p.request) same_p ∙ fits.0.asked) in
-    let same_s : q.control.teid ≡ fits.0.session = some_same _ _ (ap (λ (p : PendingRequest). p.session) same_p ∙ fits.0.about) in
+    let same_s : q.control.teid ≡ fits.0.session = same_Some _ _ (ap (λ (p : PendingRequest). p.session) same_p ∙ fits.0.about) in
     let accepts = pass by.accepts fits.1 in
     let new = pass (record { at = record { session = pending_session q; stands = ap (λ t. get mid.sessions t) (sym same_s) ∙ waits.session }; context = by.context; alone = by.alone; default = by.default; address = address; given = by.given }) accepts.1 in
     let same_c : by.context ≡ new.0.context = context_same by.context new.0.context (sym by.alone ∙ new.0.alone) in
-    let same_at : pending_session q ≡ new.0.at.session = some_same _ _ (sym waits.session ∙ ap (λ t. get mid.sessions t) same_s ∙ new.0.at.stands) in
+    let same_at : pending_session q ≡ new.0.at.session = same_Some _ _ (sym waits.session ∙ ap (λ t. get mid.sessions t) same_s ∙ new.0.at.stands) in
     let same_a : address ≡ new.0.address = address_same address new.0.address (sym by.given ∙ new.0.given) in
     let both = pass (subst (λ (c : CreatedBearer). IsAccepting c.cause) same_c by.both) new.1 in
-    let same_b : pending_bearer q.control.teid q ≡ both.1.default.bearer = some_same _ _ (sym waits.bearer ∙ ap (λ (k : CreateSessionRequest). get mid.bearers k.context.user.teid) same_q ∙ both.1.default.stands) in
+    let same_b : pending_bearer q.control.teid q ≡ both.1.default.bearer = same_Some _ _ (sym waits.bearer ∙ ap (λ (k : CreateSessionRequest). get mid.bearers k.context.user.teid) same_q ∙ both.1.default.stands) in
     both.1.gives
     ∙ sym (λ i. record {
       out = nothing;

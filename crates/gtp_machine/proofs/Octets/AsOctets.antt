@@ -1,5 +1,5 @@
 -- What is written for a message is octets, where the numbers in it have room in octets.
-use Rattle.std.proofs.Common.{◌≡◌, ℕ, zero, suc, ◌+◌, ◌*◌, ◌/◌, ◌%◌, ◌^◌, ◌<◌, ◌≤◌, Bool, true, false, not, ◌&&◌, length, List, [], ◌∷◌, ◌++◌, mod-lt, subst, sym, arith}
+use Rattle.std.proofs.Common.{◌≡◌, ℕ, zero, suc, ◌+◌, ◌*◌, ◌/◌, ◌%◌, ◌^◌, ◌<◌, ◌≤◌, true, not, ◌&&◌, length, List, [], ◌∷◌, ◌++◌, mod-lt, subst, sym, arith}
 use Rattle.std.specs.Prelude.{◌==◌, IsTrue, nat_le, nat_lt}
 use Rattle.std.specs.Int.{byte_at, bytes_high_first}
 use Rattle.std.specs.List.{AllByRecursion, list_all}
@@ -12,10 +12,10 @@ use Rattle.gtp_values.specs.Numbers.{two, three, four}
 use Rattle.gtp_values.specs.Plmn.{Network, IsNetwork}
 use Rattle.gtp_values.specs.declared.qos.Qos.{Qos}
 use Rattle.gtp_values.specs.declared.qos.Rates.{Rates}
-use Rattle.gtp_values.proofs.Outcomes.{both}
+use Rattle.gtp_values.proofs.Tests.{both, at_most_one}
 use Rattle.gtp_ie.specs.Digits.{packed, network_encoding}
 use Rattle.gtp_ie.specs.Text.{element_encoding}
-use Rattle.gtp_ie.specs.Value.{OfQos, bit, rates_encoding, encoding_of}
+use Rattle.gtp_ie.specs.Value.{OfQos, rates_encoding, encoding_of}
 use Rattle.gtp_machine.specs.Spelling.{AreOctets}
 
 pub none : AreOctets []
@@ -103,10 +103,6 @@ name_octets name is = subst AreOctets (sym is.labels.2) (labels_octets is.labels
 
 rates_octets : (rates : Rates) → AreOctets (rates_encoding rates)
 rates_octets rates = joined (bytes_high_first 5 rates.up) (bytes_high_first 5 rates.down) (big 5 rates.up) (big 5 rates.down)
-
-at_most_one : (b : Bool) → bit b ≤ 1
-at_most_one true = omega arith
-at_most_one false = omega arith
 
 pub quality_octets : (qos : Qos) → qos.qci < 256 → qos.pl < 16 → AreOctets (encoding_of (OfQos qos))
 unfolding encoding_of

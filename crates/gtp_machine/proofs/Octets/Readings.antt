@@ -2,7 +2,7 @@
 use Rattle.std.proofs.Common.{◌≡◌, ◌<◌, ℕ, Some, List, [], ◌∷◌, length, map, refl, sym, ◌∙◌, ap, subst, arith}
 use Rattle.gtp_ie.specs.Element.{Element}
 use Rattle.gtp_ie.specs.Value.{Value}
-use Rattle.gtp_v2.specs.Table.{Field, Plain, Groups, Table, start}
+use Rattle.gtp_v2.specs.Table.{Field, Groups, Table, start}
 use Rattle.gtp_v2.specs.Grammar.{LinesAre}
 use Rattle.gtp_v2.specs.CreateSessionRequest.{create_session_request, create_session_request_fields, session_request_context_values}
 use Rattle.gtp_v2.specs.CreateBearerRequest.{create_bearer_request, create_bearer_request_fields, bearer_request_context_values}
@@ -11,15 +11,12 @@ use Rattle.gtp_v2.specs.Headed.{Headed}
 use Rattle.gtp_v2.specs.Message.{Content, Fields, Raw, MessageValue}
 use Rattle.gtp_v2.specs.Body.{kind_of, content_of, message_value}
 use Rattle.gtp_v2.specs.Datagram.{IsMessage, CarriesBy}
+use Rattle.gtp_machine.specs.Decoded.{groups_in}
 use Rattle.gtp_machine.specs.Reading.{body_message, session_request_of, bearer_request_of, header_in, SessionRequestReads, BearerRequestReads}
 
 abbrev fields_in : Content → List Field
 fields_in (Fields fields) = fields
 fields_in (Raw octets) = []
-
-abbrev groups_in : Field → List (List (List Value))
-groups_in (Plain values) = []
-groups_in (Groups groups) = groups
 
 -- where there are groups, there are contexts that they are of
 some_context : {X : Type 0} (values : X → List (List Value)) (contexts : List X) (groups : List (List (List Value))) → Groups (map values contexts) ≡ Groups groups → 0 < length groups → (first : X) × (further : List X) × (contexts ≡ first ∷ further)

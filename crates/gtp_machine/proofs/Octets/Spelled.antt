@@ -1,5 +1,5 @@
 -- What a gateway sends for a message reads as that message.
-use Rattle.std.proofs.Common.{◌≡◌, inl, inr, ℕ, ◌+◌, ◌*◌, ◌≤◌, ◌<◌, ◌^◌, Bool, true, false, List, [], ◌∷◌, map, Option, Some, None, unwrap_or, refl, sym, ◌∙◌, ap, subst, arith}
+use Rattle.std.proofs.Common.{◌≡◌, inl, inr, ℕ, ◌+◌, ◌*◌, ◌≤◌, ◌<◌, ◌^◌, false, List, [], ◌∷◌, map, Option, Some, None, unwrap_or, refl, sym, ◌∙◌, ap, subst, arith}
 use Rattle.gtp_values.specs.Numbers.{four}
 use Rattle.gtp_values.specs.declared.paa.Paa.TheVariants as paas
 use Rattle.gtp_ie.specs.Value.{Value, OfRecovery, OfAmbr, OfEbi, OfPaa, OfQos, OfPlmn, OfFTeid, OfChargingId, OfPti, OfSelection}
@@ -11,7 +11,8 @@ use Rattle.gtp_v2.proofs.Marked.{marked_again}
 use Rattle.gtp_v2.proofs.Told as control
 use Rattle.gtp_user.specs.Headed as user_headed
 use Rattle.gtp_user.specs.Header as user_headers
-use Rattle.gtp_user.specs.Header.{Flags, bit, bits, Opens}
+use Rattle.gtp_values.proofs.Tests.{at_most_one}
+use Rattle.gtp_user.specs.Header.{Flags, bits, Opens}
 use Rattle.gtp_user.specs.Message as user_messages
 use Rattle.gtp_user.specs.Datagram.{IsUserMessage}
 use Rattle.gtp_user.proofs.Again.{encoding_again}
@@ -159,10 +160,6 @@ first_of (octet ∷ octets) = octet
 control_first : (octets : List ℕ) (h : headers.Headed) → control_headers.IsHeaded octets h → 64 ≤ first_of octets
 control_first octets h (inl (flags, a, b, c, spare, few, (high, low, small, whole, size), is)) = let e : first_of octets ≡ 64 + flags = ap first_of whole in omega (arith, e)
 control_first octets h (inr (flags, a, b, c, d, e, f, g, last, few, (high, low, small, whole, size), is)) = let first : first_of octets ≡ 64 + (8 + flags) = ap first_of whole in omega (arith, first)
-
-at_most_one : (b : Bool) → bit b ≤ 1
-at_most_one true = omega arith
-at_most_one false = omega arith
 
 opens_first : (octets : List ℕ) (flags : Flags) (kind teid : ℕ) (tail : List ℕ) → Opens octets flags kind teid tail → first_of octets < 64
 opens_first octets flags kind teid tail (spare, high, low, a, b, c, d, whole, small, stated, teid_is) =

@@ -60,11 +60,15 @@ pub record IsGranted (history : List Sent) (t : ℕ) (b : Bearer) (s : Session) 
   pub header : s.remote ≡ Some answer.header
   pub not_pending : s.state ≢ Pending
 
--- a bearer of the serving gateway, and its session
-pub record IsAtServing (history : List Sent) (sessions : FiniteMap Session) (t : ℕ) (b : Bearer) : Type 0 where
+-- a bearer, its session, and what both go back to
+pub record IsAt (Origin : ℕ → Bearer → Session → Type 0) (sessions : FiniteMap Session) (t : ℕ) (b : Bearer) : Type 0 where
   pub session : Session
   pub stands : get sessions b.session ≡ Some session
-  pub origin : IsAskedWith history t b session ⊎ IsGranted history t b session
+  pub origin : Origin t b session
+
+-- a bearer of the serving gateway, and its session
+abbrev pub IsAtServing : List Sent → FiniteMap Session → ℕ → Bearer → Type 0
+IsAtServing history = IsAt (λ t b s. IsAskedWith history t b s ⊎ IsGranted history t b s)
 
 -- a session of the packet gateway
 pub record IsMade (history : List Sent) (t : ℕ) (s : Session) : Type 0 where
@@ -113,10 +117,8 @@ pub record IsWanted (history : List Sent) (t : ℕ) (b : Bearer) : Type 0 where
   pub opened : (r : ℕ) → b.remote ≡ Some r → IsGivenBack history t b
 
 -- a bearer of the packet gateway, and its session
-pub record IsAtPacket (history : List Sent) (sessions : FiniteMap Session) (t : ℕ) (b : Bearer) : Type 0 where
-  pub session : Session
-  pub stands : get sessions b.session ≡ Some session
-  pub origin : IsMadeWith history t b ⊎ IsWanted history t b
+abbrev pub IsAtPacket : List Sent → FiniteMap Session → ℕ → Bearer → Type 0
+IsAtPacket history = IsAt (λ t b s. IsMadeWith history t b ⊎ IsWanted history t b)
 
 -- what holds of the sessions and bearers of the serving gateway
 pub record ServingContexts (history : List Sent) (sessions : FiniteMap Session) (bearers : FiniteMap Bearer) : Type 0 where
@@ -127,6 +129,10 @@ pub record ServingContexts (history : List Sent) (sessions : FiniteMap Session) 
 pub record PacketContexts (history : List Sent) (sessions : FiniteMap Session) (bearers : FiniteMap Bearer) : Type 0 where
   pub sessions_made : Each (IsMade history) sessions
   pub bearers_made : Each (IsAtPacket history sessions) bearers
+
+-- what goes back to one goes back to the other
+IsAt-weaker : (First Second : ℕ → Bearer → Session → Type 0) → ((t : ℕ) (b : Bearer) (s : Session) → First t b s → Second t b s) → (sessions : FiniteMap Session) (bearers : FiniteMap Bearer) → Each (IsAt First sessions) bearers → Each (IsAt Second sessions) bearers
+IsAt-weaker First Second goes sessions bearers each t b e = let at = each t b e in record { session = at.session; stands = at.stands; origin = goes t b at.session at.origin }
 
 module _ (before after : List Sent) (extends : Extends before after) where
   IsOpened-later : (t : ℕ) (s : Session) → IsOpened before t s → IsOpened after t s
@@ -144,9 +150,6 @@ module _ (before after : List Sent) (extends : Extends before after) where
   IsGranted-later : (t : ℕ) (b : Bearer) (s : Session) → IsGranted before t b s → IsGranted after t b s
   IsGranted-later t b s g = search (extends.keeps)
 
-  IsAtServing-later : (sessions : FiniteMap Session) (t : ℕ) (b : Bearer) → IsAtServing before sessions t b → IsAtServing after sessions t b
-  IsAtServing-later sessions t b a = record { session = a.session; stands = a.stands; origin = ⊎_elim (λ o. inl (IsAskedWith-later t b a.session o)) (λ o. inr (IsGranted-later t b a.session o)) a.origin }
-
   IsMade-later : (t : ℕ) (s : Session) → IsMade before t s → IsMade after t s
   IsMade-later t s m = search (extends.keeps)
 
@@ -159,19 +162,16 @@ module _ (before after : List Sent) (extends : Extends before after) where
   IsWanted-later : (t : ℕ) (b : Bearer) → IsWanted before t b → IsWanted after t b
   IsWanted-later t b w = record { kind = w.kind; request = w.request; asked = extends.keeps Packet _ w.asked; user = w.user; made = w.made; answered = extends.keeps Packet _ w.answered; control = w.control; header = w.header; opened = λ r e. IsGivenBack-later t b (w.opened r e) }
 
-  IsAtPacket-later : (sessions : FiniteMap Session) (t : ℕ) (b : Bearer) → IsAtPacket before sessions t b → IsAtPacket after sessions t b
-  IsAtPacket-later sessions t b a = record { session = a.session; stands = a.stands; origin = ⊎_elim (λ o. inl (IsMadeWith-later t b o)) (λ o. inr (IsWanted-later t b o)) a.origin }
-
   pub ServingContexts-later : (sessions : FiniteMap Session) (bearers : FiniteMap Bearer) → ServingContexts before sessions bearers → ServingContexts after sessions bearers
   ServingContexts-later sessions bearers c = record {
     sessions_asked = Each-weaker (IsAsked before) (IsAsked after) sessions IsAsked-later c.sessions_asked;
-    bearers_asked = Each-weaker (IsAtServing before sessions) (IsAtServing after sessions) bearers (IsAtServing-later sessions) c.bearers_asked;
+    bearers_asked = IsAt-weaker _ _ (λ t b s. ⊎_elim (λ o. inl (IsAskedWith-later t b s o)) (λ o. inr (IsGranted-later t b s o))) sessions bearers c.bearers_asked;
   }
 
   pub PacketContexts-later : (sessions : FiniteMap Session) (bearers : FiniteMap Bearer) → PacketContexts before sessions bearers → PacketContexts after sessions bearers
   PacketContexts-later sessions bearers c = record {
     sessions_made = Each-weaker (IsMade before) (IsMade after) sessions IsMade-later c.sessions_made;
-    bearers_made = Each-weaker (IsAtPacket before sessions) (IsAtPacket after sessions) bearers (IsAtPacket-later sessions) c.bearers_made;
+    bearers_made = IsAt-weaker _ _ (λ t b s. ⊎_elim (λ o. inl (IsMadeWith-later t b o)) (λ o. inr (IsWanted-later t b o))) sessions bearers c.bearers_made;
   }
 
 -- the session is as before, but for closing
@@ -253,33 +253,24 @@ module _ (history : List Sent) (old_sessions : FiniteMap Session) (old_bearers :
   wanted_same : (t : ℕ) (old new : Bearer) → IsSameBearer old new → IsWanted history t old → IsWanted history t new
   wanted_same t old new bearer w = record { kind = cc; request = w.request; asked = w.asked; user = w.user; made = w.made; answered = w.answered; control = cc; header = w.header; opened = λ r e. given_same t old new bearer (w.opened r (sym bearer.remote ∙ e)) }
 
+  at_same : (Origin : ℕ → Bearer → Session → Type 0) → ((t : ℕ) (old new : Bearer) (s n : Session) → IsSameBearer old new → IsSame s n → Origin t old s → Origin t new n) → Each (IsAt Origin old_sessions) old_bearers → Each (IsAt Origin new_sessions) new_bearers
+  at_same Origin goes each t b e =
+      let was = shrinks.bearers t b e in
+      let at = each t was.before was.stood in
+      let stays = was.session at.session at.stands in
+      record { session = stays.after; stands = ap (λ k. get new_sessions k) was.same.session ∙ stays.stands; origin = goes t was.before b at.session stays.after was.same stays.same at.origin }
+
   -- what shrinks goes back to the same messages
   pub ServingContexts-shrinks : ServingContexts history old_sessions old_bearers → ServingContexts history new_sessions new_bearers
   ServingContexts-shrinks c = record {
     sessions_asked = λ t s e. let was = shrinks.sessions t s e in asked_same t was.before s was.same (c.sessions_asked t was.before was.stood);
-    bearers_asked = λ t b e.
-        let was = shrinks.bearers t b e in
-        let at = c.bearers_asked t was.before was.stood in
-        let stays = was.session at.session at.stands in
-        record {
-          session = stays.after;
-          stands = ap (λ k. get new_sessions k) was.same.session ∙ stays.stands;
-          origin = ⊎_elim (λ o. inl (asked_with_same t was.before b at.session stays.after was.same stays.same o)) (λ o. inr (granted_same t was.before b at.session stays.after was.same stays.same o)) at.origin;
-        };
+    bearers_asked = at_same _ (λ t old new s n bearer session. ⊎_elim (λ o. inl (asked_with_same t old new s n bearer session o)) (λ o. inr (granted_same t old new s n bearer session o))) c.bearers_asked;
   }
 
   pub PacketContexts-shrinks : PacketContexts history old_sessions old_bearers → PacketContexts history new_sessions new_bearers
   PacketContexts-shrinks c = record {
     sessions_made = λ t s e. let was = shrinks.sessions t s e in made_same t was.before s was.same (c.sessions_made t was.before was.stood);
-    bearers_made = λ t b e.
-        let was = shrinks.bearers t b e in
-        let at = c.bearers_made t was.before was.stood in
-        let stays = was.session at.session at.stands in
-        record {
-          session = stays.after;
-          stands = ap (λ k. get new_sessions k) was.same.session ∙ stays.stands;
-          origin = ⊎_elim (λ o. inl (made_with_same t was.before b was.same o)) (λ o. inr (wanted_same t was.before b was.same o)) at.origin;
-        };
+    bearers_made = at_same _ (λ t old new s n bearer session. ⊎_elim (λ o. inl (made_with_same t old new bearer o)) (λ o. inr (wanted_same t old new bearer o))) c.bearers_made;
   }
 
 -- what shrinks still closes as a whole

@@ -1,5 +1,5 @@
 -- The TEIDs that messages name go back to draws.
-use Rattle.std.proofs.Common.{◌≡◌, ◌≢◌, ◌⊎◌, inl, inr, ⊎_elim, ℕ, List, [], ◌∷◌, ◌++◌, Option, Some, None, refl, sym, ◌∙◌, subst}
+use Rattle.std.proofs.Common.{◌≡◌, ◌≢◌, ◌⊎◌, inl, inr, ⊎_elim, ℕ, Bool, List, [], ◌∷◌, ◌++◌, Option, Some, None, refl, sym, ◌∙◌, subst}
 use Rattle.gtp_values.specs.Counter.{age_of}
 use Rattle.gtp_values.specs.declared.address.Endpoint.{Endpoint}
 use Rattle.gtp_values.specs.declared.counter.Age.{Age}
@@ -9,15 +9,15 @@ use Rattle.gtp_values.specs.FiniteMap.{Each, Among}
 use Rattle.gtp_machine.specs.Step.{Step}
 use Rattle.gtp_machine.specs.Message.{Message, CreateSessionRequest, CreateBearerRequest, DeleteBearerRequest, DeleteSessionRequest, Echo_request, Echo_response, Create_session_request, Create_session_response, Delete_session_request, Delete_session_response, Create_bearer_request, Create_bearer_response, Delete_bearer_request, Delete_bearer_response, Other_control, Packet_data, End_marker, Error_indication, User_echo_request, User_echo_response, Supported_extensions, Other_user, recovery_of, Plane, Control, User}
 use Rattle.gtp_machine.specs.Node.{Role, Serving, Packet, Session, Bearer, PendingRequest, Arrival, Held, Node, written}
-use Rattle.gtp_machine.specs.Input.{Specification, Command, Create_session, Delete_session, Create_bearer, Delete_bearer, Release_session, Mark_end, Send_echo, Send_user, ControlReading, Control_message, Faulty, Control_fault, UserReading, User_message, Extension_needed, User_fault, Move, Resend, Give_up, Forget, Input, Commanded, Control_came, User_came, Moves_on, Effect, messages}
+use Rattle.gtp_machine.specs.Input.{Specification, Command, Create_session, Delete_session, Create_bearer, Delete_bearer, Release_session, Mark_end, Send_echo, Send_user, ControlReading, Control_message, Faulty, Control_fault, FaultyRequest, RequestKind, UserReading, User_message, Extension_needed, User_fault, Move, Resend, Give_up, Forget, Input, Commanded, Control_came, User_came, Moves_on, Effect, messages}
 use Rattle.gtp_machine.specs.Recovery.{Judges, Weighs, Hears, peer_restarted}
 use Rattle.gtp_machine.specs.Response.{EchoAnswered}
 use Rattle.gtp_machine.specs.User.{PacketCame, EndCame, ErrorCame, UserTaken, UserRead, UserStep}
 use Rattle.gtp_machine.specs.Command.{SessionBegun, SessionDeleted, BearerBegun, BearerDeleted, SessionReleased, EndMarked, EchoBegun, PacketSent, CommandStep}
-use Rattle.gtp_machine.specs.Answer.{ControlStep}
+use Rattle.gtp_machine.specs.Answer.{TakesReading, ControlStep}
 use Rattle.gtp_machine.specs.Move.{MoveStep}
-use Rattle.gtp_machine.specs.Serving.{SessionAnswered, DeletionAnswered, BearerAsked, RemovalTaken, RemovalAsked, ServingTakes, ServingReads}
-use Rattle.gtp_machine.specs.Packet.{SessionAsked, DeletionAsked, BearerAnswered, RemovalAnswered, PacketTakes, PacketReads}
+use Rattle.gtp_machine.specs.Serving.{SessionAnswered, DeletionAnswered, BearerAsked, RemovalTaken, RemovalAsked, ServingTakes, ServingFaulted, ServingReads}
+use Rattle.gtp_machine.specs.Packet.{SessionAsked, DeletionAsked, BearerAnswered, RemovalAnswered, PacketTakes, PacketFaulted, PacketReads}
 use Rattle.gtp_machine.specs.World.{other, Sent, HasSent, signed}
 use Rattle.gtp_machine.specs.Laws.{IsFromOn, NamesBack, EachNamesBack}
 use Rattle.gtp_machine.proofs.Basics.FiniteMaps.{Among-cases}
@@ -25,6 +25,7 @@ use Rattle.gtp_machine.proofs.Origins.Drawing.{Extends, Extends-signed, signed_a
 use Rattle.gtp_machine.proofs.Changes.After.{Knows}
 use Rattle.gtp_machine.proofs.Changes.Shrinking.{Shrinks-restart, restart_pending}
 use Rattle.gtp_machine.proofs.Rows.Stepping.{Carried}
+use Rattle.gtp_machine.proofs.Rows.Control.{ControlCarried}
 use Rattle.gtp_machine.proofs.Basics.Kinds.{by_serving, by_packet}
 use Rattle.gtp_machine.proofs.Basics.Facts.{one_value}
 
@@ -310,36 +311,28 @@ module _ (history : List Sent) where
       (λ d came old back e r. removal_answered old back d e r)
       (λ m drops came old back e r. at history Packet e _ (drops.only request old e r) (silent history Packet))
 
-  serving_reads : (reading : ControlReading) (request : Arrival) (old : Node) → Back history Serving old → (e : Effect) → Carried Serving history old (Control_came request reading) → ServingReads reading request old e → Told history Serving e
-  serving_reads (Control_message m) request old back e came (inl f) = at history Serving e _ f.1 (silent history Serving)
-  serving_reads (Control_message m) request old back e came (inr (taken, r)) = hears history Serving (ServingTakes request m) (serving_takes request m) old back (recovery_of m) e r
-  serving_reads (Faulty f) request old back e came r = absurd came
-  serving_reads (Control_fault fault) request old back e came r = at history Serving e _ r (silent history Serving)
-
-  packet_reads : (reading : ControlReading) (request : Arrival) (old : Node) → Back history Packet old → (e : Effect) → Carried Packet history old (Control_came request reading) → PacketReads reading request old e → Told history Packet e
-  packet_reads (Control_message m) request old back e came (inl f) = at history Packet e _ f.1 (silent history Packet)
-  packet_reads (Control_message m) request old back e came (inr (taken, r)) = hears history Packet (PacketTakes request m) (packet_takes request m came.0) old back (recovery_of m) e r
-  packet_reads (Faulty f) request old back e came r = absurd came
-  packet_reads (Control_fault fault) request old back e came r = at history Packet e _ r (silent history Packet)
+  -- what was read, at either gateway
+  module _ (role : Role) (takes : Message → Bool) (Takes : Arrival → Message → Node → Effect → Type 0) (Faulted : Arrival → FaultyRequest → RequestKind → Node → Effect → Type 0) (rows : (request : Arrival) (m : Message) → HasSent history (other role) m → (old : Node) → Back history role old → (e : Effect) → Takes request m old e → Told history role e) where
+    reads : (reading : ControlReading) (request : Arrival) (old : Node) → Back history role old → (e : Effect) → ControlCarried role history old reading → TakesReading takes Takes Faulted reading request old e → Told history role e
+    reads (Control_message m) request old back e came (inl f) = at history role e _ f.1 (silent history role)
+    reads (Control_message m) request old back e came (inr (taken, r)) = hears history role (Takes request m) (rows request m came.0) old back (recovery_of m) e r
+    reads (Faulty f) request old back e came r = absurd came
+    reads (Control_fault fault) request old back e came r = at history role e _ r (silent history role)
 
   user_named : EachNamesBack history → (role : Role) (reading : UserReading) → ((m : Message) → reading ≡ User_message m → HasSent history (other role) m) → (m : Message) → reading ≡ User_message m → NamesBack history (other role) m
   user_named named role reading came m is = named (other role) m (came m is)
 
   user_came : (role : Role) (source : Endpoint) (reading : UserReading) (old : Node) → Carried role history old (User_came source reading) → (m : Message) → reading ≡ User_message m → HasSent history (other role) m
-  user_came Serving source (User_message n) old came m is = let same : n ≡ m = cc is in subst (λ k. HasSent history Packet k) same came
-  user_came Packet source (User_message n) old came m is = let same : n ≡ m = cc is in subst (λ k. HasSent history Serving k) same came
+  user_came role source (User_message n) old came m is = let same : n ≡ m = cc is in subst (λ k. HasSent history (other role) k) same came
   user_came role source Extension_needed old came m is = absurd (cc is)
   user_came role source (User_fault fault) old came m is = absurd (cc is)
 
   pub step_told : EachNamesBack history → (role : Role) (old : Node) → Back history role old → (input : Input) (e : Effect) → Carried role history old input → Step role old input e → Told history role e
-  step_told named Serving old back (Commanded c) e came r = command history Serving old back Serving c e r
-  step_told named Packet old back (Commanded c) e came r = command history Packet old back Packet c e r
-  step_told named Serving old back (Control_came request reading) e came r = control history Serving (ServingReads reading) request old back e (serving_reads reading request old back e came) r
-  step_told named Packet old back (Control_came request reading) e came r = control history Packet (PacketReads reading) request old back e (packet_reads reading request old back e came) r
-  step_told named Serving old back (User_came source reading) e came r = user_step history Serving old back Serving source reading e (user_named named Serving reading (user_came Serving source reading old came)) r
-  step_told named Packet old back (User_came source reading) e came r = user_step history Packet old back Packet source reading e (user_named named Packet reading (user_came Packet source reading old came)) r
-  step_told named Serving old back (Moves_on move) e came r = moves history Serving old back move e r
-  step_told named Packet old back (Moves_on move) e came r = moves history Packet old back move e r
+  step_told named role old back (Commanded c) e came r = command history role old back role c e r
+  step_told named Serving old back (Control_came request reading) e came r = control history Serving (ServingReads reading) request old back e (reads Serving _ ServingTakes ServingFaulted (λ request m came. serving_takes request m) reading request old back e came) r
+  step_told named Packet old back (Control_came request reading) e came r = control history Packet (PacketReads reading) request old back e (reads Packet _ PacketTakes PacketFaulted packet_takes reading request old back e came) r
+  step_told named role old back (User_came source reading) e came r = user_step history role old back role source reading e (user_named named role reading (user_came role source reading old came)) r
+  step_told named role old back (Moves_on move) e came r = moves history role old back move e r
 
 -- what a gateway has goes back to messages
 pub back_of : (history : List Sent) (role : Role) (node : Node) → Knows role history node → Back history role node

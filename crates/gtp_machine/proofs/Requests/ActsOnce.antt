@@ -16,14 +16,11 @@ use Rattle.gtp_machine.specs.Answer.{making, Repeats, IsNew, ControlStep, answer
 use Rattle.gtp_machine.specs.Serving.{BearerAsked, ServingTakes, ServingReads}
 use Rattle.gtp_machine.specs.Packet.{SessionAsked, PacketTakes, PacketReads}
 use Rattle.gtp_machine.specs.Once.{Takes, Makes, NeverForgets, IsOnce, ActsOnce, ActsOnceInTime, HeldUntilForgotten}
+use Rattle.gtp_machine.specs.Determined.{HeldOnce, ReachedHoldsOnce}
 use Rattle.gtp_machine.proofs.Basics.FiniteMaps.{Among-left, Among-right, Among-last, Among-one_more}
 use Rattle.gtp_machine.proofs.Changes.Shrinking.{Shrunk-finished, Shrinks-restart}
-use Rattle.gtp_machine.proofs.Requests.Holding.{held_in, Keeps, Adds, Holds, command_held, user_held, serving_reads_holds, packet_reads_holds}
+use Rattle.gtp_machine.proofs.Requests.Holding.{held_in, Keeps, Adds, command_held, user_held, control_held}
 use Rattle.gtp_machine.proofs.Changes.Forgetting.{leaves}
-
--- at most one answer is held for a request
-pub record HeldOnce (node : Node) : Type 0 where
-  pub once : (g h : Held) → Among g node.held → Among h node.held → g.request ≡ h.request → g.answer ≡ h.answer
 
 -- what a step does with the answers that are held
 pub record HeldStep (old : Node) (e : Effect) : Type 0 where
@@ -54,11 +51,6 @@ adds request old e is_new a = record {
     both : HeldOnce old → (g h : Held) → Among g (old.held ++ (added ∷ [])) → Among h (old.held ++ (added ∷ [])) → g.request ≡ h.request → g.answer ≡ h.answer
     both o g h g_in h_in same = one_of o g h (Among-one_more g added old.held g_in) (Among-one_more h added old.held h_in) same
 
-control_held : (Reads : Arrival → Node → Effect → Type 0) (request : Arrival) (old : Node) (e : Effect) → (Reads request old e → Holds request old e) → ControlStep Reads request old e → HeldStep old e
-control_held Reads request old e holds (inl f) = keeps old e (ap held_in f.1)
-control_held Reads request old e holds (inr (peer, inl r)) = keeps old e (ap held_in r.gives)
-control_held Reads request old e holds (inr (peer, inr r)) = ⊎_elim (λ same. keeps old e same) (λ a. adds request old e r.0 a) (holds r.1)
-
 forgets : (request : Arrival) (old : Node) (e : Effect) → Forgets old request e → HeldStep old e
 forgets request old e r = let l = leaves request old.held r.rest r.left in record {
   stays = λ h was. ⊎_elim (λ stays. inl (subst (Among h) (sym (ap held_in r.gives)) stays)) (λ same. inr (subst (Among h.request) (sym (ap (λ (f : Effect). f.out.forgot) r.gives)) (inl same))) (l.others h was);
@@ -67,8 +59,7 @@ forgets request old e r = let l = leaves request old.held r.rest r.left in recor
 
 step_held : (role : Role) (old : Node) (input : Input) (e : Effect) → Step role old input e → HeldStep old e
 step_held role old (Commanded command) e r = keeps old e (command_held role command old e r)
-step_held Serving old (Control_came request reading) e r = control_held (ServingReads reading) request old e (serving_reads_holds reading request old e) r
-step_held Packet old (Control_came request reading) e r = control_held (PacketReads reading) request old e (packet_reads_holds reading request old e) r
+step_held role old (Control_came request reading) e r = ⊎_elim (λ same. keeps old e same) (λ a. adds request old e a.0 a.1) (control_held role request reading old e r)
 step_held role old (User_came source reading) e r = keeps old e (user_held role source reading old e r)
 step_held role old (Moves_on (Resend number)) e r = keeps old e (ap held_in r.gives)
 step_held role old (Moves_on (Give_up number)) e r = keeps old e (ap held_in r.gives ∙ (Shrunk-finished old number r.at.pending.session r.at.pending.bearer).held)
@@ -245,6 +236,9 @@ step_again Packet request m a old e o held r = again (PacketReads (Control_messa
 
 fresh_once : (config : Config) (counter : ℕ) → HeldOnce (fresh_node config counter)
 fresh_once config counter = record { once = λ g h none. absurd none }
+
+pub reached_holds_once : ReachedHoldsOnce
+reached_holds_once role config counter log node steps = reached_once role (fresh_node config counter) log node (fresh_once config counter) steps
 
 -- what is there is not absent
 there_not : (o : Option Bearer) (b : Bearer) → o ≡ None → o ≡ Some b → ⊥

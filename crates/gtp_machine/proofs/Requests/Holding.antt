@@ -8,15 +8,17 @@ use Rattle.gtp_values.specs.declared.qos.Qos.{Qos}
 use Rattle.gtp_machine.specs.Element.{cause_of}
 use Rattle.gtp_machine.specs.Message.{Message, DeleteBearerRequest, Echo_request, Echo_response, Create_session_request, Create_session_response, Delete_session_request, Delete_session_response, Create_bearer_request, Create_bearer_response, Delete_bearer_request, Delete_bearer_response, Other_control, Packet_data, End_marker, Error_indication, User_echo_request, User_echo_response, Supported_extensions, Other_user, recovery_of}
 use Rattle.gtp_machine.specs.Node.{Role, Serving, Packet, Session, PendingRequest, Arrival, Held, Node, written}
-use Rattle.gtp_machine.specs.Input.{Command, Create_session, Delete_session, Create_bearer, Delete_bearer, Release_session, Mark_end, Send_echo, Send_user, RequestKind, Of_create_session, Of_delete_session, Of_create_bearer, Of_delete_bearer, FaultyRequest, ControlReading, Control_message, Faulty, Control_fault, UserReading, User_message, Extension_needed, User_fault, Outcome, Effect, messages}
+use Rattle.gtp_machine.specs.Input.{Command, Create_session, Delete_session, Create_bearer, Delete_bearer, Release_session, Mark_end, Send_echo, Send_user, RequestKind, FaultyRequest, ControlReading, Control_message, Faulty, Control_fault, Control_came, UserReading, User_message, Extension_needed, User_fault, Outcome, Effect, messages}
 use Rattle.gtp_machine.specs.Recovery.{Judges, Weighs, Hears}
 use Rattle.gtp_machine.specs.Response.{EchoAnswered, finishing}
 use Rattle.gtp_machine.specs.User.{PacketCame, EndCame, ErrorCame, UserTaken, UserRead, UserStep}
+use Rattle.gtp_machine.specs.Step.{Step}
+use Rattle.gtp_machine.specs.Answer.{IsNew, TakesReading, ControlStep}
 use Rattle.gtp_machine.specs.Command.{SessionBegun, SessionDeleted, BearerBegun, BearerDeleted, SessionReleased, EndMarked, EchoBegun, PacketSent, CommandStep}
-use Rattle.gtp_machine.specs.Serving.{SessionAnswered, DeletionAnswered, BearerAsked, RemovalTaken, RemovalAsked, removal_cause, ServingTakes, ServingFaulted, ServingReads}
-use Rattle.gtp_machine.specs.Packet.{SessionAsked, DeletionAsked, BearerAnswered, RemovalAnswered, PacketTakes, PacketFaulted, PacketReads}
+use Rattle.gtp_machine.specs.Serving.{SessionAnswered, DeletionAnswered, BearerAsked, RemovalTaken, RemovalAsked, removal_cause, ServingTakes, ServingFaulted}
+use Rattle.gtp_machine.specs.Packet.{SessionAsked, DeletionAsked, BearerAnswered, RemovalAnswered, PacketTakes, PacketFaulted}
 use Rattle.gtp_machine.proofs.Changes.Shrinking.{Shrunk-finished, removes_each}
-use Rattle.gtp_machine.proofs.Basics.Kinds.{creates, is_create_answer, by_serving, by_packet}
+use Rattle.gtp_machine.proofs.Basics.Kinds.{creates, is_create_answer, LeavesNode, serving_faulted, packet_faulted, by_serving, by_packet}
 
 -- what is held after a step
 abbrev pub held_in : Effect → List Held
@@ -264,7 +266,7 @@ module _ (request : Arrival) (old : Node) (e : Effect) where
   removal_answered_answers d (inr (b, inl f)) = drops _ f.1 refl
   removal_answered_answers d (inr (b, inr (c, r))) = ends _ b.pending _ r
 
-  serving_answers : (m : Message) → ServingTakes request m old e → Answers request (creates Serving m) old e
+  pub serving_answers : (m : Message) → ServingTakes request m old e → Answers request (creates Serving m) old e
   serving_answers =
       by_serving (λ m. ServingTakes request m old e → Answers request (creates Serving m) old e)
       (λ q r. drops _ r refl)
@@ -275,7 +277,7 @@ module _ (request : Arrival) (old : Node) (e : Effect) where
       removal_asked_answers
       (λ m dropped r. drops _ (dropped.only request old e r) refl)
 
-  packet_answers : (m : Message) → PacketTakes request m old e → Answers request (creates Packet m) old e
+  pub packet_answers : (m : Message) → PacketTakes request m old e → Answers request (creates Packet m) old e
   packet_answers =
       by_packet (λ m. PacketTakes request m old e → Answers request (creates Packet m) old e)
       (λ q r. drops _ r refl)
@@ -285,18 +287,6 @@ module _ (request : Arrival) (old : Node) (e : Effect) where
       bearer_answered_answers
       removal_answered_answers
       (λ m dropped r. drops _ (dropped.only request old e r) refl)
-
-  serving_faulted_keeps : (f : FaultyRequest) (kind : RequestKind) → ServingFaulted request f kind old e → Keeps old e
-  serving_faulted_keeps f Of_create_session r = ap held_in r
-  serving_faulted_keeps f Of_delete_session r = ap held_in r
-  serving_faulted_keeps f Of_create_bearer r = ap held_in r
-  serving_faulted_keeps f Of_delete_bearer r = ap held_in r
-
-  packet_faulted_keeps : (f : FaultyRequest) (kind : RequestKind) → PacketFaulted request f kind old e → Keeps old e
-  packet_faulted_keeps f Of_create_session r = ap held_in r
-  packet_faulted_keeps f Of_delete_session r = ap held_in r
-  packet_faulted_keeps f Of_create_bearer r = ap held_in r
-  packet_faulted_keeps f Of_delete_bearer r = ap held_in r
 
 -- hearing the counter first changes nothing that is held
 module _ (request : Arrival) (create : Bool) (Takes : Node → Effect → Type 0) (takes : (old : Node) (e : Effect) → Takes old e → Answers request create old e) where
@@ -320,20 +310,24 @@ module _ (request : Arrival) (create : Bool) (Takes : Node → Effect → Type 0
       (λ g. inr (record { answer = g.answer; is = g.is; held = ap held_in r.2 ∙ g.held; sends = ap (λ (f : Effect). messages f.out.sent) r.2 ∙ g.sends }))
       (weighed old c old.known r.0 r.1)
 
-pub serving_heard_answers : (m : Message) (request : Arrival) (old : Node) (e : Effect) → Hears (ServingTakes request m) old (recovery_of m) e → Answers request (creates Serving m) old e
-serving_heard_answers m request old e r = heard_answers request (creates Serving m) (ServingTakes request m) (λ mid f rows. serving_answers request mid f m rows) old (recovery_of m) e r
+-- what comes on the control plane, at either gateway
+module _ (role : Role) (Takes : Arrival → Message → Node → Effect → Type 0) (rows : (request : Arrival) (old : Node) (e : Effect) (m : Message) → Takes request m old e → Answers request (creates role m) old e) (request : Arrival) (old : Node) (e : Effect) where
+  pub heard : (m : Message) → Hears (Takes request m) old (recovery_of m) e → Answers request (creates role m) old e
+  heard m r = heard_answers request (creates role m) (Takes request m) (λ mid f. rows request mid f m) old (recovery_of m) e r
 
-pub packet_heard_answers : (m : Message) (request : Arrival) (old : Node) (e : Effect) → Hears (PacketTakes request m) old (recovery_of m) e → Answers request (creates Packet m) old e
-packet_heard_answers m request old e r = heard_answers request (creates Packet m) (PacketTakes request m) (λ mid f rows. packet_answers request mid f m rows) old (recovery_of m) e r
+module _ (role : Role) (takes : Message → Bool) (Takes : Arrival → Message → Node → Effect → Type 0) (Faulted : Arrival → FaultyRequest → RequestKind → Node → Effect → Type 0)
+    (rows : (request : Arrival) (old : Node) (e : Effect) (m : Message) → Takes request m old e → Answers request (creates role m) old e) (faulted : LeavesNode Faulted) (request : Arrival) (old : Node) (e : Effect) where
+  reads : (reading : ControlReading) → TakesReading takes Takes Faulted reading request old e → Holds request old e
+  reads (Control_message m) (inl f) = inl (ap held_in f.1)
+  reads (Control_message m) (inr (kind, r)) = holds request (creates role m) old e (heard role Takes rows request old e m r)
+  reads (Faulty f) r = inl (ap (λ (n : Node). n.held) (faulted request f f.kind old e r))
+  reads (Control_fault fault) r = inl (ap held_in r)
 
-pub serving_reads_holds : (reading : ControlReading) (request : Arrival) (old : Node) (e : Effect) → ServingReads reading request old e → Holds request old e
-serving_reads_holds (Control_message m) request old e (inl f) = inl (ap held_in f.1)
-serving_reads_holds (Control_message m) request old e (inr (kind, r)) = holds request (creates Serving m) old e (serving_heard_answers m request old e r)
-serving_reads_holds (Faulty f) request old e r = inl (serving_faulted_keeps request old e f f.kind r)
-serving_reads_holds (Control_fault fault) request old e r = inl (ap held_in r)
+  control : (reading : ControlReading) → ControlStep (TakesReading takes Takes Faulted reading) request old e → Keeps old e ⊎ (IsNew old request × Adds request old e)
+  control reading (inl f) = inl (ap held_in f.1)
+  control reading (inr (peer, inl r)) = inl (ap held_in r.gives)
+  control reading (inr (peer, inr r)) = ⊎_elim (λ same. inl same) (λ a. inr (r.0, a)) (reads reading r.1)
 
-pub packet_reads_holds : (reading : ControlReading) (request : Arrival) (old : Node) (e : Effect) → PacketReads reading request old e → Holds request old e
-packet_reads_holds (Control_message m) request old e (inl f) = inl (ap held_in f.1)
-packet_reads_holds (Control_message m) request old e (inr (kind, r)) = holds request (creates Packet m) old e (packet_heard_answers m request old e r)
-packet_reads_holds (Faulty f) request old e r = inl (packet_faulted_keeps request old e f f.kind r)
-packet_reads_holds (Control_fault fault) request old e r = inl (ap held_in r)
+pub control_held : (role : Role) (request : Arrival) (reading : ControlReading) (old : Node) (e : Effect) → Step role old (Control_came request reading) e → Keeps old e ⊎ (IsNew old request × Adds request old e)
+control_held Serving request reading old e r = control Serving _ ServingTakes ServingFaulted serving_answers serving_faulted request old e reading r
+control_held Packet request reading old e r = control Packet _ PacketTakes PacketFaulted packet_answers packet_faulted request old e reading r

@@ -2,23 +2,23 @@
 use Rattle.std.proofs.Common.{◌≡◌, ◌⊎◌, inl, inr, ⊎_elim, ℕ, Bool, true, false, not, List, [], ◌∷◌, ◌++◌, refl, sym, ◌∙◌, ap, subst}
 use Rattle.std.specs.Prelude.{◌&&◌}
 use Rattle.gtp_values.specs.FiniteMap.{FiniteMap, Each, Among}
-use Rattle.gtp_tables.proofs.Identities.{both}
+use Rattle.gtp_values.proofs.Tests.{both}
 use Rattle.gtp_machine.specs.Message.{Message, Create_session_request, Create_bearer_request, recovery_of}
 use Rattle.gtp_machine.specs.Node.{Role, Serving, Packet, PendingRequest, Arrival, Held, Node}
-use Rattle.gtp_machine.specs.Input.{Control_message, Control_fault, Control_came, Move, Resend, Give_up, Forget, Out, Effect, messages}
+use Rattle.gtp_machine.specs.Input.{FaultyRequest, RequestKind, Control_message, Control_fault, Control_came, Move, Resend, Give_up, Forget, Out, Effect, messages}
 use Rattle.gtp_machine.specs.Recovery.{Hears}
 use Rattle.gtp_machine.specs.Move.{MoveStep}
 use Rattle.gtp_machine.specs.Tick.{TickStep, ticked}
 use Rattle.gtp_machine.specs.Step.{Step}
-use Rattle.gtp_machine.specs.Answer.{ControlStep}
-use Rattle.gtp_machine.specs.Serving.{ServingTakes, ServingReads}
-use Rattle.gtp_machine.specs.Packet.{PacketTakes, PacketReads}
+use Rattle.gtp_machine.specs.Answer.{TakesReading, ControlStep}
+use Rattle.gtp_machine.specs.Serving.{ServingTakes, serving_takes, ServingFaulted, ServingReads}
+use Rattle.gtp_machine.specs.Packet.{PacketTakes, packet_takes, PacketFaulted, PacketReads}
 use Rattle.gtp_machine.specs.Laws.{CreateAsked}
 use Rattle.gtp_machine.proofs.Basics.FiniteMaps.{Among-one_more}
 use Rattle.gtp_machine.proofs.Basics.Kinds.{creates, is_create_answer}
 use Rattle.gtp_machine.proofs.Changes.Shrinking.{Shrunk-finished}
 use Rattle.gtp_machine.proofs.Changes.Forgetting.{leaves}
-use Rattle.gtp_machine.proofs.Requests.Holding.{held_in, seen_in, are_plain, Calm, Gives, Answers, serving_heard_answers, packet_heard_answers}
+use Rattle.gtp_machine.proofs.Requests.Holding.{held_in, seen_in, are_plain, Calm, Gives, Answers, serving_answers, packet_answers, heard}
 use Rattle.gtp_machine.proofs.Worlds.Ticking.{both_messages}
 
 -- no such response is sent, and none comes to be held
@@ -70,13 +70,12 @@ packet_asked : (m : Message) → creates Packet m ≡ true → (request : Arriva
 packet_asked (Create_session_request q) is request old e heard = heard
 packet_asked m is request old e heard = absurd (cc is)
 
-serving_replies : (m : Message) (request : Arrival) (old : Node) (e : Effect) → ServingReads (Control_message m) request old e → Replies Serving m request old e
-serving_replies m request old e (inl f) = inl (lesser_calm old e (ap seen_in f.1))
-serving_replies m request old e (inr (kind, r)) = answered Serving m request old e (creates Serving m) (λ is. serving_asked m is request old e r) (serving_heard_answers m request old e r)
-
-packet_replies : (m : Message) (request : Arrival) (old : Node) (e : Effect) → PacketReads (Control_message m) request old e → Replies Packet m request old e
-packet_replies m request old e (inl f) = inl (lesser_calm old e (ap seen_in f.1))
-packet_replies m request old e (inr (kind, r)) = answered Packet m request old e (creates Packet m) (λ is. packet_asked m is request old e r) (packet_heard_answers m request old e r)
+module _ (role : Role) (takes : Message → Bool) (Takes : Arrival → Message → Node → Effect → Type 0) (Faulted : Arrival → FaultyRequest → RequestKind → Node → Effect → Type 0)
+    (rows : (request : Arrival) (old : Node) (e : Effect) (m : Message) → Takes request m old e → Answers request (creates role m) old e)
+    (asked : (m : Message) → creates role m ≡ true → (request : Arrival) (old : Node) (e : Effect) → Hears (Takes request m) old (recovery_of m) e → CreateAsked role m request old e) where
+  replies : (m : Message) (request : Arrival) (old : Node) (e : Effect) → TakesReading takes Takes Faulted (Control_message m) request old e → Replies role m request old e
+  replies m request old e (inl f) = inl (lesser_calm old e (ap seen_in f.1))
+  replies m request old e (inr (kind, r)) = answered role m request old e (creates role m) (λ is. asked m is request old e r) (heard role Takes rows request old e m r)
 
 module _ (Reads : Arrival → Node → Effect → Type 0) (request : Arrival) (old : Node) (e : Effect) (X : Type 0) where
   control : (Reads request old e → IsLesser old e ⊎ (IsRepeated request old e ⊎ X)) → ControlStep Reads request old e → IsLesser old e ⊎ (IsRepeated request old e ⊎ X)
@@ -86,8 +85,8 @@ module _ (Reads : Arrival → Node → Effect → Type 0) (request : Arrival) (o
 
 -- a message of the control plane comes
 pub message_replies : (role : Role) (m : Message) (request : Arrival) (old : Node) (e : Effect) → Step role old (Control_came request (Control_message m)) e → Replies role m request old e
-message_replies Serving m request old e r = control (ServingReads (Control_message m)) request old e (IsReplied Serving m request old e) (serving_replies m request old e) r
-message_replies Packet m request old e r = control (PacketReads (Control_message m)) request old e (IsReplied Packet m request old e) (packet_replies m request old e) r
+message_replies Serving m request old e r = control (ServingReads (Control_message m)) request old e (IsReplied Serving m request old e) (replies Serving serving_takes ServingTakes ServingFaulted serving_answers serving_asked m request old e) r
+message_replies Packet m request old e r = control (PacketReads (Control_message m)) request old e (IsReplied Packet m request old e) (replies Packet packet_takes PacketTakes PacketFaulted packet_answers packet_asked m request old e) r
 
 -- what reads as no message comes
 pub fault_replies : (role : Role) (fault : ℕ) (request : Arrival) (old : Node) (e : Effect) → Step role old (Control_came request (Control_fault fault)) e → IsLesser old e ⊎ (IsRepeated request old e ⊎ ⊥)
@@ -121,7 +120,7 @@ plain_both : (first rest : List Message) → are_plain first ≡ true → are_pl
 plain_both [] rest a b = b
 plain_both (m ∷ first) rest a b =
     let s = both (not (is_create_answer m)) (are_plain first) a in
-    ap (λ (k : Bool). k && are_plain (first ++ rest)) s.0 ∙ plain_both first rest s.1 b
+    ap (λ (k : Bool). k && are_plain (first ++ rest)) s.left ∙ plain_both first rest s.right b
 
 -- a tick sends and holds none
 pub tick_lesser : (moves : List Move) (old : Node) → AllAsk old.pending → (out : Out) (new : Node) → TickStep old moves out new → IsLesser old (ticked out new)

@@ -6,17 +6,17 @@ use Rattle.gtp_values.specs.declared.counter.Age.{Age}
 use Rattle.gtp_values.specs.declared.counter.Age.TheVariants.{Same, Later, Earlier}
 use Rattle.gtp_values.specs.declared.address.Endpoint.{Endpoint}
 use Rattle.gtp_values.specs.FiniteMap.{Among}
+use Rattle.gtp_tables.specs.Index.{names}
 use Rattle.gtp_machine.specs.Config.{control_end, user_end}
-use Rattle.gtp_machine.specs.Message.{Echo, CreateSessionRequest, CreateBearerRequest, CreateBearerResponse, Message, Echo_request, Echo_response, Create_session_request, Create_session_response, Delete_session_request, Delete_session_response, Create_bearer_request, Create_bearer_response, Delete_bearer_request, Delete_bearer_response, Other_control, Packet_data, End_marker, Error_indication, User_echo_request, User_echo_response, Supported_extensions, Other_user, Owns, recovery_of, first_given}
+use Rattle.gtp_machine.specs.Message.{CreateSessionRequest, DeleteSessionRequest, CreateBearerRequest, DeleteBearerRequest, CreateBearerResponse, Message, Echo_request, Echo_response, Create_session_request, Create_session_response, Delete_session_request, Delete_session_response, Create_bearer_request, Create_bearer_response, Delete_bearer_request, Delete_bearer_response, Other_control, Packet_data, End_marker, Error_indication, User_echo_request, User_echo_response, Supported_extensions, Other_user, Owns, recovery_of, first_given}
 use Rattle.gtp_machine.specs.Node.{Role, Serving, Packet, Active, Closing, Session, Bearer, PendingRequest, Arrival, Node, written}
 use Rattle.gtp_machine.specs.Input.{UserReading, User_message, Extension_needed, User_fault, Move, Resend, Give_up, Forget, Entry, entry_for, Outcome, Moved, GoneOut, Dropped, UnknownContext, UnknownExtension, Echoed, Repeated, Effect, nothing, says, messages}
-use Rattle.gtp_machine.specs.Removal.{finished, session_closing}
+use Rattle.gtp_machine.specs.Removal.{finished}
 use Rattle.gtp_machine.specs.Recovery.{peer_restarted, Judges, Weighs, Hears, learned_by}
 use Rattle.gtp_machine.specs.Move.{MoveStep, Forgets}
-use Rattle.gtp_machine.specs.Response.{EchoAnswered, finishing}
-use Rattle.gtp_machine.specs.User.{Accepts, PacketCame, ended_bearer, EndCame, default_among, bearer_is_to, ErrorCame, UserTaken, UserRead, UserStep}
-use Rattle.gtp_machine.specs.Command.{ClosesSession, ReleasesSession, ClosesBearer, SendsEcho, SendsPacket, SessionDeleted, SessionReleased, BearerDeleted, EndMarked, EchoBegun, PacketSent, asks}
-use Rattle.gtp_machine.specs.Answer.{Repeats, echoed}
+use Rattle.gtp_machine.specs.User.{Accepts, PacketCame, ended_bearer, EndCame, default_among, ErrorCame, UserTaken, UserRead, UserStep}
+use Rattle.gtp_machine.specs.Command.{SendsPacket, SessionDeleted, SessionReleased, BearerDeleted, EndMarked, EchoBegun, PacketSent, asks}
+use Rattle.gtp_machine.specs.Answer.{Repeats}
 use Rattle.gtp_machine.specs.World.{other, Sent, HasSent}
 use Rattle.gtp_machine.proofs.Basics.Kinds.{is_create_answer}
 use Rattle.gtp_machine.proofs.Origins.Drawing.{Draws-nothing, Draws-one, Made-plain, IsProper}
@@ -29,11 +29,21 @@ use Rattle.gtp_machine.proofs.Changes.After.{Contexts-shrinks, Knows, KnownBy, K
 use Rattle.gtp_machine.proofs.Changes.Carrying.{leaves_for, comes_for}
 use Rattle.gtp_machine.proofs.Changes.Forgetting.{leaves}
 
--- a request that asks for no session and no bearer matches whatever it is about
-abbrev IsLesser : Message → Type 0
-IsLesser (Create_session_request q) = ⊥
-IsLesser (Create_bearer_request r) = ⊥
-IsLesser _ = Unit {0}
+-- a request that asks for no session and no bearer, owns no TEID, and tells no counter but this
+record IsLesser (counter : ℕ) (m : Message) : Type 0 where
+  plain : IsPlain m
+  no_session : (q : CreateSessionRequest) → m ≡ Create_session_request q → ⊥
+  no_bearer : (r : CreateBearerRequest) → m ≡ Create_bearer_request r → ⊥
+  no_answer : is_create_answer m ≡ false
+  none : (t : ℕ) → Owns m t → ⊥
+  told : (r : ℕ) → recovery_of m ≡ Some r → r ≡ counter
+  proper : IsProper m
+
+deletes_session : (counter : ℕ) (d : DeleteSessionRequest) → IsLesser counter (Delete_session_request d)
+deletes_session counter d = record { plain = tt; no_session = λ q e. cc e; no_bearer = λ r e. cc e; no_answer = refl; none = λ t none. none; told = λ r e. absurd (cc e); proper = tt }
+
+deletes_bearer : (counter : ℕ) (d : DeleteBearerRequest) → IsLesser counter (Delete_bearer_request d)
+deletes_bearer counter d = record { plain = tt; no_session = λ q e. cc e; no_bearer = λ r e. cc e; no_answer = refl; none = λ t none. none; told = λ r e. absurd (cc e); proper = tt }
 
 -- what was read on the user plane was sent
 abbrev pub UserCarried : Role → List Sent → UserReading → Type 0
@@ -51,30 +61,11 @@ module _ (role : Role) (history : List Sent) (taken : Arrival → Message → Ty
   tells_plain destination m outcome new s plain none told proper = speaks role history taken old knows destination m outcome new s plain (Made-plain history old new m none told proper)
 
   -- a request that makes nothing is sent, and what it is about closes or stays
-  asks_lesser : (number : ℕ) (p : PendingRequest) (teid : Option ℕ) (new : Node) → Shrunk old new → IsPlain p.request → IsLesser p.request → is_create_answer p.request ≡ false → ((t : ℕ) → Owns p.request t → ⊥) → ((r : ℕ) → recovery_of p.request ≡ Some r → r ≡ old.counter) → IsProper p.request → After role history taken old (asks old number p teid new)
-  asks_lesser number p teid new s plain lesser asked none told proper =
-      asks_plain role history taken old knows number p teid new s plain (Made-plain history old (record new { pending = insert old.pending number p }) p.request none told proper)
-      (record { waits = λ q e. absurd (not_session q e); numbered = λ q e. absurd (not_session q e); names_bearer = λ r e. absurd (not_bearer r e); of_session = λ r e. absurd (not_bearer r e) })
-      (λ q e. absurd (not_session q e))
-      asked
-    where
-      not_session : (q : CreateSessionRequest) → p.request ≡ Create_session_request q → ⊥
-      not_session q e = subst IsLesser e lesser
-
-      not_bearer : (r : CreateBearerRequest) → p.request ≡ Create_bearer_request r → ⊥
-      not_bearer r e = subst IsLesser e lesser
-
-  pub closes : (session : ℕ) (at : Session) (e : Effect) → get old.sessions session ≡ Some at → at.state ≡ Active → ClosesSession old session at e → After role history taken old e
-  closes session at e stands active r = at_result (After role history taken old) e _ r.gives (asks_lesser r.number _ _ (session_closing old session at) (Shrunk-closing old session at stands active) tt tt refl (λ t none. none) (λ c e. absurd (cc e)) tt)
-
-  pub releases : (session : ℕ) (at : Session) (e : Effect) → get old.sessions session ≡ Some at → at.state ≡ Active → ReleasesSession old session at e → After role history taken old e
-  releases session at e stands active r = at_result (After role history taken old) e _ r.gives (asks_lesser r.number _ _ (session_closing old session at) (Shrunk-closing old session at stands active) tt tt refl (λ t none. none) (λ c e. absurd (cc e)) tt)
-
-  pub closes_bearer : (session : ℕ) (at : Session) (identity bearer : ℕ) (b : Bearer) (e : Effect) → get old.bearers bearer ≡ Some b → ClosesBearer old session at identity bearer b e → After role history taken old e
-  closes_bearer session at identity bearer b e stands r = at_result (After role history taken old) e _ r.gives (asks_lesser r.number _ _ (record old { bearers = insert old.bearers bearer (record b { state = Closing }) }) (Shrunk-bearer old bearer b (record b { state = Closing }) stands (closing_same b)) tt tt refl (λ t none. none) (λ c e. absurd (cc e)) tt)
-
-  pub sends_echo : (e : Effect) → SendsEcho old e → After role history taken old e
-  sends_echo e r = at_result (After role history taken old) e _ r.gives (asks_lesser r.number _ _ old (Shrunk-itself old) tt tt refl (λ t none. none) (λ c e. cc e) tt)
+  asks_lesser : (number : ℕ) (p : PendingRequest) (teid : Option ℕ) (new : Node) → Shrunk old new → IsLesser old.counter p.request → (e : Effect) → e ≡ asks old number p teid new → After role history taken old e
+  asks_lesser number p teid new s is e gives = at_result (After role history taken old) e _ gives (asks_plain role history taken old knows number p teid new s is.plain (Made-plain history old (record new { pending = insert old.pending number p }) p.request is.none is.told is.proper)
+      (record { waits = λ q e. absurd (is.no_session q e); numbered = λ q e. absurd (is.no_session q e); names_bearer = λ r e. absurd (is.no_bearer r e); of_session = λ r e. absurd (is.no_bearer r e) })
+      (λ q e. absurd (is.no_session q e))
+      is.no_answer)
 
   -- a packet that is handed in on an active bearer
   pub sends : (bearer : ℕ) (payload : List ℕ) (b : Bearer) (e : Effect) → get old.bearers bearer ≡ Some b → b.state ≡ Active → SendsPacket old b payload e → After role history taken old e
@@ -115,14 +106,14 @@ module _ (role : Role) (history : List Sent) (taken : Arrival → Message → Ty
   session_deleted Serving session e (inl f) = unchanged _ e f.1
   session_deleted Serving session e (inr (at, inl f)) = unchanged _ e f.1
   session_deleted Serving session e (inr (at, inr (active, inl f))) = unchanged _ e f.1
-  session_deleted Serving session e (inr (at, inr (active, inr (few, r)))) = closes session at.session e at.stands active r
+  session_deleted Serving session e (inr (at, inr (active, inr (few, r)))) = asks_lesser r.number _ _ _ (Shrunk-closing old session at.session at.stands active) (deletes_session old.counter _) e r.gives
 
   pub session_released : (by : Role) (session : ℕ) (e : Effect) → SessionReleased by session old e → After role history taken old e
   session_released Serving session e r = unchanged _ e r
   session_released Packet session e (inl f) = unchanged _ e f.1
   session_released Packet session e (inr (at, inl f)) = unchanged _ e f.1
   session_released Packet session e (inr (at, inr (active, inl f))) = unchanged _ e f.1
-  session_released Packet session e (inr (at, inr (active, inr (few, r)))) = releases session at.session e at.stands active r
+  session_released Packet session e (inr (at, inr (active, inr (few, r)))) = asks_lesser r.number _ _ _ (Shrunk-closing old session at.session at.stands active) (deletes_bearer old.counter _) e r.gives
 
   pub bearer_deleted : (by : Role) (session identity : ℕ) (e : Effect) → BearerDeleted by session identity old e → After role history taken old e
   bearer_deleted Serving session identity e r = unchanged _ e r
@@ -130,7 +121,7 @@ module _ (role : Role) (history : List Sent) (taken : Arrival → Message → Ty
   bearer_deleted Packet session identity e (inr (at, inl f)) = unchanged _ e f.1
   bearer_deleted Packet session identity e (inr (at, inr (named, inl f))) = unchanged _ e f.1
   bearer_deleted Packet session identity e (inr (at, inr (named, inr (active, inl f)))) = unchanged _ e f.1
-  bearer_deleted Packet session identity e (inr (at, inr (named, inr (active, inr (few, r))))) = closes_bearer session at.session identity named.key named.at.bearer e named.at.stands r
+  bearer_deleted Packet session identity e (inr (at, inr (named, inr (active, inr (few, r))))) = asks_lesser r.number _ _ _ (Shrunk-bearer old named.key named.at.bearer (record named.at.bearer { state = Closing }) named.at.stands (closing_same named.at.bearer)) (deletes_bearer old.counter _) e r.gives
 
   pub end_marked : (by : Role) (bearer : ℕ) (e : Effect) → EndMarked by bearer old e → After role history taken old e
   end_marked Serving bearer e r = unchanged _ e r
@@ -141,7 +132,7 @@ module _ (role : Role) (history : List Sent) (taken : Arrival → Message → Ty
 
   pub echo_begun : (e : Effect) → EchoBegun old e → After role history taken old e
   echo_begun e (inl f) = unchanged _ e f.1
-  echo_begun e (inr (few, r)) = sends_echo e r
+  echo_begun e (inr (few, r)) = asks_lesser r.number _ _ old (Shrunk-itself old) (record { plain = tt; no_session = λ q e. cc e; no_bearer = λ r e. cc e; no_answer = refl; none = λ t none. none; told = λ r e. cc e; proper = tt }) e r.gives
 
   pub packet_sent : (by : Role) (bearer : ℕ) (payload : List ℕ) (e : Effect) → PacketSent by bearer payload old e → After role history taken old e
   packet_sent by bearer payload e (inl f) = unchanged _ e f.1
@@ -149,18 +140,6 @@ module _ (role : Role) (history : List Sent) (taken : Arrival → Message → Ty
   packet_sent by bearer payload e (inr (at, inr (active, inl f))) = unchanged _ e f.1
   packet_sent by bearer payload e (inr (at, inr (active, inr (goes, inl f)))) = unchanged _ e f.1
   packet_sent by bearer payload e (inr (at, inr (active, inr (goes, inr (short, r))))) = sends bearer payload at.bearer e at.stands active r
-
-  -- what a pending request is about goes
-  pub finishes : (number : ℕ) (p : PendingRequest) (outcome : Outcome) (e : Effect) → e ≡ finishing old number p outcome → After role history taken old e
-  finishes number p outcome e gives = at_result (After role history taken old) e _ gives (shrunk role history taken old knows (finished old number p) (Shrunk-finished old number p.session p.bearer) [] outcome)
-
-  pub echo_answered : (a : Echo) (e : Effect) → EchoAnswered a old e → After role history taken old e
-  echo_answered a e (inl f) = unchanged _ e f.1
-  echo_answered a e (inr (at, inl f)) = unchanged _ e f.1
-  echo_answered a e (inr (at, inr (fits, gives))) = finishes a.number at.pending _ e gives
-
-  pub echoes : (request : Arrival) (q : Echo) (e : Effect) → e ≡ echoed request q old → After role history taken old e
-  echoes request q e gives = at_result (After role history taken old) e _ gives (tells_plain request.source (Echo_response (record { number = q.number; recovery = old.counter })) Echoed old (Shrunk-itself old) tt (λ t none. none) (λ c e. cc e) tt)
 
   pub repeats : (request : Arrival) (e : Effect) → Repeats old request e → After role history taken old e
   repeats request e r = at_result (After role history taken old) e _ r.gives (repeated role history taken old knows request.source r.held.answer Repeated (knows.held r.held r.stands))
@@ -226,7 +205,7 @@ module _ (role : Role) (history : List Sent) (taken : Arrival → Message → Ty
 
   error_came : (remote : ℕ) (e : Effect) → ErrorCame remote old e → After role history taken old e
   error_came remote e (inl f) = unchanged _ e f.1
-  error_came remote e (inr (named, gives)) = at_result (After role history taken old) e _ gives (shrunk role history taken old knows _ (Shrunk-without (λ t. default_among remote t old.bearers) (λ t. bearer_is_to remote (get old.bearers t)) old) [] _)
+  error_came remote e (inr (named, gives)) = at_result (After role history taken old) e _ gives (shrunk role history taken old knows _ (Shrunk-without (λ t. default_among remote t old.bearers) (λ t. names remote (get old.bearers t)) old) [] _)
 
   user_taken : (by : Role) (source : Endpoint) (m : Message) (e : Effect) → HasSent history (other role) m → UserTaken by source m old e → After role history taken old e
   user_taken by source (Packet_data target payload) e came r = packet_came by target payload e came r

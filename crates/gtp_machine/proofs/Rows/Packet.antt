@@ -1,18 +1,19 @@
 -- Each step of the packet gateway keeps what it knows.
 use Rattle.std.proofs.Common.{◌≡◌, ◌⊎◌, inl, inr, ⊎_elim, ℕ, ◌<◌, ◌≤◌, eqb, false, List, [], ◌∷◌, ◌++◌, Some, None, refl, sym, ◌∙◌, ap, subst, arith}
 use Rattle.std.specs.FinMap.{get, insert, remove}
+use Rattle.std.proofs.lemmas.Option.{same_Some}
 use Rattle.gtp_values.specs.declared.cause.Cause.{Cause}
 use Rattle.gtp_values.specs.declared.qos.Qos.{Qos}
 use Rattle.gtp_values.specs.FiniteMap.{FiniteMap, Each, Among}
 use Rattle.gtp_machine.specs.Element.{IsAccepting, cause_of, cause_at, teid_in}
 use Rattle.gtp_machine.specs.Message.{CreateSessionRequest, CreateSessionResponse, DeleteSessionRequest, DeleteSessionResponse, CreateBearerRequest, CreateBearerResponse, DeleteBearerResponse, Message, Create_session_request, Create_session_response, Delete_session_response, Create_bearer_request, Create_bearer_response, Packet_data, Owns, recovery_of, first_returned}
 use Rattle.gtp_machine.specs.Node.{Serving, Packet, Active, Closing, Session, Bearer, PendingRequest, Arrival, Held, Node, holding, written}
-use Rattle.gtp_machine.specs.Input.{ControlReading, Control_message, Begun, Opened, Answered, Effect}
+use Rattle.gtp_machine.specs.Input.{Begun, Opened, Answered, Effect}
 use Rattle.gtp_machine.specs.Choice.{IsFree, HasPending, counter_of}
 use Rattle.gtp_machine.specs.Removal.{without_session}
 use Rattle.gtp_machine.specs.Command.{bearer_request, pending_dedicated, BeginsBearer, BearerBegun}
-use Rattle.gtp_machine.specs.Answer.{IsNew, answered, ControlStep}
-use Rattle.gtp_machine.specs.Packet.{session_cause, session_response, made_session, made_bearer, session_made, MakesSession, session_refused, SessionAsked, DeletionAsked, FitsBearer, DescribesBearer, CanOpen, opened_dedicated, OpensBearer, BearerAnswered, RemovalAnswered, PacketTakes, packet_takes, PacketFaulted, PacketReads}
+use Rattle.gtp_machine.specs.Answer.{answered}
+use Rattle.gtp_machine.specs.Packet.{session_cause, session_response, made_session, made_bearer, session_made, MakesSession, session_refused, SessionAsked, DeletionAsked, FitsBearer, DescribesBearer, CanOpen, opened_dedicated, OpensBearer, BearerAnswered, RemovalAnswered, PacketTakes}
 use Rattle.gtp_machine.specs.World.{Sent, HasSent, signed}
 use Rattle.gtp_machine.proofs.Basics.FiniteMaps.{Each-insert, Each-remove, found-remove, get-insert_same, Among-left, Among-last}
 use Rattle.gtp_machine.proofs.Origins.Drawing.{Draws-nothing, Draws-new, one_more_drawn, two_more_drawn, TellsStart, IsProper, by_before, by_now, by_cases}
@@ -20,23 +21,16 @@ use Rattle.gtp_machine.proofs.Origins.Contexts.{IsMade, IsWanted, IsAtPacket, cl
 use Rattle.gtp_machine.proofs.Changes.Shrinking.{Shrunk, Shrunk-itself, Shrunk-without}
 use Rattle.gtp_machine.proofs.Changes.Matching.{IsMatched, IsMatched-bearer}
 use Rattle.gtp_machine.proofs.Origins.Entries.{Once, answer_not_request}
-use Rattle.gtp_machine.proofs.Changes.Steps.{Logs-silent, Logs-plain, at_result, NothingOwns, NothingOwns-from}
-use Rattle.gtp_machine.proofs.Changes.After.{IsPending, IsStanding, IsReady, Knows, After, nothing_told, later, held_now, matched_session, matched_bearer, still_stands}
+use Rattle.gtp_machine.proofs.Changes.Steps.{Logs-silent, Logs-plain, at_result, NothingOwns}
+use Rattle.gtp_machine.proofs.Changes.After.{IsPending, IsStanding, IsReady, Knows, After, nothing_told, later, held_now, matched_session, matched_bearer, with_new_session}
 use Rattle.gtp_machine.proofs.Rows.Common.{unchanged}
 use Rattle.gtp_machine.proofs.Rows.Taking.{active_not_closing, Took, took, drops, ends, gives_answer, takes_echo, takes_echo_response}
-use Rattle.gtp_values.proofs.Outcomes.{none_some, some_same}
+use Rattle.gtp_values.proofs.Outcomes.{none_some}
 use Rattle.gtp_machine.proofs.Basics.Options.{not_below}
-use Rattle.gtp_machine.proofs.Rows.Control.{ControlCarried, control_came}
 use Rattle.gtp_machine.proofs.Basics.Kinds.{by_packet}
 use Rattle.gtp_machine.proofs.Basics.Facts.{one_value, active_not_pending, pending_not_active}
 
 module _ (history : List Sent) (taken : Arrival → Message → Type 0) (serving_once : Once history Serving) (packet_once : Once history Packet) (old : Node) (knows : Knows Packet history old) where
-  was_later : (sent : List Message) → Knows Packet (history ++ signed Packet sent) old
-  was_later sent = later Packet history taken old knows sent
-
-  with_new_session : (after : List Sent) (key : ℕ) (s : Session) → (Among key old.drawn → ⊥) → Each (IsAtPacket after old.sessions) old.bearers → Each (IsAtPacket after (insert old.sessions key s)) old.bearers
-  with_new_session after key s undrawn each t b e = let at = each t b e in record { session = at.session; stands = still_stands history Packet old knows key s undrawn b.session at.session at.stands; origin = at.origin }
-
   -- a session that stands there and is active is not closing
   stands_active : (sessions : FiniteMap Session) (key : ℕ) (at : Session) → get sessions key ≡ Some at → at.state ≡ Active → (s : Session) → get sessions key ≡ Some s → s.state ≡ Closing → ⊥
   stands_active sessions key at at_stands active s s_stands closing =
@@ -49,7 +43,7 @@ module _ (history : List Sent) (taken : Arrival → Message → Type 0) (serving
       let p : PendingRequest = record { session = Some session; bearer = Some r.user; request = Create_bearer_request q } in
       let m = Create_bearer_request q in
       let after = history ++ signed Packet (m ∷ []) in
-      let was = was_later (m ∷ []) in
+      let was = later Packet history taken old knows (m ∷ []) in
       let now : HasSent after Packet m = by_now history Packet (m ∷ []) m (inl refl) in
       let made = was.contexts.sessions_made session at stands in
       let new_node : Node = record old { drawn = r.user ∷ old.drawn; bearers = insert old.bearers r.user (pending_dedicated session); pending = insert old.pending r.number p } in
@@ -104,7 +98,7 @@ module _ (history : List Sent) (taken : Arrival → Message → Type 0) (serving
         let a = session_response old q r.control r.user r.address in
         let m = Create_session_response a in
         let after = history ++ signed Packet (m ∷ []) in
-        let was = was_later (m ∷ []) in
+        let was = later Packet history taken old knows (m ∷ []) in
         let now : HasSent after Packet m = by_now history Packet (m ∷ []) m (inl refl) in
         let asked : HasSent after Serving (Create_session_request q) = by_before history Serving Packet (m ∷ []) (Create_session_request q) came in
         let s = made_session q r.address in
@@ -116,7 +110,7 @@ module _ (history : List Sent) (taken : Arrival → Message → Type 0) (serving
               sessions_made = Each-insert (IsMade after) old.sessions r.control s (record { request = q; asked = asked; answer = a; answered = now; control = refl; header = refl; remote = refl; subscriber = refl; address = refl }) was.contexts.sessions_made;
               bearers_made = Each-insert (IsAtPacket after (insert old.sessions r.control s)) old.bearers r.user b
                   (record { session = s; stands = get-insert_same old.sessions r.control s; origin = inl (record { kind = refl; request = q; asked = asked; answer = a; answered = now; user = refl; control = refl; header = refl; remote = refl; identity = refl }) })
-                  (with_new_session after r.control s r.control_free.undrawn was.contexts.bearers_made);
+                  (with_new_session history Packet old knows _ r.control s r.control_free.undrawn was.contexts.bearers_made);
             };
             matched = matched_bearer history Packet old unowned knows.pending (insert old.sessions r.control s) r.user b r.user_free (matched_session history Packet old unowned knows.pending r.control s r.control_free knows.matched);
             drawn = Each-insert (λ t (x : Session). Among t (r.user ∷ r.control ∷ old.drawn)) old.sessions r.control s (inr (inl refl)) (λ t x e. inr (inr (knows.drawn t x e)));
@@ -128,7 +122,7 @@ module _ (history : List Sent) (taken : Arrival → Message → Type 0) (serving
           });
           known = refl;
           told = nothing_told history Serving;
-          draws = Draws-new history Packet old (holding request m new) m refl refl (λ t stood. inr (inr stood)) (two_more_drawn old.counter r.user r.control old.drawn r.user_free.counted r.control_free.counted) (record { free = free; drawn = drawn; told = λ c e. cc e; tells = λ t is owns. refl; proper = record { control = λ accepts. (r.control, refl); user = λ accepts. (r.user, refl); apart = λ t control user. r.apart (some_same r.control t control ∙ sym (some_same r.user t user)) } });
+          draws = Draws-new history Packet old (holding request m new) m refl refl (λ t stood. inr (inr stood)) (two_more_drawn old.counter r.user r.control old.drawn r.user_free.counted r.control_free.counted) (record { free = free; drawn = drawn; told = λ c e. cc e; tells = λ t is owns. refl; proper = record { control = λ accepts. (r.control, refl); user = λ accepts. (r.user, refl); apart = λ t control user. r.apart (same_Some r.control t control ∙ sym (same_Some r.user t user)) } });
           logs =
               let l = Logs-plain history Packet taken old (holding request m new) (Answered (session_cause q.pdn)) (λ h stood. Among-left h old.held _ stood) request.source m tt in record {
                 held_stays = l.held_stays;
@@ -145,12 +139,12 @@ module _ (history : List Sent) (taken : Arrival → Message → Type 0) (serving
         no_packet a t p (inr none) = none
 
         free : (t : ℕ) → (Some r.control ≡ Some t) ⊎ (Some r.user ≡ Some t) → IsFree old t
-        free t (inl is) = subst (IsFree old) (some_same r.control t is) r.control_free
-        free t (inr is) = subst (IsFree old) (some_same r.user t is) r.user_free
+        free t (inl is) = subst (IsFree old) (same_Some r.control t is) r.control_free
+        free t (inr is) = subst (IsFree old) (same_Some r.user t is) r.user_free
 
         drawn : (t : ℕ) → (Some r.control ≡ Some t) ⊎ (Some r.user ≡ Some t) → Among t (r.user ∷ r.control ∷ old.drawn)
-        drawn t (inl is) = inr (inl (sym (some_same r.control t is)))
-        drawn t (inr is) = inl (sym (some_same r.user t is))
+        drawn t (inl is) = inr (inl (sym (same_Some r.control t is)))
+        drawn t (inr is) = inl (sym (same_Some r.user t is))
 
     refuses : (request : Arrival) (q : CreateSessionRequest) (cause : Cause) (e : Effect) → 64 ≤ cause.value → e ≡ session_refused request q cause old → Took Packet history taken old e
     refuses request q cause e high gives = gives_answer Packet history taken old knows request _ cause.value old e gives (Shrunk-itself old) tt none (λ c e. cc e)
@@ -206,7 +200,7 @@ module _ (history : List Sent) (taken : Arrival → Message → Type 0) (serving
       opens : (e : Effect) → OpensBearer old x fits.bearer e → Took Packet history taken old e
       opens e r =
           let after = history ++ signed Packet [] in
-          let was = was_later [] in
+          let was = later Packet history taken old knows [] in
           let stood = was.contexts.bearers_made fits.bearer r.at.bearer r.at.stands in
           let opened = opened_dedicated r.at.bearer x in
           let new_node : Node = record old { bearers = insert old.bearers fits.bearer opened; pending = remove old.pending x.number } in
@@ -278,8 +272,8 @@ module _ (history : List Sent) (taken : Arrival → Message → Type 0) (serving
     removal_answered d e (inr (at, inl f)) = drops Packet history taken old knows _ e f.1
     removal_answered d e (inr (at, inr (fits, gives))) = ends Packet history taken old knows d.number at.pending _ e gives
 
-    takes : (unowned : NothingOwns history Packet old) (request : Arrival) (m : Message) (e : Effect) → HasSent history Serving m → taken request m → ((c : ℕ) → recovery_of m ≡ Some c → old.known ≡ Some c) → PacketTakes request m old e → Took Packet history taken old e
-    takes unowned request =
+    pub packet_taken : (unowned : NothingOwns history Packet old) (request : Arrival) (m : Message) (e : Effect) → HasSent history Serving m → taken request m → ((c : ℕ) → recovery_of m ≡ Some c → old.known ≡ Some c) → PacketTakes request m old e → Took Packet history taken old e
+    packet_taken unowned request =
         by_packet (λ m. (e : Effect) → HasSent history Serving m → taken request m → ((c : ℕ) → recovery_of m ≡ Some c → old.known ≡ Some c) → PacketTakes request m old e → Took Packet history taken old e)
         (λ q e came is told r. takes_echo Packet history taken old knows request q e r)
         (λ a e came is told r. takes_echo_response Packet history taken old knows a e r)
@@ -288,10 +282,3 @@ module _ (history : List Sent) (taken : Arrival → Message → Type 0) (serving
         (λ x e came is told r. bearer_answered x e came r)
         (λ d e came is told r. removal_answered d e r)
         (λ m dropped e came is told r. drops Packet history taken old knows _ e (dropped.only request old e r))
-
-module _ (history : List Sent) (serving_once : Once history Serving) (packet_once : Once history Packet) (old : Node) (unowned : NothingOwns history Packet old)
-    (dated : (m : Message) (t : ℕ) → HasSent history Serving m → TellsStart m → Owns m t → recovery_of m ≡ Some (counter_of t)) (proper : (m : Message) → HasSent history Serving m → IsProper m) (knows : Knows Packet history old) (request : Arrival) (taken : Arrival → Message → Type 0) where
-  pub packet_control : (reading : ControlReading) (e : Effect) → ControlCarried Packet history old reading → (IsNew old request → (m : Message) → reading ≡ Control_message m → taken request m) → ControlStep (PacketReads reading) request old e → After Packet history taken old e
-  packet_control =
-      control_came Packet history taken serving_once packet_once old knows packet_takes PacketTakes PacketFaulted request
-      (λ m came is mid from mid_knows told e rows. takes history taken serving_once packet_once mid mid_knows dated proper (NothingOwns-from history Packet old mid from unowned) request m e came is told rows)

@@ -6,12 +6,12 @@ use Rattle.gtp_values.specs.FiniteMap.{Each, Among}
 use Rattle.gtp_machine.specs.Element.{IsAccepting, cause_of, ipv4_of}
 use Rattle.gtp_machine.specs.Message.{CreateSessionRequest, CreateSessionResponse, DeleteSessionResponse, CreateBearerRequest, GivenBearer, CreateBearerResponse, DeleteBearerRequest, DeleteBearerResponse, Message, Create_session_request, Create_session_response, Create_bearer_request, Create_bearer_response, Delete_bearer_response, Packet_data, Owns, recovery_of, first_given}
 use Rattle.gtp_machine.specs.Node.{Serving, Packet, Pending, Active, Closing, Session, Bearer, PendingRequest, Arrival, Held, Node, holding, written}
-use Rattle.gtp_machine.specs.Input.{Specification, ControlReading, Control_message, Of_create_bearer, Begun, Opened, Effect}
+use Rattle.gtp_machine.specs.Input.{Specification, Of_create_bearer, Begun, Opened, Effect}
 use Rattle.gtp_machine.specs.Choice.{IsFree, HasPending, HasSession, counter_of}
 use Rattle.gtp_machine.specs.Removal.{without_session}
 use Rattle.gtp_machine.specs.Command.{session_request, pending_session, pending_bearer, session_begun, BeginsSession, SessionBegun}
-use Rattle.gtp_machine.specs.Answer.{answered, refusing, IsNew, ControlStep}
-use Rattle.gtp_machine.specs.Serving.{FitsSession, DescribesSession, opened_session, opened_bearer, OpensSession, SessionAnswered, DeletionAnswered, bearer_response, granted_bearer, MakesBearer, no_resources, BearerAsked, RemovalTaken, RemovalAsked, ServingTakes, serving_takes, ServingFaulted, ServingReads, removal_cause}
+use Rattle.gtp_machine.specs.Answer.{answered, refusing}
+use Rattle.gtp_machine.specs.Serving.{FitsSession, DescribesSession, opened_session, opened_bearer, OpensSession, SessionAnswered, DeletionAnswered, bearer_response, granted_bearer, MakesBearer, no_resources, BearerAsked, RemovalTaken, RemovalAsked, ServingTakes, removal_cause}
 use Rattle.gtp_machine.specs.World.{Sent, HasSent, signed}
 use Rattle.gtp_machine.proofs.Basics.FiniteMaps.{Each-insert, Each-remove, found-remove, get-insert_same, get-insert_other, Among-left, Among-last}
 use Rattle.gtp_machine.proofs.Origins.Drawing.{Draws-nothing, Draws-new, one_more_drawn, two_more_drawn, TellsStart, IsProper, by_before, by_now}
@@ -19,31 +19,23 @@ use Rattle.gtp_machine.proofs.Origins.Contexts.{IsAsked, IsAtServing, closes-ses
 use Rattle.gtp_machine.proofs.Changes.Shrinking.{Shrunk, Shrunk-itself, Shrunk-without, removes_each}
 use Rattle.gtp_machine.proofs.Changes.Matching.{IsMatched, IsMatched-session, IsMatched-bearer}
 use Rattle.gtp_machine.proofs.Origins.Entries.{Once, same_request, same_user_request, request_not_answer}
-use Rattle.gtp_machine.proofs.Changes.Steps.{IsAnsweredNow, Logs-silent, Logs-plain, at_result, NothingOwns, NothingOwns-from}
-use Rattle.gtp_machine.proofs.Changes.After.{IsPending, IsStanding, IsReady, Knows, After, nothing_told, later, held_now, matched_session, matched_bearer, still_stands}
+use Rattle.gtp_machine.proofs.Changes.Steps.{IsAnsweredNow, Logs-silent, Logs-plain, at_result, NothingOwns}
+use Rattle.gtp_machine.proofs.Changes.After.{IsPending, IsStanding, IsReady, Knows, After, nothing_told, later, held_now, matched_session, matched_bearer, with_new_session}
 use Rattle.gtp_machine.proofs.Rows.Common.{unchanged}
 use Rattle.gtp_machine.proofs.Rows.Taking.{active_not_closing, Took, took, drops, ends, gives_answer, takes_echo, takes_echo_response, named_written}
 use Rattle.gtp_values.proofs.Outcomes.{none_some}
 use Rattle.gtp_machine.proofs.Basics.Options.{not_below}
-use Rattle.gtp_machine.proofs.Rows.Control.{ControlCarried, control_came}
 use Rattle.gtp_machine.proofs.Basics.Kinds.{by_serving}
 use Rattle.gtp_machine.proofs.Basics.Facts.{one_value, pending_not_active, active_not_pending, pending_active}
 
 module _ (history : List Sent) (taken : Arrival → Message → Type 0) (serving_once : Once history Serving) (packet_once : Once history Packet) (old : Node) (knows : Knows Serving history old) where
-  was_later : (sent : List Message) → Knows Serving (history ++ signed Serving sent) old
-  was_later sent = later Serving history taken old knows sent
-
-  -- a session that is begun under a new TEID leaves each bearer with its session
-  with_new_session : (after : List Sent) (key : ℕ) (s : Session) → (Among key old.drawn → ⊥) → Each (IsAtServing after old.sessions) old.bearers → Each (IsAtServing after (insert old.sessions key s)) old.bearers
-  with_new_session after key s undrawn each t b e = let at = each t b e in record { session = at.session; stands = still_stands history Serving old knows key s undrawn b.session at.session at.stands; origin = at.origin }
-
   begins : (unowned : NothingOwns history Serving old) (spec : Specification) (e : Effect) → BeginsSession old spec e → After Serving history taken old e
   begins unowned spec e r =
       let q = session_request old spec r.control r.user r.number in
       let p : PendingRequest = record { session = Some r.control; bearer = None; request = Create_session_request q } in
       let m = Create_session_request q in
       let after = history ++ signed Serving (m ∷ []) in
-      let was = was_later (m ∷ []) in
+      let was = later Serving history taken old knows (m ∷ []) in
       let now : HasSent after Serving m = by_now history Serving (m ∷ []) m (inl refl) in
       let new_node = record (session_begun old r.control r.user q) { pending = insert old.pending r.number p } in
       at_result (After Serving history taken old) e _ r.gives (record {
@@ -56,7 +48,7 @@ module _ (history : List Sent) (taken : Arrival → Message → Type 0) (serving
                   stands = get-insert_same old.sessions r.control (pending_session q);
                   origin = inl (record { kind = refl; request = q; sent = now; user = refl; control = refl; identity = refl; opened = λ x none. absurd (none_some x none) });
                 })
-                (with_new_session after r.control (pending_session q) r.control_free.undrawn was.contexts.bearers_asked);
+                (with_new_session history Serving old knows _ r.control (pending_session q) r.control_free.undrawn was.contexts.bearers_asked);
           };
           matched = Each-insert (IsMatched (insert old.sessions r.control (pending_session q)) (insert old.bearers r.user (pending_bearer r.control q))) old.pending r.number p
               (record {
@@ -148,12 +140,12 @@ module _ (history : List Sent) (taken : Arrival → Message → Type 0) (serving
           }
 
       rest_bearers : Each (IsAtServing (history ++ []) (insert old.sessions fits.session now)) old.bearers
-      rest_bearers t b e = rest t b ((was_later []).contexts.bearers_asked t b e) (cases_eq b.session fits.session)
+      rest_bearers t b e = rest t b ((later Serving history taken old knows []).contexts.bearers_asked t b e) (cases_eq b.session fits.session)
 
       opens : (e : Effect) → OpensSession old a fits.request fits.session new.at.session new.address e → Took Serving history taken old e
       opens e r =
           let after = history ++ signed Serving [] in
-          let was = was_later [] in
+          let was = later Serving history taken old knows [] in
           let q = fits.request in
           let asked = was.contexts.sessions_asked fits.session new.at.session new.at.stands in
           let came_after : HasSent after Packet (Create_session_response a) = by_before history Packet Serving [] (Create_session_response a) came in
@@ -251,7 +243,7 @@ module _ (history : List Sent) (taken : Arrival → Message → Type 0) (serving
         let x = bearer_response old q at.session r.user r.identity in
         let m = Create_bearer_response x in
         let after = history ++ signed Serving (m ∷ []) in
-        let was = was_later (m ∷ []) in
+        let was = later Serving history taken old knows (m ∷ []) in
         let now : HasSent after Serving m = by_now history Serving (m ∷ []) m (inl refl) in
         let new : Node = record old { drawn = r.user ∷ old.drawn; bearers = insert old.bearers r.user (granted_bearer q r.identity) } in
         let remote = (knows.standing q.header at.session at.stands).named (λ waits. pending_active at.session.state waits active) in
@@ -360,8 +352,8 @@ module _ (history : List Sent) (taken : Arrival → Message → Type 0) (serving
     removal_asked request d e (inr (room, inr (at, inl f))) = drops Serving history taken old knows _ e f.1
     removal_asked request d e (inr (room, inr (at, inr (opened, r)))) = removal_taken request d d.linked at.session e r
 
-    takes : (unowned : NothingOwns history Serving old) (request : Arrival) (m : Message) (e : Effect) → HasSent history Packet m → taken request m → ((c : ℕ) → recovery_of m ≡ Some c → old.known ≡ Some c) → ServingTakes request m old e → Took Serving history taken old e
-    takes unowned request =
+    pub serving_taken : (unowned : NothingOwns history Serving old) (request : Arrival) (m : Message) (e : Effect) → HasSent history Packet m → taken request m → ((c : ℕ) → recovery_of m ≡ Some c → old.known ≡ Some c) → ServingTakes request m old e → Took Serving history taken old e
+    serving_taken unowned request =
         by_serving (λ m. (e : Effect) → HasSent history Packet m → taken request m → ((c : ℕ) → recovery_of m ≡ Some c → old.known ≡ Some c) → ServingTakes request m old e → Took Serving history taken old e)
         (λ q e came is told r. takes_echo Serving history taken old knows request q e r)
         (λ a e came is told r. takes_echo_response Serving history taken old knows a e r)
@@ -370,10 +362,3 @@ module _ (history : List Sent) (taken : Arrival → Message → Type 0) (serving
         (λ q e came is told r. bearer_asked unowned request q e came is r)
         (λ d e came is told r. removal_asked request d e r)
         (λ m dropped e came is told r. drops Serving history taken old knows _ e (dropped.only request old e r))
-
-module _ (history : List Sent) (serving_once : Once history Serving) (packet_once : Once history Packet) (old : Node) (unowned : NothingOwns history Serving old)
-    (dated : (m : Message) (t : ℕ) → HasSent history Packet m → TellsStart m → Owns m t → recovery_of m ≡ Some (counter_of t)) (proper : (m : Message) → HasSent history Packet m → IsProper m) (knows : Knows Serving history old) (request : Arrival) (taken : Arrival → Message → Type 0) where
-  pub serving_control : (reading : ControlReading) (e : Effect) → ControlCarried Serving history old reading → (IsNew old request → (m : Message) → reading ≡ Control_message m → taken request m) → ControlStep (ServingReads reading) request old e → After Serving history taken old e
-  serving_control =
-      control_came Serving history taken serving_once packet_once old knows serving_takes ServingTakes ServingFaulted request
-      (λ m came is mid from mid_knows told e rows. takes history taken serving_once packet_once mid mid_knows dated proper (NothingOwns-from history Serving old mid from unowned) request m e came is told rows)

@@ -1,6 +1,6 @@
 -- Each change of a node that a row makes leaves it sound.
 use Rattle.std.proofs.Common.{◌≡◌, ◌≢◌, ◌⊎◌, inl, inr, ⊎_elim, ℕ, ◌+◌, ◌≤◌, ◌<◌, eqb, cond, Bool, true, false, not, ◌||◌, [], ◌∷◌, length, length-append, Option, Some, None, refl, sym, ◌∙◌, ap, subst, arith}
-use Rattle.std.proofs.lemmas.Bool.{cases_eq}
+use Rattle.std.proofs.lemmas.Bool.{cases_eq, eq-eqb, ne_eqb}
 use Rattle.std.specs.FinMap.{get, insert, remove, len, gets}
 use Rattle.gtp_values.specs.FiniteMap.{FiniteMap, Among, kept, changed}
 use Rattle.gtp_machine.specs.Config.{Config}
@@ -14,9 +14,8 @@ use Rattle.gtp_machine.specs.Packet.{FitsBearer}
 use Rattle.gtp_machine.specs.Sound.{At, IsInState, IsBearerOf, IsSoundSession, IsSoundBearer, AsksSession, AsksBearer, IsAbout, opened_by, AreSoundRequests, IsSound, IsWithin}
 use Rattle.gtp_machine.proofs.Basics.FiniteMaps.{found-remove, found-empty, found-kept, found-changed, get-changed_some, get-kept, Each-insert}
 use Rattle.gtp_machine.proofs.Basics.Counting.{len-insert_most, len-insert_same, len-remove_most, len-kept_most}
-use Rattle.gtp_machine.proofs.Sound.Free.{eqb_other}
 use Rattle.gtp_machine.proofs.Sound.Parts.{default_dedicated, at_here, at_insert, there_insert, Follows, follows_all, no_deletion, requests_follow, requests_fewer, requests_add, opened_drawn, contexts_drawn, contexts_session, contexts_bearer, contexts_same}
-use Rattle.gtp_machine.proofs.Basics.Facts.{one_value, pending_active, pending_closing, eqb_same}
+use Rattle.gtp_machine.proofs.Basics.Facts.{one_value, pending_active, pending_closing}
 
 module _ (role : Role) where
   pub fresh : (config : Config) (counter : ℕ) → IsSound role (fresh_node config counter)
@@ -91,7 +90,7 @@ module _ (role : Role) where
 
     -- a dedicated bearer goes
     pub without_bearer_sound : (key : ℕ) (b : Bearer) → get old.bearers key ≡ Some b → b.kind ≡ Dedicated → IsSound role (without_bearer old key)
-    without_bearer_sound key b stands dedicated = without_sound (λ t. false) (λ t. eqb t key) (λ t x e default w. eqb_other t key (λ same. default_dedicated x.kind default (ap (λ (k : Bearer). k.kind) (one_value (get old.bearers key) x b (ap (λ k. get old.bearers k) (sym same) ∙ e) stands) ∙ dedicated)))
+    without_bearer_sound key b stands dedicated = without_sound (λ t. false) (λ t. eqb t key) (λ t x e default w. ne_eqb t key (λ same. default_dedicated x.kind default (ap (λ (k : Bearer). k.kind) (one_value (get old.bearers key) x b (ap (λ k. get old.bearers k) (sym same) ∙ e) stands) ∙ dedicated)))
 
     removed_within : (number : ℕ) → IsWithin old.sessions (remove old.pending number) old.held old.drawn
     removed_within number = record {
@@ -259,10 +258,10 @@ module _ (role : Role) where
           closes = λ t is at. at_insert old.sessions session (closing_session s) (IsInState Closing) t (λ y same e w. refl) at;
           default = λ c u o is w at.
               let other : c ≢ session = λ same. pending_active w.0.state w.2 (here c w.0 same w.1) in
-              (closing_bearer session at.0, get-changed_some (closing_bearer session) old.bearers u at.0 at.1, stays_pending (eqb at.0.session session) at.0 c Default (eqb_other at.0.session session (λ same. other (sym at.2.of ∙ same))) at.2);
+              (closing_bearer session at.0, get-changed_some (closing_bearer session) old.bearers u at.0 at.1, stays_pending (eqb at.0.session session) at.0 c Default (ne_eqb at.0.session session (λ same. other (sym at.2.of ∙ same))) at.2);
           wanted = λ c u o is by at. ⊎_elim
-              (λ same. inr ((closing_bearer session at.0, get-changed_some (closing_bearer session) old.bearers u at.0 at.1, is_closing (eqb at.0.session session) at.0 c Dedicated Pending (inl (eqb_same at.0.session session (at.2.of ∙ same))) at.2), at_here old.sessions session (closing_session s) (IsInState Closing) c same refl))
-              (λ other. inl (closing_bearer session at.0, get-changed_some (closing_bearer session) old.bearers u at.0 at.1, stays_pending (eqb at.0.session session) at.0 c Dedicated (eqb_other at.0.session session (λ same. other (sym at.2.of ∙ same))) at.2))
+              (λ same. inr ((closing_bearer session at.0, get-changed_some (closing_bearer session) old.bearers u at.0 at.1, is_closing (eqb at.0.session session) at.0 c Dedicated Pending (inl (eq-eqb at.0.session session (at.2.of ∙ same))) at.2), at_here old.sessions session (closing_session s) (IsInState Closing) c same refl))
+              (λ other. inl (closing_bearer session at.0, get-changed_some (closing_bearer session) old.bearers u at.0 at.1, stays_pending (eqb at.0.session session) at.0 c Dedicated (ne_eqb at.0.session session (λ same. other (sym at.2.of ∙ same))) at.2))
               (cases_eq c session);
           ends = λ c u is by at. (closing_bearer session at.0, get-changed_some (closing_bearer session) old.bearers u at.0 at.1, is_closing (eqb at.0.session session) at.0 c Dedicated Closing (inr refl) at.2);
         }

@@ -1,11 +1,12 @@
 -- What may be chosen is there, where few are taken.
-use Rattle.std.proofs.Common.{◌≡◌, ◌≢◌, ◌⊎◌, inl, inr, ⊎_elim, ℕ, zero, suc, ◌+◌, ◌*◌, ◌/◌, ◌%◌, ◌^◌, ◌≤◌, ◌<◌, eqb, Bool, true, false, not, cond, ◌||◌, List, [], ◌∷◌, length, map, Option, Some, None, is_some, refl, sym, ◌∙◌, ap, subst, arith}
+use Rattle.std.proofs.Common.{◌≡◌, ◌≢◌, ◌⊎◌, inl, inr, ⊎_elim, ℕ, zero, suc, ◌+◌, ◌*◌, ◌/◌, ◌%◌, ◌^◌, ◌≤◌, ◌<◌, eqb, Bool, true, false, not, cond, ◌||◌, List, [], ◌∷◌, length, Option, Some, None, is_some, refl, sym, ◌∙◌, ap, subst, arith}
 use Rattle.std.specs.Prelude.{filter}
 use Rattle.std.specs.List.{list_any}
 use Rattle.std.specs.FinMap.{get, len, entries, len-entries, keys, contains_key-keys}
 use Rattle.std.specs.Ordering.{nat_cmp, eq_by_cmp}
-use Rattle.std.proofs.lemmas.Bool.{cases_eq}
-use Rattle.std.proofs.lemmas.Bool.Decides.{nat_tests}
+use Rattle.std.proofs.lemmas.Bool.{cases_eq, eq-eqb, ne_eqb}
+use Rattle.std.proofs.lemmas.List.{length-map}
+use Rattle.std.proofs.lemmas.List.Sums.{length-filter, count_by-le-length}
 use Rattle.gtp_values.specs.FiniteMap.{FiniteMap, Among}
 use Rattle.gtp_machine.proofs.Basics.Counting.{tied}
 
@@ -16,23 +17,9 @@ decides x (y ∷ ys) = ⊎_elim (λ here. inl (inl here)) (λ other. ⊎_elim (�
 abbrev others : ℕ → List ℕ → List ℕ
 others x xs = filter (λ y. not (eqb y x)) xs
 
-pub eqb_other : (m n : ℕ) → m ≢ n → eqb m n ≡ false
-eqb_other m n other = grind (arith, nat_tests)
-
-others_most : (x : ℕ) (xs : List ℕ) → length (others x xs) ≤ length xs
-others_most x [] = omega arith
-others_most x (y ∷ ys) = by_test (not (eqb y x)) (others_most x ys)
-  where
-    by_test : (b : Bool) → length (others x ys) ≤ length ys → length (cond b (y ∷ others x ys) (others x ys)) ≤ length (y ∷ ys)
-    by_test true rest = omega (arith, rest)
-    by_test false rest = omega (arith, rest)
-
-eqb_itself : (x y : ℕ) → x ≡ y → not (eqb y x) ≡ false
-eqb_itself x y same = grind (arith, nat_tests)
-
 fewer_others : (x : ℕ) (xs : List ℕ) → Among x xs → length (others x xs) < length xs
 fewer_others x [] none = absurd none
-fewer_others x (y ∷ ys) (inl here) = subst (λ b. length (cond b (y ∷ others x ys) (others x ys)) < length (y ∷ ys)) (sym (eqb_itself x y here)) (omega (arith, others_most x ys))
+fewer_others x (y ∷ ys) (inl here) = subst (λ b. length (cond b (y ∷ others x ys) (others x ys)) < length (y ∷ ys)) (sym (ap not (eq-eqb y x (sym here)))) (omega (arith, length-filter (λ y. not (eqb y x)) ys, count_by-le-length (λ y. not (eqb y x)) ys))
 fewer_others x (y ∷ ys) (inr there) = by_test (not (eqb y x)) (fewer_others x ys there)
   where
     by_test : (b : Bool) → length (others x ys) < length ys → length (cond b (y ∷ others x ys) (others x ys)) < length (y ∷ ys)
@@ -41,7 +28,7 @@ fewer_others x (y ∷ ys) (inr there) = by_test (not (eqb y x)) (fewer_others x 
 
 still_among : (x z : ℕ) (xs : List ℕ) → z ≢ x → Among z xs → Among z (others x xs)
 still_among x z [] other none = none
-still_among x z (y ∷ ys) other (inl here) = subst (λ b. Among z (cond b (y ∷ others x ys) (others x ys))) (sym (ap not (eqb_other y x (λ same. other (here ∙ same))))) (inl here)
+still_among x z (y ∷ ys) other (inl here) = subst (λ b. Among z (cond b (y ∷ others x ys) (others x ys))) (sym (ap not (ne_eqb y x (λ same. other (here ∙ same))))) (inl here)
 still_among x z (y ∷ ys) other (inr there) = by_test (not (eqb y x)) (still_among x z ys other there)
   where
     by_test : (b : Bool) → Among z (others x ys) → Among z (cond b (y ∷ others x ys) (others x ys))
@@ -71,13 +58,9 @@ any_among q (k ∷ ks) e = by_test (eq_by_cmp nat_cmp q k) refl (λ h. any_among
     by_test true is rest h = inl (tied q k is)
     by_test false is rest h = inr (rest h)
 
-length-keys : {X : Type 0} (es : List (ℕ × X)) → length (map (λ e. e.0) es) ≡ length es
-length-keys [] = refl
-length-keys (e ∷ es) = ap suc (length-keys es)
-
 pub free_key : {X : Type 0} (table : FiniteMap X) → len table < 256 → (n : ℕ) × (n ≤ 8388607) × (get table n ≡ None)
 free_key {X} table few =
-    let r = unused 0 256 (keys table) (omega (arith, few, length-keys (entries table), len-entries table)) in
+    let r = unused 0 256 (keys table) (omega (arith, few, length-map (entries table) (λ e. e.0), len-entries table)) in
     (0 + r.0, omega (arith, r.1), none (0 + r.0) r.2 (get table (0 + r.0)) refl)
   where
     none : (q : ℕ) → (Among q (keys table) → ⊥) → (o : Option X) → get table q ≡ o → get table q ≡ None

@@ -46,9 +46,6 @@ follows_all S S' B B' p sessions bearers = record {
   ends = λ s u e b at. bearers u s Dedicated Closing (λ h. cc h) at;
 }
 
-pub follows_itself : (S : FiniteMap Session) (B : FiniteMap Bearer) (p : PendingRequest) → Follows S S B B p
-follows_itself S B p = follows_all S S B B p (λ t s n at. at) (λ t c k s n at. at)
-
 pub no_deletion : (by : Role) (number : ℕ) (m : Message) (t : ℕ) → DeletesSession by number m → opened_by m ≡ Some t → ⊥
 no_deletion Serving number m t d o = let e = sym (ap opened_by d.1) ∙ o in cc e
 no_deletion Packet number m t d o = let e = sym (ap opened_by d.1) ∙ o in cc e

@@ -1,7 +1,8 @@
 -- What is read from octets names the F-TEIDs that its table asks for.
-use Rattle.std.proofs.Common.{◌≡◌, inl, inr, ℕ, ◌≤◌, ◌<◌, Bool, true, false, ◌&&◌, List, [], ◌∷◌, map, Option, Some, None, Result, Ok, Err, refl, sym, ◌∙◌, ap, subst, arith, if◌then◌else◌}
+use Rattle.std.proofs.Common.{◌≡◌, inl, inr, ℕ, ◌≤◌, ◌<◌, Bool, true, false, ◌&&◌, List, [], ◌∷◌, map, drop, Option, Some, None, Result, Ok, Err, refl, sym, ◌∙◌, ap, subst, arith, if◌then◌else◌}
 use Rattle.std.proofs.lemmas.Bool.Decides.{nat_tests}
 use Rattle.std.specs.Prelude.{◌==◌}
+use Rattle.std.proofs.lemmas.Bool.{and_from}
 use Rattle.gtp_values.specs.Cause.{is_accepting_value}
 use Rattle.gtp_values.specs.FiniteMap.{Among}
 use Rattle.gtp_ie.specs.Element.{Element}
@@ -9,9 +10,9 @@ use Rattle.gtp_ie.specs.Value.{Value, OfCause, OfFTeid, fteid_in}
 use Rattle.gtp_ie.specs.Spelling.{Says}
 use Rattle.gtp_ie.specs.declared.fault.IeFault.{IeFault}
 use Rattle.gtp_ie.specs.declared.fault.IeFault.TheVariants as elements
-use Rattle.gtp_ie.proofs.Spelled.{join}
 use Rattle.gtp_v2.specs.Grammar.{One, AtMostOne, RowIs, RowsAre, EachIs, GroupIs, LinesAre}
-use Rattle.gtp_v2.specs.declared.table.Row.TheVariants.{Accepted}
+use Rattle.gtp_v2.specs.declared.table.Row.{Row}
+use Rattle.gtp_v2.specs.declared.table.Row.TheVariants.{Mandatory, Accepted}
 use Rattle.gtp_v2.specs.Table.{Field, Plain, Groups, accepts, start}
 use Rattle.gtp_v2.specs.CreateSessionResponse.{create_session_response, session_response_context_rows}
 use Rattle.gtp_v2.specs.CreateBearerResponse.{create_bearer_response, bearer_response_context_rows}
@@ -26,11 +27,11 @@ use Rattle.gtp_machine.specs.Element.{IsAccepting, cause_of, teid_in}
 use Rattle.gtp_machine.specs.Message.{CreatedBearer, GivenBearer, Message}
 use Rattle.gtp_machine.specs.Node.{Arrival, written}
 use Rattle.gtp_machine.specs.Input.{Control_came, RequestKind, Defect, Too_short, Out_of_range}
-use Rattle.gtp_machine.specs.Decoded.{end_in, first_in, cause_at, values_in, groups_in, created, given, session_request_in, bearer_request_in, message_in, message_of}
+use Rattle.gtp_machine.specs.Decoded.{end_in, first_in, cause_at, row, values_in, groups_in, created, given, session_request_in, bearer_request_in, message_in, message_of}
 use Rattle.gtp_machine.specs.Reading.{control_fault, control_reading_of, element_fault, defect_in, request_kind, missing_in}
 use Rattle.gtp_machine.specs.Sound.{IsWhole, IsWellFormed, ReadsWhole}
 use Rattle.gtp_machine.proofs.Octets.Readings.{typed_lines}
-use Rattle.gtp_machine.proofs.Basics.Facts.{same_number}
+use Rattle.gtp_values.proofs.Tests.{same_number}
 
 is_accepting : (value : ℕ) → 16 ≤ value → value < 64 → is_accepting_value value ≡ true
 is_accepting value low high = grind (arith, nat_tests)
@@ -100,27 +101,16 @@ each_from Is to [] (x ∷ xs) each c among = absurd (cc each)
 each_from Is to (e ∷ es) (x ∷ xs) each c (inl here) = record { element = e; x = x; same = here; is = each.0 }
 each_from Is to (e ∷ es) (x ∷ xs) each c (inr there) = each_from Is to es xs each.1 c there
 
--- a bearer context of a Create Session Response that accepts, where what stands before it does
-session_context : (b : Bool) (es : List Element) (rows : List (List Value)) → b ≡ true → RowsAre b session_response_context_rows es rows → IsAccepting (created rows).cause → (t : ℕ) × (teid_in (created rows).user ≡ Some t)
-session_context b es [] is are a = absurd (none_accepts a)
-session_context b es (ebi ∷ []) is are a = absurd (none_accepts a)
-session_context b es (ebi ∷ cause ∷ []) is are a = absurd are.1.1
-session_context b es (ebi ∷ cause ∷ user ∷ rows) is are a =
-    end_there 2 es user (needed 87 2 ((b && accepts ebi) && accepts cause) es user (join _ _ (join _ _ is (one_neutral 73 0 es ebi ebi_accepts are.0)) (accepted cause a)) are.1.1.0)
-
-bearer_context : (b : Bool) (es : List Element) (rows : List (List Value)) → b ≡ true → RowsAre b bearer_response_context_rows es rows → IsAccepting (given rows).cause → (t : ℕ) × (teid_in (given rows).serving_user ≡ Some t)
-bearer_context b es [] is are a = absurd (none_accepts a)
-bearer_context b es (ebi ∷ []) is are a = absurd (none_accepts a)
-bearer_context b es (ebi ∷ cause ∷ []) is are a = absurd are.1.1
-bearer_context b es (ebi ∷ cause ∷ user ∷ rows) is are a =
-    end_there 2 es user (needed 87 2 ((b && accepts ebi) && accepts cause) es user (join _ _ (join _ _ is (one_neutral 73 0 es ebi ebi_accepts are.0)) (accepted cause a)) are.1.1.0)
-
--- the message of a type with these fields
-abbrev message_by : ℕ → ℕ → ℕ → List Field → Message
-message_by kind header number f = message_in kind header number f
+-- a bearer context of a Create Session or Create Bearer Response that accepts, where what stands before it does: its first F-TEID
+context_end : (others : List Row) (b : Bool) (es : List Element) (rows : List (List Value)) → b ≡ true → RowsAre b (Mandatory 73 0 ∷ Mandatory 2 0 ∷ Accepted 87 2 ∷ others) es rows → IsAccepting (cause_at (row 1 rows)) → (t : ℕ) × (teid_in (first_in end_in (row 2 rows)) ≡ Some t)
+context_end others b es [] is are a = absurd (none_accepts a)
+context_end others b es (ebi ∷ []) is are a = absurd (none_accepts a)
+context_end others b es (ebi ∷ cause ∷ []) is are a = absurd are.1.1
+context_end others b es (ebi ∷ cause ∷ user ∷ rows) is are a =
+    end_there 2 es user (needed 87 2 ((b && accepts ebi) && accepts cause) es user (and_from _ _ (and_from _ _ is (one_neutral 73 0 es ebi ebi_accepts are.0)) (accepted cause a)) are.1.1.0)
 
 -- a Create Session Response
-session_whole : (header number : ℕ) (es : List Element) (f : List Field) → LinesAre start create_session_response.lines es f → IsWhole (message_by 33 header number f)
+session_whole : (header number : ℕ) (es : List Element) (f : List Field) → LinesAre start create_session_response.lines es f → IsWhole (message_in 33 header number f)
 session_whole header number es [] lines a = absurd lines
 session_whole header number es (cause ∷ []) lines a = absurd lines.1
 session_whole header number es (cause ∷ control ∷ []) lines a = absurd lines.1.1
@@ -143,30 +133,30 @@ session_whole header number es (Plain cause ∷ Plain control ∷ Plain paa ∷ 
     control_is = subst (One 87 1 es) (plain control _ lines.1.0.2) (needed 87 1 (accepts cause) es _ first lines.1.0.1)
 
     second : (accepts cause && accepts control) ≡ true
-    second = join _ _ first (one_neutral 87 1 es control end_accepts control_is)
+    second = and_from _ _ first (one_neutral 87 1 es control end_accepts control_is)
 
     paa_is : One 79 0 es paa
     paa_is = subst (One 79 0 es) (plain paa _ lines.1.1.0.2) (needed 79 0 (accepts cause && accepts control) es _ second lines.1.1.0.1)
 
     third : ((accepts cause && accepts control) && accepts paa) ≡ true
-    third = join _ _ second (one_neutral 79 0 es paa paa_accepts paa_is)
+    third = and_from _ _ second (one_neutral 79 0 es paa paa_accepts paa_is)
 
     ambr_is : AtMostOne 72 0 es ambr
     ambr_is = subst (AtMostOne 72 0 es) (plain ambr _ lines.1.1.1.0.2) lines.1.1.1.0.1
 
     fourth : (((accepts cause && accepts control) && accepts paa) && accepts ambr) ≡ true
-    fourth = join _ _ third (most_neutral 72 0 es ambr ambr_accepts ambr_is)
+    fourth = and_from _ _ third (most_neutral 72 0 es ambr ambr_accepts ambr_is)
 
     each : (c : CreatedBearer) → Among c (map created contexts) → IsAccepting c.cause → (t : ℕ) × (teid_in c.user ≡ Some t)
     each c among accepting =
         let line = lines.1.1.1.1.0 in
         let there = subst (λ (k : List (List (List Value))). Among c (map created k)) (ap groups_in line.2) among in
         let found = each_from (GroupIs (((accepts cause && accepts control) && accepts paa) && accepts ambr) session_response_context_rows) created _ line.0 line.1.0 c there in
-        let its = session_context (((accepts cause && accepts control) && accepts paa) && accepts ambr) found.is.0 found.x fourth found.is.2 (subst (λ (k : CreatedBearer). IsAccepting k.cause) found.same accepting) in
+        let its = context_end (drop 3 session_response_context_rows) (((accepts cause && accepts control) && accepts paa) && accepts ambr) found.is.0 found.x fourth found.is.2 (subst (λ (k : CreatedBearer). IsAccepting k.cause) found.same accepting) in
         (its.0, ap (λ (k : CreatedBearer). teid_in k.user) found.same ∙ its.1)
 
 -- a Create Bearer Response
-bearer_whole : (header number : ℕ) (es : List Element) (f : List Field) → LinesAre start create_bearer_response.lines es f → IsWhole (message_by 96 header number f)
+bearer_whole : (header number : ℕ) (es : List Element) (f : List Field) → LinesAre start create_bearer_response.lines es f → IsWhole (message_in 96 header number f)
 bearer_whole header number es [] lines a = absurd lines
 bearer_whole header number es (cause ∷ []) lines a = absurd lines.1
 bearer_whole header number es (Groups g ∷ contexts ∷ rest) lines a = absurd (none_accepts a)
@@ -178,7 +168,7 @@ bearer_whole header number es (Plain cause ∷ Groups contexts ∷ rest) lines a
         let line = lines.1.0 in
         let there = subst (λ (k : List (List (List Value))). Among c (map given k)) (ap groups_in line.2) among in
         let found = each_from (GroupIs (accepts cause) bearer_response_context_rows) given _ line.0 line.1.0 c there in
-        let its = bearer_context (accepts cause) found.is.0 found.x (accepted cause a) found.is.2 (subst (λ (k : GivenBearer). IsAccepting k.cause) found.same accepting) in
+        let its = context_end (drop 3 bearer_response_context_rows) (accepts cause) found.is.0 found.x (accepted cause a) found.is.2 (subst (λ (k : GivenBearer). IsAccepting k.cause) found.same accepting) in
         (its.0, ap (λ (k : GivenBearer). teid_in k.serving_user) found.same ∙ its.1)
 
 session_request_whole : (header number : ℕ) (f : List Field) (contexts : List (List (List Value))) → IsWhole (session_request_in header number f contexts)
@@ -200,12 +190,12 @@ fields_whole octets m f says is =
     either (m.kind == 1) _ _ (λ e. tt) (either (m.kind == 2) _ _ (λ e. tt) (either (m.kind == 32) _ _ (λ e. session_request_whole (written m.teid) m.seq f _) (either (m.kind == 33) _ _ session (either (m.kind == 36) _ _ (λ e. tt) (either (m.kind == 37) _ _ (λ e. tt)
     (either (m.kind == 95) _ _ (λ e. bearer_request_whole (written m.teid) m.seq f _) (either (m.kind == 96) _ _ bearer (either (m.kind == 99) _ _ (λ e. tt) (either (m.kind == 100) _ _ (λ e. tt) tt)))))))))
   where
-    session : (m.kind == 33) ≡ true → IsWhole (message_by 33 (written m.teid) m.seq f)
+    session : (m.kind == 33) ≡ true → IsWhole (message_in 33 (written m.teid) m.seq f)
     session e =
         let lines = typed_lines 33 create_session_response octets m f (λ h content kind c. subst (λ k. CarriesBy (table_of k) h content) kind c) (same_number m.kind 33 e) says is in
         session_whole (written m.teid) m.seq lines.0 f lines.1
 
-    bearer : (m.kind == 96) ≡ true → IsWhole (message_by 96 (written m.teid) m.seq f)
+    bearer : (m.kind == 96) ≡ true → IsWhole (message_in 96 (written m.teid) m.seq f)
     bearer e =
         let lines = typed_lines 96 create_bearer_response octets m f (λ h content kind c. subst (λ k. CarriesBy (table_of k) h content) kind c) (same_number m.kind 96 e) says is in
         bearer_whole (written m.teid) m.seq lines.0 f lines.1

@@ -7,28 +7,31 @@ use Rattle.gtp_values.specs.declared.counter.Age.TheVariants.{Same, Later, Earli
 use Rattle.gtp_values.specs.declared.qos.Qos.{Qos}
 use Rattle.gtp_values.specs.declared.address.Endpoint.{Endpoint}
 use Rattle.gtp_values.specs.FiniteMap.{Among}
+use Rattle.gtp_values.specs.Number.{is_number}
+use Rattle.gtp_tables.specs.Index.{names}
 use Rattle.gtp_machine.specs.Step.{Done, Steps}
 use Rattle.gtp_machine.specs.Element.{IsAccepting}
 use Rattle.gtp_machine.specs.Message.{Echo, CreateSessionRequest, CreateSessionResponse, DeleteSessionRequest, DeleteSessionResponse, CreateBearerRequest, CreateBearerResponse, DeleteBearerRequest, RemovedBearer, DeleteBearerResponse, Message, Echo_request, Echo_response, Create_session_request, Create_session_response, Delete_session_request, Delete_session_response, Create_bearer_request, Create_bearer_response, Delete_bearer_request, Delete_bearer_response, Other_control, Packet_data, End_marker, Error_indication, User_echo_request, User_echo_response, Supported_extensions, Other_user, recovery_of, first_created, first_given, first_identity}
 use Rattle.gtp_machine.specs.Node.{Role, Serving, Packet, Pending, Active, Closing, Default, Dedicated, Session, Bearer, Arrival, Held, Node, holding, fresh_node}
-use Rattle.gtp_machine.specs.Input.{Specification, ControlReading, Control_message, Faulty, Control_fault, RequestKind, Of_create_session, Of_delete_session, Of_create_bearer, Of_delete_bearer, UserReading, User_message, Extension_needed, User_fault, Command, Create_session, Delete_session, Create_bearer, Delete_bearer, Release_session, Mark_end, Send_echo, Send_user, Move, Resend, Give_up, Forget, Commanded, Control_came, User_came, Moves_on, Effect}
-use Rattle.gtp_machine.specs.Choice.{HasPending, IsIdentity}
+use Rattle.gtp_machine.specs.Input.{Specification, ControlReading, Control_message, Faulty, Control_fault, RequestKind, FaultyRequest, UserReading, User_message, Extension_needed, User_fault, Command, Create_session, Delete_session, Create_bearer, Delete_bearer, Release_session, Mark_end, Send_echo, Send_user, Move, Resend, Give_up, Forget, Commanded, Control_came, User_came, Moves_on, Effect}
+use Rattle.gtp_machine.specs.Choice.{IsFreeNumber, HasPending, IsIdentity}
 use Rattle.gtp_machine.specs.Removal.{without, finished, without_session, without_bearer, session_closing, closing_session, is_opened}
 use Rattle.gtp_machine.specs.Recovery.{peer_restarted, Judges, Weighs, Hears}
 use Rattle.gtp_machine.specs.Move.{MoveStep}
 use Rattle.gtp_machine.specs.Response.{EchoAnswered}
-use Rattle.gtp_machine.specs.User.{UserTaken, UserStep, ended_bearer, default_among, bearer_is_to, is_to}
-use Rattle.gtp_machine.specs.Command.{session_request, pending_session, pending_bearer, session_begun, BeginsSession, ClosesSession, ReleasesSession, bearer_request, pending_dedicated, BeginsBearer, ClosesBearer, CommandStep}
-use Rattle.gtp_machine.specs.Answer.{ControlStep}
-use Rattle.gtp_machine.specs.Serving.{FitsSession, DescribesSession, opened_session, opened_bearer, OpensSession, SessionAnswered, DeletionAnswered, granted_bearer, BearerAsked, RemovesEach, RemovalTaken, RemovalAsked, ServingTakes, ServingFaulted, ServingReads}
-use Rattle.gtp_machine.specs.Packet.{made_session, made_bearer, session_made, SessionAsked, DeletionAsked, FitsBearer, DescribesBearer, CanOpen, opened_dedicated, OpensBearer, BearerAnswered, RemovalAnswered, PacketTakes, PacketFaulted, PacketReads}
-use Rattle.gtp_machine.specs.Sound.{At, IsInState, IsBearerOf, IsSound, IsWhole, IsWellFormed, AreWellFormed, StaysSound, ReachedIsSound}
+use Rattle.gtp_machine.specs.User.{UserTaken, UserStep, ended_bearer, default_among}
+use Rattle.gtp_machine.specs.Command.{asks, session_request, pending_session, pending_bearer, session_begun, BeginsSession, bearer_request, pending_dedicated, BeginsBearer, ClosesBearer, CommandStep}
+use Rattle.gtp_machine.specs.Answer.{TakesReading, ControlStep}
+use Rattle.gtp_machine.specs.Serving.{FitsSession, DescribesSession, opened_session, opened_bearer, OpensSession, SessionAnswered, DeletionAnswered, granted_bearer, BearerAsked, RemovesEach, RemovalTaken, RemovalAsked, ServingTakes, ServingFaulted}
+use Rattle.gtp_machine.specs.Packet.{made_session, made_bearer, session_made, SessionAsked, DeletionAsked, FitsBearer, DescribesBearer, CanOpen, opened_dedicated, OpensBearer, BearerAnswered, RemovalAnswered, PacketTakes, PacketFaulted}
+use Rattle.gtp_machine.specs.Sound.{At, IsInState, IsBearerOf, DeletesSession, IsSound, IsWhole, IsWellFormed, AreWellFormed, StaysSound, ReachedIsSound}
 use Rattle.gtp_machine.proofs.Basics.FiniteMaps.{get-insert_same}
-use Rattle.gtp_machine.proofs.Sound.Parts.{at_here}
+use Rattle.gtp_machine.proofs.Sound.Parts.{at_here, no_deletion}
 use Rattle.gtp_machine.proofs.Sound.Changes.{fresh, without_sound, without_session_sound, without_bearer_sound, finished_sound, holding_sound, known_sound, asks_sound, free_opened, session_comes, bearer_comes, bearer_changes, closing_sound, is_session, is_bearer, session_opens, bearer_opens}
 use Rattle.gtp_machine.proofs.Changes.Forgetting.{leaves}
-use Rattle.gtp_values.proofs.Outcomes.{none_some, some_same as some_is}
-use Rattle.gtp_machine.proofs.Basics.Kinds.{by_serving, by_packet}
+use Rattle.std.proofs.lemmas.Option.{same_Some as some_is}
+use Rattle.gtp_values.proofs.Outcomes.{none_some}
+use Rattle.gtp_machine.proofs.Basics.Kinds.{LeavesNode, serving_faulted, packet_faulted, by_serving, by_packet}
 use Rattle.gtp_machine.proofs.Basics.Facts.{one_value, pending_active}
 
 module _ (role : Role) where
@@ -57,15 +60,11 @@ module _ (old : Node) where
       })))
       (λ m p t at o same. free_opened Serving old sound r.control m p t r.control_free at o (sym (some_is r.control t same))))
 
-  closes : IsSound Serving old → (session : ℕ) (at : Session) (e : Effect) → get old.sessions session ≡ Some at → at.state ≡ Active → len old.pending < 256 → ClosesSession old session at e → IsSound Serving e.node
-  closes sound session at e stands active few r = by_row Serving e _ r.gives (asks_sound Serving old sound (session_closing old session at) r.number _ (closing_sound Serving old sound session at stands active) refl few r.number_free.small
-      (inr (inr (inl (record { asked = (_, refl, refl); about = session; session = refl; bearer = refl; closes = at_here old.sessions session (closing_session at) (IsInState Closing) session refl refl }))))
-      (λ m p t at o same. none_some t same))
-
-  releases : IsSound Packet old → (session : ℕ) (at : Session) (e : Effect) → get old.sessions session ≡ Some at → at.state ≡ Active → len old.pending < 256 → ReleasesSession old session at e → IsSound Packet e.node
-  releases sound session at e stands active few r = by_row Packet e _ r.gives (asks_sound Packet old sound (session_closing old session at) r.number _ (closing_sound Packet old sound session at stands active) refl few r.number_free.small
-      (inr (inr (inl (record { asked = (_, refl, refl, refl); about = session; session = refl; bearer = refl; closes = at_here old.sessions session (closing_session at) (IsInState Closing) session refl refl }))))
-      (λ m p t at o same. none_some t same))
+  -- a session is closing, and a request to delete it is sent
+  closes : (role : Role) → IsSound role old → (session : ℕ) (at : Session) (number : ℕ) (request : Message) (e : Effect) → get old.sessions session ≡ Some at → at.state ≡ Active → len old.pending < 256 → IsFreeNumber old number → DeletesSession role number request → e ≡ asks old number (record { session = Some session; bearer = None; request = request }) (Some session) (session_closing old session at) → IsSound role e.node
+  closes role sound session at number request e stands active few free deletes gives = by_row role e _ gives (asks_sound role old sound (session_closing old session at) number _ (closing_sound role old sound session at stands active) refl few free.small
+      (inr (inr (inl (record { asked = deletes; about = session; session = refl; bearer = refl; closes = at_here old.sessions session (closing_session at) (IsInState Closing) session refl refl }))))
+      (λ m p t at o same. no_deletion role number request t deletes same))
 
   begins_bearer : IsSound Packet old → (session : ℕ) (at : Session) (tft : List ℕ) (qos : Qos) (e : Effect) → get old.sessions session ≡ Some at → length old.drawn + 1 ≤ 16777215 → len old.pending < 256 → BeginsBearer old session at tft qos e → IsSound Packet e.node
   begins_bearer sound session at tft qos e stands draws few r = by_row Packet e _ r.gives (asks_sound Packet old sound (record old { drawn = r.user ∷ old.drawn; bearers = insert old.bearers r.user (pending_dedicated session) }) r.number _
@@ -116,7 +115,7 @@ module _ (old : Node) where
   command Serving sound (Delete_session session) formed e (inl f) = by_row Serving e _ f.1 sound
   command Serving sound (Delete_session session) formed e (inr (at, inl f)) = by_row Serving e _ f.1 sound
   command Serving sound (Delete_session session) formed e (inr (at, inr (active, inl f))) = by_row Serving e _ f.1 sound
-  command Serving sound (Delete_session session) formed e (inr (at, inr (active, inr (few, r)))) = closes sound session at.session e at.stands active few.few r
+  command Serving sound (Delete_session session) formed e (inr (at, inr (active, inr (few, r)))) = closes Serving sound session at.session r.number _ e at.stands active few.few r.number_free (_, refl, refl) r.gives
   command Serving sound (Create_bearer session tft qos) formed e r = by_row Serving e _ r sound
   command Packet sound (Create_bearer session tft qos) formed e (inl f) = by_row Packet e _ f.1 sound
   command Packet sound (Create_bearer session tft qos) formed e (inr (at, inl f)) = by_row Packet e _ f.1 sound
@@ -133,7 +132,7 @@ module _ (old : Node) where
   command Packet sound (Release_session session) formed e (inl f) = by_row Packet e _ f.1 sound
   command Packet sound (Release_session session) formed e (inr (at, inl f)) = by_row Packet e _ f.1 sound
   command Packet sound (Release_session session) formed e (inr (at, inr (active, inl f))) = by_row Packet e _ f.1 sound
-  command Packet sound (Release_session session) formed e (inr (at, inr (active, inr (few, r)))) = releases sound session at.session e at.stands active few.few r
+  command Packet sound (Release_session session) formed e (inr (at, inr (active, inr (few, r)))) = closes Packet sound session at.session r.number _ e at.stands active few.few r.number_free (_, refl, refl, refl) r.gives
   command Serving sound (Mark_end bearer) formed e r = by_row Serving e _ r sound
   command Packet sound (Mark_end bearer) formed e (inl f) = by_row Packet e _ f.1 sound
   command Packet sound (Mark_end bearer) formed e (inr (at, inl f)) = by_row Packet e _ f.1 sound
@@ -148,8 +147,8 @@ module _ (old : Node) where
   command role sound (Send_user bearer payload) formed e (inr (at, inr (active, inr (goes, inr (short, r))))) = by_row role e _ r.gives sound
 
   -- bearers with that remote go, and no pending one has it
-  broken_sound : (role : Role) → IsSound role old → (remote : ℕ) → (session_goes : ℕ → Bool) → IsSound role (without session_goes (λ t. bearer_is_to remote (get old.bearers t)) old)
-  broken_sound role sound remote session_goes = without_sound role old sound session_goes (λ t. bearer_is_to remote (get old.bearers t)) (λ t b e kind waits. ap (bearer_is_to remote) e ∙ ap (is_to remote) ((sound.contexts.each_bearer t b e).blank waits))
+  broken_sound : (role : Role) → IsSound role old → (remote : ℕ) → (session_goes : ℕ → Bool) → IsSound role (without session_goes (λ t. names remote (get old.bearers t)) old)
+  broken_sound role sound remote session_goes = without_sound role old sound session_goes (λ t. names remote (get old.bearers t)) (λ t b e kind waits. ap (names remote) e ∙ ap (is_number remote) ((sound.contexts.each_bearer t b e).blank waits))
 
   user_taken : (role : Role) → IsSound role old → (source : Endpoint) (m : Message) (e : Effect) → UserTaken role source m old e → IsSound role e.node
   user_taken role sound source (Packet_data t p) e (inl f) = by_row role e _ f.1 sound
@@ -368,39 +367,24 @@ module _ (role : Role) (Takes : Node → Effect → Type 0) (takes : (node : Nod
   hears None e r = takes old sound e r
   hears (Some counter) e r = by_row role e _ r.2 (weighs counter old.known r.0 r.1)
 
-serving_reads : (old : Node) → IsSound Serving old → (request : Arrival) (reading : ControlReading) → IsWellFormed (Control_came request reading) → (e : Effect) → ServingReads reading request old e → IsSound Serving e.node
-serving_reads old sound request (Control_message m) whole e (inl f) = by_row Serving e _ f.1 sound
-serving_reads old sound request (Control_message m) whole e (inr (taken, r)) = hears Serving (ServingTakes request m) (λ node s f rows. serving_takes node s request m whole f rows) old sound (recovery_of m) e r
-serving_reads old sound request (Faulty f) whole e r = faulted f.kind r
-  where
-    faulted : (kind : RequestKind) → ServingFaulted request f kind old e → IsSound Serving e.node
-    faulted Of_create_session r = by_row Serving e _ r sound
-    faulted Of_delete_session r = by_row Serving e _ r sound
-    faulted Of_create_bearer r = by_row Serving e _ r sound
-    faulted Of_delete_bearer r = by_row Serving e _ r sound
-serving_reads old sound request (Control_fault fault) whole e r = by_row Serving e _ r sound
+-- and so does what was read, at either gateway
+module _ (role : Role) (takes : Message → Bool) (Takes : Arrival → Message → Node → Effect → Type 0) (Faulted : Arrival → FaultyRequest → RequestKind → Node → Effect → Type 0)
+    (rows : (node : Node) → IsSound role node → (request : Arrival) (m : Message) → IsWhole m → (e : Effect) → Takes request m node e → IsSound role e.node) (faulted : LeavesNode Faulted) (old : Node) (sound : IsSound role old) (request : Arrival) where
+  reads : (reading : ControlReading) → IsWellFormed (Control_came request reading) → (e : Effect) → TakesReading takes Takes Faulted reading request old e → IsSound role e.node
+  reads (Control_message m) whole e (inl f) = by_row role e _ f.1 sound
+  reads (Control_message m) whole e (inr (taken, r)) = hears role (Takes request m) (λ node s. rows node s request m whole) old sound (recovery_of m) e r
+  reads (Faulty f) whole e r = subst (λ n. IsSound role n) (sym (faulted request f f.kind old e r)) sound
+  reads (Control_fault fault) whole e r = by_row role e _ r sound
 
-packet_reads : (old : Node) → IsSound Packet old → (request : Arrival) (reading : ControlReading) → IsWellFormed (Control_came request reading) → (e : Effect) → PacketReads reading request old e → IsSound Packet e.node
-packet_reads old sound request (Control_message m) whole e (inl f) = by_row Packet e _ f.1 sound
-packet_reads old sound request (Control_message m) whole e (inr (taken, r)) = hears Packet (PacketTakes request m) (λ node s f rows. packet_takes node s request m whole f rows) old sound (recovery_of m) e r
-packet_reads old sound request (Faulty f) whole e r = faulted f.kind r
-  where
-    faulted : (kind : RequestKind) → PacketFaulted request f kind old e → IsSound Packet e.node
-    faulted Of_create_session r = by_row Packet e _ r sound
-    faulted Of_delete_session r = by_row Packet e _ r sound
-    faulted Of_create_bearer r = by_row Packet e _ r sound
-    faulted Of_delete_bearer r = by_row Packet e _ r sound
-packet_reads old sound request (Control_fault fault) whole e r = by_row Packet e _ r sound
-
-control : (role : Role) (old : Node) → IsSound role old → (Reads : Arrival → Node → Effect → Type 0) (request : Arrival) (e : Effect) → (Reads request old e → IsSound role e.node) → ControlStep Reads request old e → IsSound role e.node
-control role old sound Reads request e reads (inl f) = by_row role e _ f.1 sound
-control role old sound Reads request e reads (inr (peer, inl r)) = by_row role e _ r.gives sound
-control role old sound Reads request e reads (inr (peer, inr r)) = reads r.1
+  control : (reading : ControlReading) → IsWellFormed (Control_came request reading) → (e : Effect) → ControlStep (TakesReading takes Takes Faulted reading) request old e → IsSound role e.node
+  control reading whole e (inl f) = by_row role e _ f.1 sound
+  control reading whole e (inr (peer, inl r)) = by_row role e _ r.gives sound
+  control reading whole e (inr (peer, inr r)) = reads reading whole e r.1
 
 pub stays_sound : StaysSound
 stays_sound role old (Commanded c) e sound read r = command old role sound c read e r
-stays_sound Serving old (Control_came request reading) e sound read r = control Serving old sound (ServingReads reading) request e (serving_reads old sound request reading read e) r
-stays_sound Packet old (Control_came request reading) e sound read r = control Packet old sound (PacketReads reading) request e (packet_reads old sound request reading read e) r
+stays_sound Serving old (Control_came request reading) e sound read r = control Serving _ ServingTakes ServingFaulted serving_takes serving_faulted old sound request reading read e r
+stays_sound Packet old (Control_came request reading) e sound read r = control Packet _ PacketTakes PacketFaulted packet_takes packet_faulted old sound request reading read e r
 stays_sound role old (User_came source reading) e sound read r = user_step old role sound source reading e r
 stays_sound role old (Moves_on move) e sound read r = moves old role sound move e r
 

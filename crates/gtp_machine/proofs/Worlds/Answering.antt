@@ -1,5 +1,6 @@
 -- Each response to a create request goes back to the moment at which its gateway gave it.
 use Rattle.std.proofs.Common.{◌≡◌, ◌⊎◌, inl, inr, ⊎_elim, ℕ, zero, suc, ◌+◌, ◌≤◌, Bool, true, false, not, List, [], ◌∷◌, ◌++◌, length, length-append, take, Option, Some, None, refl, sym, ◌∙◌, ap, subst, append_assoc, append-nil, arith, slice_get}
+use Rattle.std.proofs.lemmas.Bool.{not-true}
 use Rattle.gtp_values.specs.Counter.{age_of}
 use Rattle.gtp_values.specs.declared.counter.Age.{Age}
 use Rattle.gtp_values.specs.declared.counter.Age.TheVariants.{Same, Later, Earlier}
@@ -25,8 +26,7 @@ use Rattle.gtp_machine.proofs.Requests.Holding.{are_plain, command_calm, user_ca
 use Rattle.gtp_machine.proofs.Requests.Replying.{IsLesser, IsRepeated, IsReplied, AllAsk, lesser_calm, message_replies, fault_replies, tick_lesser}
 use Rattle.gtp_machine.proofs.Exchange.Made.{accepts_cause}
 use Rattle.gtp_values.proofs.Outcomes.{none_some}
-use Rattle.gtp_ie.proofs.Slots.{not_is}
-use Rattle.gtp_tables.proofs.Identities.{both}
+use Rattle.gtp_values.proofs.Tests.{both}
 use Rattle.gtp_machine.proofs.Worlds.Runs.{Invariant, always, Run-push}
 
 -- what the world has of a step of one gateway
@@ -86,8 +86,8 @@ plain_signed : (role : Role) (sent : List Message) → are_plain sent ≡ true �
 plain_signed role [] plain k s e = absurd (cc e)
 plain_signed role (m ∷ sent) plain zero s e =
     let is : record { role = role; what = m } ≡ s = cc e in
-    ap (λ (x : Sent). is_create_answer x.what) (sym is) ∙ not_is (is_create_answer m) (both (not (is_create_answer m)) (are_plain sent) plain).0
-plain_signed role (m ∷ sent) plain (suc k) s e = plain_signed role sent (both (not (is_create_answer m)) (are_plain sent) plain).1 k s e
+    ap (λ (x : Sent). is_create_answer x.what) (sym is) ∙ not-true (is_create_answer m) (both (not (is_create_answer m)) (are_plain sent) plain).left
+plain_signed role (m ∷ sent) plain (suc k) s e = plain_signed role sent (both (not (is_create_answer m)) (are_plain sent) plain).right k s e
 
 -- a moment of a run comes before its end
 until_now : (first : World) (events : List Event) (last : World) (m : Moment first events last) → length m.earlier ≤ length events

@@ -1,7 +1,7 @@
 -- What the world keeps of each gateway: packets, and answers to requests for bearers.
 use Rattle.std.proofs.Common.{◌≡◌, ◌⊎◌, inl, inr, ⊎_elim, ℕ, List, [], ◌∷◌, ◌++◌, Some, refl, sym, ◌∙◌, ap, subst, arith}
+use Rattle.std.proofs.lemmas.Option.{same_Some}
 use Rattle.gtp_values.specs.FiniteMap.{Each, Among}
-use Rattle.gtp_values.proofs.Outcomes.{some_same}
 use Rattle.gtp_machine.specs.Message.{Message, CreateBearerRequest, CreateBearerResponse, Create_bearer_request, Create_bearer_response, Packet_data, first_given, first_returned}
 use Rattle.gtp_machine.specs.Node.{Role, Serving, Packet, Session, Arrival, Node}
 use Rattle.gtp_machine.specs.Input.{Entry, Effect, messages}
@@ -110,7 +110,7 @@ module _ (history : List Sent) (key : Message → Arrival) (side : Side) (taken 
     unanswered : (x y : CreateBearerResponse) (t : ℕ) → IsAnsweredNow history side.node e.node taken x → HasSent history Serving (Create_bearer_response y) → first_given y.contexts ≡ Some t → first_returned x.contexts ≡ first_returned y.contexts → ⊥
     unanswered x y t is was gives same_echo =
         let i = remembers y t was gives in
-        let same = same_bearer_request history packet_once i.request is.request i.sent is.sent (some_same i.request.context.user.teid is.request.context.user.teid (sym i.echoed ∙ sym same_echo ∙ is.echoed)) in
+        let same = same_bearer_request history packet_once i.request is.request i.sent is.sent (same_Some i.request.context.user.teid is.request.context.user.teid (sym i.echoed ∙ sym same_echo ∙ is.echoed)) in
         let counter = answered_counter x is in
         let here : key (Create_bearer_request i.request) ≡ is.arrival = ap (λ q. key (Create_bearer_request q)) same ∙ sym (keyed is.arrival (Create_bearer_request is.request) is.came) in
         elim i.where_now [

@@ -9,15 +9,15 @@ use Rattle.gtp_machine.specs.Move.{MoveStep}
 use Rattle.gtp_machine.specs.Tick.{TickStep, ticked}
 use Rattle.gtp_machine.specs.Step.{Step, Done, Steps, tick_steps}
 use Rattle.gtp_machine.specs.Once.{Takes}
-use Rattle.gtp_machine.specs.World.{World, Side, Note, Event, Does, Tick, Deliver, Cut, Restart, Happens, Delivers, Moves, Run, other, side_of, with_side, steps_of, with_steps, logged, stepped, moved, noted, late_once, arrival, delivered_on, cut_on, IsLateOn, Sent, HasSent, restarted, begun, start, quiet_note, No_such_datagram, Cut_too_long, Restarts_used}
+use Rattle.gtp_machine.specs.World.{World, Side, Note, Event, Does, Tick, Deliver, Cut, Restart, Happens, Delivers, Moves, Run, other, side_of, with_side, steps_of, with_steps, logged, stepped, moved, noted, late_once, arrival, delivered_on, IsLateOn, HasSent, restarted, begun, start, quiet_note, No_such_datagram, Cut_too_long, Restarts_used}
 use Rattle.gtp_machine.specs.Laws.{Always, StepsAreKept, EachActsOnce}
-use Rattle.gtp_machine.proofs.Basics.FiniteMaps.{Among-left, Among-right, Among-one_more}
+use Rattle.gtp_machine.proofs.Basics.FiniteMaps.{Among-left, Among-right, Among-one_more, among_at}
 use Rattle.gtp_machine.proofs.Requests.ActsOnce.{acts_once_from, acts_once_in_time}
 use Rattle.gtp_machine.proofs.Worlds.Ticking.{side_twice, side_nothing, move_quiet}
 use Rattle.gtp_machine.proofs.Exchange.Held.{move_config}
 use Rattle.gtp_machine.proofs.Rows.Stepping.{Carried}
 use Rattle.gtp_machine.proofs.Worlds.Runs as run
-use Rattle.gtp_machine.proofs.Worlds.Runs.{IsMarked, quiet_marked, timely_marked, lately_marked, cut_quiet}
+use Rattle.gtp_machine.proofs.Worlds.Runs.{IsMarked, quiet_marked, timely_marked, lately_marked, cut_quiet, cut_carried}
 
 -- a list that ends with x has y at a place: the last one, or one before it
 not_empty : {X : Type 0} (front back : List X) (y : X) → [] ≡ front ++ (y ∷ back) → ⊥
@@ -126,41 +126,37 @@ module _ (own : Addresses) where
   moves_steps w inv role input new each carried marked m = subst EachSteps (sym m.becomes) (one_step w role input m.effect _ each marked (run.config_stays own w inv role input m.effect carried m.step) m.step)
 
   -- a datagram that the other gateway sent comes
-  comes : (w : World) → run.Invariant own w → EachSteps w → (role : Role) (m : Message) (new : World) → Carried role w.history (side_of w role).node (delivered_on (plane_of m) (side_of w (other role)).node.config.own m) → (IsLateOn (plane_of m) (side_of w (other role)).node.config.own (side_of w role) m → ⊥) → Moves w role (delivered_on (plane_of m) (side_of w (other role)).node.config.own m) new → EachSteps new
-  comes w inv each role m new carried timely d = moves_steps w inv role _ new each carried (timely_marked own (side_of w role) _ (plane_of m) m timely) d
+  comes : (w : World) → run.Invariant own w → EachSteps w → (role : Role) (m : Message) → HasSent w.history (other role) m → (new : World) → (IsLateOn (plane_of m) (side_of w (other role)).node.config.own (side_of w role) m → ⊥) → Moves w role (delivered_on (plane_of m) (side_of w (other role)).node.config.own m) new → EachSteps new
+  comes w inv each role m sent new timely d = moves_steps w inv role _ new each (run.carried own w inv role (plane_of m) m sent) (timely_marked own (side_of w role) _ (plane_of m) m timely) d
 
   -- it comes late
-  late_comes : (w : World) → run.Invariant own w → EachSteps w → (role : Role) (from : Addresses) (p : Plane) (m : Message) (new : World) → Carried role (late_once w role (arrival from m)).history (side_of (late_once w role (arrival from m)) role).node (delivered_on p from m) → IsLateOn p from (side_of w role) m → Moves (late_once w role (arrival from m)) role (delivered_on p from m) new → EachSteps new
-  late_comes w inv each Serving from Control m new carried late d =
-      moves_steps (late_once w Serving (arrival from m)) (run.late_keeps own w inv Serving (arrival from m)) Serving _ new (late_steps w Serving (arrival from m) each) carried (lately_marked own w.serving from m) d
-  late_comes w inv each Packet from Control m new carried late d =
-      moves_steps (late_once w Packet (arrival from m)) (run.late_keeps own w inv Packet (arrival from m)) Packet _ new (late_steps w Packet (arrival from m) each) carried (lately_marked own w.packet from m) d
-  late_comes w inv each role from User m new carried late d = absurd late
+  late_comes : (w : World) → run.Invariant own w → EachSteps w → (role : Role) (p : Plane) (m : Message) → HasSent w.history (other role) m → (new : World) → IsLateOn p (side_of w (other role)).node.config.own (side_of w role) m → Moves (late_once w role (arrival (side_of w (other role)).node.config.own m)) role (delivered_on p (side_of w (other role)).node.config.own m) new → EachSteps new
+  late_comes w inv each Serving Control m sent new late d =
+      let a = arrival w.packet.node.config.own m in
+      let still = run.late_keeps own w inv Serving a in
+      moves_steps (late_once w Serving a) still Serving _ new (late_steps w Serving a each) (run.carried own (late_once w Serving a) still Serving Control m sent) (lately_marked own w.serving w.packet.node.config.own m) d
+  late_comes w inv each Packet Control m sent new late d =
+      let a = arrival w.serving.node.config.own m in
+      let still = run.late_keeps own w inv Packet a in
+      moves_steps (late_once w Packet a) still Packet _ new (late_steps w Packet a each) (run.carried own (late_once w Packet a) still Packet Control m sent) (lately_marked own w.packet w.serving.node.config.own m) d
+  late_comes w inv each role User m sent new late d = absurd late
 
   delivers : (w : World) → run.Invariant own w → EachSteps w → (sender : Role) (m : Message) → HasSent w.history sender m → (new : World) → Delivers w sender m new → EachSteps new
-  delivers w inv each Packet m sent new (inl d) = comes w inv each Serving m new (run.serving_carried own w inv (plane_of m) m sent) d.0 d.1
-  delivers w inv each Serving m sent new (inl d) = comes w inv each Packet m new (run.packet_carried own w inv (plane_of m) m sent) d.0 d.1
-  delivers w inv each Packet m sent new (inr d) =
-      let a = arrival w.packet.node.config.own m in
-      late_comes w inv each Serving w.packet.node.config.own (plane_of m) m new (run.serving_carried own (late_once w Serving a) (run.late_keeps own w inv Serving a) (plane_of m) m sent) d.0 d.1
-  delivers w inv each Serving m sent new (inr d) =
-      let a = arrival w.serving.node.config.own m in
-      late_comes w inv each Packet w.serving.node.config.own (plane_of m) m new (run.packet_carried own (late_once w Packet a) (run.late_keeps own w inv Packet a) (plane_of m) m sent) d.0 d.1
-
-  cut_carried : (role : Role) (history : List Sent) (node : Node) (p : Plane) (from : Addresses) (m : Message) (count : ℕ) → Carried role history node (cut_on p from m count)
-  cut_carried role history node Control from m count = tt
-  cut_carried role history node User from m count = tt
+  delivers w inv each Packet m sent new (inl d) = comes w inv each Serving m sent new d.0 d.1
+  delivers w inv each Packet m sent new (inr d) = late_comes w inv each Serving (plane_of m) m sent new d.0 d.1
+  delivers w inv each Serving m sent new (inl d) = comes w inv each Packet m sent new d.0 d.1
+  delivers w inv each Serving m sent new (inr d) = late_comes w inv each Packet (plane_of m) m sent new d.0 d.1
 
   happens : (w : World) → run.Invariant own w → EachSteps w → (event : Event) (new : World) → Happens w event new → EachSteps new
   happens w inv each (Does role command) new m = moves_steps w inv role (Commanded command) new each tt (quiet_marked own (side_of w role) (Commanded command) tt) m
   happens w inv each (Tick role) new t = subst EachSteps (sym t.becomes) (tick_moves w role t.moves t.out t.after t.tick _ each)
   happens w inv each (Deliver number) new (inl none) = subst EachSteps (sym none.1) (noted_steps w (quiet_note No_such_datagram) each)
-  happens w inv each (Deliver number) new (inr (found, d)) = delivers w inv each found.sent.role found.sent.what (run.found_sent own w.history number found.sent found.is) new d
+  happens w inv each (Deliver number) new (inr (found, d)) = delivers w inv each found.sent.role found.sent.what (among_at w.history number found.sent found.is) new d
   happens w inv each (Cut number count) new (inl none) = subst EachSteps (sym none.1) (noted_steps w (quiet_note No_such_datagram) each)
   happens w inv each (Cut number count) new (inr (found, inl long)) = subst EachSteps (sym long.1) (noted_steps w (quiet_note Cut_too_long) each)
   happens w inv each (Cut number count) new (inr (found, inr (short, c))) =
       let receiver = other found.sent.role in
-      moves_steps w inv receiver _ new each (cut_carried receiver w.history (side_of w receiver).node (plane_of found.sent.what) _ found.sent.what count) (quiet_marked own (side_of w receiver) _ (cut_quiet own (plane_of found.sent.what) _ found.sent.what count)) c
+      moves_steps w inv receiver _ new each (cut_carried own receiver (plane_of found.sent.what) _ found.sent.what count w.history (side_of w receiver).node) (quiet_marked own (side_of w receiver) _ (cut_quiet own (plane_of found.sent.what) _ found.sent.what count)) c
   happens w inv each (Restart role) new (inl used) = subst EachSteps (sym used.1) (noted_steps w (quiet_note Restarts_used) each)
   happens w inv each (Restart role) new (inr (few, is)) = subst EachSteps (sym is) (restarted_steps w role _ each)
 

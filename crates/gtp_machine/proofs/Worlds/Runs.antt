@@ -1,5 +1,5 @@
 -- What holds of the world at each moment of a run.
-use Rattle.std.proofs.Common.{◌≡◌, inl, inr, ⊎_elim, ℕ, zero, suc, ◌<◌, ◌≤◌, ◌+◌, List, [], ◌∷◌, ◌++◌, Some, None, refl, sym, ◌∙◌, ap, subst, arith, slice_get}
+use Rattle.std.proofs.Common.{◌≡◌, inl, inr, ⊎_elim, ℕ, ◌<◌, ◌≤◌, List, [], ◌∷◌, ◌++◌, None, refl, sym, ◌∙◌, ap, subst, arith}
 use Rattle.gtp_values.specs.FiniteMap.{Among}
 use Rattle.gtp_machine.specs.Step.{Step, Done}
 use Rattle.gtp_machine.specs.Config.{Addresses, Config}
@@ -10,7 +10,7 @@ use Rattle.gtp_machine.specs.Answer.{IsNew}
 use Rattle.gtp_machine.specs.World.{with_steps, steps_of, logged, World, other, Side, By, HasBy, Sent, HasSent, signed, side_of, with_side, stepped, moved, Note, noted, Moves, Event, Does, Tick, Deliver, Cut, Restart, Happens, Delivers, arrival, late_once, delivered_on, cut_on, IsLateOn, restarted, Run, begun, start}
 use Rattle.gtp_machine.specs.Tick.{TickStep, ticked}
 use Rattle.gtp_machine.specs.Laws.{EachOwed, EachNamesBack}
-use Rattle.gtp_machine.proofs.Basics.FiniteMaps.{Each-empty, found-empty}
+use Rattle.gtp_machine.proofs.Basics.FiniteMaps.{Each-empty, found-empty, among_at}
 use Rattle.gtp_machine.proofs.Origins.Drawing.{Drawing, Drawing-step, Drawing-elsewhere, Drawing-restart, Drawing-marked, Extends-signed, by_before, by_cases, by_other, unowned}
 use Rattle.gtp_machine.proofs.Origins.Entries.{Once, AnsweredOnce, same_entry}
 use Rattle.gtp_machine.proofs.Changes.Steps.{Logs}
@@ -205,20 +205,18 @@ module _ (own : Addresses) where
       subst (λ k. Invariant own k) (moved_twice w Packet e rest after (move_quiet w.packet.node move e step) ∙ ap (λ o. moved w Packet (ticked o after)) (sym is))
       (ticks (moved w Packet e) (steps_quietly w inv Packet (Moves_on move) e tt tt step) Packet moves rest after others)
 
-  -- what stands at a place of the history was sent
-  pub found_sent : (history : List Sent) (which : ℕ) (sent : Sent) → slice_get history which ≡ Some sent → Among sent history
-  found_sent [] which sent e = absurd (cc e)
-  found_sent (x ∷ history) zero sent e = inl (cc)
-  found_sent (x ∷ history) (suc which) sent e = inr (found_sent history which sent e)
+  -- what comes to a gateway, by its plane
+  pub carried : (w : World) → Invariant own w → (role : Role) (p : Plane) (m : Message) → HasSent w.history (other role) m → Carried role w.history (side_of w role).node (delivered_on p (side_of w (other role)).node.config.own m)
+  carried w inv Serving Control m came = (came, same_is w.history Serving w.serving w.packet inv.serving inv.packet.draws m came)
+  carried w inv Packet Control m came = (came, same_is w.history Packet w.packet w.serving inv.packet inv.serving.draws m came)
+  carried w inv role User m came = came
 
-  -- what comes to the serving gateway, by its plane
+  -- what comes to each of the two
   pub serving_carried : (w : World) → Invariant own w → (p : Plane) (m : Message) → HasSent w.history Packet m → Carried Serving w.history w.serving.node (delivered_on p w.packet.node.config.own m)
-  serving_carried w inv Control m came = (came, same_is w.history Serving w.serving w.packet inv.serving inv.packet.draws m came)
-  serving_carried w inv User m came = came
+  serving_carried w inv = carried w inv Serving
 
   pub packet_carried : (w : World) → Invariant own w → (p : Plane) (m : Message) → HasSent w.history Serving m → Carried Packet w.history w.packet.node (delivered_on p w.serving.node.config.own m)
-  packet_carried w inv Control m came = (came, same_is w.history Packet w.packet w.serving inv.packet inv.serving.draws m came)
-  packet_carried w inv User m came = came
+  packet_carried w inv = carried w inv Packet
 
   -- a datagram that comes is the one that was sent
   came_so : (from : Addresses) (m : Message) (a : Arrival) (n : Message) → Control_came (arrival from m) (Control_message m) ≡ Control_came a (Control_message n) → a ≡ arrival from m
@@ -255,21 +253,21 @@ module _ (own : Addresses) where
   late_to_serving w inv Control m came late new d =
       let w1 = late_once w Serving (arrival w.packet.node.config.own m) in
       let inv1 = late_keeps w inv Serving (arrival w.packet.node.config.own m) in
-      moved_new w1 Serving d.effect _ _ new d.becomes (serving_moves w1 inv1 _ d.effect (serving_carried w1 inv1 Control m came) (lately w inv m) (lately_marked w.serving w.packet.node.config.own m) d.step)
+      moved_new w1 Serving d.effect _ _ new d.becomes (serving_moves w1 inv1 _ d.effect (carried w1 inv1 Serving Control m came) (lately w inv m) (lately_marked w.serving w.packet.node.config.own m) d.step)
   late_to_serving w inv User m came late new d = absurd late
 
   late_to_packet : (w : World) → Invariant own w → (p : Plane) (m : Message) → HasSent w.history Serving m → IsLateOn p w.serving.node.config.own w.packet m → (new : World) → Moves (late_once w Packet (arrival w.serving.node.config.own m)) Packet (delivered_on p w.serving.node.config.own m) new → Invariant own new
   late_to_packet w inv Control m came late new d =
       let w1 = late_once w Packet (arrival w.serving.node.config.own m) in
       let inv1 = late_keeps w inv Packet (arrival w.serving.node.config.own m) in
-      moved_new w1 Packet d.effect _ _ new d.becomes (packet_moves w1 inv1 _ d.effect (packet_carried w1 inv1 Control m came) (lately_marked w.packet w.serving.node.config.own m) d.step)
+      moved_new w1 Packet d.effect _ _ new d.becomes (packet_moves w1 inv1 _ d.effect (carried w1 inv1 Packet Control m came) (lately_marked w.packet w.serving.node.config.own m) d.step)
   late_to_packet w inv User m came late new d = absurd late
 
   -- a datagram that its sender sent comes to the other gateway
   delivers : (w : World) → Invariant own w → (sender : Role) (m : Message) → HasSent w.history sender m → (new : World) → Delivers w sender m new → Invariant own new
-  delivers w inv Packet m came new (inl d) = moved_new w Serving d.1.effect _ _ new d.1.becomes (serving_moves w inv _ d.1.effect (serving_carried w inv (plane_of m) m came) (timely w inv (plane_of m) m d.0) (timely_marked w.serving w.packet.node.config.own (plane_of m) m d.0) d.1.step)
+  delivers w inv Packet m came new (inl d) = moved_new w Serving d.1.effect _ _ new d.1.becomes (serving_moves w inv _ d.1.effect (carried w inv Serving (plane_of m) m came) (timely w inv (plane_of m) m d.0) (timely_marked w.serving w.packet.node.config.own (plane_of m) m d.0) d.1.step)
   delivers w inv Packet m came new (inr d) = late_to_serving w inv (plane_of m) m came d.0 new d.1
-  delivers w inv Serving m came new (inl d) = moved_new w Packet d.1.effect _ _ new d.1.becomes (packet_moves w inv _ d.1.effect (packet_carried w inv (plane_of m) m came) (timely_marked w.packet w.serving.node.config.own (plane_of m) m d.0) d.1.step)
+  delivers w inv Serving m came new (inl d) = moved_new w Packet d.1.effect _ _ new d.1.becomes (packet_moves w inv _ d.1.effect (carried w inv Packet (plane_of m) m came) (timely_marked w.packet w.serving.node.config.own (plane_of m) m d.0) d.1.step)
   delivers w inv Serving m came new (inr d) = late_to_packet w inv (plane_of m) m came d.0 new d.1
 
   pub cut_quiet : (p : Plane) (from : Addresses) (m : Message) (count : ℕ) → IsQuiet (cut_on p from m count)
@@ -357,7 +355,7 @@ module _ (own : Addresses) where
   happens w inv (Does role command) new m = moves_quietly own w inv role (Commanded command) tt tt new m
   happens w inv (Tick role) new t = subst (λ k. Invariant own k) (sym t.becomes) (noted_logged own (moved w role (ticked t.out t.after)) _ role _ (ticks own w inv role t.moves t.out t.after t.tick))
   happens w inv (Deliver number) new (inl none) = noted_new w _ new inv none.1
-  happens w inv (Deliver number) new (inr (found, d)) = delivers own w inv found.sent.role found.sent.what (found_sent own w.history number found.sent found.is) new d
+  happens w inv (Deliver number) new (inr (found, d)) = delivers own w inv found.sent.role found.sent.what (among_at w.history number found.sent found.is) new d
   happens w inv (Cut number count) new (inl none) = noted_new w _ new inv none.1
   happens w inv (Cut number count) new (inr (found, inl long)) = noted_new w _ new inv long.1
   happens w inv (Cut number count) new (inr (found, inr (short, c))) = moves_quietly own w inv (other found.sent.role) _ (cut_quiet own (plane_of found.sent.what) _ found.sent.what count) (cut_carried own (other found.sent.role) (plane_of found.sent.what) _ found.sent.what count w.history (side_of w (other found.sent.role)).node) new c

@@ -2,7 +2,7 @@ use Rattle.std.specs.Prelude.{not}
 use Rattle.std.specs.Fn.{FnReturnsAt}
 use Rattle.std.proofs.Common.{rules, ◌≡◌, subst}
 use Rattle.std.proofs.lemmas.Fn.{filter_same}
-use Rattle.gtp_reliable.proofs.Lists.{told_not}
+use Rattle.gtp_values.proofs.Tests.{told_not}
 use Rattle.gtp_reliable.proofs.pending.take_out_where.Goals as goal
 
 pub returns : goal.returns

@@ -1,14 +1,16 @@
-use Rattle.std.proofs.Common.{Bor, List, ℕ, map, sym, ap, ◌∙◌}
-use Rattle.std.specs.List.{list_all}
-use Rattle.json.proofs.Trees.{view-Object}
-use Rattle.gtp_scenario.specs.Json.{is_among, has_only}
-use Rattle.gtp_scenario.specs.Trees.{data_of, view}
-use Rattle.gtp_scenario.proofs.Trees.{keys_said}
+use Rattle.std.proofs.Common.{Bor, List, ℕ, map, ap, ◌∙◌}
+use Rattle.gtp_scenario.specs.Json.{has_only}
+use Rattle.gtp_scenario.specs.Trees.{view}
+use Rattle.gtp_scenario.proofs.Trees.{keys_found, no_keys}
 use Rattle.gtp_scenario.proofs.members.has_only.Goals as goal
 
-pub returns-in-Object : goal.returns-in-Object
-returns-in-Object c =
+pub returns-in-Some : goal.returns-in-Some
+returns-in-Some c =
     let keys = map (λ (k : Bor (List ℕ)). k.now) c.args.keys.now in
-    let members = c.in-Object.members.items in
-    c.all_among.ensures ∙ ap (list_all (λ m. is_among keys m.0.now)) c.as_slice.ensures.value ∙ keys_said keys members
-    ∙ sym (ap (λ v. has_only keys (view v)) c.in-Object.is ∙ ap (λ j. has_only keys (data_of j)) (view-Object c.in-Object.members))
+    let found = c.in-Some.ensures c.value.invariant.0 c.value.invariant.1 in
+    c.all_among.ensures found.0 found.2 ∙ keys_found keys c.value.inside.element c.value.invariant found.0 found.1 ∙ ap (λ ts. has_only keys (view ts)) c.value.view_is
+
+pub returns-in-None : goal.returns-in-None
+returns-in-None c =
+    let keys = map (λ (k : Bor (List ℕ)). k.now) c.args.keys.now in
+    no_keys keys c.value.inside.element c.value.invariant c.in-None.ensures ∙ ap (λ ts. has_only keys (view ts)) c.value.view_is

@@ -9,7 +9,7 @@ pub returns-in-Ok : goal.returns-in-Ok
 returns-in-Ok c =
     let octets = c.args.octets.now in
     let is_text = c.in-Ok.ensures.cases in
-    subst (Gives view c.tree_of.result) (ap read is_text.0 ∙ sym (json_is octets (omega arith) is_text.1)) c.tree_of.ensures
+    subst (Gives view c.tape_of.result) (ap read is_text.0 ∙ sym (json_is octets (omega arith) is_text.1)) c.tape_of.ensures
 
 pub returns-in-Err : goal.returns-in-Err
 returns-in-Err c = json_is_none c.args.octets.now c.in-Err.ensures.cases.0

@@ -1,11 +1,9 @@
 use Rattle.std.specs.Prelude.{not}
 use Rattle.std.specs.Fn.{FnReturnsAt}
-use Rattle.std.proofs.Common.{rules, ◌≡◌, ◌∙◌, ap, Bool}
+use Rattle.std.proofs.Common.{rules, ◌≡◌, ◌∙◌, ap}
 use Rattle.indexmap.proofs.CallerLemmas.{filter-RetainsPairs}
+use Rattle.gtp_values.proofs.Tests.{told_not}
 use Rattle.gtp_tables.proofs.table.drop_where.Goals as goal
-
-told_not : {X : Type 0} (goes : X → Bool) (Tells : X → Bool → Type 0) → ((x : X) (r : Bool) → Tells x r → r ≡ goes x) → (x : X) (b r : Bool) → Tells x r → b ≡ not r → b ≡ not (goes x)
-told_not goes Tells right x b r told e = e ∙ ap not (right x r told)
 
 pub returns-clause-entries : goal.returns-clause-entries
 returns-clause-entries g c = λ goes right.

@@ -1,13 +1,14 @@
 use Rattle.std.proofs.Common.{◌≤◌, ℕ, length, sym, ◌∙◌, ap, subst, arith}
 use Rattle.std.specs.FinMap.{entries, len-entries}
-use Rattle.gtp_gateway.proofs.Listed.{drop_at, drop_past, drop_none}
+use Rattle.std.proofs.Math.ListN.{drop_of_length-le}
+use Rattle.gtp_gateway.proofs.Listed.{drop_at, drop_none}
 use Rattle.gtp_gateway.proofs.listing.BearerListIterator.next.Goals as goal
 
 pub returns-then-self-len-clause-steps : goal.returns-then-self-len-clause-steps
 returns-then-self-len-clause-steps c =
     let all = c.self.inside.bearers.now in
     let past = subst (λ (n : ℕ). n ≤ c.self.inside.next) (c.len.ensures ∙ len-entries all) c.if-self-len.true in
-    let none = sym c.self.view_is ∙ drop_past (entries all) c.self.inside.next past in
+    let none = sym c.self.view_is ∙ drop_of_length-le (entries all) past in
     (none, none)
 
 pub returns-in_default-clause-steps : goal.returns-in_default-clause-steps

@@ -1,4 +1,5 @@
 use Rattle.std.proofs.Common.{◌≡◌, ◌<◌, List, length, None, inr, sym, subst, arith}
+use Rattle.std.proofs.lemmas.Result.{IfOk-weaker}
 use Rattle.gtp_ie.specs.declared.value.numbers.EbiValue.{EbiValue}
 use Rattle.gtp_machine.specs.Choice.{HasHeldRoom}
 use Rattle.gtp_machine.specs.Input.{Effect}
@@ -12,7 +13,6 @@ use Rattle.gtp_gateway.proofs.Answers.{held_few}
 use Rattle.gtp_gateway.proofs.Columns.{yes, no}
 use Rattle.gtp_gateway.proofs.Counted.{has_identities, count_is}
 use Rattle.gtp_gateway.proofs.Endings.{row_as, many_judged}
-use Rattle.gtp_gateway.proofs.Rows.{if_ok}
 use Rattle.gtp_gateway.proofs.parts.Parts.end_listed.Goals as goal
 
 pub returns-then-has_too_many-clause-taken : goal.returns-then-has_too_many-clause-taken
@@ -29,7 +29,7 @@ returns-then-has_too_many-clause-taken c =
     let a : RemovalAnswer = record { header = c.args.header; cause = 94; linked = None; change = Stays } in
     let room : HasHeldRoom old.node = record { few = held_few c.args.self.now.held.pairs (λ many. omega (arith, many, c.requires.few)) } in
     let many : 11 < length ids = omega (arith, yes c.has_too_many.ensures c.if-has_too_many.true, count_is octets c.args.view.now c.requires.spelled.0 c.requires.spelled.1 c.requires.kind ids listed.1) in
-    if_ok c.answer_removal.result
+    IfOk-weaker c.answer_removal.result _ _
     (λ step taken. λ d says reads.
     row_as (λ n e. e ≡ removal_effect request d a n) (RemovalAsked request d) request old.role old.node step new
     (λ e is. inr (room, subst (λ (x : Effect). RemovalJudged request d old.node x) (sym is) (many_judged request r d old.node c.args.header ids says (reads ids listed.1) c.requires.asked many)))
@@ -47,7 +47,7 @@ returns-clause-taken c =
     let m = c.args.view.now.message in
     let ids : List EbiValue = c.as_slice.result.now in
     let room : HasHeldRoom old.node = record { few = held_few c.args.self.now.held.pairs (λ many. omega (arith, many, c.requires.few)) } in
-    if_ok c.end_named.result
+    IfOk-weaker c.end_named.result _ _
     (λ step ends. λ d says reads.
     row_as (RemovalJudged request d) (RemovalAsked request d) request old.role old.node step new (λ e judged. inr (room, judged))
     (ends d says (reads ids (subst (λ (l : List EbiValue). ReadsIdentities m l) (sym c.as_slice.ensures.value) c.in_ok-identities.ensures))))

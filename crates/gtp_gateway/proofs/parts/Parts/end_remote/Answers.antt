@@ -2,10 +2,11 @@ use Rattle.std.proofs.Common.{◌≡◌, ℕ, Bool, sym, ◌∙◌, ap, subst, r
 use Rattle.std.proofs.lemmas.List.Elements.{All-filter}
 use Rattle.std.specs.Prelude.{not, ◌||◌}
 use Rattle.std.specs.FinMap.{get}
+use Rattle.gtp_tables.specs.Index.{names}
 use Rattle.gtp_tables.specs.Rows.{Rows}
 use Rattle.gtp_machine.specs.Node.{Session, PendingRequest}
 use Rattle.gtp_machine.specs.Removal.{on}
-use Rattle.gtp_machine.specs.User.{bearer_is_to, default_among, broken}
+use Rattle.gtp_machine.specs.User.{default_among, broken}
 use Rattle.gtp_gateway.specs.Broken.{is_broken}
 use Rattle.gtp_gateway.specs.Parts.{pending_in, node_of}
 use Rattle.gtp_gateway.specs.Spelled.{IsAsked, AreAsked}
@@ -32,7 +33,7 @@ returns-clause-node c =
     let remote = c.args.remote.0 in
     let left = c.remove_keys_where.new.self.table in
     let goes : ℕ → Bool = λ t. default_among remote t old.bearers in
-    let stays : PendingRequest → Bool = λ p. not (on goes p.session || on (λ t. bearer_is_to remote (get old.bearers t)) p.bearer) in
+    let stays : PendingRequest → Bool = λ p. not (on goes p.session || on (λ t. names remote (get old.bearers t)) p.bearer) in
     let pending = ap pending_in c.finish_where.ensures.waiting ∙ pending_kept stays old.pending.waiting c.finish_where.ensures.always.distinct in
     let sessions : left ≡ (broken (node_of old) remote).sessions = ap (λ (r : Rows Session). r.table) (c.remove_keys_where.ensures goes (λ x b h. search rules)) in
     let bearers = c.remove_where.ensures (λ b. is_broken left remote b) (λ x b h. search rules) ∙ broken_bearers (station_of old) left remote c.requires.whole sessions in

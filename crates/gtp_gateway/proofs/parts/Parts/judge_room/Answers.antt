@@ -10,8 +10,8 @@ use Rattle.gtp_gateway.specs.Hearing.{node_heard}
 use Rattle.gtp_gateway.specs.Parts.{node_of}
 use Rattle.gtp_gateway.proofs.Columns.{no}
 use Rattle.gtp_gateway.proofs.SessionGrants.{draws_left, still_free, free_address, no_address}
-use Rattle.gtp_gateway.proofs.Rows.{config_stays}
 use Rattle.gtp_gateway.proofs.parts.Parts.judge_room.Goals as goal
+use Rattle.gtp_gateway.proofs.Weighing.{config_stays}
 
 has_room : (a b : ℕ) → a ≡ b → (1000 ≤ a → ⊥) → b < 1000
 has_room a b same few = omega (arith, same, few)

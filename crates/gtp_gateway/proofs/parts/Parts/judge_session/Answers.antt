@@ -13,8 +13,8 @@ use Rattle.gtp_gateway.specs.Hearing.{node_heard}
 use Rattle.gtp_gateway.specs.Parts.{node_of}
 use Rattle.gtp_gateway.specs.SessionAsked.{SaysSession}
 use Rattle.gtp_gateway.proofs.Columns.{yes, no}
-use Rattle.gtp_gateway.proofs.Rows.{config_stays}
 use Rattle.gtp_gateway.proofs.parts.Parts.judge_session.Goals as goal
+use Rattle.gtp_gateway.proofs.Weighing.{config_stays}
 
 is_identity : (n : ℕ) → IsEbi n → IsIdentity n
 is_identity n ebi = record { low = ebi.least; high = ebi.most }

@@ -6,8 +6,8 @@ use Rattle.gtp_gateway.specs.Change.{IsAbove}
 use Rattle.gtp_gateway.specs.Grant.{bearer_of}
 use Rattle.gtp_gateway.specs.Hearing.{node_heard}
 use Rattle.gtp_gateway.specs.Parts.{node_of}
-use Rattle.gtp_gateway.proofs.SessionGrants.{drawn_stays, none_above, heard_with, still_above}
-use Rattle.gtp_gateway.proofs.Weighing.{counter_stays}
+use Rattle.gtp_gateway.proofs.SessionGrants.{none_above, heard_with, still_above}
+use Rattle.gtp_gateway.proofs.Weighing.{counter_stays, drawn_stays}
 use Rattle.gtp_gateway.proofs.parts.Parts.make_granted.Goals as goal
 
 pub add-requires-2-clause-rises : goal.add-requires-2-clause-rises

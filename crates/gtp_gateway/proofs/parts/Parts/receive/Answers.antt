@@ -1,5 +1,6 @@
 use Rattle.std.proofs.Common.{◌≡◌, ℕ, List, Result, Ok, Err, refl, sym, subst}
 use Rattle.std.specs.Prelude.{IsSome, IfErr}
+use Rattle.std.proofs.lemmas.Result.{IfOk-weaker}
 use Rattle.gtp_values.specs.declared.address.Endpoint.{Endpoint}
 use Rattle.gtp_machine.specs.Message.{Plane, Control}
 use Rattle.gtp_gateway.specs.declared.parts.Parts.{Parts}
@@ -13,7 +14,6 @@ use Rattle.gtp_gateway.specs.UserTaken.{UserComes, IsUserTaken}
 use Rattle.gtp_gateway.proofs.GoingOn.{tied_of}
 use Rattle.gtp_gateway.proofs.Needing.{on_err}
 use Rattle.gtp_gateway.proofs.Receiving.{control_received, as_received, as_timed, as_stays}
-use Rattle.gtp_gateway.proofs.Rows.{if_ok}
 use Rattle.gtp_gateway.proofs.UserRows.{replies}
 use Rattle.gtp_gateway.proofs.parts.Parts.receive.Goals as goal
 
@@ -67,13 +67,13 @@ taken : (source : Endpoint) (octets : List ℕ) (old new : Parts) (reply : Reply
 taken source octets old new reply step takes same sends = replies (UserComes source octets (station_of old)) (station_of old) reply step (station_of new) refl takes same sends
 
 pub returns-clause-received : goal.returns-clause-received
-returns-clause-received c = if_ok c.reply_user.result (λ step sends. as_received c.args.plane c.args.source c.args.octets.now (station_of c.args.self.now) (station_of c.judge_user.new.self) step step c.in-User.is refl (taken c.args.source c.args.octets.now c.args.self.now c.judge_user.new.self c.in-Replies.reply step c.in-Replies.ensures.0 c.in-Replies.ensures.1 sends)) c.reply_user.ensures
+returns-clause-received c = IfOk-weaker c.reply_user.result _ _ (λ step sends. as_received c.args.plane c.args.source c.args.octets.now (station_of c.args.self.now) (station_of c.judge_user.new.self) step step c.in-User.is refl (taken c.args.source c.args.octets.now c.args.self.now c.judge_user.new.self c.in-Replies.reply step c.in-Replies.ensures.0 c.in-Replies.ensures.1 sends)) c.reply_user.ensures
 
 pub returns-clause-timing : goal.returns-clause-timing
-returns-clause-timing c = if_ok c.reply_user.result (λ step sends. as_timed c.args.plane c.args.source c.args.octets.now (station_of c.args.self.now) (station_of c.judge_user.new.self) step step c.in-User.is refl (taken c.args.source c.args.octets.now c.args.self.now c.judge_user.new.self c.in-Replies.reply step c.in-Replies.ensures.0 c.in-Replies.ensures.1 sends) (tied_of c.judge_user.new.self)) c.reply_user.ensures
+returns-clause-timing c = IfOk-weaker c.reply_user.result _ _ (λ step sends. as_timed c.args.plane c.args.source c.args.octets.now (station_of c.args.self.now) (station_of c.judge_user.new.self) step step c.in-User.is refl (taken c.args.source c.args.octets.now c.args.self.now c.judge_user.new.self c.in-Replies.reply step c.in-Replies.ensures.0 c.in-Replies.ensures.1 sends) (tied_of c.judge_user.new.self)) c.reply_user.ensures
 
 pub returns-clause-packet : goal.returns-clause-packet
-returns-clause-packet c = if_ok c.reply_user.result (λ step sends. as_stays c.args.plane c.args.source c.args.octets.now (station_of c.args.self.now) (station_of c.judge_user.new.self) step step c.in-User.is refl (taken c.args.source c.args.octets.now c.args.self.now c.judge_user.new.self c.in-Replies.reply step c.in-Replies.ensures.0 c.in-Replies.ensures.1 sends)) c.reply_user.ensures
+returns-clause-packet c = IfOk-weaker c.reply_user.result _ _ (λ step sends. as_stays c.args.plane c.args.source c.args.octets.now (station_of c.args.self.now) (station_of c.judge_user.new.self) step step c.in-User.is refl (taken c.args.source c.args.octets.now c.args.self.now c.judge_user.new.self c.in-Replies.reply step c.in-Replies.ensures.0 c.in-Replies.ensures.1 sends)) c.reply_user.ensures
 
 pub returns-clause-memory : goal.returns-clause-memory
 returns-clause-memory c =

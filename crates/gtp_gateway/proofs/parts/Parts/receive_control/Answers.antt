@@ -1,4 +1,5 @@
 use Rattle.std.proofs.Common.{◌≡◌, ℕ, true, false, refl, sym, ◌∙◌, subst}
+use Rattle.std.proofs.lemmas.Result.{IfOk-weaker, on_err_weaker}
 use Rattle.gtp_v2.proofs.Instances.{fault_small}
 use Rattle.gtp_machine.specs.Decoded.{message_of}
 use Rattle.gtp_machine.specs.Input.{ControlReading, Control_came, Effect, dropped}
@@ -12,9 +13,8 @@ use Rattle.gtp_gateway.specs.Station.{station_of}
 use Rattle.gtp_gateway.specs.Taken.{IsEntered, IsTaken}
 use Rattle.gtp_gateway.proofs.Left.{reads_message, fault_received}
 use Rattle.gtp_gateway.proofs.Procedures.{not_taken}
-use Rattle.gtp_gateway.proofs.Rows.{if_ok, message_left}
+use Rattle.gtp_gateway.proofs.Rows.{message_left}
 use Rattle.gtp_gateway.proofs.SentBack.{none_sent}
-use Rattle.gtp_gateway.proofs.Needing.{from_err}
 use Rattle.gtp_gateway.specs.Needing.{StepSendsOrOpens}
 use Rattle.gtp_gateway.proofs.Left.{reads_fault}
 use Rattle.gtp_gateway.proofs.parts.Parts.receive_control.Goals as goal
@@ -26,7 +26,7 @@ pub returns-in-Err-clause-taken : goal.returns-in-Err-clause-taken
 returns-in-Err-clause-taken c =
     let old = station_of c.args.self.now in
     let fresh = subst (IsEntered c.args.source c.args.octets.now old c.args.self.now.held.pairs) c.in-New.is c.in_ok-step.ensures.entered in
-    if_ok c.take_flaw.result (λ step taken. fault_received c.args.source c.args.octets.now old c.in-Err.fault (reading_of c.flaw_of.result) step fresh.peer fresh.new c.in-Err.ensures.fault c.flaw_of.ensures taken) c.take_flaw.ensures.taken
+    IfOk-weaker c.take_flaw.result _ _ (λ step taken. fault_received c.args.source c.args.octets.now old c.in-Err.fault (reading_of c.flaw_of.result) step fresh.peer fresh.new c.in-Err.ensures.fault c.flaw_of.ensures taken) c.take_flaw.ensures.taken
 
 pub returns-in-None-clause-taken : goal.returns-in-None-clause-taken
 returns-in-None-clause-taken c =
@@ -52,4 +52,4 @@ returns-in-Err-clause-memory c =
     let octets = c.args.octets.now in
     let request = arrival_of c.args.source octets in
     let fresh = subst (IsEntered c.args.source octets old c.args.self.now.held.pairs) c.in-New.is c.in_ok-step.ensures.entered in
-    from_err c.take_flaw.result (λ needs. subst (λ (r : ControlReading). StepSendsOrOpens request r old) (c.flaw_of.ensures ∙ reads_fault octets c.in-Err.fault c.in-Err.ensures.fault) (needs request refl fresh.peer)) c.take_flaw.ensures.memory
+    on_err_weaker c.take_flaw.result (λ needs. subst (λ (r : ControlReading). StepSendsOrOpens request r old) (c.flaw_of.ensures ∙ reads_fault octets c.in-Err.fault c.in-Err.ensures.fault) (needs request refl fresh.peer)) c.take_flaw.ensures.memory

@@ -8,9 +8,8 @@ use Rattle.gtp_gateway.specs.Hearing.{node_heard}
 use Rattle.gtp_gateway.specs.Row.{IsRow}
 use Rattle.gtp_gateway.specs.Sent.{ReadsBack}
 use Rattle.gtp_gateway.specs.Station.{station_of}
-use Rattle.gtp_gateway.proofs.Rows.{config_stays}
 use Rattle.gtp_gateway.proofs.SentBack.{one_sent}
-use Rattle.gtp_gateway.proofs.Weighing.{counter_stays}
+use Rattle.gtp_gateway.proofs.Weighing.{counter_stays, config_stays}
 use Rattle.gtp_gateway.proofs.parts.Parts.take_echo_request.Goals as goal
 
 pub returns-clause-taken : goal.returns-clause-taken

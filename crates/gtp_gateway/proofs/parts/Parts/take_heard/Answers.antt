@@ -1,4 +1,5 @@
 use Rattle.std.proofs.Common.{◌≡◌, true, Some, refl, sym, ◌∙◌, ap, subst}
+use Rattle.std.proofs.lemmas.Result.{IfOk-weaker, on_err_weaker}
 use Rattle.gtp_machine.specs.Answer.{echoed}
 use Rattle.gtp_machine.specs.Message.{recovery_of}
 use Rattle.gtp_machine.specs.Decoded.{message_of}
@@ -18,9 +19,9 @@ use Rattle.gtp_gateway.proofs.GoingOn.{tied_of, on_goes}
 use Rattle.gtp_gateway.proofs.InPlace.{type_is}
 use Rattle.gtp_gateway.proofs.Grants.{has_context, create_bearer_is, takes_bearer_request}
 use Rattle.gtp_gateway.proofs.BearerAnswers.{takes_bearer_response}
-use Rattle.gtp_gateway.proofs.Rows.{if_ok, as_row}
+use Rattle.gtp_gateway.proofs.Rows.{as_row}
 use Rattle.gtp_gateway.proofs.SessionAnswers.{takes_session_response}
-use Rattle.gtp_gateway.proofs.Needing.{on_err, from_err, needs_echo, needs_session, needs_deletion, needs_bearer, needs_removal, needs_session_response, needs_bearer_response}
+use Rattle.gtp_gateway.proofs.Needing.{on_err, needs_echo, needs_session, needs_deletion, needs_bearer, needs_removal, needs_session_response, needs_bearer_response}
 use Rattle.gtp_gateway.specs.Needing.{AlwaysSendsOrOpens}
 use Rattle.gtp_machine.specs.Node.{Node}
 use Rattle.gtp_gateway.proofs.parts.Parts.take_heard.Goals as goal
@@ -31,9 +32,9 @@ returns-in-EchoAsked-clause-taken c =
     let m = c.args.view.now.message in
     let request = arrival_of c.args.source c.args.octets.now in
     let says = echo_request_is c.args.octets.now m c.requires.spelled (c.requires.of ∙ ap (λ (p : Procedure). Some p) c.in-EchoAsked.is) in
-    if_ok c.take_echo_request.result (λ step taken. as_row (λ n e. e ≡ echoed request says.request n) (TakesBy old.role request (message_of m)) request old.role old.role (node_heard c.args.heard old.node) (node_heard c.args.heard old.node) step (station_of c.take_echo_request.new.self) refl refl
-    (takes_echo_request old.role request says.request (message_of m) says.is)
-    (taken request says.request refl (says.number ∙ sym c.seq.ensures)))
+    IfOk-weaker c.take_echo_request.result _ _ (λ step taken. as_row (λ n e. e ≡ echoed request says.echo n) (TakesBy old.role request (message_of m)) request old.role old.role (node_heard c.args.heard old.node) (node_heard c.args.heard old.node) step (station_of c.take_echo_request.new.self) refl refl
+    (takes_echo_request old.role request says.echo (message_of m) says.is)
+    (taken request says.echo refl (says.number ∙ sym c.seq.ensures)))
     c.take_echo_request.ensures.taken
 
 pub returns-in-EchoAnswered-clause-taken : goal.returns-in-EchoAnswered-clause-taken
@@ -43,9 +44,9 @@ returns-in-EchoAnswered-clause-taken c =
     let request = arrival_of c.args.source c.args.octets.now in
     let says = echo_response_is c.args.octets.now m c.requires.spelled (c.requires.of ∙ ap (λ (p : Procedure). Some p) c.in-EchoAnswered.is) in
     let heard = station_of c.hear.new.self in
-    as_row (EchoAnswered says.response) (TakesBy old.role request (message_of m)) request old.role heard.role (node_heard c.args.heard old.node) heard.node _ (station_of c.take_echo_response.new.self) c.hear.ensures.role c.hear.ensures.node
-    (takes_echo_response old.role request says.response (message_of m) says.is)
-    (c.take_echo_response.ensures.taken request says.response (says.number ∙ sym c.seq-in-EchoAnswered.ensures))
+    as_row (EchoAnswered says.echo) (TakesBy old.role request (message_of m)) request old.role heard.role (node_heard c.args.heard old.node) heard.node _ (station_of c.take_echo_response.new.self) c.hear.ensures.role c.hear.ensures.node
+    (takes_echo_response old.role request says.echo (message_of m) says.is)
+    (c.take_echo_response.ensures.taken request says.echo (says.number ∙ sym c.seq-in-EchoAnswered.ensures))
 
 pub take_echo_request-requires : goal.take_echo_request-requires
 take_echo_request-requires c = record { weighed = (c.requires.weighed.0, c.requires.weighed.2) }
@@ -59,7 +60,7 @@ returns-in-DeletionAsked-clause-taken c =
     let m = c.args.view.now.message in
     let request = arrival_of c.args.source c.args.octets.now in
     let says = deletion_request_is c.args.octets.now m c.deletion_request_in-request.result c.requires.spelled (c.requires.of ∙ ap (λ (p : Procedure). Some p) c.in-DeletionAsked.is) c.deletion_request_in-request.ensures in
-    if_ok c.take_deletion_request.result (λ step taken. as_row (DeletionAsked request says.request) (TakesBy old.role request (message_of m)) request old.role old.role (node_heard c.args.heard old.node) old.node step (station_of c.take_deletion_request.new.self) refl (unheard c.args.heard (message_of m) old c.requires.weighed (ap recovery_of says.is))
+    IfOk-weaker c.take_deletion_request.result _ _ (λ step taken. as_row (DeletionAsked request says.request) (TakesBy old.role request (message_of m)) request old.role old.role (node_heard c.args.heard old.node) old.node step (station_of c.take_deletion_request.new.self) refl (unheard c.args.heard (message_of m) old c.requires.weighed (ap recovery_of says.is))
     (takes_deletion_request old.role request says.request (message_of m) (subst (λ (p : Procedure). has old.role p ≡ true) c.in-DeletionAsked.is c.requires.has) says.is)
     (taken says.request says.says))
     c.take_deletion_request.ensures.taken
@@ -97,7 +98,7 @@ returns-in-SessionAsked-clause-taken c =
     let m = c.args.view.now.message in
     let request = arrival_of c.args.source c.args.octets.now in
     let q = c.session_request_in-request.ensures in
-    if_ok c.take_session_request.result (λ step taken. as_row (SessionAsked request q.0) (TakesBy old.role request (message_of m)) request old.role old.role (node_heard c.args.heard old.node) (node_heard c.args.heard old.node) step (station_of c.take_session_request.new.self) refl refl
+    IfOk-weaker c.take_session_request.result _ _ (λ step taken. as_row (SessionAsked request q.0) (TakesBy old.role request (message_of m)) request old.role old.role (node_heard c.args.heard old.node) (node_heard c.args.heard old.node) step (station_of c.take_session_request.new.self) refl refl
     (takes_session_request old.role request q.0 (message_of m) (subst (λ (p : Procedure). has old.role p ≡ true) c.in-SessionAsked.is c.requires.has) q.1)
     (taken q.0 q.2))
     c.take_session_request.ensures.taken
@@ -111,7 +112,7 @@ returns-in-BearerAsked-clause-taken c =
     let m = c.args.view.now.message in
     let request = arrival_of c.args.source c.args.octets.now in
     let says = create_bearer_is c.args.octets.now m c.bearer_request_in-request.result c.requires.spelled (c.requires.of ∙ ap (λ (p : Procedure). Some p) c.in-BearerAsked.is) c.bearer_request_in-request.ensures in
-    if_ok c.take_bearer_request.result (λ step taken. as_row (BearerAsked request says.request) (TakesBy old.role request (message_of m)) request old.role old.role (node_heard c.args.heard old.node) old.node step (station_of c.take_bearer_request.new.self) refl (unheard c.args.heard (message_of m) old c.requires.weighed (ap recovery_of says.is))
+    IfOk-weaker c.take_bearer_request.result _ _ (λ step taken. as_row (BearerAsked request says.request) (TakesBy old.role request (message_of m)) request old.role old.role (node_heard c.args.heard old.node) old.node step (station_of c.take_bearer_request.new.self) refl (unheard c.args.heard (message_of m) old c.requires.weighed (ap recovery_of says.is))
     (takes_bearer_request old.role request says.request (message_of m) (subst (λ (p : Procedure). has old.role p ≡ true) c.in-BearerAsked.is c.requires.has) says.is)
     (taken says.request says.says))
     c.take_bearer_request.ensures.taken
@@ -128,7 +129,7 @@ returns-in-SessionAnswered-clause-taken c =
     let m = c.args.view.now.message in
     let request = arrival_of c.args.source c.args.octets.now in
     let reads = c.session_response_in-answer.ensures in
-    if_ok c.take_session_response.result (λ step taken. as_row (SessionAnswered reads.response) (TakesBy old.role request (message_of m)) request old.role old.role (node_heard c.args.heard old.node) (node_heard c.args.heard old.node) step (station_of c.take_session_response.new.self) refl refl
+    IfOk-weaker c.take_session_response.result _ _ (λ step taken. as_row (SessionAnswered reads.response) (TakesBy old.role request (message_of m)) request old.role old.role (node_heard c.args.heard old.node) (node_heard c.args.heard old.node) step (station_of c.take_session_response.new.self) refl refl
     (takes_session_response old.role request reads.response (message_of m) (subst (λ (p : Procedure). has old.role p ≡ true) c.in-SessionAnswered.is c.requires.has) reads.is)
     (taken request reads.response reads.says))
     c.take_session_response.ensures.taken
@@ -142,7 +143,7 @@ returns-in-RemovalAsked-clause-taken c =
     let m = c.args.view.now.message in
     let request = arrival_of c.args.source c.args.octets.now in
     let says = delete_bearer_is c.args.octets.now m c.deletion_request_in-request-in-RemovalAsked.result c.requires.spelled (c.requires.of ∙ ap (λ (p : Procedure). Some p) c.in-RemovalAsked.is) c.deletion_request_in-request-in-RemovalAsked.ensures in
-    if_ok c.take_removal_request.result (λ step taken. as_row (RemovalAsked request says.request) (TakesBy old.role request (message_of m)) request old.role old.role (node_heard c.args.heard old.node) old.node step (station_of c.take_removal_request.new.self) refl (unheard c.args.heard (message_of m) old c.requires.weighed (ap recovery_of says.is))
+    IfOk-weaker c.take_removal_request.result _ _ (λ step taken. as_row (RemovalAsked request says.request) (TakesBy old.role request (message_of m)) request old.role old.role (node_heard c.args.heard old.node) old.node step (station_of c.take_removal_request.new.self) refl (unheard c.args.heard (message_of m) old c.requires.weighed (ap recovery_of says.is))
     (takes_removal_request old.role request says.request (message_of m) (subst (λ (p : Procedure). has old.role p ≡ true) c.in-RemovalAsked.is c.requires.has) says.is)
     (taken says.request says.says says.reads))
     c.take_removal_request.ensures.taken
@@ -153,7 +154,7 @@ returns-in-BearerAnswered-clause-taken c =
     let m = c.args.view.now.message in
     let request = arrival_of c.args.source c.args.octets.now in
     let reads = c.bearer_response_in-answer.ensures in
-    if_ok c.take_bearer_response.result (λ step taken. as_row (BearerAnswered reads.response) (TakesBy old.role request (message_of m)) request old.role old.role (node_heard c.args.heard old.node) (node_heard c.args.heard old.node) step (station_of c.take_bearer_response.new.self) refl refl
+    IfOk-weaker c.take_bearer_response.result _ _ (λ step taken. as_row (BearerAnswered reads.response) (TakesBy old.role request (message_of m)) request old.role old.role (node_heard c.args.heard old.node) (node_heard c.args.heard old.node) step (station_of c.take_bearer_response.new.self) refl refl
     (takes_bearer_response old.role request reads.response (message_of m) (subst (λ (p : Procedure). has old.role p ≡ true) c.in-BearerAnswered.is c.requires.has) reads.is)
     (taken request reads.response reads.says))
     c.take_bearer_response.ensures.taken
@@ -178,14 +179,14 @@ returns-in-EchoAsked-clause-memory c =
     let old = station_of c.args.self.now in
     let m = c.args.view.now.message in
     let says = echo_request_is c.args.octets.now m c.requires.spelled (c.requires.of ∙ ap (λ (p : Procedure). Some p) c.in-EchoAsked.is) in
-    on_err c.take_echo_request.result (needs_echo old.role (arrival_of c.args.source c.args.octets.now) (message_of m) (node_heard c.args.heard old.node) says.request says.is)
+    on_err c.take_echo_request.result (needs_echo old.role (arrival_of c.args.source c.args.octets.now) (message_of m) (node_heard c.args.heard old.node) says.echo says.is)
 
 pub returns-in-SessionAsked-clause-memory : goal.returns-in-SessionAsked-clause-memory
 returns-in-SessionAsked-clause-memory c =
     let old = station_of c.args.self.now in
     let request = arrival_of c.args.source c.args.octets.now in
     let q = c.session_request_in-request.ensures in
-    from_err c.take_session_request.result (λ needs. needs_session old.role request (message_of c.args.view.now.message) (node_heard c.args.heard old.node) q.0 (subst (λ (p : Procedure). has old.role p ≡ true) c.in-SessionAsked.is c.requires.has) q.1 (needs request q.0))
+    on_err_weaker c.take_session_request.result (λ needs. needs_session old.role request (message_of c.args.view.now.message) (node_heard c.args.heard old.node) q.0 (subst (λ (p : Procedure). has old.role p ≡ true) c.in-SessionAsked.is c.requires.has) q.1 (needs request q.0))
     c.take_session_request.ensures.memory
 
 pub returns-in-DeletionAsked-clause-memory : goal.returns-in-DeletionAsked-clause-memory
@@ -194,7 +195,7 @@ returns-in-DeletionAsked-clause-memory c =
     let m = c.args.view.now.message in
     let request = arrival_of c.args.source c.args.octets.now in
     let says = deletion_request_is c.args.octets.now m c.deletion_request_in-request.result c.requires.spelled (c.requires.of ∙ ap (λ (p : Procedure). Some p) c.in-DeletionAsked.is) c.deletion_request_in-request.ensures in
-    from_err c.take_deletion_request.result (λ needs. subst (λ (n : Node). AlwaysSendsOrOpens (TakesBy old.role request (message_of m)) n) (unheard c.args.heard (message_of m) old c.requires.weighed (ap recovery_of says.is))
+    on_err_weaker c.take_deletion_request.result (λ needs. subst (λ (n : Node). AlwaysSendsOrOpens (TakesBy old.role request (message_of m)) n) (unheard c.args.heard (message_of m) old c.requires.weighed (ap recovery_of says.is))
     (needs_deletion old.role request (message_of m) old.node says.request (subst (λ (p : Procedure). has old.role p ≡ true) c.in-DeletionAsked.is c.requires.has) says.is (needs request says.request)))
     c.take_deletion_request.ensures.memory
 
@@ -204,7 +205,7 @@ returns-in-BearerAsked-clause-memory c =
     let m = c.args.view.now.message in
     let request = arrival_of c.args.source c.args.octets.now in
     let says = create_bearer_is c.args.octets.now m c.bearer_request_in-request.result c.requires.spelled (c.requires.of ∙ ap (λ (p : Procedure). Some p) c.in-BearerAsked.is) c.bearer_request_in-request.ensures in
-    from_err c.take_bearer_request.result (λ needs. subst (λ (n : Node). AlwaysSendsOrOpens (TakesBy old.role request (message_of m)) n) (unheard c.args.heard (message_of m) old c.requires.weighed (ap recovery_of says.is))
+    on_err_weaker c.take_bearer_request.result (λ needs. subst (λ (n : Node). AlwaysSendsOrOpens (TakesBy old.role request (message_of m)) n) (unheard c.args.heard (message_of m) old c.requires.weighed (ap recovery_of says.is))
     (needs_bearer old.role request (message_of m) old.node says.request (subst (λ (p : Procedure). has old.role p ≡ true) c.in-BearerAsked.is c.requires.has) says.is (needs request says.request says.says)))
     c.take_bearer_request.ensures.memory
 
@@ -214,7 +215,7 @@ returns-in-RemovalAsked-clause-memory c =
     let m = c.args.view.now.message in
     let request = arrival_of c.args.source c.args.octets.now in
     let says = delete_bearer_is c.args.octets.now m c.deletion_request_in-request-in-RemovalAsked.result c.requires.spelled (c.requires.of ∙ ap (λ (p : Procedure). Some p) c.in-RemovalAsked.is) c.deletion_request_in-request-in-RemovalAsked.ensures in
-    from_err c.take_removal_request.result (λ needs. subst (λ (n : Node). AlwaysSendsOrOpens (TakesBy old.role request (message_of m)) n) (unheard c.args.heard (message_of m) old c.requires.weighed (ap recovery_of says.is))
+    on_err_weaker c.take_removal_request.result (λ needs. subst (λ (n : Node). AlwaysSendsOrOpens (TakesBy old.role request (message_of m)) n) (unheard c.args.heard (message_of m) old c.requires.weighed (ap recovery_of says.is))
     (needs_removal old.role request (message_of m) old.node says.request (subst (λ (p : Procedure). has old.role p ≡ true) c.in-RemovalAsked.is c.requires.has) says.is (needs request says.request says.says)))
     c.take_removal_request.ensures.memory
 
@@ -222,12 +223,12 @@ pub returns-in-SessionAnswered-clause-memory : goal.returns-in-SessionAnswered-c
 returns-in-SessionAnswered-clause-memory c =
     let old = station_of c.args.self.now in
     let reads = c.session_response_in-answer.ensures in
-    from_err c.take_session_response.result (λ needs. needs_session_response old.role (arrival_of c.args.source c.args.octets.now) (message_of c.args.view.now.message) (node_heard c.args.heard old.node) reads.response (subst (λ (p : Procedure). has old.role p ≡ true) c.in-SessionAnswered.is c.requires.has) reads.is (needs reads.response reads.says))
+    on_err_weaker c.take_session_response.result (λ needs. needs_session_response old.role (arrival_of c.args.source c.args.octets.now) (message_of c.args.view.now.message) (node_heard c.args.heard old.node) reads.response (subst (λ (p : Procedure). has old.role p ≡ true) c.in-SessionAnswered.is c.requires.has) reads.is (needs reads.response reads.says))
     c.take_session_response.ensures.memory
 
 pub returns-in-BearerAnswered-clause-memory : goal.returns-in-BearerAnswered-clause-memory
 returns-in-BearerAnswered-clause-memory c =
     let old = station_of c.args.self.now in
     let reads = c.bearer_response_in-answer.ensures in
-    from_err c.take_bearer_response.result (λ needs. needs_bearer_response old.role (arrival_of c.args.source c.args.octets.now) (message_of c.args.view.now.message) (node_heard c.args.heard old.node) reads.response (subst (λ (p : Procedure). has old.role p ≡ true) c.in-BearerAnswered.is c.requires.has) reads.is (needs reads.response reads.says))
+    on_err_weaker c.take_bearer_response.result (λ needs. needs_bearer_response old.role (arrival_of c.args.source c.args.octets.now) (message_of c.args.view.now.message) (node_heard c.args.heard old.node) reads.response (subst (λ (p : Procedure). has old.role p ≡ true) c.in-BearerAnswered.is c.requires.has) reads.is (needs reads.response reads.says))
     c.take_bearer_response.ensures.memory

@@ -1,5 +1,6 @@
 use Rattle.std.proofs.Common.{◌≡◌, inl, inr, refl, sym, ◌∙◌, ap, subst}
 use Rattle.std.specs.FinMap.{get}
+use Rattle.std.proofs.lemmas.Result.{IfOk-weaker}
 use Rattle.gtp_machine.specs.Choice.{HasHeldRoom}
 use Rattle.gtp_machine.specs.Input.{Effect}
 use Rattle.gtp_machine.specs.Node.{Pending, Session}
@@ -12,7 +13,7 @@ use Rattle.gtp_gateway.specs.Station.{station_of}
 use Rattle.gtp_gateway.proofs.Answers.{held_few, held_many}
 use Rattle.gtp_gateway.proofs.Columns.{yes, no}
 use Rattle.gtp_gateway.proofs.Endings.{row_as}
-use Rattle.gtp_gateway.proofs.Rows.{if_ok, drops}
+use Rattle.gtp_gateway.proofs.Rows.{drops}
 use Rattle.gtp_gateway.proofs.Needing.{on_err, removal_opened, removal_asked}
 use Rattle.gtp_gateway.proofs.parts.Parts.take_removal_request.Goals as goal
 
@@ -40,7 +41,7 @@ returns-in-Answered-clause-taken c =
     let m = c.args.view.now.message in
     let a = c.in-Answered.answer in
     let room : HasHeldRoom old.node = record { few = held_few c.args.self.now.held.pairs (no c.is_full.ensures.full c.if-is_full.false) } in
-    if_ok c.answer_removal.result
+    IfOk-weaker c.answer_removal.result _ _
     (λ step taken. λ d says reads.
     row_as (λ n e. e ≡ removal_effect request d a n) (RemovalAsked request d) request old.role old.node step new
     (λ e is. inr (room, subst (λ (x : Effect). RemovalJudged request d old.node x) (sym is) (c.in-Answered.ensures.judged request d says)))

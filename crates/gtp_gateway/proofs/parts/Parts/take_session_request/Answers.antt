@@ -1,4 +1,5 @@
 use Rattle.std.proofs.Common.{◌<◌, List, length, false, true, inl, inr, refl, sym, ap, subst}
+use Rattle.std.proofs.lemmas.Result.{IfOk-weaker}
 use Rattle.gtp_machine.specs.Answer.{answered, making}
 use Rattle.gtp_machine.specs.Choice.{HasHeldRoom}
 use Rattle.gtp_machine.specs.Input.{Effect}
@@ -13,13 +14,14 @@ use Rattle.gtp_gateway.specs.Hearing.{node_heard}
 use Rattle.gtp_gateway.specs.Parts.{arrival_of, node_of}
 use Rattle.gtp_gateway.specs.Station.{station_of}
 use Rattle.gtp_gateway.proofs.Answers.{held_few, held_many}
-use Rattle.gtp_gateway.proofs.Answered.{held_stays, answered_so, refusal_same, grant_same, made_same}
+use Rattle.gtp_gateway.proofs.Answered.{answered_so, refusal_same, grant_same, made_same}
 use Rattle.gtp_gateway.proofs.Columns.{yes, no}
-use Rattle.gtp_gateway.proofs.Rows.{if_ok, ends, config_stays}
+use Rattle.gtp_gateway.proofs.Rows.{ends}
 use Rattle.gtp_gateway.proofs.Needing.{on_err, session_asked}
 use Rattle.gtp_gateway.proofs.Choosings.{unmade, lowest_session}
 use Rattle.gtp_gateway.specs.declared.control_step.ControlStep.{ControlStep}
 use Rattle.gtp_gateway.proofs.parts.Parts.take_session_request.Goals as goal
+use Rattle.gtp_gateway.proofs.Weighing.{held_stays, config_stays}
 
 pub returns-then-is_full-clause-taken : goal.returns-then-is_full-clause-taken
 returns-then-is_full-clause-taken c = λ q says.
@@ -37,7 +39,7 @@ returns-in-Refused-clause-taken c =
     let r = c.args.request.now in
     let cause = c.in-Refused.cause in
     let room : HasHeldRoom left = record { few = subst (λ (held : List Held). length held < 4096) (sym (held_stays c.args.heard old.node)) (held_few c.args.self.now.held.pairs (no c.is_full.ensures.full c.if-is_full.false)) } in
-    if_ok c.refuse_session.result (λ step a q says.
+    IfOk-weaker c.refuse_session.result _ _ (λ step a q says.
     answered_so (SessionAsked request q) c.args.source c.args.octets.now _ cause.value false left left old step (station_of c.refuse_session.new.self) (config_stays c.args.heard old.node) a
     (inr (
       room,
@@ -55,7 +57,7 @@ returns-in-Granted-clause-taken c =
     let g = c.in-Granted.grant in
     let room : HasHeldRoom left = record { few = subst (λ (held : List Held). length held < 4096) (sym (held_stays c.args.heard old.node)) (held_few c.args.self.now.held.pairs (no c.is_full.ensures.full c.if-is_full.false)) } in
     let chosen = subst (λ (v : SessionVerdict). IsVerdict r.default.identity v c.args.heard old.node) c.in-Granted.is c.judge_session.ensures.is in
-    if_ok c.grant_session.result (λ step a q says.
+    IfOk-weaker c.grant_session.result _ _ (λ step a q says.
     answered_so (SessionAsked request q) c.args.source c.args.octets.now _ (session_cause r.pdn.0) true _ left old step (station_of c.grant_session.new.self) (config_stays c.args.heard old.node) a
     (inr (
       room,
@@ -77,14 +79,14 @@ returns-in-Granted-clause-memory c =
     on_err c.grant_session.result (λ arrival q. session_asked arrival q left (record { few = subst (λ (held : List Held). length held < 4096) (sym (held_stays c.args.heard old.node)) (held_few c.args.self.now.held.pairs (no c.is_full.ensures.full c.if-is_full.false)) }))
 
 pub returns-in-Refused-clause-choices : goal.returns-in-Refused-clause-choices
-returns-in-Refused-clause-choices c = if_ok c.refuse_session.result (λ step a. unmade step.report.made (ap (λ (s : ControlStep). s.report.made) a.is)) c.refuse_session.ensures.refused
+returns-in-Refused-clause-choices c = IfOk-weaker c.refuse_session.result _ _ (λ step a. unmade step.report.made (ap (λ (s : ControlStep). s.report.made) a.is)) c.refuse_session.ensures.refused
 
 pub returns-in-Granted-clause-choices : goal.returns-in-Granted-clause-choices
 returns-in-Granted-clause-choices c =
     let r = c.args.request.now in
     let old = node_of c.args.self.now in
     let chosen = subst (λ (v : SessionVerdict). IsVerdict r.default.identity v c.args.heard old) c.in-Granted.is c.judge_session.ensures.is in
-    if_ok c.grant_session.result (λ step a made. lowest_session r.default.identity r c.in-Granted.grant c.args.heard old (node_of c.grant_session.new.self) chosen (ap (λ (n : Node). n.sessions) a.becomes)) c.grant_session.ensures.granted
+    IfOk-weaker c.grant_session.result _ _ (λ step a made. lowest_session r.default.identity r c.in-Granted.grant c.args.heard old (node_of c.grant_session.new.self) chosen (ap (λ (n : Node). n.sessions) a.becomes)) c.grant_session.ensures.granted
 
 pub returns-then-is_full-clause-choices : goal.returns-then-is_full-clause-choices
 returns-then-is_full-clause-choices c = unmade c.dropped.result.report.made (ap (λ (s : ControlStep). s.report.made) c.dropped.ensures)

@@ -1,11 +1,11 @@
 use Rattle.std.proofs.Common.{ℕ, ap, subst}
+use Rattle.std.proofs.lemmas.Result.{IfOk-weaker, on_err_weaker}
 use Rattle.gtp_machine.specs.Serving.{SessionAnswered}
 use Rattle.gtp_gateway.specs.Hearing.{node_heard}
 use Rattle.gtp_gateway.specs.Settled.{effect_by}
 use Rattle.gtp_gateway.specs.Station.{station_of}
 use Rattle.gtp_gateway.proofs.Settled.{settled, if_ok}
-use Rattle.gtp_gateway.proofs.Needing.{from_err, session_answered}
-use Rattle.gtp_gateway.proofs.Rows.{if_ok as each_ok}
+use Rattle.gtp_gateway.proofs.Needing.{session_answered}
 use Rattle.gtp_gateway.specs.declared.control_step.ControlStep.{ControlStep}
 use Rattle.gtp_gateway.proofs.parts.Parts.take_session_response.Goals as goal
 
@@ -23,7 +23,7 @@ returns-clause-memory c =
     let old = station_of c.args.self.now in
     let v = c.judge_session_response-verdict.result in
     let n = node_heard c.args.heard old.node in
-    from_err c.settle.result (λ opened a says. session_answered a n (effect_by v a.number n) opened (c.judge_session_response-verdict.ensures.judged a says)) c.settle.ensures.memory
+    on_err_weaker c.settle.result (λ opened a says. session_answered a n (effect_by v a.number n) opened (c.judge_session_response-verdict.ensures.judged a says)) c.settle.ensures.memory
 
 pub returns-clause-unmade : goal.returns-clause-unmade
-returns-clause-unmade c = each_ok c.settle.result (λ step is. ap (λ (s : ControlStep). s.report.made) is) c.settle.ensures.step
+returns-clause-unmade c = IfOk-weaker c.settle.result _ _ (λ step is. ap (λ (s : ControlStep). s.report.made) is) c.settle.ensures.step

@@ -1,18 +1,28 @@
-use Rattle.std.proofs.Common.{◌∙◌, ◌&&◌, ℕ, sym, ap, cond, false, Option, nat_eq}
+use Rattle.std.proofs.Common.{◌≡◌, ◌∙◌, ◌&&◌, ℕ, sym, ap, cond, false, None, Option, nat_eq}
 use Rattle.std.specs.FinMap.{get}
+use Rattle.std.specs.BTreeSet.{contains}
 use Rattle.gtp_tables.specs.declared.context.Bearer.{Bearer}
 use Rattle.gtp_values.specs.FiniteMap.{FiniteMap}
-use Rattle.gtp_tables.specs.Index.{names, remote_is}
+use Rattle.gtp_values.specs.Number.{is_number}
+use Rattle.gtp_tables.specs.Index.{pair_cmp, names}
 use Rattle.gtp_tables.specs.Rows.{Rows}
-use Rattle.gtp_tables.proofs.Named.{unnamed, get_removed, same}
+use Rattle.gtp_values.proofs.Tests.{same_number}
+use Rattle.gtp_tables.proofs.Named.{unnamed, noted_less, left_named, get_removed}
 use Rattle.gtp_tables.proofs.bearers.Bearers.remove.Goals as goal
 
 pub invariant_of-self : goal.invariant_of-self
 invariant_of-self c =
     let table : FiniteMap Bearer = c.self.inside.table.table in
-    λ r o. c.unname_if.ensures r o
-    ∙ (ap (cond (remote_is r c.remote_of-remote.result && nat_eq c.args.teid.0 o) false) (c.self.invariant r o)
-    ∙ (ap (λ (x : Option ℕ). cond (remote_is r x && nat_eq c.args.teid.0 o) false (names r (get table o))) c.remote_of-remote.ensures
-    ∙ (unnamed c.args.teid.0 r o (get table c.args.teid.0) (get table o) (λ e. ap (get table) (sym (same c.args.teid.0 o e)))
-    ∙ (ap (names r) (sym (get_removed table c.args.teid.0 o))
-    ∙ ap (λ (t : Rows Bearer). names r (get t.table o)) (sym c.remove.ensures)))))
+    let removed : (o : ℕ) → get c.remove.new.self.table o ≡ cond (nat_eq c.args.teid.0 o) None (get table o) = λ o. ap (λ (t : Rows Bearer). get t.table o) c.remove.ensures ∙ get_removed table c.args.teid.0 o in
+    let indexed : (r o : ℕ) → contains pair_cmp c.unname_if.new.index (r, o) ≡ names r (get c.remove.new.self.table o) = λ r o. c.unname_if.ensures r o
+    ∙ (ap (cond (is_number r c.remote_of-remote.result && nat_eq c.args.teid.0 o) false) (c.self.invariant.indexed r o)
+    ∙ (ap (λ (x : Option ℕ). cond (is_number r x && nat_eq c.args.teid.0 o) false (names r (get table o))) c.remote_of-remote.ensures
+    ∙ (unnamed c.args.teid.0 r o (get table c.args.teid.0) (get table o) (λ e. ap (get table) (sym (same_number c.args.teid.0 o e)))
+    ∙ ap (names r) (sym (removed o))))) in
+    record {
+      indexed = indexed;
+      noted =
+          noted_less table c.remove.new.self.table c.self.inside.noted.entries c.forget_if.new.noted.entries c.self.invariant.noted
+          (λ r o is. left_named r (nat_eq c.args.teid.0 o) (get table o) (ap (names r) (sym (removed o)) ∙ is))
+          (λ r o is. c.forget_if.ensures r o (indexed r o ∙ is));
+    }

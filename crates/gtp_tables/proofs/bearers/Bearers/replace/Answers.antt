@@ -1,10 +1,12 @@
-use Rattle.std.proofs.Common.{◌∙◌, ℕ, sym, ap, subst, IsSome, refl}
+use Rattle.std.proofs.Common.{◌≡◌, ◌∙◌, ℕ, sym, ap, subst, IsSome, refl}
 use Rattle.std.specs.FinMap.{get}
 use Rattle.gtp_tables.specs.declared.context.Bearer.{Bearer}
 use Rattle.gtp_values.specs.FiniteMap.{FiniteMap}
-use Rattle.gtp_tables.specs.Index.{names, remote_is, IsAt}
+use Rattle.gtp_values.specs.Number.{is_number}
+use Rattle.gtp_tables.specs.Index.{names, IsAt}
 use Rattle.gtp_tables.specs.Rows.{Rows}
-use Rattle.gtp_tables.proofs.Named.{renamed, get_inserted, same}
+use Rattle.gtp_values.proofs.Tests.{same_number}
+use Rattle.gtp_tables.proofs.Named.{renamed, get_inserted}
 use Rattle.gtp_tables.proofs.bearers.Bearers.replace.Goals as goal
 
 pub replace-requires : goal.replace-requires
@@ -16,7 +18,11 @@ pub invariant_of-self : goal.invariant_of-self
 invariant_of-self c =
     let table : FiniteMap Bearer = c.self.inside.table.table in
     let old : IsAt table c.args.teid.0 c.args.bearer.remote = subst (λ (m : FiniteMap Bearer). IsAt m c.args.teid.0 c.args.bearer.remote) (sym c.self.view_is) c.requires.same in
-    λ r o. c.self.invariant r o
-    ∙ (renamed c.args.teid.0 r o c.args.bearer (get table o) (λ e. ap (λ (k : ℕ). names r (get table k)) (sym (same c.args.teid.0 o e)) ∙ (ap (names r) old.stands ∙ ap (remote_is r) old.same))
+    let same : (r o : ℕ) → names r (get table o) ≡ names r (get c.replace.new.self.table o) = λ r o.
+    renamed c.args.teid.0 r o c.args.bearer (get table o) (λ e. ap (λ (k : ℕ). names r (get table k)) (sym (same_number c.args.teid.0 o e)) ∙ (ap (names r) old.stands ∙ ap (is_number r) old.same))
     ∙ (ap (names r) (sym (get_inserted table c.args.teid.0 c.args.bearer o))
-    ∙ ap (λ (t : Rows Bearer). names r (get t.table o)) (sym c.replace.ensures)))
+    ∙ ap (λ (t : Rows Bearer). names r (get t.table o)) (sym c.replace.ensures)) in
+    record {
+      indexed = λ r o. c.self.invariant.indexed r o ∙ same r o;
+      noted = λ r o is. c.self.invariant.noted r o (same r o ∙ is);
+    }

@@ -1,8 +1,9 @@
-use Rattle.std.proofs.Common.{◌∙◌, ap, sym, subst, T, List}
+use Rattle.std.proofs.Common.{rules, ◌≡◌, ◌∙◌, ap, sym, ℕ, List, [], ◌∷◌, ◌++◌}
 use Rattle.std.specs.FinMap as map
 use Rattle.std.specs.Ordering.{nat_cmp}
 use Rattle.gtp_tables.specs.Rows.{Rows}
-use Rattle.gtp_tables.proofs.Rows.{get_row, KeysBelow, keys_below, none_above, ascend_push, table_push}
+use Rattle.gtp_tables.proofs.Rows.{find_row, get_row, KeysBelow, keys_below, none_above, table_push}
+use Rattle.gtp_tables.proofs.Ordered.{keys_insert_last}
 use Rattle.gtp_tables.proofs.table.Table.add.Goals as goal
 
 pub put_last-requires-clause-new : goal.put_last-requires-clause-new
@@ -14,9 +15,18 @@ put_last-requires-clause-new g c =
 pub invariant_of-self : goal.invariant_of-self
 invariant_of-self g c =
     let rows = c.self.inside.rows.entries in
+    let m = map.from_entries {R = nat_cmp} rows in
     let below : KeysBelow c.args.teid.0 rows = keys_below c.args.teid.0 rows (λ k x found. c.requires.rises k x (ap (λ (r : Rows _). map.get r.table k) (sym c.self.view_is) ∙ get_row rows k ∙ found)) in
+    let last : KeysBelow c.args.teid.0 (map.entries m) = keys_below c.args.teid.0 (map.entries m) (λ k x found. c.requires.rises k x (ap (λ (r : Rows _). map.get r.table k) (sym c.self.view_is) ∙ map.get-entries m k ∙ find_row (map.entries m) k ∙ found)) in
+    let pushed : c.push.new.self.items ≡ c.self.inside.keys.items ++ c.args.teid.0 ∷ [] = search rules in
     record {
-      ascend = subst (λ (es : List _). T (map.is_sorted nat_cmp es)) (sym c.put_last.ensures.entries) (ascend_push rows (c.args.teid.0, c.args.value) c.self.invariant.ascend below);
+      keys =
+          pushed
+          ∙ ap (λ (ks : List ℕ). ks ++ c.args.teid.0 ∷ []) c.self.invariant.keys
+          ∙ sym (ap (λ (es : List (ℕ × _)). map.keys (map.from_entries {R = nat_cmp} es)) c.put_last.ensures.entries
+          ∙ ap map.keys (table_push rows c.args.teid.0 c.args.value (none_above c.args.teid.0 rows below))
+          ∙ keys_insert_last m c.args.teid.0 c.args.value last);
+      distinct = c.put_last.ensures.distinct;
       room = λ h. absurd cc;
     }
 

@@ -1,19 +1,19 @@
-use Rattle.std.proofs.Common.{◌≡◌, ◌∙◌, ap, sym, List, Option, Some, None, slice_get, rules}
+use Rattle.std.proofs.Common.{◌≡◌, ◌∙◌, ap, sym, Some, ℕ, List, slice_get}
 use Rattle.std.specs.FinMap as map
 use Rattle.gtp_tables.specs.Rows.{Rows}
-use Rattle.gtp_tables.proofs.Rows.{listed}
+use Rattle.gtp_tables.proofs.Ordered.{entry_at, key_stands}
 use Rattle.gtp_tables.proofs.table.Table.at.Goals as goal
 
-pub returns-in-Some : goal.returns-in-Some
-returns-in-Some g c =
-    let rows = c.self.inside.rows.entries in
-    let found : ◌≡◌ {A = Option _} (Some (c.in-Some.key.now, c.in-Some.value.now)) (slice_get rows c.args.index) = search (rules, c.get_index.ensures.entry) in
-    found ∙ ap (λ (es : List _). slice_get es c.args.index) (sym (listed rows c.self.invariant.ascend))
-    ∙ ap (λ (r : Rows _). slice_get (map.entries r.table) c.args.index) c.self.view_is
+pub unreachable-requires : goal.unreachable-requires
+unreachable-requires g c =
+    let table = c.args.self.now.table in
+    let keys : c.as_slice.result.now ≡ map.keys table = c.as_slice.ensures.value ∙ c.self.invariant.keys ∙ ap (λ (r : Rows _). map.keys r.table) c.self.view_is in
+    let at : slice_get (map.keys table) c.args.index ≡ Some c.in_ok-key_at.field-0 = ap (λ (ks : List ℕ). slice_get ks c.args.index) (sym keys) ∙ sym c.in_ok-key_at.ensures in
+    key_stands table c.args.index c.in_ok-key_at.field-0 at (sym c.in-None.ensures)
 
-pub returns-in-None : goal.returns-in-None
-returns-in-None g c =
-    let rows = c.self.inside.rows.entries in
-    let found : ◌≡◌ {A = Option _} None (slice_get rows c.args.index) = search (rules, c.get_index.ensures.entry) in
-    found ∙ ap (λ (es : List _). slice_get es c.args.index) (sym (listed rows c.self.invariant.ascend))
-    ∙ ap (λ (r : Rows _). slice_get (map.entries r.table) c.args.index) c.self.view_is
+pub returns : goal.returns
+returns g c =
+    let table = c.args.self.now.table in
+    let keys : c.as_slice.result.now ≡ map.keys table = c.as_slice.ensures.value ∙ c.self.invariant.keys ∙ ap (λ (r : Rows _). map.keys r.table) c.self.view_is in
+    let at : slice_get (map.keys table) c.args.index ≡ Some c.in_ok-key_at.field-0 = ap (λ (ks : List ℕ). slice_get ks c.args.index) (sym keys) ∙ sym c.in_ok-key_at.ensures in
+    sym (entry_at table c.args.index c.in_ok-key_at.field-0 c.in-Some.value at (sym c.in-Some.ensures))

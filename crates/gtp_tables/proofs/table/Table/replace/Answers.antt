@@ -1,19 +1,29 @@
-use Rattle.std.proofs.Common.{◌≡◌, ◌∙◌, ap, sym, subst, T, nat_eq, List, arith, IsSome}
+use Rattle.std.proofs.Common.{◌≡◌, ◌∙◌, ap, sym, subst, nat_eq, ℕ, List, arith, IsSome}
 use Rattle.std.specs.FinMap as map
 use Rattle.std.specs.Map.{lookup, set_value}
 use Rattle.std.specs.Ordering.{nat_cmp}
 use Rattle.gtp_tables.specs.Rows.{Rows}
-use Rattle.gtp_tables.proofs.Rows.{get_row, lookup_set, ascend_set, table_insert}
+use Rattle.gtp_tables.proofs.Rows.{find_row, get_row, lookup_set, table_insert}
+use Rattle.gtp_tables.proofs.Ordered.{keys_insert_there}
 use Rattle.gtp_tables.proofs.table.Table.replace.Goals as goal
 
 pub put_there-requires : goal.put_there-requires
 put_there-requires g c = record { stands = subst IsSome (ap (λ (r : Rows _). map.get r.table c.args.teid.0) (sym c.self.view_is) ∙ get_row c.self.inside.rows.entries c.args.teid.0) c.requires.stands }
 
 pub invariant_of-self : goal.invariant_of-self
-invariant_of-self g c = record {
-  ascend = subst (λ (es : List _). T (map.is_sorted nat_cmp es)) (sym c.put_there.ensures.entries) (ascend_set c.args.teid.0 c.self.inside.rows.entries c.args.value c.self.invariant.ascend);
-  room = λ h. let was = c.self.invariant.room h in omega (arith, was, c.put_there.ensures.room);
-}
+invariant_of-self g c =
+    let m = map.from_entries {R = nat_cmp} c.self.inside.rows.entries in
+    let stands : IsSome (lookup (nat_eq c.args.teid.0) c.self.inside.rows.entries) = subst IsSome (ap (λ (r : Rows _). map.get r.table c.args.teid.0) (sym c.self.view_is) ∙ get_row c.self.inside.rows.entries c.args.teid.0) c.requires.stands in
+    let there : IsSome (lookup (nat_eq c.args.teid.0) (map.entries m)) = subst IsSome (sym (get_row c.self.inside.rows.entries c.args.teid.0) ∙ map.get-entries m c.args.teid.0 ∙ find_row (map.entries m) c.args.teid.0) stands in
+    record {
+      keys =
+          c.self.invariant.keys
+          ∙ sym (ap (λ (es : List (ℕ × _)). map.keys (map.from_entries {R = nat_cmp} es)) c.put_there.ensures.entries
+          ∙ ap map.keys (table_insert c.self.inside.rows.entries (set_value (nat_eq c.args.teid.0) c.self.inside.rows.entries c.args.value) c.args.teid.0 c.args.value (λ q. lookup_set c.self.inside.rows.entries c.args.teid.0 c.args.value q stands))
+          ∙ keys_insert_there m c.args.teid.0 c.args.value there);
+      distinct = c.put_there.ensures.distinct;
+      room = λ h. let was = c.self.invariant.room h in (omega (arith, was.0, c.put_there.ensures.room), was.1);
+    }
 
 pub returns : goal.returns
 returns g c =

@@ -18,8 +18,8 @@ returns-in-Some-clause-free c =
       place = place;
       in_pool = c.in-Some.ensures.within;
       is = ap (λ (n : ℕ). n + place) c.start.ensures;
-      unused = address_free restarted all (c.start.result + place) (ap (λ (n : ℕ). taken (n + place) (values all.sessions)) c.start.ensures ∙ (ap (taken (c.args.pool.start + place)) (sym c.values.ensures) ∙ c.in-Some.ensures.free));
-      lower = λ p lt. address_taken restarted all (c.args.pool.start + p) (ap (taken (c.args.pool.start + p)) (sym c.values.ensures) ∙ c.in-Some.ensures.lower p lt);
+      unused = address_free restarted all (c.start.result + place) (ap (λ (n : ℕ). taken (n + place) (values all.sessions)) c.start.ensures ∙ (sym (c.values.ensures.any (takes restarted (c.args.pool.start + place))) ∙ c.in-Some.ensures.free));
+      lower = λ p lt. address_taken restarted all (c.args.pool.start + p) (sym (c.values.ensures.any (takes restarted (c.args.pool.start + p))) ∙ c.in-Some.ensures.lower p lt);
     })
 
 pub returns-in-None-clause-none : goal.returns-in-None-clause-none
@@ -28,4 +28,4 @@ returns-in-None-clause-none c =
     let restarted = c.self.inside.restarted in
     let taken : ℕ → List Session → Bool = λ a l. list_any (takes restarted a) l in
     subst (λ (k : Contexts). IsUsedUp k.sessions c.args.pool) c.self.view_is
-    (λ p lt. address_taken restarted all (c.args.pool.start + p) (ap (taken (c.args.pool.start + p)) (sym c.values.ensures) ∙ c.in-None.ensures.none p lt))
+    (λ p lt. address_taken restarted all (c.args.pool.start + p) (sym (c.values.ensures.any (takes restarted (c.args.pool.start + p))) ∙ c.in-None.ensures.none p lt))

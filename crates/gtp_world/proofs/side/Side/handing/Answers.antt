@@ -1,10 +1,10 @@
 use Rattle.std.proofs.Common.{List, ℕ, Option, None, sym, ◌∙◌, subst}
+use Rattle.std.proofs.lemmas.Result.{IfOk-weaker}
 use Rattle.gtp_machine.specs.Input.{Entry}
 use Rattle.gtp_machine.specs.World.{By}
 use Rattle.gtp_world.specs.Commands.{command_of}
 use Rattle.gtp_world.specs.Sides.{IsEntryAt, IsHanded}
 use Rattle.gtp_world.specs.declared.event.Event.{Event}
-use Rattle.gtp_world.proofs.Finding.{so_on_value}
 use Rattle.gtp_world.proofs.side.Side.handing.Goals as goal
 
 pub returns : goal.returns
@@ -12,7 +12,7 @@ returns c =
     let role = c.args.node in
     let node = c.args.self.now.gateway.node in
     let bearer = c.in-SendUser.bearer.0 in
-    so_on_value c.of_any.result _ _ (λ handed is.
+    IfOk-weaker c.of_any.result _ _ (λ handed is.
     subst (λ (e : Event). IsHanded role node (command_of e) handed) (sym c.in-SendUser.is)
     (subst (λ (k : List ℕ). IsEntryAt role node bearer None k handed) (c.in_ok-payload.ensures.items ∙ c.as_slice.ensures.value)
     (subst (λ (p : Option (By Entry)). IsEntryAt role node bearer None c.in_ok-payload.payload.items p) (sym is) c.entry.ensures)))

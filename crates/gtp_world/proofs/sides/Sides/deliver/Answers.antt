@@ -1,9 +1,10 @@
 use Rattle.std.proofs.Common.{◌≡◌, ◌<◌, ℕ, length, sym, ◌∙◌, ap, subst, refl}
 use Rattle.std.proofs.lemmas.Option.{slice_get_read}
+use Rattle.std.proofs.lemmas.Result.{on_ok_weaker}
 use Rattle.gtp_machine.specs.World.{Deliver}
 use Rattle.gtp_world.specs.Kept.{Kept, Log, kept_of, log_of}
 use Rattle.gtp_world.specs.Stepped.{Comes}
-use Rattle.gtp_world.proofs.Finding.{there, delivered, all_of, so_on_ok}
+use Rattle.gtp_world.proofs.Finding.{there, delivered, all_of}
 use Rattle.gtp_world.proofs.sides.Sides.deliver.Goals as goal
 
 pub returns-clause-comes : goal.returns-clause-comes
@@ -20,7 +21,7 @@ returns-clause-comes c =
     let found = there datagrams i within in
     let at = slice_get_read datagrams _ i d refl within c.index.ensures in
     let new = kept_of c.bring.new.self in
-    so_on_ok c.bring.result _ _ (λ takes.
+    on_ok_weaker c.bring.result (λ takes.
     subst (λ (n : ℕ). Comes (kept_of old) (Deliver n) new) is.0
     (subst (λ (k : Kept). Comes k (Deliver i) new) same
     (delivered v i new c.in_ok-late.late found (c.in_ok-late.ensures found)

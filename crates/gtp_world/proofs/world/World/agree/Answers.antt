@@ -3,7 +3,8 @@ use Rattle.std.specs.Prelude.{IsTrue}
 use Rattle.std.proofs.lemmas.Iterator.Consumers.{nth_from_yields_List, YieldsList-from_first}
 use Rattle.gtp_world.specs.Kept.{Kept, kept_of}
 use Rattle.gtp_world.specs.Naming.{Pair, pair_of, mutual_pairs, DoAgree}
-use Rattle.gtp_world.proofs.Naming.{among_at, listed, agreeing}
+use Rattle.gtp_machine.proofs.Basics.FiniteMaps.{among_at}
+use Rattle.gtp_world.proofs.Naming.{listed, agreeing}
 use Rattle.gtp_world.proofs.Reached.{is_so}
 use Rattle.gtp_world.proofs.world.World.agree.Goals as goal
 

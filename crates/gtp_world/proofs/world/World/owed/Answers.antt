@@ -4,7 +4,7 @@ use Rattle.std.proofs.lemmas.Option.{slice_get-map, slice_get-get_or}
 use Rattle.gtp_machine.specs.Input.{Entry}
 use Rattle.gtp_machine.specs.World.{By, HasBy, other}
 use Rattle.gtp_world.specs.Kept.{Kept, kept_of, entry_by}
-use Rattle.gtp_world.proofs.Naming.{among_at}
+use Rattle.gtp_machine.proofs.Basics.FiniteMaps.{among_at}
 use Rattle.gtp_world.proofs.Reached.{is_so}
 use Rattle.gtp_world.proofs.Safe.{run_safe}
 use Rattle.gtp_world.proofs.world.World.owed.Goals as goal

@@ -3,7 +3,7 @@ use Rattle.std.specs.declared.cmp.Ordering.TheVariants.{Less, Greater}
 use Rattle.gtp_reliable.specs.Order.{question_cmp}
 use Rattle.gtp_reliable.specs.Index.{question, questions, named_at}
 use Rattle.gtp_reliable.proofs.Halving.{reach}
-use Rattle.gtp_reliable.proofs.queue.find.Given as goal
+use Rattle.gtp_reliable.proofs.queue.halve.Given as goal
 
 abbrev pub invariant-loop-low : goal.invariant-loop-low
 invariant-loop-low l = record {

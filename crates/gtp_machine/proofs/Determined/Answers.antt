@@ -1,0 +1,93 @@
+-- Requests, and their answers.
+use Rattle.std.proofs.Common.{◌≡◌, inl, inr, ℕ, ◌==◌, false, List, ◌∷◌, [], Option, Some, None, refl, sym, ◌∙◌, ap, subst}
+use Rattle.gtp_machine.specs.Element.{cause_of}
+use Rattle.gtp_machine.specs.Message.{CreateSessionRequest, DeleteSessionRequest, CreateBearerRequest, DeleteBearerRequest, RemovedBearer}
+use Rattle.gtp_machine.specs.Node.{Role, Serving, Packet, Session, Arrival, Node}
+use Rattle.gtp_machine.specs.Input.{ControlReading, Control_came, Input, RequestKind, Of_create_session, Of_delete_session, Of_create_bearer, Of_delete_bearer, FaultyRequest}
+use Rattle.gtp_machine.specs.Removal.{without_bearer}
+use Rattle.gtp_machine.specs.Serving.{MakesBearer, BearerAsked, RemovesEach, RemovesBearers, RemovalTaken, RemovalAsked, ServingFaulted}
+use Rattle.gtp_machine.specs.Packet.{MakesSession, SessionAsked, DeletionAsked, PacketFaulted}
+use Rattle.gtp_machine.specs.Sound.{AreApart}
+use Rattle.gtp_machine.proofs.Determined.Alike.{Fits, Alike, Determines, the_same, says_it, by_effects, unless_plain, unless_one}
+use Rattle.gtp_machine.proofs.Determined.Witnesses.{IsLeft, was_session, was_bearer, undrawn_before, apart_left, one_session, one_named}
+use Rattle.gtp_machine.proofs.Changes.Shrinking.{Shrinks-without}
+use Rattle.gtp_machine.proofs.Determined.Chosen.{last_drawn, second_drawn, comes_beside}
+
+same_some : {X : Type 0} (x y : X) → ◌≡◌ {A = Option X} (Some x) (Some y) → x ≡ y
+same_some x y e = cc
+
+-- the contexts of an answer, and the gateway that is left, for a list of identities
+removes_one : (session : ℕ) (identities : List ℕ) (old : Node) (contexts others : List RemovedBearer) (left right : Node) → AreApart old.bearers → RemovesEach session identities old contexts left → RemovesEach session identities old others right → (contexts ≡ others) × (left ≡ right)
+removes_one session [] old contexts others left right apart r s = (r.0 ∙ sym s.0, r.1 ∙ sym s.1)
+removes_one session (identity ∷ rest) old contexts others left right apart (cs, inl r) (ds, inl s) =
+    let found = removes_one session rest old cs ds left right apart r.1.1 s.1.1 in
+    (r.1.0 ∙ (ap (λ k. record { identity = identity; cause = cause_of 64 } ∷ k) found.0 ∙ sym s.1.0), found.1)
+removes_one session (identity ∷ rest) old contexts others left right apart (cs, inl r) (ds, inr s) = absurd (r.0 s.0)
+removes_one session (identity ∷ rest) old contexts others left right apart (cs, inr r) (ds, inl s) = absurd (s.0 r.0)
+removes_one session (identity ∷ rest) old contexts others left right apart (cs, inr r) (ds, inr s) =
+    let key : s.0.key ≡ r.0.key = one_named old session identity apart s.0 r.0 in
+    let found = removes_one session rest (without_bearer old r.0.key) cs ds left right (apart_left old (without_bearer old r.0.key) (Shrinks-without (λ t. false) (λ t. t == r.0.key) old) apart) r.1.1 (subst (λ k. RemovesEach session rest (without_bearer old k) ds right) key s.1.1) in
+    (r.1.0 ∙ (ap (λ k. record { identity = identity; cause = cause_of 16 } ∷ k) found.0 ∙ sym s.1.0), found.1)
+
+module _ {first : Node} {reading : ControlReading} (request : Arrival) (old : Node) (fits : Fits first) (left : IsLeft first old) where
+  makes_session : (q : CreateSessionRequest) → Determines (Alike Packet first (Control_came request reading)) (MakesSession request old q)
+  makes_session q e f r s = by_effects _ _ e f r.gives s.gives (record {
+    tell = record { outcome = refl; told = refl; places = refl; known = refl; counter = refl; draws = refl };
+    one = λ alike.
+        let user : r.user ≡ s.user = last_drawn r.user s.user _ _ alike.drawn in
+        let control : r.control ≡ s.control = second_drawn r.user r.control s.user s.control old.drawn alike.drawn in
+        let address : r.address ≡ s.address =
+        same_some r.address s.address (alike.addresses request reading refl refl (λ none. cc none) old.sessions r.control _ _
+        (comes_beside first.sessions old.sessions first.drawn (was_session first old left) fits.sessions r.control r.control _ refl (undrawn_before first old r.control left r.control_free))
+        (comes_beside first.sessions old.sessions first.drawn (was_session first old left) fits.sessions r.control s.control _ control (undrawn_before first old r.control left r.control_free))) in
+        cc;
+  })
+
+  makes_bearer : (q : CreateBearerRequest) (at : Session) → Determines (Alike Serving first (Control_came request reading)) (MakesBearer request old q at)
+  makes_bearer q at e f r s = by_effects _ _ e f r.gives s.gives (record {
+    tell = record { outcome = refl; told = refl; places = refl; known = refl; counter = refl; draws = refl };
+    one = λ alike.
+        let user : r.user ≡ s.user = last_drawn r.user s.user _ _ alike.drawn in
+        let identity : r.identity ≡ s.identity =
+        same_some r.identity s.identity (alike.identities request reading refl refl (λ none. cc none) old.bearers r.user _ _
+        (comes_beside first.bearers old.bearers first.drawn (was_bearer first old left) fits.bearers r.user r.user _ refl (undrawn_before first old r.user left r.user_free))
+        (comes_beside first.bearers old.bearers first.drawn (was_bearer first old left) fits.bearers r.user s.user _ user (undrawn_before first old r.user left r.user_free)) refl) in
+        cc;
+  })
+
+  pub session_asked : (q : CreateSessionRequest) → Determines (Alike Packet first (Control_came request reading)) (SessionAsked request q old)
+  session_asked q = unless_plain says_it (unless_plain says_it (unless_plain says_it (unless_plain says_it (unless_plain says_it (unless_plain says_it (unless_plain says_it (makes_session q)))))))
+
+  pub bearer_asked : (q : CreateBearerRequest) → Determines (Alike Serving first (Control_came request reading)) (BearerAsked request q old)
+  bearer_asked q = unless_plain says_it (unless_one (one_session old q.header) says_it (λ at. unless_plain says_it (unless_plain says_it (unless_plain says_it (unless_plain says_it (makes_bearer q at.session))))))
+
+module _ {role : Role} {first : Node} {input : Input} (request : Arrival) (old : Node) where
+  pub deletion_asked : (d : DeleteSessionRequest) → Determines (Alike role first input) (DeletionAsked request d old)
+  deletion_asked d = unless_plain says_it (unless_one (one_session old d.header) says_it (λ at. unless_plain says_it says_it))
+
+  module _ (apart : AreApart old.bearers) where
+    removes_bearers : (d : DeleteBearerRequest) (at : Session) → Determines (Alike role first input) (RemovesBearers request d old at)
+    removes_bearers d at e f r s =
+        let found = removes_one d.header d.identities old r.contexts s.contexts r.left s.left apart r.removes s.removes in
+        let contexts : r.contexts ≡ s.contexts = found.0 in
+        let node : r.left ≡ s.left = found.1 in
+        the_same e f cc
+
+    removal_taken : (d : DeleteBearerRequest) (linked : Option ℕ) (at : Session) → Determines (Alike role first input) (RemovalTaken request d linked old at)
+    removal_taken d (Some identity) at = unless_plain says_it says_it
+    removal_taken d None at = unless_plain says_it (removes_bearers d at)
+
+    pub removal_asked : (d : DeleteBearerRequest) → Determines (Alike role first input) (RemovalAsked request d old)
+    removal_asked d = unless_plain says_it (unless_one (one_session old d.header) says_it (λ at. unless_plain says_it (removal_taken d d.linked at.session)))
+
+  pub serving_faulted : (q : FaultyRequest) (kind : RequestKind) → Determines (Alike role first input) (ServingFaulted request q kind old)
+  serving_faulted q Of_create_session = says_it
+  serving_faulted q Of_delete_session = says_it
+  serving_faulted q Of_create_bearer = says_it
+  serving_faulted q Of_delete_bearer = says_it
+
+  pub packet_faulted : (q : FaultyRequest) (kind : RequestKind) → Determines (Alike role first input) (PacketFaulted request q kind old)
+  packet_faulted q Of_create_session = says_it
+  packet_faulted q Of_delete_session = says_it
+  packet_faulted q Of_create_bearer = says_it
+  packet_faulted q Of_delete_bearer = says_it

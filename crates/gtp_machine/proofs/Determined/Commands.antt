@@ -1,0 +1,109 @@
+-- Commands.
+use Rattle.std.proofs.Common.{◌≡◌, ℕ, List, Option, None, refl}
+use Rattle.std.specs.FinMap.{get, insert}
+use Rattle.gtp_values.specs.declared.qos.Qos.{Qos}
+use Rattle.gtp_machine.specs.Node.{Role, Serving, Packet, Closing, Session, Bearer, PendingRequest, Node}
+use Rattle.gtp_machine.specs.Input.{Specification, Command, Create_session, Delete_session, Create_bearer, Delete_bearer, Release_session, Mark_end, Send_echo, Send_user, Commanded, Effect}
+use Rattle.gtp_machine.specs.Removal.{session_closing}
+use Rattle.gtp_machine.specs.Command.{asks, BeginsSession, ClosesSession, ReleasesSession, BeginsBearer, ClosesBearer, SendsEcho, SendsPacket, SessionBegun, SessionDeleted, BearerBegun, BearerDeleted, SessionReleased, EndMarked, EchoBegun, PacketSent, CommandStep}
+use Rattle.gtp_machine.specs.Sound.{AreApart}
+use Rattle.gtp_machine.proofs.Basics.Facts.{one_value}
+use Rattle.gtp_machine.proofs.Determined.Alike.{Alike, Determines, is_one, the_same, says_it, by_effects, unless_plain, unless_moved, unless_one}
+use Rattle.gtp_machine.proofs.Determined.Witnesses.{one_session, one_bearer, one_named}
+use Rattle.gtp_machine.proofs.Determined.Chosen.{last_drawn, second_drawn, one_number}
+
+module _ {role : Role} (command : Command) (old : Node) where
+  begins_session : (spec : Specification) → Determines (Alike role old (Commanded command)) (BeginsSession old spec)
+  begins_session spec e f r s = by_effects _ _ e f r.gives s.gives (record {
+    tell = record { outcome = refl; told = refl; places = refl; known = refl; counter = refl; draws = refl };
+    one = λ alike.
+        let user : r.user ≡ s.user = last_drawn r.user s.user _ _ alike.drawn in
+        let control : r.control ≡ s.control = second_drawn r.user r.control s.user s.control old.drawn alike.drawn in
+        let number : r.number ≡ s.number = one_number _ _ old.pending r.number s.number _ _ refl refl r.number_free.unused (alike.numbers command refl) in
+        cc;
+  })
+
+  begins_bearer : (session : ℕ) (at : Session) (tft : List ℕ) (qos : Qos) → Determines (Alike role old (Commanded command)) (BeginsBearer old session at tft qos)
+  begins_bearer session at tft qos e f r s = by_effects _ _ e f r.gives s.gives (record {
+    tell = record { outcome = refl; told = refl; places = refl; known = refl; counter = refl; draws = refl };
+    one = λ alike.
+        let user : r.user ≡ s.user = last_drawn r.user s.user _ _ alike.drawn in
+        let number : r.number ≡ s.number = one_number _ _ old.pending r.number s.number _ _ refl refl r.number_free.unused (alike.numbers command refl) in
+        cc;
+  })
+
+  -- a request of which the number alone is chosen
+  asks_alike : (m n : ℕ) (p q : PendingRequest) (teid : Option ℕ) (new : Node) (e f : Effect) → (m ≡ n → p ≡ q) → get old.pending m ≡ None → e ≡ asks old m p teid new → f ≡ asks old n q teid new → Alike role old (Commanded command) e f
+  asks_alike m n p q teid new e f same unused is_e is_f = by_effects _ _ e f is_e is_f (record {
+    tell = record { outcome = refl; told = refl; places = refl; known = refl; counter = refl; draws = refl };
+    one = λ alike.
+        let number : m ≡ n = one_number _ _ old.pending m n p q refl refl unused (alike.numbers command refl) in
+        let request : p ≡ q = same number in
+        cc;
+  })
+
+  closes_session : (session : ℕ) (at : Session) → Determines (Alike role old (Commanded command)) (ClosesSession old session at)
+  closes_session session at e f r s = asks_alike r.number s.number _ _ _ (session_closing old session at) e f (λ same. cc) r.number_free.unused r.gives s.gives
+
+  releases_session : (session : ℕ) (at : Session) → Determines (Alike role old (Commanded command)) (ReleasesSession old session at)
+  releases_session session at e f r s = asks_alike r.number s.number _ _ _ (session_closing old session at) e f (λ same. cc) r.number_free.unused r.gives s.gives
+
+  closes_bearer : (session : ℕ) (at : Session) (identity bearer : ℕ) (b : Bearer) → Determines (Alike role old (Commanded command)) (ClosesBearer old session at identity bearer b)
+  closes_bearer session at identity bearer b e f r s = asks_alike r.number s.number _ _ _ (record old { bearers = insert old.bearers bearer (record b { state = Closing }) }) e f (λ same. cc) r.number_free.unused r.gives s.gives
+
+  sends_echo : Determines (Alike role old (Commanded command)) (SendsEcho old)
+  sends_echo e f r s = asks_alike r.number s.number _ _ _ old e f (λ same. cc) r.number_free.unused r.gives s.gives
+
+  session_begun : (by : Role) (spec : Specification) → Determines (Alike role old (Commanded command)) (SessionBegun by spec old)
+  session_begun Packet spec = says_it
+  session_begun Serving spec = unless_plain says_it (unless_plain says_it (unless_plain says_it (begins_session spec)))
+
+  session_deleted : (by : Role) (session : ℕ) → Determines (Alike role old (Commanded command)) (SessionDeleted by session old)
+  session_deleted Packet session = says_it
+  session_deleted Serving session = unless_one (one_session old session) says_it (λ at. unless_plain says_it (unless_plain says_it (closes_session session at.session)))
+
+  bearer_begun : (by : Role) (session : ℕ) (tft : List ℕ) (qos : Qos) → Determines (Alike role old (Commanded command)) (BearerBegun by session tft qos old)
+  bearer_begun Serving session tft qos = says_it
+  bearer_begun Packet session tft qos = unless_one (one_session old session) says_it (λ at. unless_plain says_it (unless_plain says_it (unless_plain says_it (begins_bearer session at.session tft qos))))
+
+  bearer_deleted : (by : Role) (session identity : ℕ) → AreApart old.bearers → Determines (Alike role old (Commanded command)) (BearerDeleted by session identity old)
+  bearer_deleted Serving session identity apart = says_it
+  bearer_deleted Packet session identity apart =
+      unless_one (one_session old session) says_it (λ at.
+      unless_moved
+      (λ named other f s.
+      let key : other.key ≡ named.key = one_named old session identity apart other named in
+      let bearer : other.at.bearer ≡ named.at.bearer = cc in
+      rw (key, bearer) at s)
+      says_it
+      (λ named. unless_plain says_it (unless_plain says_it (closes_bearer session at.session identity named.key named.at.bearer))))
+
+  session_released : (by : Role) (session : ℕ) → Determines (Alike role old (Commanded command)) (SessionReleased by session old)
+  session_released Serving session = says_it
+  session_released Packet session = unless_one (one_session old session) says_it (λ at. unless_plain says_it (unless_plain says_it (releases_session session at.session)))
+
+  echo_begun : Determines (Alike role old (Commanded command)) (EchoBegun old)
+  echo_begun = unless_plain says_it sends_echo
+
+-- ---- nothing is chosen for an End Marker and a packet
+
+module _ (role : Role) (bearer : ℕ) (old : Node) where
+  sends_packet : (at : Bearer) (payload : List ℕ) → Determines ◌≡◌ (SendsPacket old at payload)
+  sends_packet at payload e f r s = let session : r.of.session ≡ s.of.session = one_value _ _ _ r.of.stands s.of.stands in cc
+
+  pub packet_sent : (payload : List ℕ) → Determines ◌≡◌ (PacketSent role bearer payload old)
+  packet_sent payload = unless_one (one_bearer old bearer) is_one (λ at. unless_plain is_one (unless_plain is_one (unless_plain is_one (sends_packet at.bearer payload))))
+
+pub end_marked : (role : Role) (bearer : ℕ) (old : Node) → Determines ◌≡◌ (EndMarked role bearer old)
+end_marked Serving bearer old = is_one
+end_marked Packet bearer old = unless_one (one_bearer old bearer) is_one (λ at. unless_plain is_one (unless_plain is_one is_one))
+
+pub command_done : (role : Role) (command : Command) (old : Node) → AreApart old.bearers → Determines (Alike role old (Commanded command)) (CommandStep role command old)
+command_done role (Create_session spec) old apart = session_begun (Create_session spec) old role spec
+command_done role (Delete_session session) old apart = session_deleted (Delete_session session) old role session
+command_done role (Create_bearer session tft qos) old apart = bearer_begun (Create_bearer session tft qos) old role session tft qos
+command_done role (Delete_bearer session identity) old apart = bearer_deleted (Delete_bearer session identity) old role session identity apart
+command_done role (Release_session session) old apart = session_released (Release_session session) old role session
+command_done role (Mark_end bearer) old apart = λ e f r s. the_same e f (end_marked role bearer old e f r s)
+command_done role Send_echo old apart = echo_begun Send_echo old
+command_done role (Send_user bearer payload) old apart = λ e f r s. the_same e f (packet_sent role bearer old payload e f r s)

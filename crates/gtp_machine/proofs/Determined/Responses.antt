@@ -1,0 +1,67 @@
+-- Responses.
+use Rattle.std.proofs.Common.{◌≡◌, ℕ}
+use Rattle.gtp_machine.specs.Message.{Echo, CreateSessionRequest, CreateSessionResponse, DeleteSessionResponse, CreateBearerResponse, DeleteBearerResponse}
+use Rattle.gtp_machine.specs.Node.{Role, Session, Node}
+use Rattle.gtp_machine.specs.Input.{Input}
+use Rattle.gtp_machine.specs.Response.{EchoAnswered}
+use Rattle.gtp_machine.specs.Serving.{OpensSession, SessionAnswered, DeletionAnswered}
+use Rattle.gtp_machine.specs.Packet.{OpensBearer, BearerAnswered, RemovalAnswered}
+use Rattle.gtp_machine.proofs.Basics.Facts.{one_value}
+use Rattle.gtp_machine.proofs.Determined.Alike.{Alike, Determines, the_same, says_it, unless_plain, unless_moved, unless_one}
+use Rattle.gtp_machine.proofs.Determined.Witnesses.{one_pending}
+
+module _ {role : Role} {first : Node} {input : Input} (old : Node) where
+  pub echo_answered : (a : Echo) → Determines (Alike role first input) (EchoAnswered a old)
+  echo_answered a = unless_one (one_pending old a.number) says_it (λ at. unless_plain says_it says_it)
+
+  opens_session : (a : CreateSessionResponse) (q : CreateSessionRequest) (session : ℕ) (s : Session) (address : ℕ) → Determines (Alike role first input) (OpensSession old a q session s address)
+  opens_session a q session at address e f r s =
+      let bearer : r.default.bearer ≡ s.default.bearer = one_value _ _ _ r.default.stands s.default.stands in
+      the_same e f cc
+
+  pub session_answered : (a : CreateSessionResponse) → Determines (Alike role first input) (SessionAnswered a old)
+  session_answered a =
+      unless_one (one_pending old a.number) says_it (λ at.
+      unless_moved
+      (λ fits other f s.
+      let request : other.request ≡ fits.request = cc in
+      let session : other.session ≡ fits.session = cc in
+      rw (request, session) at s)
+      says_it (λ fits.
+      unless_plain says_it (
+      unless_moved
+      (λ new other f s.
+      let context : other.context ≡ new.context = cc in
+      let session : other.at.session ≡ new.at.session = one_value _ _ _ other.at.stands new.at.stands in
+      let address : other.address ≡ new.address = cc in
+      rw (context, session, address) at s)
+      says_it (λ new.
+      unless_plain says_it (opens_session a fits.request fits.session new.at.session new.address)))))
+
+  pub deletion_answered : (d : DeleteSessionResponse) → Determines (Alike role first input) (DeletionAnswered d old)
+  deletion_answered d = unless_one (one_pending old d.number) says_it (λ at. unless_plain says_it says_it)
+
+  opens_bearer : (x : CreateBearerResponse) (bearer : ℕ) → Determines (Alike role first input) (OpensBearer old x bearer)
+  opens_bearer x bearer e f r s =
+      let found : r.at.bearer ≡ s.at.bearer = one_value _ _ _ r.at.stands s.at.stands in
+      the_same e f cc
+
+  pub bearer_answered : (x : CreateBearerResponse) → Determines (Alike role first input) (BearerAnswered x old)
+  bearer_answered x =
+      unless_one (one_pending old x.number) says_it (λ at.
+      unless_moved
+      (λ fits other f s.
+      let session : other.session ≡ fits.session = cc in
+      let bearer : other.bearer ≡ fits.bearer = cc in
+      rw (session, bearer) at s)
+      says_it (λ fits.
+      unless_plain says_it (
+      unless_moved
+      (λ new other f s.
+      let context : other.context ≡ new.context = cc in
+      rw context at s)
+      says_it (λ new.
+      unless_plain says_it (unless_plain says_it (unless_plain says_it (opens_bearer x fits.bearer)))))))
+
+  pub removal_answered : (d : DeleteBearerResponse) → Determines (Alike role first input) (RemovalAnswered d old)
+  removal_answered d = unless_one (one_pending old d.number) says_it (λ at. unless_plain says_it says_it)

@@ -1,0 +1,71 @@
+-- A step is determined, but for what a gateway may choose: TEIDs, an address, an identity and the number of a request.
+use Rattle.std.specs.Prelude.{◌≡◌, ℕ, List, [], ◌∷◌, length, Some, None}
+use Rattle.std.specs.FinMap.{get}
+use Rattle.gtp_values.specs.declared.address.Endpoint.{Endpoint}
+use Rattle.gtp_values.specs.FiniteMap.{Among}
+use Rattle.gtp_machine.specs.Config.{Config}
+use Rattle.gtp_machine.specs.Node.{Role, Session, Bearer, Held, Node, fresh_node}
+use Rattle.gtp_machine.specs.Input.{Input, Commanded, Sending, Out, Effect, Outcome, Begun}
+use Rattle.gtp_machine.specs.Choice.{HasPending}
+use Rattle.gtp_machine.specs.Tick.{Due, Ticks}
+use Rattle.gtp_machine.specs.Step.{Step, Done, Steps}
+use Rattle.gtp_machine.specs.Sound.{IsSound}
+
+-- at most one answer is held for a request
+pub record HeldOnce (node : Node) : Type 0 where
+  pub once : (g h : Held) → Among g node.held → Among h node.held → g.request ≡ h.request → g.answer ≡ h.answer
+
+-- two steps of a sound gateway, on the same input
+pub record StepsTwice (role : Role) (old : Node) (input : Input) (e f : Effect) : Type 0 where
+  pub sound : IsSound role old
+  pub once : HeldOnce old
+  pub first : Step role old input e
+  pub second : Step role old input f
+
+-- the outcome without what is chosen: where a command begins a context, its TEID
+abbrev pub unchosen : Input → Outcome → Outcome
+unchosen (Commanded command) (Begun teid) = Begun None
+unchosen input outcome = outcome
+
+-- what is told besides the messages that are sent
+abbrev pub unsent : Out → Out
+unsent out = record out { sent = [] }
+
+-- where the messages are sent to
+abbrev pub destinations : List Sending → List Endpoint
+destinations [] = []
+destinations (s ∷ sent) = s.destination ∷ destinations sent
+
+-- Both tell the same: the outcome, the counter that was heard, and all else besides the messages; as many messages are sent, to the same places; the
+-- counters are the same after them, the peer's and the own; and as many TEIDs were drawn.
+pub record TellAlike (input : Input) (e f : Effect) : Type 0 where
+  pub outcome : unchosen input e.outcome ≡ unchosen input f.outcome
+  pub told : unsent e.out ≡ unsent f.out
+  pub places : destinations e.out.sent ≡ destinations f.out.sent
+  pub known : e.node.known ≡ f.node.known
+  pub counter : e.node.counter ≡ f.node.counter
+  pub draws : length e.node.drawn ≡ length f.node.drawn
+
+-- Both chose the same: they have drawn the same TEIDs; a session that is new has the same address after both, and a bearer that is new the same identity;
+-- and a request that is new after the one waits under the same number after the other.
+pub record ChooseAlike (old one other : Node) : Type 0 where
+  pub drawn : one.drawn ≡ other.drawn
+  pub addresses : (t : ℕ) (a b : Session) → get old.sessions t ≡ None → get one.sessions t ≡ Some a → get other.sessions t ≡ Some b → a.address ≡ b.address
+  pub identities : (t : ℕ) (a b : Bearer) → get old.bearers t ≡ None → get one.bearers t ≡ Some a → get other.bearers t ≡ Some b → a.identity ≡ b.identity
+  pub numbers : (number : ℕ) → get old.pending number ≡ None → HasPending one number → HasPending other number
+
+-- Whatever comes to a sound gateway, one thing is told, whatever is chosen.
+abbrev pub OneIsTold : Type 0
+OneIsTold = (role : Role) (old : Node) (input : Input) (e f : Effect) → StepsTwice role old input e f → TellAlike input e f
+
+-- And where the choices are alike there is one effect: the same messages are sent, and the same gateway is left.
+abbrev pub OneIsDone : Type 0
+OneIsDone = (role : Role) (old : Node) (input : Input) (e f : Effect) → StepsTwice role old input e f → ChooseAlike old e.node f.node → e ≡ f
+
+-- Nothing is chosen in a tick: where this is due it sends and tells one thing, and leaves one gateway.
+abbrev pub OneTick : Type 0
+OneTick = (old : Node) (due : Due) (out other : Out) (new left : Node) → Ticks old due out new → Ticks old due other left → (out ≡ other) × (new ≡ left)
+
+-- A gateway that is reached from a start holds at most one answer for a request.
+abbrev pub ReachedHoldsOnce : Type 0
+ReachedHoldsOnce = (role : Role) (config : Config) (counter : ℕ) (log : List Done) (node : Node) → Steps role (fresh_node config counter) log node → HeldOnce node
