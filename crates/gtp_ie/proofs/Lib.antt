@@ -14,3 +14,4 @@ pub mod Finding
 pub mod Free
 pub mod FreeKinds
 pub mod Same
+pub mod Indexing

@@ -1,5 +1,6 @@
 pub mod Element
 pub mod View
+pub mod Index
 pub mod Walked
 pub mod Layout
 pub mod Digits

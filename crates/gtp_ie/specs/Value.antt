@@ -1,6 +1,7 @@
 -- The values that elements have, what a body says, and the one body that is written for a value.
 use Rattle.std.specs.Prelude.{ℕ, ◌+◌, ◌*◌, ◌^◌, ◌<◌, Bool, ◌&&◌, ◌||◌, List, [], ◌∷◌, ◌++◌, length, take, Option, Some, None, is_some, Result, Ok, Err, nat_lt, nat_le, ◌==◌, if◌then◌else◌}
 use Rattle.byteorder.specs.Endian.{big_bytes}
+use Rattle.gtp_values.specs.Steps.{◌>>=◌}
 use Rattle.gtp_values.specs.declared.cause.Cause.{Cause}
 use Rattle.gtp_values.specs.declared.cause.Offending.{Offending}
 use Rattle.gtp_values.specs.declared.qos.Ambr.{Ambr}
@@ -192,6 +193,10 @@ or_bad (Some v) = Ok v
 -- the value of a body, by the type of the element: too short below the least length, and bad where it says nothing
 unfoldable pub value_at : ℕ → List ℕ → Result Value ReadFault
 value_at kind body = if nat_lt (length body) (least kind body) then Err Short else or_bad (said kind body)
+
+-- that a body spells a value, by the type of the element: the fault of reading, or none
+abbrev pub checked_at : ℕ → List ℕ → Result (Unit {0}) ReadFault
+checked_at kind body = value_at kind body >>= λ v. Ok tt
 
 -- ---- writing
 

@@ -1,7 +1,7 @@
 //! Elements in the place where they lie.
 
-ghost use Rattle.std.specs.Prelude.{◌≡◌, ◌+◌, ◌<◌, ◌^◌, [], length, drop, slice_get, option_map};
-ghost use Rattle.gtp_ie.specs.Element.{Element, front_of, elements_of, stop_of, first_of, all_of};
+ghost use Rattle.std.specs.Prelude.{◌≡◌, ◌+◌, ◌<◌, ◌^◌, [], length, option_map};
+ghost use Rattle.gtp_ie.specs.Element.{Element, front_of, elements_of, first_of, all_of};
 ghost use Rattle.gtp_ie.specs.View.{element_of, FrontIs};
 ghost use Rattle.std.specs.Iterator.{YieldsFirstBy, item_count};
 ghost use Rattle.gtp_ie.specs.Walked.{IsWalked, FindsElements};
@@ -10,6 +10,10 @@ use crate::fault::IeFault;
 use crate::view::ElementView;
 use std::marker::Model;
 
+mod index;
+
+pub use index::{Indexed, indexed_at};
+
 impl<'a> ElementView<'a> {
     /// The elements that the body holds as a group (TS 29.274 6.1.2). Takes no memory.
     pub fn inner(&self) -> Result<Elements<'a>, IeFault>
@@ -17,6 +21,14 @@ impl<'a> ElementView<'a> {
         ensures elements { FindsElements (self.now.at + 4) self.now.body.now result }
     {
         elements_at(self.body, self.at + 4)
+    }
+
+    /// The same with an index. Takes no memory.
+    pub fn indexed(&self) -> Result<Indexed<'a>, IeFault>
+        ensures walked { IsWalked result (elements_of (self.now.at + 4) self.now.body.now) }
+        ensures elements { FindsElements (self.now.at + 4) self.now.body.now result }
+    {
+        indexed_at(self.body, self.at + 4)
     }
 }
 

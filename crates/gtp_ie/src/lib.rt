@@ -8,7 +8,7 @@ mod value;
 mod view;
 mod writing;
 
-pub use elements::{AllOf, Elements, all_elements, elements_at};
+pub use elements::{AllOf, Elements, Indexed, all_elements, elements_at, indexed_at};
 pub use fault::{IeFault, ReadFault};
 pub use value::{ChargingId, EbiValue, IeValue, PdnType, Pti, Rat, Recovery, Selection};
 pub use view::ElementView;

@@ -2,7 +2,7 @@
 
 ghost use Rattle.std.specs.Prelude.{◌≡◌, ◌↔◌, ℕ, ◌++◌, ◌≤◌, Ok, OnOk, OnErr, IfOk, IsOkAnd, IsErrOf, length};
 ghost use Rattle.gtp_values.specs.Steps.{Gives};
-ghost use Rattle.gtp_ie.specs.Value.{Value, value_at, encoding_of};
+ghost use Rattle.gtp_ie.specs.Value.{Value, value_at, checked_at, encoding_of};
 ghost use Rattle.gtp_ie.specs.Spelling.{Spells, IsShort, IsBad};
 ghost use Rattle.gtp_ie.specs.Free.{SpellsFreely};
 
@@ -30,6 +30,15 @@ pub trait IeValue: Copy {
     /// The value that the body spells, by the form of its type.
     fn parse(body: &[u8]) -> Result<Self, ReadFault>
         ensures { Gives value result (value_at KIND body.now) };
+
+    /// That the body spells a value: the fault of `parse`, or none. A value that is large to build is not
+    /// built.
+    fn check(octets: &[u8]) -> Result<(), ReadFault>
+        ensures { Gives (λ u. u) result (checked_at KIND octets.now) }
+    {
+        Self::parse(octets)?;
+        Ok(())
+    }
 
     /// Appends the one body of the value: spare bits 0, and no octets after the form. Where memory runs
     /// out the vector is as before.

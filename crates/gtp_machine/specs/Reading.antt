@@ -184,7 +184,7 @@ cut_fault count = if nat_lt count 4 then short_number else length_number
 abbrev pub user_body_message : Option ℕ → UserBody → Message
 user_body_message number user_bodies.EchoRequest = User_echo_request (unwrap_or number 0)
 user_body_message number user_bodies.EchoResponse = User_echo_response (unwrap_or number 0)
-user_body_message number (user_bodies.ErrorIndication teid peer) = Error_indication teid.0 peer
+user_body_message number (user_bodies.ErrorIndication peer teid) = Error_indication teid.0 peer
 user_body_message number (user_bodies.Notification types) = Supported_extensions types.now
 user_body_message number (user_bodies.EndMarker teid) = End_marker teid.0
 user_body_message number (user_bodies.Packet teid payload) = Packet_data teid.0 payload.now

@@ -60,8 +60,8 @@ other_first f g xs ys p q n =
 bodies_decided : (x y : UserBody) → Decides ((user_bodies.ghosts).eq x y) (content_of x ≡ content_of y)
 bodies_decided bodies.EchoRequest bodies.EchoRequest = (λ e. refl, λ e. refl)
 bodies_decided bodies.EchoResponse bodies.EchoResponse = (λ e. refl, λ e. refl)
-bodies_decided (bodies.ErrorIndication t p) (bodies.ErrorIndication u q) =
-    Decides-like (nat_eq t.0 u.0 && (ips.ghosts).eq p q) (λ e. ap (λ n. ErrorIndication n p) e.0 ∙ ap (λ a. ErrorIndication u.0 a) e.1) (λ e. (cc, cc)) (Decides-and (nat_eq t.0 u.0) ((ips.ghosts).eq p q) (Decides-eqb t.0 u.0) (ip_same p q))
+bodies_decided (bodies.ErrorIndication p t) (bodies.ErrorIndication q u) =
+    Decides-like ((ips.ghosts).eq p q && nat_eq t.0 u.0) (λ e. ap (λ a. ErrorIndication t.0 a) e.0 ∙ ap (λ n. ErrorIndication n q) e.1) (λ e. (cc, cc)) (Decides-and ((ips.ghosts).eq p q) (nat_eq t.0 u.0) (ip_same p q) (Decides-eqb t.0 u.0))
 bodies_decided (bodies.Notification xs) (bodies.Notification ys) = Decides-like (pointwise nat_eq xs.now ys.now) (λ e. ap (λ zs. Notification zs) e) (λ e. cc) (bytes_decides xs.now ys.now)
 bodies_decided (bodies.EndMarker t) (bodies.EndMarker u) = Decides-like (nat_eq t.0 u.0) (λ e. ap (λ n. EndMarker n) e) (λ e. cc) (Decides-eqb t.0 u.0)
 bodies_decided (bodies.Packet t xs) (bodies.Packet u ys) =

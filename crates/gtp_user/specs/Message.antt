@@ -26,7 +26,7 @@ pub record MessageValue : Type 0 where
 abbrev pub content_of : UserBody → Content
 content_of bodies.EchoRequest = EchoRequest
 content_of bodies.EchoResponse = EchoResponse
-content_of (bodies.ErrorIndication teid peer) = ErrorIndication teid.0 peer
+content_of (bodies.ErrorIndication peer teid) = ErrorIndication teid.0 peer
 content_of (bodies.Notification types) = Notification types.now
 content_of (bodies.EndMarker teid) = EndMarker teid.0
 content_of (bodies.Packet teid payload) = Packet teid.0 payload.now

@@ -1,11 +1,15 @@
 //! The octets before a chain of extension headers or a payload (TS 29.281 5.1).
 
-ghost use Rattle.std.specs.Prelude.{◌≡◌, ◌≤◌, ◌/◌, ◌%◌, ◌==◌, length, IfOk, option_map};
+ghost use Rattle.std.specs.Prelude.{◌≡◌, ◌≤◌, ◌%◌, length, IfOk, ◌+◌, ◌^◌, ◌<◌, ◌++◌, IfSome, OnOk};
 ghost use Rattle.gtp_values.specs.Steps.{Gives};
 ghost use Rattle.gtp_user.specs.Headed.{headed_of, header_at, after_flags};
+ghost use Rattle.gtp_user.specs.Message.{content_of, message_value};
+ghost use Rattle.gtp_user.specs.Encoding.{options_encoding, opening_encoding, teid_of};
 
 use crate::fault::UserFault;
+use crate::message::UserMessage;
 use gtp_values::Teid;
+use std::alloc::AllocError;
 
 /// What the octets before the chain say, and the octets from the chain on.
 #[derive(Clone, Copy)]
@@ -81,4 +85,40 @@ pub fn read_header(octets: &[u8]) -> Result<Header<'_>, UserFault>
         first: 0,
         rest,
     })
+}
+
+/// Appends the first eight octets.
+pub fn write_opening(out: &mut Vec<u8>, message: &UserMessage, size: u16) -> Result<(), AllocError>
+    ensures ok { OnOk result
+        (out.new.items ≡ out.old.items ++ opening_encoding size (message_value message.now)) }
+    ensures teid { OnOk result (teid_of (content_of message.now.body) < 2 ^ 32) }
+{
+    let size = size.to_be_bytes();
+    let teid = message.body.header_teid().to_be_bytes();
+    out.extend_from_slice(&[
+        48 + message.flags(),
+        message.body.kind(),
+        size[0],
+        size[1],
+        teid[0],
+        teid[1],
+        teid[2],
+        teid[3],
+    ])
+}
+
+/// Appends sequence number, N-PDU number and the type of the first extension header, where there is
+/// one of them.
+#[tactic(auto, unfolding(crate::specs::Encoding::options_encoding))]
+pub fn write_options(out: &mut Vec<u8>, message: &UserMessage) -> Result<(), AllocError>
+    ensures ok { OnOk result
+        (out.new.items ≡ out.old.items ++ options_encoding (message_value message.now)) }
+    ensures seq { OnOk result (IfSome message.now.seq (λ n. n < 2 ^ 16)) }
+{
+    if message.flags() == 0 {
+        return Ok(());
+    }
+    let seq = message.seq.unwrap_or(0).to_be_bytes();
+    let npdu = message.npdu.unwrap_or(0);
+    out.extend_from_slice(&[seq[0], seq[1], npdu, message.ext.first_kind()])
 }

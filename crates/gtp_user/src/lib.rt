@@ -2,7 +2,10 @@
 //! is written in its canonical encoding.
 #![tactic(auto)]
 
+mod body;
+mod decoding;
 mod element;
+mod encoding;
 mod extension;
 mod fault;
 mod header;
@@ -10,14 +13,12 @@ pub mod kinds;
 pub mod laws;
 mod message;
 mod numbers;
-mod reading;
-mod writing;
 
+pub use decoding::decode;
+pub use encoding::encode;
 pub use extension::{ExtensionHeader, ExtensionHeaders, Extensions};
 pub use fault::UserFault;
 pub use message::{UserBody, UserMessage};
-pub use reading::decode;
-pub use writing::encode;
 
 /// What the signatures and contracts here name of the crate below.
 pub use gtp_values::{Ip, Teid};

@@ -1,6 +1,15 @@
 //! Messages of the user plane.
 
+ghost use Rattle.std.specs.Prelude.{◌≡◌, length, ◌-◌, ◌^◌, ◌↔◌, min, IsTrue};
+ghost use Rattle.gtp_user.specs.Message.{message_value};
+ghost use Rattle.gtp_user.specs.Encoding.{rest_encoding, flags_of, IsEncodable};
+ghost use Rattle.gtp_user.specs.Header.{bits};
+
 use crate::extension::Extensions;
+use crate::kinds::{
+    ECHO_REQUEST, ECHO_RESPONSE, END_MARKER, ERROR_INDICATION, G_PDU,
+    SUPPORTED_EXTENSION_HEADERS_NOTIFICATION,
+};
 use gtp_values::{Ip, Teid};
 
 /// What a message of the user plane carries. Slices lie in the datagram that was decoded.
@@ -10,10 +19,11 @@ pub enum UserBody<'a> {
     EchoRequest,
     /// Echo Response (7.2.2).
     EchoResponse,
-    /// Error Indication: the TEID and the address of a packet that found no context (7.3.1).
+    /// Error Indication: the TEID and the address of a packet that found no context (7.3.1). The address,
+    /// 17 octets, comes first here, so that no octets at the end of a body say nothing.
     ErrorIndication {
-        teid: Teid,
         peer: Ip,
+        teid: Teid,
     },
     /// Supported Extension Headers Notification: the types that the sender understands, at most 255
     /// (7.2.3).
@@ -47,4 +57,51 @@ pub struct UserMessage<'a> {
     /// The extension headers, in order.
     pub ext: Extensions<'a>,
     pub body: UserBody<'a>,
+}
+
+impl UserMessage<'_> {
+    /// Whether `encode` takes it: an echo, an Error Indication and a notification have a sequence
+    /// number (TS 29.281 5.1), a notification has at most 255 types, and `Other` has a type without a
+    /// form of its own.
+    pub fn is_encodable(&self) -> bool
+        ensures { IsTrue result ↔ IsEncodable (message_value self.now) }
+    {
+        match self.body {
+            UserBody::EchoRequest | UserBody::EchoResponse | UserBody::ErrorIndication { .. } =>
+                self.seq.is_some(),
+            UserBody::Notification { types } => self.seq.is_some() && types.len() < 256,
+            UserBody::EndMarker { .. } | UserBody::Packet { .. } => true,
+            UserBody::Other { kind, .. } => !matches!(
+                kind,
+                ECHO_REQUEST
+                    | ECHO_RESPONSE
+                    | ERROR_INDICATION
+                    | SUPPORTED_EXTENSION_HEADERS_NOTIFICATION
+                    | END_MARKER
+                    | G_PDU
+            ),
+        }
+    }
+
+    /// The flags E, S and PN: one for each part that the message has.
+    pub fn flags(&self) -> u8
+        ensures { result ≡ bits (flags_of (message_value self.now)) }
+    {
+        u8::from(self.ext.first_kind() != 0) << 2
+            | u8::from(self.seq.is_some()) << 1
+            | u8::from(self.npdu.is_some())
+    }
+
+    /// How many octets there are after the first eight, at most what a `usize` holds.
+    #[tactic(auto, unfolding(crate::specs::Encoding::options_encoding))]
+    pub fn size(&self) -> usize
+        ensures { result ≡ min (length (rest_encoding (message_value self.now))) (2 ^ 64 - 1) }
+    {
+        let options = if self.flags() == 0 { 0 } else { 4 };
+        self.ext
+            .octets()
+            .len()
+            .saturating_add(self.body.size())
+            .saturating_add(options)
+    }
 }

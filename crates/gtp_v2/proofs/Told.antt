@@ -21,7 +21,7 @@ use Rattle.gtp_v2.specs.Grammar.{IsCutShort, LinesAre, LinesFail}
 use Rattle.gtp_v2.specs.Headed.{Headed, header_at}
 use Rattle.gtp_v2.specs.Header.{IsHeaded, HeaderFails}
 use Rattle.gtp_v2.proofs.Headers.{header_decided}
-use Rattle.gtp_v2.specs.Message.{head_of, with_head, sender_of, told, typed_at, by_table, content_at, Content, Fields, Raw, MessageValue, with_content, message_at, FaultIs, MessageGives, MessageAllocates}
+use Rattle.gtp_v2.specs.Message.{head_of, with_head, sender_of, told, list_at, fields_at, typed_at, by_table, content_at, Content, Fields, Raw, MessageValue, with_content, message_at, FaultIs, MessageGives, MessageAllocates}
 use Rattle.gtp_v2.specs.Tables.{table_of}
 use Rattle.gtp_v2.specs.Instances.{InstanceIsSmall}
 use Rattle.gtp_v2.proofs.Instances.{fault_small}
@@ -69,11 +69,11 @@ other false true h is = cc
 other false false h is = absurd cc
 
 content_decided : (table : Option Table) (h : Headed) → Decides (by_table table h) (CarriesBy table h) (FailsBy table h)
-unfolding typed_at
+unfolding typed_at list_at
 content_decided None h = known_ok (Raw h.rest) (CarriesBy None h) (FailsBy None h) refl (λ c p. p) (λ f q. q)
 content_decided (Some table) h = by_flag (beq (is_some h.teid) table.has_teid) refl where
   by_flag : (b : Bool) → beq (is_some h.teid) table.has_teid ≡ b
-      → Decides (cond b (told (head_of h None) (whole (elements_of h.at h.rest)) >>= λ es. told (head_of h (sender_of h.kind es)) (lines_at start table.lines es)) (Err (faults.FlagT h.kind)) >>= λ fields. Ok (Fields fields)) (CarriesBy (Some table) h) (FailsBy (Some table) h)
+      → Decides ((cond b (told (head_of h None) (whole (elements_of h.at h.rest))) (Err (faults.FlagT h.kind)) >>= λ es. fields_at table.lines h es) >>= λ fields. Ok (Fields fields)) (CarriesBy (Some table) h) (FailsBy (Some table) h)
   by_flag true s =
       decide_as (told (head_of h None) (whole (elements_of h.at h.rest)) >>= (λ es. told (head_of h (sender_of h.kind es)) (lines_at start table.lines es)) >>= λ fields. Ok (Fields fields)) (λ c. (fields : List Field) × FieldsAre table.lines h fields × (c ≡ Fields fields)) (CarriesBy (Some table) h)
       (First_or_later (AreElements h.at h.rest) (ListFails h) (FieldsFail table.lines h)) (FailsBy (Some table) h)

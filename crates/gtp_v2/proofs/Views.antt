@@ -1,6 +1,6 @@
 -- What a view is told, and what it tells.
 use Rattle.std.proofs.Common.{rules, ◌≡◌, ℕ, Bool, true, false, cond, ◌&&◌, List, [], ◌∷◌, Option, Some, None, Result, Ok, Err, refl, sym, ap, subst, ◌∙◌}
-use Rattle.std.specs.Prelude.{IfOk, IfErr, IsOkAnd, ◌==◌, option_to_list, is_some}
+use Rattle.std.specs.Prelude.{option_map, IfOk, IfErr, IsOkAnd, ◌==◌, option_to_list, is_some}
 use Rattle.std.specs.Bool.{beq}
 use Rattle.std.proofs.lemmas.Option.{same_Some}
 use Rattle.gtp_values.specs.Steps.{◌>>=◌, Gives}
@@ -18,8 +18,10 @@ use Rattle.gtp_v2.specs.Table.{Row, Mandatory, Conditional, Accepted, Optional, 
 use Rattle.gtp_v2.specs.Rows.{row_at, needed, needed_at, needed_if_at, optional_at, one_at, named, welcome, value_or_none, line_at, lines_at, whole}
 use Rattle.gtp_v2.specs.Checked.{forgotten}
 use Rattle.gtp_v2.specs.Headed.{Headed}
-use Rattle.gtp_v2.specs.Message.{Content, Fields, MessageValue, head_of, told, sender_of, typed_at, by_table, content_at, message_at}
+use Rattle.gtp_v2.specs.Message.{Content, Fields, MessageValue, head_of, told, sender_of, list_at, fields_at, typed_at, as_fields, by_table, content_among, content_after, content_at, message_at}
 use Rattle.gtp_v2.specs.Tables.{table_of}
+use Rattle.gtp_v2.specs.declared.table.Shape.{Shape}
+use Rattle.gtp_v2.specs.Lines.{shape_of, shape_in}
 use Rattle.gtp_v2.specs.Datagram.{IsMessage, IsFault}
 use Rattle.gtp_v2.specs.Viewed.{Viewed, viewed, IsViewed, content_or_none, elements_by, list_or_none, values_among, values_by, in_row, front_value}
 use Rattle.gtp_v2.proofs.Checks.{was_read}
@@ -127,17 +129,21 @@ pub whole_is : (r : Result (List Element) ℕ) (es : List Element) → whole r �
 whole_is (Ok xs) es h = cc
 whole_is (Err at) es h = absurd cc
 
+-- where a list reads, it is whole
+pub list_whole : (has_teid : Bool) (h : Headed) (es : List Element) → list_at has_teid h ≡ Ok es → whole (elements_of h.at h.rest) ≡ Ok es
+unfolding list_at
+list_whole has_teid h es is = by_flag (beq (is_some h.teid) has_teid) is where
+  by_flag : (b : Bool) → cond b (told (head_of h None) (whole (elements_of h.at h.rest))) (Err (faults.FlagT h.kind)) ≡ Ok es → whole (elements_of h.at h.rest) ≡ Ok es
+  by_flag true is = told_is (whole (elements_of h.at h.rest)) (head_of h None) es is
+  by_flag false is = absurd cc
+
 -- where a typed message reads, its list is whole, and its rows are read of it
 pub typed_whole : (has_teid : Bool) (lines : List Line) (h : Headed) (fields : List Field) → typed_at has_teid lines h ≡ Ok fields
     → (es : List Element) × ((whole (elements_of h.at h.rest) ≡ Ok es) × (lines_at start lines es ≡ Ok fields))
 unfolding typed_at
-typed_whole has_teid lines h fields is = by_flag (beq (is_some h.teid) has_teid) is where
-  by_flag : (b : Bool) → cond b (told (head_of h None) (whole (elements_of h.at h.rest)) >>= λ es. told (head_of h (sender_of h.kind es)) (lines_at start lines es)) (Err (faults.FlagT h.kind)) ≡ Ok fields
-      → (es : List Element) × ((whole (elements_of h.at h.rest) ≡ Ok es) × (lines_at start lines es ≡ Ok fields))
-  by_flag true is =
-      let b = bind_ok (told (head_of h None) (whole (elements_of h.at h.rest))) (λ es. told (head_of h (sender_of h.kind es)) (lines_at start lines es)) fields is in
-      (b.0, (told_is (whole (elements_of h.at h.rest)) (head_of h None) b.0 b.1, told_is (lines_at start lines b.0) (head_of h (sender_of h.kind b.0)) fields b.2))
-  by_flag false is = absurd cc
+typed_whole has_teid lines h fields is =
+    let b = bind_ok (list_at has_teid h) (λ es. fields_at lines h es) fields is in
+    (b.0, (list_whole has_teid h b.0 b.1, told_is (lines_at start lines b.0) (head_of h (sender_of h.kind b.0)) fields b.2))
 
 pub typed_is : (has_teid : Bool) (lines : List Line) (h : Headed) (fields : List Field) → typed_at has_teid lines h ≡ Ok fields → lines_at start lines (list_of (elements_of h.at h.rest)) ≡ Ok fields
 typed_is has_teid lines h fields is =
@@ -149,6 +155,37 @@ content_ok content = Ok content
 
 pub content_is : (r : Result Content V2Fault) (c : Content) → r ≡ Ok c → content_or_none r ≡ c
 content_is r c h = ap content_or_none h
+
+-- what a message carries that was viewed is read of its elements
+content_by_list : (table : Option Table) (h : Headed) (es : List Element) → forgotten (by_table table h) ≡ Ok tt → Some es ≡ elements_by table h → content_among table h es ≡ by_table table h
+content_by_list None h es reads walked = absurd cc
+content_by_list (Some table) h es reads walked =
+    let r = was_read (by_table (Some table) h) reads in
+    let b = bind_ok (typed_at table.has_teid table.lines h) (λ fields. content_ok (Fields fields)) r.0 r.1 in
+    let are : es ≡ list_of (elements_of h.at h.rest) = same_Some es (list_of (elements_of h.at h.rest)) walked in
+    let read : lines_at start table.lines es ≡ Ok b.0 = rw are (typed_is table.has_teid table.lines h b.0 b.1) in
+    ap (λ (o : Result (List Field) RowFault). as_fields (told (head_of h (sender_of h.kind es)) o)) read ∙ sym (ap as_fields b.1)
+
+pub viewed_content : (h : Headed) (elements : Option (List Element)) (es : List Element) → IsViewed h elements → elements ≡ Some es → content_among (table_of h.kind) h es ≡ content_at h
+unfolding content_at
+viewed_content h elements es inv some = content_by_list (table_of h.kind) h es inv.reads (sym some ∙ inv.walked)
+
+-- a reading of a list and then of its lines, from the front or from the back
+in_turn : (r : Result (List Element) V2Fault) (lines : List Line) (h : Headed) → (r >>= λ es. as_fields (fields_at lines h es)) ≡ as_fields (r >>= λ es. fields_at lines h es)
+in_turn (Ok es) lines h = refl
+in_turn (Err f) lines h = refl
+
+after_asked : (o : Option Table) (asked : Shape) (h : Headed) → Some (shape_of asked) ≡ option_map shape_in o → (list_at asked.has_teid h >>= λ es. content_among o h es) ≡ by_table o h
+unfolding typed_at
+after_asked None asked h is = absurd cc
+after_asked (Some t) asked h is =
+    let same : asked.has_teid ≡ t.has_teid = ap (λ (p : Bool × List Line). p.0) (same_Some (shape_of asked) (shape_in t) is) in
+    ap (λ (b : Bool). list_at b h >>= λ es. as_fields (fields_at t.lines h es)) same ∙ in_turn (list_at t.has_teid h) t.lines h
+
+-- what a message carries whose lines the program has
+pub content_asked : (h : Headed) (asked : Shape) → Some (shape_of asked) ≡ option_map shape_in (table_of h.kind) → content_after asked.has_teid h ≡ content_at h
+unfolding content_at content_after
+content_asked h asked is = after_asked (table_of h.kind) asked h is
 
 by_table_is : (kind instance : ℕ) (table : Option Table) (h : Headed) (es : List Element) (values : List Value)
     → forgotten (by_table table h) ≡ Ok tt → Some es ≡ elements_by table h → values_by kind instance table (content_or_none (by_table table h)) ≡ Some values → optional_at kind instance es ≡ front_value values

@@ -39,12 +39,17 @@ end_in _ = None
 unfoldable pub sender_of : ℕ → List Element → Option TunnelEnd
 sender_of kind es = if kind == create_session_request.kind then end_in (optional_at 87 0 es) else None
 
+-- the elements after a header, whose form comes first
+unfoldable pub list_at : Bool → Headed → Result (List Element) V2Fault
+list_at has_teid h = if beq (is_some h.teid) has_teid then told (head_of h None) (whole (elements_of h.at h.rest)) else Err (faults.FlagT h.kind)
+
+-- the fields that elements after a header give lines
+abbrev pub fields_at : List Line → Headed → List Element → Result (List Field) V2Fault
+fields_at lines h es = told (head_of h (sender_of h.kind es)) (lines_at start lines es)
+
 -- the fields of a message with a table
 unfoldable pub typed_at : Bool → List Line → Headed → Result (List Field) V2Fault
-typed_at has_teid lines h =
-    if beq (is_some h.teid) has_teid
-    then (told (head_of h None) (whole (elements_of h.at h.rest)) >>= λ es. told (head_of h (sender_of h.kind es)) (lines_at start lines es))
-    else Err (faults.FlagT h.kind)
+typed_at has_teid lines h = list_at has_teid h >>= λ es. fields_at lines h es
 
 -- what a message carries: the fields of its table's lines, or octets
 pub data Content : Type 0 where
@@ -75,18 +80,35 @@ MessageGives Allocates view (Ok x) outcome = outcome ≡ Ok (view x)
 MessageGives Allocates view (Err fault) outcome = FaultIs Allocates fault outcome
 
 -- memory is allocated for a list that has a member, and for octets that are kept
+abbrev pub FieldsAllocate : List Line → Content → Type 0
+FieldsAllocate lines (Fields fields) = allocates lines fields ≡ true
+FieldsAllocate lines (Raw octets) = ⊥
+
 abbrev pub ContentAllocates : Option Table → Content → Type 0
-ContentAllocates (Some table) (Fields fields) = allocates table.lines fields ≡ true
+ContentAllocates (Some table) content = FieldsAllocate table.lines content
 ContentAllocates None (Raw octets) = 0 < length octets
 ContentAllocates table content = ⊥
 
 abbrev pub MessageAllocates : MessageValue → Type 0
 MessageAllocates m = ContentAllocates (table_of m.kind) m.content
 
+-- these fields are what it carries
+abbrev pub as_fields : Result (List Field) V2Fault → Result Content V2Fault
+as_fields r = r >>= λ fields. Ok (Fields fields)
+
 -- what a message carries, by its kind's table
 abbrev pub by_table : Option Table → Headed → Result Content V2Fault
 by_table None h = Ok (Raw h.rest)
-by_table (Some table) h = typed_at table.has_teid table.lines h >>= λ fields. Ok (Fields fields)
+by_table (Some table) h = as_fields (typed_at table.has_teid table.lines h)
+
+-- the same where the elements after its header are these
+abbrev pub content_among : Option Table → Headed → List Element → Result Content V2Fault
+content_among None h es = Ok (Raw h.rest)
+content_among (Some table) h es = as_fields (fields_at table.lines h es)
+
+-- the same after a list whose header is asked to have this form
+unfoldable pub content_after : Bool → Headed → Result Content V2Fault
+content_after has_teid h = list_at has_teid h >>= λ es. content_among (table_of h.kind) h es
 
 unfoldable pub content_at : Headed → Result Content V2Fault
 content_at h = by_table (table_of h.kind) h

@@ -1,8 +1,8 @@
 //! What messages say, and the list of their kinds.
 
-ghost use Rattle.std.specs.Prelude.{◌≡◌, ◌↔◌, ◌++◌, length, IsTrue, ℕ, Option, None, is_some, option_map, OnOk, IfOk};
+ghost use Rattle.std.specs.Prelude.{◌≡◌, ◌↔◌, ◌++◌, length, IsTrue, None, option_map, OnOk, IfOk};
 ghost use Rattle.gtp_v2.specs.Tables.{table_of};
-ghost use Rattle.gtp_v2.specs.Message.{MessageGives, ContentAllocates, content_at, raw_of};
+ghost use Rattle.gtp_v2.specs.Message.{MessageGives, ContentAllocates, content_at, content_among, raw_of};
 ghost use Rattle.gtp_v2.specs.Body.{content_of, kind_of, OctetsOnlyWithoutTable};
 ghost use Rattle.gtp_v2.specs.Encoding.{carried_by};
 ghost use Rattle.gtp_v2.specs.Room.{Leaves, TakesAtMost, most_carried_by};
@@ -14,6 +14,7 @@ use crate::fault::V2Fault;
 use crate::header::Header;
 use crate::listed::Listed;
 use crate::typed::{Typed, read_typed};
+use gtp_ie::Indexed;
 use std::alloc::{AllocError, Global};
 
 mod create_bearer_request;
@@ -98,12 +99,11 @@ macro_rules! name_among {
     }};
 }
 
-/// The body that stands after a header, or the octets after it.
+/// The body whose elements after a header are these, or the octets after it.
 macro_rules! read_among {
-    (($alloc:expr, $header:expr), $($kind:ident),+) => {{
+    (($alloc:expr, $header:expr, $elements:expr), $($kind:ident),+) => {{
         $(if $header.kind == $kind::KIND {
-            let message = read_typed::<$kind>($alloc, $header)?;
-            return Ok(Body::$kind(message));
+            return read_typed::<$kind>($alloc, $header, $elements);
         })+
         read_other($alloc, $header)
     }};
@@ -169,7 +169,7 @@ pub fn type_name(kind: u8) -> Option<&'static str>
 
 /// A message of another type, as octets.
 #[tactic(auto, unfolding(crate::specs::Message::content_at))]
-fn read_other(alloc: Global, header: &Header) -> Result<Body, V2Fault>
+pub fn read_other(alloc: Global, header: &Header) -> Result<Body, V2Fault>
     requires { table_of header.now.kind ≡ None }
     ensures content { MessageGives (ContentAllocates (table_of header.now.kind)) content_of result
         (content_at (headed_of header.now)) }
@@ -189,15 +189,15 @@ fn read_other(alloc: Global, header: &Header) -> Result<Body, V2Fault>
     })
 }
 
-/// What a message says, after its header.
+/// What a message says whose elements after its header are these.
 #[tactic(auto, unfolding(crate::specs::Message::content_at))]
-pub fn read_body(alloc: Global, header: &Header) -> Result<Body, V2Fault>
+pub fn read_body(alloc: Global, header: &Header, elements: &Indexed) -> Result<Body, V2Fault>
     ensures content { MessageGives (ContentAllocates (table_of header.now.kind)) content_of result
-        (content_at (headed_of header.now)) }
+        (content_among (table_of header.now.kind) (headed_of header.now) elements.now) }
     ensures kind { IfOk result (λ body. kind_of body ≡ header.now.kind) }
     ensures octets_only { IfOk result OctetsOnlyWithoutTable }
 {
-    with_kinds!(read_among, alloc, header)
+    with_kinds!(read_among, alloc, header, elements)
 }
 
 /// What is left of a room after what a message carries, `None` where it doesn't fit.

@@ -12,7 +12,7 @@ ghost use Rattle.gtp_v2.specs.Checked.{value_accepts, value_reads, one_accepts, 
 use crate::fault::{Need, RowFault};
 use crate::table::{Line, Row, State};
 use gtp_ie::{
-    ChargingId, EbiValue, ElementView, Elements, IeFault, IeValue, PdnType, Pti, Rat, ReadFault,
+    ChargingId, EbiValue, ElementView, IeFault, IeValue, Indexed, PdnType, Pti, Rat, ReadFault,
     Recovery, Selection,
 };
 use gtp_values::{Ambr, Apn, Cause, FTeid, Imsi, Paa, Plmn, Qos, Tft};
@@ -21,7 +21,7 @@ use gtp_values::{Ambr, Apn, Cause, FTeid, Imsi, Paa, Plmn, Qos, Tft};
 fn reads<T: IeValue>(body: &[u8]) -> Result<bool, ReadFault>
     ensures { Gives (λ b. b) result (value_reads T.KIND body.now) }
 {
-    T::parse(body)?;
+    T::check(body)?;
     Ok(true)
 }
 
@@ -88,7 +88,7 @@ fn needed_accepts(
     conditional: bool,
     kind: u8,
     instance: u8,
-    elements: &Elements,
+    elements: &Indexed,
 ) -> Result<bool, RowFault>
     ensures { Gives (λ b. b) result (needed_accepts_of conditional kind instance elements.now) }
 {
@@ -104,7 +104,7 @@ fn needed_accepts(
 
 /// Whether the first element of a type and instance accepts, where it reads.
 #[tactic(auto, unfolding(crate::specs::Rows::optional_at, crate::specs::Checked::optional_accepts, crate::specs::Checked::value_accepts))]
-fn optional_accepts(kind: u8, instance: u8, elements: &Elements) -> Option<bool>
+fn optional_accepts(kind: u8, instance: u8, elements: &Indexed) -> Option<bool>
     ensures { result ≡ optional_accepts_of kind instance elements.now }
 {
     let view = elements.first(kind, instance)?;
@@ -113,7 +113,7 @@ fn optional_accepts(kind: u8, instance: u8, elements: &Elements) -> Option<bool>
 
 /// What the values of a row say.
 #[tactic(auto, unfolding(crate::specs::Rows::needed_if_at, crate::specs::Checked::needed_accepts, crate::specs::Checked::optional_accepts, crate::specs::Checked::row_says))]
-fn check_row(accepting: bool, row: Row, elements: &Elements) -> Result<State, RowFault>
+fn check_row(accepting: bool, row: Row, elements: &Indexed) -> Result<State, RowFault>
     ensures { Gives (λ s. s) result (row_says accepting row elements.now) }
 {
     let accepts = match row {
@@ -141,7 +141,7 @@ fn check_row(accepting: bool, row: Row, elements: &Elements) -> Result<State, Ro
 }
 
 /// Whether the causes accept after rows, all of which read.
-fn check_rows(accepting: bool, rows: &[Row], elements: &Elements) -> Result<bool, RowFault>
+fn check_rows(accepting: bool, rows: &[Row], elements: &Indexed) -> Result<bool, RowFault>
     ensures { Gives (λ b. b) result (rows_accept accepting rows.now elements.now) }
 {
     let mut so_far = accepting;
@@ -157,7 +157,7 @@ fn check_rows(accepting: bool, rows: &[Row], elements: &Elements) -> Result<bool
 fn check_group(accepting: bool, rows: &[Row], view: &ElementView) -> Result<(), RowFault>
     ensures { Gives (λ u. u) result (group_passes accepting rows.now (element_of view.now)) }
 {
-    let elements = view.inner().map_err(RowFault::Element)?;
+    let elements = view.indexed().map_err(RowFault::Element)?;
     check_rows(accepting, rows, &elements)?;
     Ok(())
 }
@@ -168,7 +168,7 @@ fn check_each(
     instance: u8,
     accepting: bool,
     rows: &[Row],
-    elements: &Elements,
+    elements: &Indexed,
 ) -> Result<bool, RowFault>
     ensures { Gives (λ b. b) result (groups_silent accepting rows.now
         (all_of kind instance elements.now)) }
@@ -189,7 +189,7 @@ fn check_groups(
     instance: u8,
     accepting: bool,
     rows: &[Row],
-    elements: &Elements,
+    elements: &Indexed,
 ) -> Result<State, RowFault>
     ensures { Gives (λ s. s) result (groups_say need kind instance accepting rows.now
         (all_of kind instance elements.now)) }
@@ -233,7 +233,7 @@ fn one_more(said: State, now: bool) -> State
 }
 
 /// What the values of all elements of a type and instance say.
-fn check_values(kind: u8, instance: u8, elements: &Elements) -> Result<State, RowFault>
+fn check_values(kind: u8, instance: u8, elements: &Indexed) -> Result<State, RowFault>
     ensures { Gives (λ s. s) result (values_say kind instance (all_of kind instance elements.now)) }
 {
     let mut said = State {
@@ -254,7 +254,7 @@ fn check_several(
     kind: u8,
     instance: u8,
     missed: u8,
-    elements: &Elements,
+    elements: &Indexed,
 ) -> Result<State, RowFault>
     ensures { Gives (λ s. s) result (several_say needed kind instance missed elements.now) }
 {
@@ -270,7 +270,7 @@ fn check_several(
 }
 
 /// What a line says.
-fn check_line(state: State, line: &Line, elements: &Elements) -> Result<State, RowFault>
+fn check_line(state: State, line: &Line, elements: &Indexed) -> Result<State, RowFault>
     ensures { Gives (λ s. s) result (line_says state (line_of line.now) elements.now) }
 {
     match line {
@@ -290,7 +290,7 @@ fn check_line(state: State, line: &Line, elements: &Elements) -> Result<State, R
 }
 
 /// What all lines say, after a state.
-fn check_from(state: State, lines: &[Line], elements: &Elements) -> Result<State, RowFault>
+fn check_from(state: State, lines: &[Line], elements: &Indexed) -> Result<State, RowFault>
     ensures { Gives (λ s. s) result (lines_say state (map line_of lines.now) elements.now) }
 {
     let mut so_far = state;
@@ -306,7 +306,7 @@ fn check_from(state: State, lines: &[Line], elements: &Elements) -> Result<State
 
 /// That elements have what the lines ask: the first fault, or none.
 #[tactic(auto, using(crate::proofs::Checks::lines_forget))]
-pub fn check_lines(lines: &[Line], elements: &Elements) -> Result<(), RowFault>
+pub fn check_lines(lines: &[Line], elements: &Indexed) -> Result<(), RowFault>
     ensures { Gives (λ u. u) result (forgotten (lines_at start
         (map line_of lines.now) elements.now)) }
 {

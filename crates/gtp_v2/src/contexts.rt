@@ -8,14 +8,14 @@ ghost use Rattle.gtp_v2.specs.Rows.{optional_at};
 
 use crate::groups::BEARER_CONTEXT;
 use crate::rows::optional;
-use gtp_ie::{AllOf, Elements, IeValue};
+use gtp_ie::{AllOf, Elements, IeValue, Indexed};
 use std::marker::Model;
 
 /// A bearer context. Contracts see its elements.
 #[derive(Debug, Drop)]
 pub struct ContextView<'a> {
     /// `None` where the group is not whole, which has no elements.
-    elements: Option<Elements<'a>>,
+    elements: Option<Indexed<'a>>,
 }
 
 impl<'a> Model for ContextView<'a> {
@@ -77,7 +77,7 @@ impl<'a> Iterator for Contexts<'a> {
     fn next(&mut self) -> Option<ContextView<'a>> {
         let view = self.groups.next()?;
         Some(ContextView {
-            elements: view.inner().ok(),
+            elements: view.indexed().ok(),
         })
     }
 }

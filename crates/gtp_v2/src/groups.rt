@@ -16,7 +16,7 @@ ghost use Rattle.gtp_v2.specs.Outcome.{GivesOrMemory, HasGroup};
 
 use crate::fault::{BodyFault, Need, RowFault};
 use crate::listed::Listed;
-use gtp_ie::{ElementView, Elements};
+use gtp_ie::{ElementView, Indexed};
 use std::alloc::{AllocError, Global};
 
 /// The type of a bearer context's element (TS 29.274 8.28).
@@ -31,7 +31,7 @@ pub trait Context: Copy {
     ghost values: { Self → List (List Value) };
 
     /// The context that the elements of a group spell.
-    fn read(accepting: bool, elements: &Elements) -> Result<Self, RowFault>
+    fn read(accepting: bool, elements: &Indexed) -> Result<Self, RowFault>
         ensures { Gives values result (rows_at accepting rows elements.now) };
 
     /// Appends the elements of the rows.
@@ -56,7 +56,7 @@ pub trait Context: Copy {
 fn context_in<C: Context>(accepting: bool, view: &ElementView) -> Result<C, RowFault>
     ensures { Gives C.values result (group_at accepting C.rows (element_of view.now)) }
 {
-    let elements = view.inner().map_err(RowFault::Element)?;
+    let elements = view.indexed().map_err(RowFault::Element)?;
     C::read(accepting, &elements)
 }
 
@@ -64,7 +64,7 @@ fn context_in<C: Context>(accepting: bool, view: &ElementView) -> Result<C, RowF
 fn all_contexts<C: Context>(
     alloc: Global,
     accepting: bool,
-    elements: &Elements,
+    elements: &Indexed,
 ) -> Result<Vec<C>, BodyFault>
     ensures { GivesOrMemory HasGroup (λ v. map C.values v.items) result
         (groups_at accepting C.rows (all_of 93 0 elements.now)) }
@@ -88,7 +88,7 @@ pub fn contexts<C: Context>(
     alloc: Global,
     need: Need,
     accepting: bool,
-    elements: &Elements,
+    elements: &Indexed,
 ) -> Result<Listed<C>, BodyFault>
     ensures { GivesOrMemory HasGroup (λ list. map C.values list) result
         (some_groups need 93 0 accepting C.rows (all_of 93 0 elements.now)) }

@@ -4,6 +4,12 @@ ghost use Rattle.std.specs.Prelude.{◌≡◌, ◌+◌, ◌<◌, ◌^◌, length
 
 use gtp_values::{Below, Seq, Teid};
 
+mod reading;
+mod writing;
+
+pub use reading::read_header;
+pub use writing::write_header;
+
 /// What the octets before the elements say, and the octets after them.
 #[derive(Clone, Copy, Debug)]
 pub struct Header<'a> {
@@ -15,4 +21,6 @@ pub struct Header<'a> {
     /// The place of the rest in the datagram.
     pub at: usize,
     pub ghost fits: { at + length rest.now < 2 ^ 64 },
+    /// Two octets state its length.
+    pub ghost stated: { length rest.now < 2 ^ 16 },
 }

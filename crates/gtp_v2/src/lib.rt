@@ -4,6 +4,8 @@
 mod body;
 mod check;
 mod contexts;
+mod decoding;
+mod encoding;
 mod fault;
 mod groups;
 mod header;
@@ -12,7 +14,6 @@ pub mod laws;
 mod listed;
 mod marks;
 mod message;
-mod reading;
 mod repeated;
 mod room;
 mod rows;
@@ -29,10 +30,12 @@ pub use body::{
     SessionRequestContext, SessionResponseContext, VersionNotSupported, type_name,
 };
 pub use contexts::{ContextView, Contexts};
+pub use decoding::decode;
+pub use encoding::encode;
 pub use fault::{BAD_ELEMENT, Head, MISSING_ELEMENT, V2Fault};
 pub use groups::BEARER_CONTEXT;
 pub use listed::Listed;
-pub use message::{Datagram, Message, decode, encode};
+pub use message::{Datagram, Message};
 pub use viewing::{DatagramView, view};
 
 /// What the signatures and contracts here name of the crates below.

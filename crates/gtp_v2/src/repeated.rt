@@ -9,7 +9,7 @@ ghost use Rattle.gtp_v2.specs.Outcome.{GivesOrMemory, HasValue};
 
 use crate::fault::{BodyFault, RowFault};
 use crate::listed::Listed;
-use gtp_ie::{ElementView, Elements, IeFault, IeValue, ReadFault};
+use gtp_ie::{ElementView, IeFault, IeValue, Indexed, ReadFault};
 use std::alloc::Global;
 
 /// The value of an element.
@@ -35,7 +35,7 @@ pub fn value_in<T: IeValue>(instance: u8, view: &ElementView) -> Result<T, RowFa
 /// The values of the elements of the value's type and an instance.
 fn all_values<T: IeValue>(
     alloc: Global,
-    elements: &Elements,
+    elements: &Indexed,
     instance: u8,
 ) -> Result<Vec<T>, BodyFault>
     ensures { GivesOrMemory HasValue (λ v. map T.value v.items) result
@@ -60,7 +60,7 @@ fn all_values<T: IeValue>(
 pub fn several<T: IeValue>(
     alloc: Global,
     needed: bool,
-    elements: &Elements,
+    elements: &Indexed,
     instance: u8,
     missed: u8,
 ) -> Result<Listed<T>, BodyFault>

@@ -6,13 +6,13 @@ ghost use Rattle.gtp_v2.specs.Rows.{needed_at, optional_at, needed_if_at};
 
 use crate::fault::RowFault;
 use crate::repeated::value_in;
-use gtp_ie::{Elements, IeValue};
+use gtp_ie::{IeValue, Indexed};
 
 /// The value of the first element of the value's type and an instance, which is needed.
 #[tactic(auto, unfolding(crate::specs::Rows::needed_at))]
 pub fn needed<T: IeValue>(
     conditional: bool,
-    elements: &Elements,
+    elements: &Indexed,
     instance: u8,
 ) -> Result<T, RowFault>
     ensures { Gives T.value result (needed_at conditional T.KIND instance elements.now) }
@@ -28,14 +28,14 @@ pub fn needed<T: IeValue>(
 }
 
 /// The value of the first element of the value's type and an instance, of a mandatory row.
-pub fn mandatory<T: IeValue>(elements: &Elements, instance: u8) -> Result<T, RowFault>
+pub fn mandatory<T: IeValue>(elements: &Indexed, instance: u8) -> Result<T, RowFault>
     ensures { Gives T.value result (needed_at false T.KIND instance elements.now) }
 {
     needed(false, elements, instance)
 }
 
 /// The value of the first element of the value's type and an instance, of a conditional row.
-pub fn conditional<T: IeValue>(elements: &Elements, instance: u8) -> Result<T, RowFault>
+pub fn conditional<T: IeValue>(elements: &Indexed, instance: u8) -> Result<T, RowFault>
     ensures { Gives T.value result (needed_at true T.KIND instance elements.now) }
 {
     needed(true, elements, instance)
@@ -44,7 +44,7 @@ pub fn conditional<T: IeValue>(elements: &Elements, instance: u8) -> Result<T, R
 /// The value of the first element of the value's type and an instance, of an optional row: an element
 /// that doesn't read counts as absent.
 #[tactic(auto, unfolding(crate::specs::Rows::optional_at))]
-pub fn optional<T: IeValue>(elements: &Elements, instance: u8) -> Option<T>
+pub fn optional<T: IeValue>(elements: &Indexed, instance: u8) -> Option<T>
     ensures { option_map T.value result ≡ optional_at T.KIND instance elements.now }
 {
     let view = elements.first(T::KIND, instance)?;
@@ -55,7 +55,7 @@ pub fn optional<T: IeValue>(elements: &Elements, instance: u8) -> Option<T>
 #[tactic(auto, unfolding(crate::specs::Rows::needed_if_at))]
 pub fn needed_if<T: IeValue>(
     is_needed: bool,
-    elements: &Elements,
+    elements: &Indexed,
     instance: u8,
 ) -> Result<Option<T>, RowFault>
     ensures { Gives (option_map T.value) result

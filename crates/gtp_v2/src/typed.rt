@@ -1,6 +1,6 @@
 //! Messages with a table.
 
-ghost use Rattle.std.specs.Prelude.{◌≡◌, ◌↔◌, ◌++◌, OnOk, Bool, ℕ, List, IsTrue, length, true};
+ghost use Rattle.std.specs.Prelude.{◌≡◌, ◌↔◌, ◌++◌, OnOk, IfOk, Bool, ℕ, List, IsTrue, length, true, None};
 ghost use Rattle.gtp_v2.specs.Table.{Line, Field, start, allocates};
 ghost use Rattle.gtp_v2.specs.Rows.{lines_at};
 ghost use Rattle.gtp_v2.specs.Headed.{headed_of};
@@ -9,13 +9,15 @@ ghost use Rattle.gtp_v2.specs.Room.{Leaves, TakesAtMost, most_of_lines};
 ghost use Rattle.gtp_v2.specs.Kinds.{LinesHaveKinds};
 ghost use Rattle.gtp_v2.specs.Marks.{LinesMarked};
 ghost use Rattle.gtp_v2.specs.Outcome.{GivesOrMemory};
-ghost use Rattle.gtp_v2.specs.Message.{head_of, sender_of, with_head as headed_fault, typed_at, MessageGives};
+ghost use Rattle.gtp_v2.specs.Message.{head_of, sender_of, with_head as headed_fault, Fields, as_fields, fields_at, FieldsAllocate, MessageGives};
+ghost use Rattle.gtp_v2.specs.Body.{content_of, kind_of, OctetsOnlyWithoutTable};
+ghost use Rattle.gtp_v2.specs.declared.fault.V2Fault.TheVariants.{Element};
 
-use crate::body::CreateSessionRequest;
+use crate::body::{Body, CreateSessionRequest};
 use crate::fault::{BodyFault, Head, RowFault, V2Fault};
 use crate::header::Header;
 use crate::rows::optional;
-use gtp_ie::{Elements, elements_at};
+use gtp_ie::{IeFault, Indexed};
 use gtp_values::FTeid;
 use std::alloc::{AllocError, Global};
 
@@ -45,9 +47,15 @@ pub trait Typed: Drop {
         ensures { result.now ≡ named };
 
     /// The message that the elements spell.
-    fn read(alloc: Global, elements: &Elements) -> Result<Self, BodyFault>
+    fn read(alloc: Global, elements: &Indexed) -> Result<Self, BodyFault>
         ensures { GivesOrMemory (λ all. allocates lines all ≡ true) fields result
             (lines_at start lines elements.now) };
+
+    /// What a message of this kind says.
+    fn into_body(self) -> Body
+        ensures content { content_of result ≡ Fields (fields self) }
+        ensures kind { kind_of result ≡ KIND }
+        ensures octets_only { OctetsOnlyWithoutTable result };
 
     /// Appends the elements of the lines.
     fn write(&self, out: &mut Vec<u8>) -> Result<(), AllocError>
@@ -81,7 +89,7 @@ pub fn head(header: &Header, sender: Option<FTeid>) -> Head
 
 /// The sender's end for control messages, which a Create Session Request gives.
 #[tactic(auto, unfolding(crate::specs::Message::sender_of))]
-pub fn sender(kind: u8, elements: &Elements) -> Option<FTeid>
+pub fn sender(kind: u8, elements: &Indexed) -> Option<FTeid>
     ensures { result ≡ sender_of kind elements.now }
 {
     if kind == CreateSessionRequest::KIND {
@@ -110,28 +118,41 @@ pub fn with_head(head: Head, fault: RowFault) -> V2Fault
     }
 }
 
-/// The message after a header.
-#[tactic(auto, unfolding(crate::specs::Message::typed_at))]
-pub fn read_typed<M: Typed>(alloc: Global, header: &Header) -> Result<M, V2Fault>
-    ensures { MessageGives (λ all. allocates M.lines all ≡ true) M.fields result
-        (typed_at M.HAS_TEID M.lines (headed_of header.now)) }
+/// The fault of a list of elements that is cut short.
+#[cold]
+pub fn cut(header: &Header, fault: IeFault) -> V2Fault
+    ensures { result ≡ Element fault (head_of (headed_of header.now) None) }
 {
-    if header.teid.is_some() != M::HAS_TEID {
-        return Err(V2Fault::FlagT { kind: header.kind });
-    }
-    let elements = match elements_at(header.rest, header.at) {
-        Ok(elements) => elements,
-        Err(fault) => {
-            let head = head(header, None);
-            return Err(V2Fault::Element { fault, head });
-        }
-    };
-    match M::read(alloc, &elements) {
-        Ok(message) => Ok(message),
+    let head = head(header, None);
+    V2Fault::Element { fault, head }
+}
+
+/// The fault of a row of these elements.
+#[cold]
+pub fn told(header: &Header, elements: &Indexed, fault: RowFault) -> V2Fault
+    ensures { result ≡ headed_fault (head_of (headed_of header.now)
+        (sender_of header.now.kind elements.now)) fault }
+{
+    let head = head(header, sender(header.kind, elements));
+    with_head(head, fault)
+}
+
+/// What a message says whose elements after its header are these. Not inlined, so that a message of one
+/// kind sets up no room for those of the others.
+#[inline(never)]
+pub fn read_typed<M: Typed>(
+    alloc: Global,
+    header: &Header,
+    elements: &Indexed,
+) -> Result<Body, V2Fault>
+    ensures content { MessageGives (FieldsAllocate M.lines) content_of result
+        (as_fields (fields_at M.lines (headed_of header.now) elements.now)) }
+    ensures kind { IfOk result (λ body. kind_of body ≡ M.KIND) }
+    ensures octets_only { IfOk result OctetsOnlyWithoutTable }
+{
+    match M::read(alloc, elements) {
+        Ok(message) => Ok(message.into_body()),
         Err(BodyFault::Memory) => Err(V2Fault::Memory),
-        Err(BodyFault::Row(fault)) => {
-            let head = head(header, sender(header.kind, &elements));
-            Err(with_head(head, fault))
-        }
+        Err(BodyFault::Row(fault)) => Err(told(header, elements, fault)),
     }
 }

@@ -1,6 +1,6 @@
 //! Messages read in the place where they lie.
 
-ghost use Rattle.std.specs.Prelude.{◌≡◌, Ok, Err, IfOk, IfErr, IfSome, IsOkAnd, List, map, Some, option_map};
+ghost use Rattle.std.specs.Prelude.{◌≡◌, Ok, Err, IfOk, IfErr, IsOkAnd, List, map, Some, option_map};
 ghost use Rattle.gtp_values.specs.Steps.{Gives};
 ghost use Rattle.gtp_ie.specs.Element.{elements_of, list_of, all_of};
 ghost use Rattle.gtp_ie.specs.Value.{Value};
@@ -9,26 +9,26 @@ ghost use Rattle.gtp_v2.specs.Table.{Row};
 ghost use Rattle.gtp_v2.specs.Headed.{headed_of};
 ghost use Rattle.gtp_v2.specs.Checked.{forgotten};
 ghost use Rattle.gtp_v2.specs.Rows.{optional_at};
-ghost use Rattle.gtp_v2.specs.Message.{MessageValue, raw_of, typed_at, content_at, message_at, MessageGives, MessageAllocates};
-ghost use Rattle.gtp_v2.specs.Body.{message_value, OctetsOnlyWithoutTable};
+ghost use Rattle.gtp_v2.specs.Message.{MessageValue, raw_of, typed_at, content_at, message_at, MessageGives, MessageAllocates, ContentAllocates};
+ghost use Rattle.gtp_v2.specs.Body.{content_of, kind_of, message_value, OctetsOnlyWithoutTable};
 ghost use Rattle.gtp_v2.specs.Datagram.{IsMessage, IsFault};
 ghost use Rattle.gtp_v2.specs.Viewed.{Viewed, Carries, in_row, front_value, in_groups, inner_of, values_in};
 ghost use Rattle.gtp_v2.specs.Tables.{table_of};
 ghost use Rattle.gtp_v2.specs.Viewed.{elements_by, IsViewed};
 ghost use Rattle.gtp_v2.specs.declared.fault.V2Fault.{V2Fault as AnyFault};
 
-use crate::body::read_body;
+use crate::body::{Body, read_body, read_other};
 use crate::check::check_lines;
 use crate::contexts::Contexts;
 use crate::fault::V2Fault;
-use crate::header::Header;
+use crate::groups::BEARER_CONTEXT;
+use crate::header::{Header, read_header};
 use crate::message::Message;
-use crate::reading::read_header;
 use crate::rows::optional;
 use crate::shapes::asked_of;
 use crate::table::Line;
-use crate::typed::{head, sender, with_head};
-use gtp_ie::{Elements, IeValue, elements_at};
+use crate::typed::{cut, told};
+use gtp_ie::{Elements, IeValue, Indexed, indexed_at};
 use gtp_values::{Below, Seq, Teid};
 use std::alloc::Global;
 use std::marker::Model;
@@ -39,7 +39,7 @@ use std::marker::Model;
 pub struct DatagramView<'a> {
     header: Header<'a>,
     /// The elements after the header, where the type has a table.
-    elements: Option<Elements<'a>>,
+    elements: Option<Indexed<'a>>,
 }
 
 impl<'a> Model for DatagramView<'a> {
@@ -54,12 +54,12 @@ impl<'a> Model for DatagramView<'a> {
 }
 
 /// The elements after a header, which have what these lines ask.
-#[tactic(auto, unfolding(crate::specs::Message::typed_at))]
+#[tactic(auto, unfolding(crate::specs::Message::typed_at, crate::specs::Message::list_at))]
 fn view_typed<'a>(
     has_teid: bool,
     lines: &[Line],
     header: &Header<'a>,
-) -> Result<Elements<'a>, V2Fault>
+) -> Result<Indexed<'a>, V2Fault>
     ensures reads { Gives (λ _. tt) result (forgotten (typed_at has_teid (map line_of lines.now)
         (headed_of header.now))) }
     ensures elements { IfOk result (λ es. es
@@ -68,25 +68,19 @@ fn view_typed<'a>(
     if header.teid.is_some() != has_teid {
         return Err(V2Fault::FlagT { kind: header.kind });
     }
-    let elements = match elements_at(header.rest, header.at) {
+    let elements = match indexed_at(header.rest, header.at) {
         Ok(elements) => elements,
-        Err(fault) => {
-            let head = head(header, None);
-            return Err(V2Fault::Element { fault, head });
-        }
+        Err(fault) => return Err(cut(header, fault)),
     };
     match check_lines(lines, &elements) {
         Ok(()) => Ok(elements),
-        Err(fault) => {
-            let head = head(header, sender(header.kind, &elements));
-            Err(with_head(head, fault))
-        }
+        Err(fault) => Err(told(header, &elements, fault)),
     }
 }
 
 /// The elements after a header, where its type has a table, all of whose lines read.
 #[tactic(auto, unfolding(crate::specs::Message::content_at))]
-fn view_content<'a>(header: &Header<'a>) -> Result<Option<Elements<'a>>, V2Fault>
+fn view_content<'a>(header: &Header<'a>) -> Result<Option<Indexed<'a>>, V2Fault>
     ensures reads { Gives (λ _. tt) result (forgotten (content_at (headed_of header.now))) }
     ensures elements { IfOk result (λ es. es
         ≡ elements_by (table_of header.now.kind) (headed_of header.now)) }
@@ -132,6 +126,20 @@ pub fn view(octets: &[u8]) -> Result<DatagramView<'_>, V2Fault>
     ensures elements { IfOk result (Carries octets.now) }
 {
     view_message(octets)
+}
+
+/// What a message says that was viewed: no row is at fault.
+fn read_viewed(alloc: Global, header: &Header, elements: &Option<Indexed>) -> Result<Body, V2Fault>
+    requires { IsViewed (headed_of header.now) elements.now }
+    ensures content { MessageGives (ContentAllocates (table_of header.now.kind)) content_of result
+        (content_at (headed_of header.now)) }
+    ensures kind { IfOk result (λ body. kind_of body ≡ header.now.kind) }
+    ensures octets_only { IfOk result OctetsOnlyWithoutTable }
+{
+    match elements {
+        Some(elements) => read_body(alloc, header, elements),
+        None => read_other(alloc, header),
+    }
 }
 
 impl<'a> DatagramView<'a> {
@@ -205,7 +213,7 @@ impl<'a> DatagramView<'a> {
         ensures message { MessageGives MessageAllocates message_value result (Ok self.now.message) }
         ensures kind { IfOk result (λ m. OctetsOnlyWithoutTable m.body) }
     {
-        let body = read_body(alloc, &self.header)?;
+        let body = read_viewed(alloc, &self.header, &self.elements)?;
         Ok(Message {
             teid: self.header.teid,
             seq: self.header.seq,
@@ -224,7 +232,7 @@ impl<'a> DatagramView<'a> {
             in_groups 93 0 self.now.message ≡ Some p → p.1 ≡ map (values_in p.0) result }
     {
         match &self.elements {
-            Some(elements) => Contexts::of(elements),
+            Some(elements) => Contexts::of(&elements.from_first(BEARER_CONTEXT, 0)),
             None => Contexts::of(&Elements::none()),
         }
     }

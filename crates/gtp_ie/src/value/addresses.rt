@@ -67,6 +67,24 @@ impl IeValue for FTeid {
         FTeid::try_new(*flags & 0x3f, teid, v4, v6).map_err(|_| ReadFault::Bad)
     }
 
+    #[tactic(auto, unfolding(crate::specs::Value::value_at))]
+    fn check(body: &[u8]) -> Result<(), ReadFault> {
+        let [flags, ..] = body else {
+            return Err(ReadFault::Short);
+        };
+        let has_v4 = *flags >> 7 == 1;
+        let has_v6 = *flags >> 6 & 1 == 1;
+        let after_v4 = if has_v4 { 9 } else { 5 };
+        let end = if has_v6 { after_v4 + 16 } else { after_v4 };
+        if body.len() < end {
+            return Err(ReadFault::Short);
+        }
+        if !has_v4 && !has_v6 {
+            return Err(ReadFault::Bad);
+        }
+        Ok(())
+    }
+
     #[tactic(auto, unfolding(crate::specs::Value::encoding_of), using(crate::proofs::AgainAddresses::fteid_again, crate::proofs::FreeKinds::encoding_free))]
     fn write(&self, out: &mut Vec<u8>) -> Result<(), AllocError> {
         let v4 = self.v4();
@@ -116,6 +134,19 @@ impl IeValue for Paa {
             other => OtherPdnType::try_new(other)
                 .map(Paa::Other)
                 .map_err(|_| ReadFault::Bad),
+        }
+    }
+
+    #[tactic(auto, unfolding(crate::specs::Value::value_at))]
+    fn check(body: &[u8]) -> Result<(), ReadFault> {
+        let [octet, rest @ ..] = body else {
+            return Err(ReadFault::Short);
+        };
+        match *octet & 0x07 {
+            1 if rest.len() < 4 => Err(ReadFault::Short),
+            2 if rest.len() < 17 => Err(ReadFault::Short),
+            3 if rest.len() < 21 => Err(ReadFault::Short),
+            _ => Ok(()),
         }
     }
 

@@ -1,10 +1,10 @@
 //! Names of subscribers and access points, and templates: elements whose form is the whole body.
 
-ghost use Rattle.std.specs.Prelude.{◌≡◌, ◌≤◌, ◌+◌, ◌*◌, length};
+ghost use Rattle.std.specs.Prelude.{◌≡◌, ◌≤◌, length};
 ghost use Rattle.std.proofs.Common.{rules};
 ghost use Rattle.gtp_ie.specs.Value.{OfImsi, OfApn, OfTft};
 ghost use Rattle.gtp_values.specs.Imsi.{IsImsi};
-ghost use Rattle.gtp_ie.specs.Digits.{digits_in, packed};
+ghost use Rattle.gtp_ie.specs.Digits.{digits_in, are_decimal, packed};
 
 use crate::fault::ReadFault;
 use crate::value::IeValue;
@@ -27,6 +27,22 @@ fn unpacked(body: &[u8]) -> Octets<16>
         left = rest;
     }
     digits
+}
+
+/// Whether the halves of octets are decimal digits, but for a filler at the end.
+fn are_digits(body: &[u8]) -> bool
+    ensures { result ≡ are_decimal (digits_in body.now) }
+{
+    let mut left = body;
+    while let [octet, rest @ ..] = left {
+        let high = *octet >> 4;
+        let is_filler = rest.is_empty() && high == 0x0f;
+        if *octet & 0x0f > 9 || (high > 9 && !is_filler) {
+            return false;
+        }
+        left = rest;
+    }
+    true
 }
 
 /// Digits two an octet, the first in the low half, with a filler at the end for an odd count.
@@ -64,6 +80,25 @@ impl IeValue for Imsi {
             return Err(ReadFault::Bad);
         }
         Imsi::try_new(unpacked(body).as_slice()).map_err(|_| ReadFault::Bad)
+    }
+
+    #[tactic(auto, unfolding(crate::specs::Value::value_at), using(crate::proofs::Read::imsi_long))]
+    fn check(body: &[u8]) -> Result<(), ReadFault> {
+        let [.., last] = body else {
+            return Err(ReadFault::Short);
+        };
+        if body.len() < 3 {
+            return Err(ReadFault::Short);
+        }
+        if body.len() > 8 {
+            return Err(ReadFault::Bad);
+        }
+        let fillers = if *last >> 4 == 0x0f { 1 } else { 0 };
+        let digits = 2 * body.len() - fillers;
+        if digits < 6 || digits > 15 || !are_digits(body) {
+            return Err(ReadFault::Bad);
+        }
+        Ok(())
     }
 
     #[tactic(auto, unfolding(crate::specs::Value::encoding_of), using(crate::proofs::AgainNames::imsi_again, crate::proofs::FreeKinds::encoding_free))]
@@ -119,6 +154,14 @@ impl IeValue for Tft {
     #[tactic(auto, unfolding(crate::specs::Value::value_at))]
     fn parse(body: &[u8]) -> Result<Tft, ReadFault> {
         Tft::try_new(body).map_err(|_| ReadFault::Bad)
+    }
+
+    #[tactic(auto, unfolding(crate::specs::Value::value_at))]
+    fn check(body: &[u8]) -> Result<(), ReadFault> {
+        if body.len() > 255 {
+            return Err(ReadFault::Bad);
+        }
+        Ok(())
     }
 
     #[tactic(auto, unfolding(crate::specs::Value::encoding_of), using(crate::proofs::AgainNames::tft_again, crate::proofs::FreeKinds::encoding_free))]

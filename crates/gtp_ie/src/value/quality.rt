@@ -105,6 +105,14 @@ impl IeValue for Qos {
         })
     }
 
+    #[tactic(auto, unfolding(crate::specs::Value::value_at))]
+    fn check(body: &[u8]) -> Result<(), ReadFault> {
+        if body.len() < 22 {
+            return Err(ReadFault::Short);
+        }
+        Ok(())
+    }
+
     #[tactic(auto, unfolding(crate::specs::Value::encoding_of), using(crate::proofs::Again::qos_again, crate::proofs::FreeKinds::encoding_free))]
     fn write(&self, out: &mut Vec<u8>) -> Result<(), AllocError> {
         let flags = 64 * u8::from(self.pci) + 4 * self.pl.number() + u8::from(self.pvi);

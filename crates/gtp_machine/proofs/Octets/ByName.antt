@@ -128,7 +128,7 @@ control_by_name m = sym (body_read (header_in m.teid) m.seq m.body)
 user_body_read : (number : Option ℕ) (body : UserBody) → user_body_message number body ≡ user_content_message number (user_messages.content_of body)
 user_body_read number user_bodies.EchoRequest = refl
 user_body_read number user_bodies.EchoResponse = refl
-user_body_read number (user_bodies.ErrorIndication teid peer) = refl
+user_body_read number (user_bodies.ErrorIndication peer teid) = refl
 user_body_read number (user_bodies.Notification types) = refl
 user_body_read number (user_bodies.EndMarker teid) = refl
 user_body_read number (user_bodies.Packet teid payload) = refl

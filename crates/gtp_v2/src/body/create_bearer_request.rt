@@ -9,6 +9,7 @@ ghost use Rattle.gtp_v2.specs.Rows.{lines_at, rows_at};
 ghost use Rattle.gtp_v2.specs.Outcome.{GivesOrMemory};
 ghost use Rattle.gtp_v2.specs.CreateBearerRequest.{create_bearer_request, create_bearer_request_fields, bearer_request_context_rows, bearer_request_context_values};
 
+use crate::body::Body;
 use crate::fault::{BodyFault, Need, RowFault};
 use crate::groups::{Context, contexts};
 use crate::kinds::CREATE_BEARER_REQUEST;
@@ -18,7 +19,7 @@ use crate::room::{after_contexts, after_option, after_row};
 use crate::rows::{conditional, mandatory, optional};
 use crate::typed::Typed;
 use crate::writing::{put_contexts, put_option, put_row};
-use gtp_ie::{ChargingId, EbiValue, Elements, Pti};
+use gtp_ie::{ChargingId, EbiValue, Indexed, Pti};
 use gtp_values::{FTeid, Qos, Tft};
 use std::alloc::{AllocError, Global};
 
@@ -52,8 +53,12 @@ impl Typed for CreateBearerRequest {
         "create-bearer-request"
     }
 
+    fn into_body(self) -> Body {
+        Body::CreateBearerRequest(self)
+    }
+
     #[tactic(auto, unfolding(crate::specs::Rows::lines_at))]
-    fn read(alloc: Global, elements: &Elements) -> Result<CreateBearerRequest, BodyFault> {
+    fn read(alloc: Global, elements: &Indexed) -> Result<CreateBearerRequest, BodyFault> {
         let pti = optional::<Pti>(elements, 0);
         let linked_ebi = mandatory::<EbiValue>(elements, 0)?;
         let contexts = contexts::<BearerRequestContext>(alloc, Need::Mandatory, true, elements)?;
@@ -105,7 +110,7 @@ impl Context for BearerRequestContext {
     ghost values = { bearer_request_context_values };
 
     #[tactic(auto, unfolding(crate::specs::Rows::rows_at))]
-    fn read(_accepting: bool, elements: &Elements) -> Result<BearerRequestContext, RowFault> {
+    fn read(_accepting: bool, elements: &Indexed) -> Result<BearerRequestContext, RowFault> {
         let ebi = mandatory::<EbiValue>(elements, 0)?;
         let tft = mandatory::<Tft>(elements, 0)?;
         let user = conditional::<FTeid>(elements, 1)?;

@@ -9,6 +9,7 @@ ghost use Rattle.gtp_v2.specs.Rows.{lines_at, rows_at};
 ghost use Rattle.gtp_v2.specs.Outcome.{GivesOrMemory};
 ghost use Rattle.gtp_v2.specs.CreateBearerResponse.{create_bearer_response, create_bearer_response_fields, bearer_response_context_rows, bearer_response_context_values};
 
+use crate::body::Body;
 use crate::fault::{BodyFault, Need, RowFault};
 use crate::groups::{Context, contexts};
 use crate::kinds::CREATE_BEARER_RESPONSE;
@@ -18,7 +19,7 @@ use crate::room::{after_contexts, after_option, after_row};
 use crate::rows::{mandatory, needed_if, optional};
 use crate::typed::Typed;
 use crate::writing::{put_contexts, put_option, put_row};
-use gtp_ie::{EbiValue, Elements, Recovery};
+use gtp_ie::{EbiValue, Indexed, Recovery};
 use gtp_values::{Cause, FTeid};
 use std::alloc::{AllocError, Global};
 
@@ -52,8 +53,12 @@ impl Typed for CreateBearerResponse {
         "create-bearer-response"
     }
 
+    fn into_body(self) -> Body {
+        Body::CreateBearerResponse(self)
+    }
+
     #[tactic(auto, unfolding(crate::specs::Rows::lines_at))]
-    fn read(alloc: Global, elements: &Elements) -> Result<CreateBearerResponse, BodyFault> {
+    fn read(alloc: Global, elements: &Indexed) -> Result<CreateBearerResponse, BodyFault> {
         let cause = mandatory::<Cause>(elements, 0)?;
         let accepting = cause.is_accepting();
         let need = Need::where_accepting(accepting);
@@ -108,7 +113,7 @@ impl Context for BearerResponseContext {
     ghost values = { bearer_response_context_values };
 
     #[tactic(auto, unfolding(crate::specs::Rows::rows_at))]
-    fn read(accepting: bool, elements: &Elements) -> Result<BearerResponseContext, RowFault> {
+    fn read(accepting: bool, elements: &Indexed) -> Result<BearerResponseContext, RowFault> {
         let ebi = mandatory::<EbiValue>(elements, 0)?;
         let cause = mandatory::<Cause>(elements, 0)?;
         let accepting = accepting && cause.is_accepting();

@@ -9,6 +9,7 @@ ghost use Rattle.gtp_v2.specs.Rows.{lines_at, rows_at};
 ghost use Rattle.gtp_v2.specs.Outcome.{GivesOrMemory};
 ghost use Rattle.gtp_v2.specs.CreateSessionRequest.{create_session_request, create_session_request_fields, session_request_context_rows, session_request_context_values};
 
+use crate::body::Body;
 use crate::fault::{BodyFault, Need, RowFault};
 use crate::groups::{Context, contexts};
 use crate::kinds::CREATE_SESSION_REQUEST;
@@ -18,7 +19,7 @@ use crate::room::{after_contexts, after_option, after_row};
 use crate::rows::{conditional, mandatory, optional};
 use crate::typed::Typed;
 use crate::writing::{put_contexts, put_option, put_row};
-use gtp_ie::{EbiValue, Elements, PdnType, Rat, Recovery, Selection};
+use gtp_ie::{EbiValue, Indexed, PdnType, Rat, Recovery, Selection};
 use gtp_values::{Ambr, Apn, FTeid, Imsi, Paa, Plmn, Qos};
 use std::alloc::{AllocError, Global};
 
@@ -69,8 +70,12 @@ impl Typed for CreateSessionRequest {
         "create-session-request"
     }
 
+    fn into_body(self) -> Body {
+        Body::CreateSessionRequest(self)
+    }
+
     #[tactic(auto, unfolding(crate::specs::Rows::lines_at))]
-    fn read(alloc: Global, elements: &Elements) -> Result<CreateSessionRequest, BodyFault> {
+    fn read(alloc: Global, elements: &Indexed) -> Result<CreateSessionRequest, BodyFault> {
         let imsi = conditional::<Imsi>(elements, 0)?;
         let rat = mandatory::<Rat>(elements, 0)?;
         let serving_network = optional::<Plmn>(elements, 0);
@@ -150,7 +155,7 @@ impl Context for SessionRequestContext {
     ghost values = { session_request_context_values };
 
     #[tactic(auto, unfolding(crate::specs::Rows::rows_at))]
-    fn read(_accepting: bool, elements: &Elements) -> Result<SessionRequestContext, RowFault> {
+    fn read(_accepting: bool, elements: &Indexed) -> Result<SessionRequestContext, RowFault> {
         let ebi = mandatory::<EbiValue>(elements, 0)?;
         let qos = mandatory::<Qos>(elements, 0)?;
         let user = conditional::<FTeid>(elements, 2)?;

@@ -9,6 +9,7 @@ ghost use Rattle.gtp_v2.specs.Rows.{lines_at, rows_at};
 ghost use Rattle.gtp_v2.specs.Outcome.{GivesOrMemory};
 ghost use Rattle.gtp_v2.specs.CreateSessionResponse.{create_session_response, create_session_response_fields, session_response_context_rows, session_response_context_values};
 
+use crate::body::Body;
 use crate::fault::{BodyFault, Need, RowFault};
 use crate::groups::{Context, contexts};
 use crate::kinds::CREATE_SESSION_RESPONSE;
@@ -18,7 +19,7 @@ use crate::room::{after_contexts, after_option, after_row};
 use crate::rows::{mandatory, needed_if, optional};
 use crate::typed::Typed;
 use crate::writing::{put_contexts, put_option, put_row};
-use gtp_ie::{ChargingId, EbiValue, Elements, Recovery};
+use gtp_ie::{ChargingId, EbiValue, Indexed, Recovery};
 use gtp_values::{Ambr, Cause, FTeid, Paa, Qos};
 use std::alloc::{AllocError, Global};
 
@@ -59,8 +60,12 @@ impl Typed for CreateSessionResponse {
         "create-session-response"
     }
 
+    fn into_body(self) -> Body {
+        Body::CreateSessionResponse(self)
+    }
+
     #[tactic(auto, unfolding(crate::specs::Rows::lines_at))]
-    fn read(alloc: Global, elements: &Elements) -> Result<CreateSessionResponse, BodyFault> {
+    fn read(alloc: Global, elements: &Indexed) -> Result<CreateSessionResponse, BodyFault> {
         let cause = mandatory::<Cause>(elements, 0)?;
         let accepting = cause.is_accepting();
         let control = needed_if::<FTeid>(accepting, elements, 1)?;
@@ -129,7 +134,7 @@ impl Context for SessionResponseContext {
     ghost values = { session_response_context_values };
 
     #[tactic(auto, unfolding(crate::specs::Rows::rows_at))]
-    fn read(accepting: bool, elements: &Elements) -> Result<SessionResponseContext, RowFault> {
+    fn read(accepting: bool, elements: &Indexed) -> Result<SessionResponseContext, RowFault> {
         let ebi = mandatory::<EbiValue>(elements, 0)?;
         let cause = mandatory::<Cause>(elements, 0)?;
         let accepting = accepting && cause.is_accepting();

@@ -8,6 +8,7 @@ ghost use Rattle.gtp_v2.specs.Rows.{lines_at};
 ghost use Rattle.gtp_v2.specs.Outcome.{GivesOrMemory};
 ghost use Rattle.gtp_v2.specs.DeleteBearerRequest.{delete_bearer_request, delete_bearer_request_fields};
 
+use crate::body::Body;
 use crate::fault::BodyFault;
 use crate::kinds::DELETE_BEARER_REQUEST;
 use crate::listed::Listed;
@@ -16,7 +17,7 @@ use crate::room::{after_option, after_several};
 use crate::rows::optional;
 use crate::typed::Typed;
 use crate::writing::{put_option, put_several};
-use gtp_ie::{EbiValue, Elements};
+use gtp_ie::{EbiValue, Indexed};
 use std::alloc::{AllocError, Global};
 
 /// A request to end a session or some of its dedicated bearers (TS 29.274 7.2.9.2).
@@ -47,8 +48,12 @@ impl Typed for DeleteBearerRequest {
         "delete-bearer-request"
     }
 
+    fn into_body(self) -> Body {
+        Body::DeleteBearerRequest(self)
+    }
+
     #[tactic(auto, unfolding(crate::specs::Rows::lines_at))]
-    fn read(alloc: Global, elements: &Elements) -> Result<DeleteBearerRequest, BodyFault> {
+    fn read(alloc: Global, elements: &Indexed) -> Result<DeleteBearerRequest, BodyFault> {
         let linked_ebi = optional::<EbiValue>(elements, 0);
         let ebis = several::<EbiValue>(alloc, linked_ebi.is_none(), elements, 1, 0)?;
         Ok(DeleteBearerRequest { linked_ebi, ebis })

@@ -9,6 +9,7 @@ ghost use Rattle.gtp_v2.specs.Rows.{lines_at, rows_at};
 ghost use Rattle.gtp_v2.specs.Outcome.{GivesOrMemory};
 ghost use Rattle.gtp_v2.specs.DeleteBearerResponse.{delete_bearer_response, delete_bearer_response_fields, removal_response_context_rows, removal_response_context_values};
 
+use crate::body::Body;
 use crate::fault::{BodyFault, Need, RowFault};
 use crate::groups::{Context, contexts};
 use crate::kinds::DELETE_BEARER_RESPONSE;
@@ -18,7 +19,7 @@ use crate::room::{after_contexts, after_option, after_row};
 use crate::rows::{mandatory, optional};
 use crate::typed::Typed;
 use crate::writing::{put_contexts, put_option, put_row};
-use gtp_ie::{EbiValue, Elements, Recovery};
+use gtp_ie::{EbiValue, Indexed, Recovery};
 use gtp_values::Cause;
 use std::alloc::{AllocError, Global};
 
@@ -54,8 +55,12 @@ impl Typed for DeleteBearerResponse {
         "delete-bearer-response"
     }
 
+    fn into_body(self) -> Body {
+        Body::DeleteBearerResponse(self)
+    }
+
     #[tactic(auto, unfolding(crate::specs::Rows::lines_at))]
-    fn read(alloc: Global, elements: &Elements) -> Result<DeleteBearerResponse, BodyFault> {
+    fn read(alloc: Global, elements: &Indexed) -> Result<DeleteBearerResponse, BodyFault> {
         let cause = mandatory::<Cause>(elements, 0)?;
         let accepting = cause.is_accepting();
         let linked_ebi = optional::<EbiValue>(elements, 0);
@@ -112,7 +117,7 @@ impl Context for RemovalResponseContext {
     ghost values = { removal_response_context_values };
 
     #[tactic(auto, unfolding(crate::specs::Rows::rows_at))]
-    fn read(_accepting: bool, elements: &Elements) -> Result<RemovalResponseContext, RowFault> {
+    fn read(_accepting: bool, elements: &Indexed) -> Result<RemovalResponseContext, RowFault> {
         let ebi = mandatory::<EbiValue>(elements, 0)?;
         let cause = mandatory::<Cause>(elements, 0)?;
         Ok(RemovalResponseContext { ebi, cause })

@@ -8,13 +8,14 @@ ghost use Rattle.gtp_v2.specs.Rows.{lines_at};
 ghost use Rattle.gtp_v2.specs.Outcome.{GivesOrMemory};
 ghost use Rattle.gtp_v2.specs.DeleteSessionRequest.{delete_session_request, delete_session_request_fields};
 
+use crate::body::Body;
 use crate::fault::BodyFault;
 use crate::kinds::DELETE_SESSION_REQUEST;
 use crate::room::after_option;
 use crate::rows::optional;
 use crate::typed::Typed;
 use crate::writing::put_option;
-use gtp_ie::{EbiValue, Elements};
+use gtp_ie::{EbiValue, Indexed};
 use std::alloc::{AllocError, Global};
 
 /// A request to end a session (TS 29.274 7.2.9.1).
@@ -43,8 +44,12 @@ impl Typed for DeleteSessionRequest {
         "delete-session-request"
     }
 
+    fn into_body(self) -> Body {
+        Body::DeleteSessionRequest(self)
+    }
+
     #[tactic(auto, unfolding(crate::specs::Rows::lines_at))]
-    fn read(_alloc: Global, elements: &Elements) -> Result<DeleteSessionRequest, BodyFault> {
+    fn read(_alloc: Global, elements: &Indexed) -> Result<DeleteSessionRequest, BodyFault> {
         let linked_ebi = optional::<EbiValue>(elements, 0);
         Ok(DeleteSessionRequest { linked_ebi })
     }

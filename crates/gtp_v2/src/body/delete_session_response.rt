@@ -8,13 +8,14 @@ ghost use Rattle.gtp_v2.specs.Rows.{lines_at};
 ghost use Rattle.gtp_v2.specs.Outcome.{GivesOrMemory};
 ghost use Rattle.gtp_v2.specs.DeleteSessionResponse.{delete_session_response, delete_session_response_fields};
 
+use crate::body::Body;
 use crate::fault::BodyFault;
 use crate::kinds::DELETE_SESSION_RESPONSE;
 use crate::room::{after_option, after_row};
 use crate::rows::{mandatory, optional};
 use crate::typed::Typed;
 use crate::writing::{put_option, put_row};
-use gtp_ie::{Elements, Recovery};
+use gtp_ie::{Indexed, Recovery};
 use gtp_values::Cause;
 use std::alloc::{AllocError, Global};
 
@@ -46,8 +47,12 @@ impl Typed for DeleteSessionResponse {
         "delete-session-response"
     }
 
+    fn into_body(self) -> Body {
+        Body::DeleteSessionResponse(self)
+    }
+
     #[tactic(auto, unfolding(crate::specs::Rows::lines_at))]
-    fn read(_alloc: Global, elements: &Elements) -> Result<DeleteSessionResponse, BodyFault> {
+    fn read(_alloc: Global, elements: &Indexed) -> Result<DeleteSessionResponse, BodyFault> {
         let cause = mandatory::<Cause>(elements, 0)?;
         let recovery = optional::<Recovery>(elements, 0);
         Ok(DeleteSessionResponse { cause, recovery })

@@ -8,13 +8,14 @@ ghost use Rattle.gtp_v2.specs.Rows.{lines_at};
 ghost use Rattle.gtp_v2.specs.Outcome.{GivesOrMemory};
 ghost use Rattle.gtp_v2.specs.EchoRequest.{echo_request, echo_request_fields};
 
+use crate::body::Body;
 use crate::fault::BodyFault;
 use crate::kinds::ECHO_REQUEST;
 use crate::room::after_row;
 use crate::rows::mandatory;
 use crate::typed::Typed;
 use crate::writing::put_row;
-use gtp_ie::{Elements, Recovery};
+use gtp_ie::{Indexed, Recovery};
 use std::alloc::{AllocError, Global};
 
 /// A question whether the peer is alive (TS 29.274 7.1.1).
@@ -43,8 +44,12 @@ impl Typed for EchoRequest {
         "echo-request"
     }
 
+    fn into_body(self) -> Body {
+        Body::EchoRequest(self)
+    }
+
     #[tactic(auto, unfolding(crate::specs::Rows::lines_at))]
-    fn read(_alloc: Global, elements: &Elements) -> Result<EchoRequest, BodyFault> {
+    fn read(_alloc: Global, elements: &Indexed) -> Result<EchoRequest, BodyFault> {
         let recovery = mandatory::<Recovery>(elements, 0)?;
         Ok(EchoRequest { recovery })
     }

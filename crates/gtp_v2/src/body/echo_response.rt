@@ -8,13 +8,14 @@ ghost use Rattle.gtp_v2.specs.Rows.{lines_at};
 ghost use Rattle.gtp_v2.specs.Outcome.{GivesOrMemory};
 ghost use Rattle.gtp_v2.specs.EchoResponse.{echo_response, echo_response_fields};
 
+use crate::body::Body;
 use crate::fault::BodyFault;
 use crate::kinds::ECHO_RESPONSE;
 use crate::room::after_row;
 use crate::rows::mandatory;
 use crate::typed::Typed;
 use crate::writing::put_row;
-use gtp_ie::{Elements, Recovery};
+use gtp_ie::{Indexed, Recovery};
 use std::alloc::{AllocError, Global};
 
 /// The answer that the peer is alive (TS 29.274 7.1.2).
@@ -43,8 +44,12 @@ impl Typed for EchoResponse {
         "echo-response"
     }
 
+    fn into_body(self) -> Body {
+        Body::EchoResponse(self)
+    }
+
     #[tactic(auto, unfolding(crate::specs::Rows::lines_at))]
-    fn read(_alloc: Global, elements: &Elements) -> Result<EchoResponse, BodyFault> {
+    fn read(_alloc: Global, elements: &Indexed) -> Result<EchoResponse, BodyFault> {
         let recovery = mandatory::<Recovery>(elements, 0)?;
         Ok(EchoResponse { recovery })
     }

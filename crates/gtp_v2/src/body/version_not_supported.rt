@@ -8,10 +8,11 @@ ghost use Rattle.gtp_v2.specs.Rows.{lines_at};
 ghost use Rattle.gtp_v2.specs.Outcome.{GivesOrMemory};
 ghost use Rattle.gtp_v2.specs.VersionNotSupported.{version_not_supported, version_not_supported_fields};
 
+use crate::body::Body;
 use crate::fault::BodyFault;
 use crate::kinds::VERSION_NOT_SUPPORTED;
 use crate::typed::Typed;
-use gtp_ie::Elements;
+use gtp_ie::Indexed;
 use std::alloc::{AllocError, Global};
 
 /// That the sender supports no version above 2 (TS 29.274 7.1.3).
@@ -37,8 +38,12 @@ impl Typed for VersionNotSupported {
         "version-not-supported"
     }
 
+    fn into_body(self) -> Body {
+        Body::VersionNotSupported(self)
+    }
+
     #[tactic(auto, unfolding(crate::specs::Rows::lines_at))]
-    fn read(_alloc: Global, _elements: &Elements) -> Result<VersionNotSupported, BodyFault> {
+    fn read(_alloc: Global, _elements: &Indexed) -> Result<VersionNotSupported, BodyFault> {
         Ok(VersionNotSupported {})
     }
 

@@ -8,7 +8,7 @@ use Rattle.gtp_v2.proofs.viewing.DatagramView.contexts.Goals as goal
 pub returns-in-Some : goal.returns-in-Some
 returns-in-Some c =
     let kept = sym (ap (λ (v : Viewed). v.elements) c.self.view_is) ∙ ap list_or_none c.in-Some.is in
-    let are = ap (λ es. map inner_of (all_of 93 0 es)) kept ∙ sym c.of.ensures in
+    let are = ap (λ es. map inner_of (all_of 93 0 es)) kept ∙ ap (map inner_of) (sym c.from_first.ensures.all) ∙ sym c.of.ensures in
     record {
       elements = sym are;
       groups = λ p is. contexts_are 93 0 (headed_of c.self.inside.header) c.self.inside.elements c.args.self.now c.self.view_is c.self.invariant p is ∙ ap (map (values_in p.0)) are;

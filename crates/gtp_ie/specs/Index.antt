@@ -1,0 +1,59 @@
+-- Where the first element of a type and instance stands.
+use Rattle.std.specs.Prelude.{◌≡◌, ◌==◌, ◌&&◌, ◌<◌, ◌≤◌, ℕ, ◌+◌, ◌-◌, List, [], ◌∷◌, length, drop, get_or, Result, Ok, Err, if◌then◌else◌}
+use Rattle.gtp_ie.specs.Element.{Element, elements_of}
+use Rattle.gtp_ie.specs.View.{IsWhole}
+
+-- the slot of a type's elements of instance 0; all types that no message has a row of share one
+abbrev pub slot_of_type : ℕ → ℕ
+slot_of_type kind =
+    if kind == 1 then 1
+    else (if kind == 2 then 2
+    else (if kind == 3 then 3
+    else (if kind == 71 then 4
+    else (if kind == 72 then 5
+    else (if kind == 73 then 6
+    else (if kind == 79 then 7
+    else (if kind == 80 then 8
+    else (if kind == 82 then 9
+    else (if kind == 83 then 10
+    else (if kind == 84 then 11
+    else (if kind == 87 then 12
+    else (if kind == 93 then 13
+    else (if kind == 94 then 14
+    else (if kind == 99 then 15
+    else (if kind == 100 then 16
+    else (if kind == 128 then 17
+    else 0))))))))))))))))
+
+-- the slot of a further instance
+abbrev pub slot_of_further : ℕ → ℕ → ℕ
+slot_of_further kind instance =
+    if (kind == 73) && (instance == 1) then 18
+    else (if (kind == 87) && (instance == 1) then 19
+    else (if (kind == 87) && (instance == 2) then 20
+    else (if (kind == 87) && (instance == 3) then 21
+    else 0)))
+
+-- the slot of a type and instance
+unfoldable pub slot : ℕ → ℕ → ℕ
+slot kind instance = if instance == 0 then slot_of_type kind else slot_of_further kind instance
+
+-- the elements from the first one of a slot on
+abbrev pub from_slot : ℕ → List Element → List Element
+from_slot s [] = []
+from_slot s (e ∷ es) = if slot e.kind e.instance == s then e ∷ es else from_slot s es
+
+-- the same of a walk
+abbrev pub walk_from_slot : ℕ → Result (List Element) ℕ → Result (List Element) ℕ
+walk_from_slot s (Ok es) = Ok (from_slot s es)
+walk_from_slot s (Err at) = Err at
+
+-- the elements in so many octets at the end
+abbrev pub elements_left : ℕ → List ℕ → ℕ → Result (List Element) ℕ
+elements_left base octets left = elements_of (base + (length octets - left)) (drop (length octets - left) octets)
+
+-- the octets are whole elements, and by slot it is known how many octets are left from its first element on
+pub record IsIndexed (base : ℕ) (octets : List ℕ) (lefts : List ℕ) : Type 0 where
+  pub whole : IsWhole base octets
+  pub room : (s : ℕ) → get_or lefts s 0 ≤ length octets
+  pub slots : (s : ℕ) → s < 22 → elements_left base octets (get_or lefts s 0) ≡ walk_from_slot s (elements_of base octets)

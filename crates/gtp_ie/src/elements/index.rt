@@ -1,0 +1,166 @@
+//! Elements with an index of those that messages have rows of.
+
+ghost use Rattle.std.specs.Prelude.{◌≡◌, ◌+◌, ◌<◌, ◌^◌, length, option_map};
+ghost use Rattle.gtp_ie.specs.Element.{elements_of, first_of, all_of};
+ghost use Rattle.gtp_ie.specs.Index.{slot, slot_of_type};
+ghost use Rattle.gtp_ie.specs.View.{element_of};
+ghost use Rattle.gtp_ie.specs.Walked.{IsWalked, FindsElements};
+
+use super::{AllOf, Elements, front};
+use crate::fault::IeFault;
+use crate::view::ElementView;
+use std::marker::Model;
+
+/// How many slots there are: one for each type and instance that a message has a row of, and one for
+/// all others.
+const SLOTS: usize = 22;
+
+/// The slot of a type's elements of instance 0.
+fn slot_of_kind(kind: u8) -> usize
+    ensures value { result ≡ slot_of_type kind }
+    ensures range { result < 22 }
+{
+    match kind {
+        1 => 1,
+        2 => 2,
+        3 => 3,
+        71 => 4,
+        72 => 5,
+        73 => 6,
+        79 => 7,
+        80 => 8,
+        82 => 9,
+        83 => 10,
+        84 => 11,
+        87 => 12,
+        93 => 13,
+        94 => 14,
+        99 => 15,
+        100 => 16,
+        128 => 17,
+        _ => 0,
+    }
+}
+
+/// The slot of a type and instance.
+#[tactic(auto, unfolding(crate::specs::Index::slot))]
+fn slot_of(kind: u8, instance: u8) -> usize
+    ensures value { result ≡ slot kind instance }
+    ensures range { result < 22 }
+{
+    if instance == 0 {
+        return slot_of_kind(kind);
+    }
+    if kind == 73 && instance == 1 {
+        18
+    } else if kind == 87 && instance == 1 {
+        19
+    } else if kind == 87 && instance == 2 {
+        20
+    } else if kind == 87 && instance == 3 {
+        21
+    } else {
+        0
+    }
+}
+
+/// Elements one after the other in less than 65,536 octets, of which the first of each type and instance
+/// that a message has a row of is found without a walk. Takes no memory. Contracts see the list of the
+/// elements.
+#[derive(Debug, Drop)]
+pub struct Indexed<'a> {
+    octets: &'a [u8],
+    at: usize,
+    /// By slot, how many octets are left from its first element on; 0 where it has none.
+    lefts: [u16; SLOTS],
+}
+
+impl<'a> Model for Indexed<'a> {
+    ghost use Rattle.std.specs.Prelude.{List};
+    ghost use Rattle.gtp_ie.specs.Element.{Element, elements_of, list_of};
+    ghost use Rattle.gtp_ie.specs.Index.{IsIndexed};
+
+    ghost Value = { List Element };
+
+    ghost view = { λ a. list_of (elements_of a.at a.octets.now) };
+
+    ghost invariant = { λ a. IsIndexed a.at a.octets.now a.lefts };
+}
+
+/// The elements of the octets, whose first octet has this place in the datagram, by one walk:
+/// `Truncated` where they are not whole elements, at the first octet of the first one that isn't.
+pub fn indexed_at(octets: &[u8], base: usize) -> Result<Indexed<'_>, IeFault>
+    requires place { base + length octets.now < 2 ^ 64 }
+    requires stated { length octets.now < 2 ^ 16 }
+    ensures walked { IsWalked result (elements_of base octets.now) }
+    ensures elements { FindsElements base octets.now result }
+{
+    index_from(octets, base)
+}
+
+/// The same, by one reading.
+fn index_from(octets: &[u8], base: usize) -> Result<Indexed<'_>, IeFault>
+    requires place { base + length octets.now < 2 ^ 64 }
+    requires stated { length octets.now < 2 ^ 16 }
+    ensures { IsWalked result (elements_of base octets.now) }
+{
+    let mut lefts = [0u16; SLOTS];
+    let mut rest = octets;
+    let mut at = base;
+    while !rest.is_empty() {
+        let Some((view, after)) = front(rest, at) else {
+            return Err(IeFault::Truncated { at });
+        };
+        let slot = slot_of(view.kind, view.instance);
+        if lefts[slot] == 0 {
+            lefts[slot] = rest.len() as u16;
+        }
+        at += 4 + view.body.len();
+        rest = after;
+    }
+    Ok(Indexed {
+        octets,
+        at: base,
+        lefts,
+    })
+}
+
+impl<'a> Indexed<'a> {
+    /// The same elements in order.
+    pub fn iter(&self) -> Elements<'a>
+        ensures { result ≡ self.now }
+    {
+        Elements {
+            rest: self.octets,
+            at: self.at,
+        }
+    }
+
+    /// The elements from the first of a type and instance on, or from an earlier one, or none.
+    pub fn from_first(&self, kind: u8, instance: u8) -> Elements<'a>
+        ensures first { first_of kind instance result ≡ first_of kind instance self.now }
+        ensures all { all_of kind instance result ≡ all_of kind instance self.now }
+    {
+        let left = self.lefts[slot_of(kind, instance)];
+        let passed = self.octets.len() - usize::from(left);
+        let (_, rest) = self.octets.split_at(passed);
+        Elements {
+            rest,
+            at: self.at + passed,
+        }
+    }
+
+    /// The first element of a type and instance.
+    pub fn first(&self, kind: u8, instance: u8) -> Option<ElementView<'a>>
+        ensures { option_map element_of result ≡ first_of kind instance self.now }
+    {
+        self.from_first(kind, instance).first(kind, instance)
+    }
+
+    /// All elements of a type and instance.
+    pub fn all(&self, kind: u8, instance: u8) -> AllOf<'a>
+        ensures { result ≡ all_of kind instance self.now }
+    {
+        self.from_first(kind, instance).all(kind, instance)
+    }
+}

@@ -1,0 +1,12 @@
+use Rattle.gtp_user.specs.Message.{message_value}
+use Rattle.gtp_user.specs.Reading.{message_at}
+use Rattle.gtp_user.specs.Datagram.{IsUserMessage, IsUserFault}
+use Rattle.gtp_user.proofs.Messages.{message_decided}
+use Rattle.gtp_user.proofs.Told.{told}
+use Rattle.gtp_user.proofs.decoding.decode.Goals as goal
+
+pub returns : goal.returns
+returns c =
+    let octets = c.args.octets.now in
+    let t = told message_value c.read_message.result (message_at octets) (IsUserMessage octets) (IsUserFault octets) c.read_message.ensures (message_decided octets) in
+    record { found = t.found; only = t.only; fault = t.fault; first = t.first }

@@ -1,0 +1,81 @@
+//! Encoding messages.
+
+ghost use Rattle.std.specs.Prelude.{◌≡◌, ◌+◌, ◌<◌, length, IfOk, IsErrOf, ◌⊎◌, ◌↔◌, OnOk, IfErr};
+ghost use Rattle.gtp_v2.specs.Priority.{PriorityNeedsTeid};
+ghost use Rattle.gtp_v2.specs.Tables.{table_of};
+ghost use Rattle.gtp_v2.specs.Body.{content_of, kind_of, message_value, OctetsOnlyWithoutTable};
+ghost use Rattle.gtp_v2.specs.Encoding.{canonical_encoding, HeaderMeets};
+ghost use Rattle.gtp_v2.specs.Room.{most_carried, members};
+ghost use Rattle.gtp_v2.specs.Kinds.{ContentHasKinds};
+ghost use Rattle.gtp_v2.specs.Marks.{MeetsMarks};
+ghost use Rattle.gtp_v2.specs.Datagram.{IsMessage};
+
+use crate::body::{room_after, write_body};
+use crate::fault::V2Fault;
+use crate::header::write_header;
+use crate::message::Message;
+use std::alloc::Global;
+
+/// The most octets that a header can state after its first four (TS 29.274 5.5).
+const LONGEST: usize = 65535;
+
+/// The canonical encoding of a message, whose numbers and values are of its header's and its table's types.
+fn write_message(alloc: Global, message: &Message) -> Result<Vec<u8>, V2Fault>
+    requires header { PriorityNeedsTeid message.now.teid message.now.priority }
+    requires kind { OctetsOnlyWithoutTable message.now.body }
+    ensures written { IfOk result (λ octets. octets.items
+        ≡ canonical_encoding (message_value message.now)) }
+    ensures too_long { IsErrOf result V2Fault.TooLong
+        ↔ (65535 + 4 < length (canonical_encoding (message_value message.now))) }
+    ensures rows { IsErrOf result V2Fault.TooLong →
+        65527 < most_carried (message_value message.now) }
+    ensures fault { IfErr result (λ f. (f ≡ V2Fault.Memory) ⊎ (f ≡ V2Fault.TooLong)) }
+    ensures range { OnOk result
+        (HeaderMeets (message_value message.now).teid message.now.seq message.now.priority) }
+    ensures kinds { OnOk result
+        (ContentHasKinds (table_of (kind_of message.now.body)) (content_of message.now.body)) }
+{
+    let room = if message.teid.is_some() {
+        LONGEST - 8
+    } else {
+        LONGEST - 4
+    };
+    let Some(left) = room_after(&message.body, room) else {
+        return Err(V2Fault::TooLong);
+    };
+    let size = LONGEST - left;
+    let mut out = Vec::with_capacity(alloc, 4 + size)?;
+    write_header(&mut out, message)?;
+    write_body(&mut out, &message.body)?;
+    let [high, low] = (size as u16).to_be_bytes();
+    out[2] = high;
+    out[3] = low;
+    Ok(out)
+}
+
+/// The canonical encoding of a message: its elements in the order of its table, all spare bits 0. `TooLong`
+/// where its length passes the 65,535 octets that its header can state, and nowhere else; `Memory`
+/// where the one allocation was refused.
+pub fn encode(alloc: Global, message: &Message) -> Result<Vec<u8>, V2Fault>
+    // A priority stands in a header with a TEID alone.
+    requires header { PriorityNeedsTeid message.now.teid message.now.priority }
+    // A message of a type that has a table is not kept as octets.
+    requires kind { OctetsOnlyWithoutTable message.now.body }
+    ensures written { IfOk result (λ octets. octets.items
+        ≡ canonical_encoding (message_value message.now)) }
+    // Two octets state the length of all but the first four.
+    ensures too_long { IsErrOf result V2Fault.TooLong
+        ↔ (65535 + 4 < length (canonical_encoding (message_value message.now))) }
+    // None is too long whose rows fit: 259 octets for each value and 4 for each bearer context will do.
+    ensures rows { IsErrOf result V2Fault.TooLong →
+        65527 < most_carried (message_value message.now) }
+    // So none is too long whose lists have at most 48 members, all together.
+    ensures few { IsErrOf result V2Fault.TooLong → 48 < members (message_value message.now) }
+    ensures fault { IfErr result (λ f. (f ≡ V2Fault.Memory) ⊎ (f ≡ V2Fault.TooLong)) }
+    // It is read again where the message meets the marks of its table, and nowhere else.
+    ensures read_again { IfOk result
+        (λ octets. MeetsMarks (message_value message.now)
+        ↔ IsMessage octets.items (message_value message.now)) }
+{
+    write_message(alloc, message)
+}

@@ -1,0 +1,87 @@
+//! Reading a header (TS 29.274 5.1).
+
+ghost use Rattle.std.specs.Prelude.{◌<◌, ◌^◌, length, IfOk};
+ghost use Rattle.gtp_values.specs.Steps.{Gives};
+ghost use Rattle.gtp_v2.specs.Priority.{PriorityNeedsTeid};
+ghost use Rattle.gtp_v2.specs.Headed.{headed_of, header_at, after_teid, after_no_teid};
+
+use crate::fault::V2Fault;
+use crate::header::Header;
+use byteorder::{BigEndian, ByteOrder};
+use gtp_values::{Below, Seq, Teid};
+
+/// The header of a message with a TEID, after its first four octets. In line, like the two below: else
+/// each header would be moved twice.
+#[inline(always)]
+fn with_teid(first: u8, kind: u8, octets: &[u8]) -> Result<Header<'_>, V2Fault>
+    requires { length octets.now < 2 ^ 16 }
+    ensures header { Gives headed_of result (after_teid first kind octets.now) }
+    ensures priority { IfOk result (λ h. PriorityNeedsTeid h.teid h.priority) }
+{
+    let [a, b, c, d, e, f, g, last, rest @ ..] = octets else {
+        return Err(V2Fault::Short {
+            held: 4 + octets.len(),
+        });
+    };
+    let priority = (first >> 2 & 1 == 1).then_some(Below::new(*last >> 4));
+    Ok(Header {
+        kind,
+        teid: Some(Teid(BigEndian::read_u32(&[*a, *b, *c, *d]))),
+        seq: Seq::new(BigEndian::read_u24(&[*e, *f, *g])),
+        priority,
+        rest,
+        at: 12,
+    })
+}
+
+/// The same without a TEID.
+#[inline(always)]
+fn without_teid(kind: u8, octets: &[u8]) -> Result<Header<'_>, V2Fault>
+    requires { length octets.now < 2 ^ 16 }
+    ensures header { Gives headed_of result (after_no_teid kind octets.now) }
+    ensures priority { IfOk result (λ h. PriorityNeedsTeid h.teid h.priority) }
+{
+    let [a, b, c, _, rest @ ..] = octets else {
+        return Err(V2Fault::Short {
+            held: 4 + octets.len(),
+        });
+    };
+    Ok(Header {
+        kind,
+        teid: None,
+        seq: Seq::new(BigEndian::read_u24(&[*a, *b, *c])),
+        priority: None,
+        rest,
+        at: 8,
+    })
+}
+
+/// The header of a datagram, which it fills exactly.
+#[inline(always)]
+pub fn read_header(octets: &[u8]) -> Result<Header<'_>, V2Fault>
+    ensures header { Gives headed_of result (header_at octets.now) }
+    ensures priority { IfOk result (λ h. PriorityNeedsTeid h.teid h.priority) }
+{
+    let [first, kind, high, low, rest @ ..] = octets else {
+        return Err(V2Fault::Short { held: octets.len() });
+    };
+    let version = *first >> 5;
+    if version != 2 {
+        return Err(V2Fault::Version(version));
+    }
+    if *first >> 4 & 1 == 1 {
+        return Err(V2Fault::Piggyback);
+    }
+    let stated = usize::from(BigEndian::read_u16(&[*high, *low]));
+    if stated != rest.len() {
+        return Err(V2Fault::Length {
+            stated,
+            held: rest.len(),
+        });
+    }
+    if *first >> 3 & 1 == 1 {
+        with_teid(*first, *kind, rest)
+    } else {
+        without_teid(*kind, rest)
+    }
+}

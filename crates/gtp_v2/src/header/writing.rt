@@ -1,0 +1,69 @@
+//! Writing a header, its length still 0 (TS 29.274 5.1).
+
+ghost use Rattle.std.specs.Prelude.{◌≡◌, ◌+◌, ◌<◌, ◌^◌, [], ◌∷◌, ◌++◌, OnOk};
+ghost use Rattle.gtp_v2.specs.Priority.{PriorityNeedsTeid};
+ghost use Rattle.gtp_v2.specs.Body.{kind_of, message_value};
+ghost use Rattle.gtp_v2.specs.Encoding.{open_header, HeaderMeets};
+ghost use Rattle.gtp_values.specs.Numbers.{three, four};
+
+use crate::message::Message;
+use byteorder::{BigEndian, ByteOrder};
+use gtp_values::{Seq, Teid};
+use std::alloc::AllocError;
+
+/// Appends a header with a TEID, its length still 0.
+fn write_long_header(
+    out: &mut Vec<u8>,
+    flags: u8,
+    kind: u8,
+    teid: Teid,
+    seq: Seq,
+    last: u8,
+) -> Result<(), AllocError>
+    ensures ok { OnOk result
+        (out.new.items
+        ≡ out.old.items ++ flags ∷ kind ∷ 0 ∷ 0 ∷ four teid.0 (three seq (last ∷ []))) }
+    ensures teid { teid.0 < 2 ^ 32 }
+    ensures seq { seq < 2 ^ 24 }
+{
+    let mut header = [flags, kind, 0, 0, 0, 0, 0, 0, 0, 0, 0, last];
+    BigEndian::write_u32(&mut header[4..], teid.0);
+    BigEndian::write_u24(&mut header[8..], seq.number());
+    out.extend_from_slice(&header)?;
+    Ok(())
+}
+
+/// Appends a header without a TEID, its length still 0.
+fn write_short_header(out: &mut Vec<u8>, kind: u8, seq: Seq) -> Result<(), AllocError>
+    ensures ok { OnOk result (out.new.items
+        ≡ out.old.items ++ 64 ∷ kind ∷ 0 ∷ 0 ∷ three seq (0 ∷ [])) }
+    ensures seq { seq < 2 ^ 24 }
+{
+    let mut header = [64, kind, 0, 0, 0, 0, 0, 0];
+    BigEndian::write_u24(&mut header[4..], seq.number());
+    out.extend_from_slice(&header)?;
+    Ok(())
+}
+
+/// Appends the octets before what a message carries, its length still 0.
+pub fn write_header(out: &mut Vec<u8>, message: &Message) -> Result<(), AllocError>
+    requires { PriorityNeedsTeid message.now.teid message.now.priority }
+    ensures ok { OnOk result
+        (out.new.items
+        ≡ out.old.items
+        ++ open_header (kind_of message.now.body) (message_value message.now).teid
+        message.now.seq
+        message.now.priority) }
+    ensures range { HeaderMeets
+        (message_value message.now).teid message.now.seq message.now.priority }
+{
+    let kind = message.body.kind();
+    let seq = message.seq;
+    match (message.teid, message.priority) {
+        (None, _) => write_short_header(out, kind, seq),
+        (Some(teid), None) => write_long_header(out, 72, kind, teid, seq, 0),
+        (Some(teid), Some(priority)) => {
+            write_long_header(out, 76, kind, teid, seq, 16 * priority.number())
+        }
+    }
+}
