@@ -18,7 +18,12 @@ use Rattle.gtp_ie.proofs.Again.{same_cause}
 use Rattle.gtp_ie.specs.Layout.{octet, bits, is_set}
 use Rattle.gtp_ie.specs.Free.{SaysTheSame, SpellsFreely, counted_by, counted_from, spare_lines}
 use Rattle.gtp_ie.specs.Value.{Value, OfRecovery, OfEbi, OfRat, OfChargingId, OfPdnType, OfPti, OfSelection, OfAmbr, OfPlmn, OfFTeid, OfCause, OfPaa, OfQos, least, least_paa, pdn_type_in, qos_in, room, network_in, fteid_in, has_v4, has_v6, encoding_of}
-use Rattle.gtp_ie.specs.Spelling.{Spells, Says}
+use Rattle.gtp_ie.specs.declared.form.Form.{Form}
+use Rattle.gtp_ie.specs.declared.form.Form.TheVariants as forms
+use Rattle.gtp_ie.specs.Form.{number_of, form_among, form_of}
+use Rattle.gtp_ie.specs.Form.{forms as all_forms}
+use Rattle.std.proofs.lemmas.Option.{same_Some}
+use Rattle.gtp_ie.specs.Spelling.{Spells, SaysBy, Says}
 use Rattle.gtp_ie.proofs.Free.{CountWhole, whole_from, get_same, part_same, number_same, long_same}
 
 -- what a type of element has to meet
@@ -373,22 +378,46 @@ cause_free body other v s spells =
 
 -- ---- any type
 
--- a type of element, or another one
-by_kind : (kind other : ℕ) → IsFree other → ((kind == other) ≡ false → IsFree kind) → IsFree kind
-by_kind kind other here others = by_test (kind == other) refl where
-  by_test : (b : Bool) → (kind == other) ≡ b → IsFree kind
-  by_test true t = subst IsFree (sym (eqb-true kind other t)) here
-  by_test false t = others t
+-- a form that is found has the number that was looked for
+form_number : (fs : List Form) (kind : ℕ) (form : Form) → form_among fs kind ≡ Some form → kind ≡ number_of form
+form_number [] kind form is = absurd cc
+form_number (f ∷ fs) kind form is = by_test (kind == number_of f) refl (λ found. form_number fs kind form found) is where
+  by_test : (b : Bool) → (kind == number_of f) ≡ b → (form_among fs kind ≡ Some form → kind ≡ number_of form) → cond b (Some f) (form_among fs kind) ≡ Some form → kind ≡ number_of form
+  by_test true t others found = eqb-true kind (number_of f) t ∙ ap number_of (same_Some f form found)
+  by_test false t others found = others found
 
--- a body that says the same spells the same value
-pub free : (kind : ℕ) (body other : List ℕ) (v : Value) → SaysTheSame kind body other → Spells kind body v → Spells kind other v
+pub found_number : (kind : ℕ) (form : Form) → form_of kind ≡ Some form → kind ≡ number_of form
+found_number kind form is = form_number all_forms kind form is
+
+-- a body that says the same spells the same value, by its form
+form_free : (form : Form) → IsFree (number_of form)
+form_free forms.Imsi = imsi_free
+form_free forms.Cause = cause_free
+form_free forms.Recovery = recovery_free
+form_free forms.Apn = apn_free
+form_free forms.Ambr = ambr_free
+form_free forms.Ebi = ebi_free
+form_free forms.Paa = paa_free
+form_free forms.Qos = qos_free
+form_free forms.Rat = rat_free
+form_free forms.Plmn = plmn_free
+form_free forms.Tft = tft_free
+form_free forms.FTeid = fteid_free
+form_free forms.ChargingId = charging_id_free
+form_free forms.PdnType = pdn_type_free
+form_free forms.Pti = pti_free
+form_free forms.Selection = selection_free
+
+-- and of a type without a form none spells one
+none_free : (kind : ℕ) → form_of kind ≡ None → IsFree kind
 unfolding Says
-free kind =
-    by_kind kind 1 imsi_free (λ a. by_kind kind 2 cause_free (λ b. by_kind kind 3 recovery_free (λ c. by_kind kind 71 apn_free (λ d.
-    by_kind kind 72 ambr_free (λ e. by_kind kind 73 ebi_free (λ f. by_kind kind 79 paa_free (λ g. by_kind kind 80 qos_free (λ h.
-    by_kind kind 82 rat_free (λ i. by_kind kind 83 plmn_free (λ j. by_kind kind 84 tft_free (λ k. by_kind kind 87 fteid_free (λ l.
-    by_kind kind 94 charging_id_free (λ m. by_kind kind 99 pdn_type_free (λ n. by_kind kind 100 pti_free (λ o. by_kind kind 128 selection_free (λ p.
-    λ body other v s spells. absurd (rw (a, b, c, d, e, f, g, h, i, j, k, l, m, n, o, p) at spells.says)))))))))))))))))
+none_free kind none body other v s spells = absurd (subst (λ (o : Option Form). SaysBy o body v) none spells.says)
+
+pub free : (kind : ℕ) (body other : List ℕ) (v : Value) → SaysTheSame kind body other → Spells kind body v → Spells kind other v
+free kind = by_form (form_of kind) refl where
+  by_form : (o : Option Form) → form_of kind ≡ o → IsFree kind
+  by_form None is = none_free kind is
+  by_form (Some form) is = subst IsFree (sym (found_number kind form is)) (form_free form)
 
 -- so it is enough that the text of the value does
 pub encoding_free : (kind : ℕ) (v : Value) → Spells kind (encoding_of v) v → SpellsFreely kind v

@@ -2,7 +2,7 @@
 use Rattle.std.proofs.Common.{◌≡◌, ℕ, ◌+◌, ◌*◌, ◌/◌, ◌%◌, ◌<◌, ◌≤◌, Bool, true, false, cond, ◌&&◌, ◌||◌, List, [], ◌∷◌, length, Option, Some, None, Err, refl, sym, ap, subst, ◌∙◌, arith}
 use Rattle.std.specs.Prelude.{◌==◌, IsTrue, All, nat_le, nat_lt}
 use Rattle.std.proofs.lemmas.Bool.Decides.{nat_tests}
-use Rattle.std.proofs.lemmas.Bool.{ltb-false, ltb-true, eqb-true, and_from}
+use Rattle.std.proofs.lemmas.Bool.{ltb-false, ltb-true, and_from}
 use Rattle.std.proofs.lemmas.List.Elements.{All-nil, All-head, All-tail, All-cons}
 use Rattle.std.proofs.lemmas.Option.{same_Some}
 use Rattle.gtp_values.specs.Apn.{IsApn, are_labels_from}
@@ -14,10 +14,13 @@ use Rattle.gtp_values.proofs.Tests.{both}
 use Rattle.gtp_ie.specs.declared.fault.ReadFault.{ReadFault}
 use Rattle.gtp_ie.specs.declared.fault.ReadFault.TheVariants.{Short, Bad}
 use Rattle.gtp_values.specs.Decides.{Decides}
+use Rattle.gtp_ie.specs.declared.form.Form.{Form}
+use Rattle.gtp_ie.specs.declared.form.Form.TheVariants as forms
+use Rattle.gtp_ie.specs.Form.{form_of}
 use Rattle.gtp_ie.specs.Layout.{octet, bits}
 use Rattle.gtp_ie.specs.Digits.{packed, last_digits, digits_in, are_decimal, are_imsi_digits, are_network_digits}
-use Rattle.gtp_ie.specs.Value.{Value, OfImsi, OfApn, OfPlmn, OfTft, OfFTeid, third_digit, network_in, fteid_in, has_v4, has_v6, least, only_if, said, or_bad, value_at}
-use Rattle.gtp_ie.specs.Spelling.{SpellsImsi, SpellsApn, Says, Spells, SpellsNone}
+use Rattle.gtp_ie.specs.Value.{Value, OfImsi, OfApn, OfPlmn, OfTft, OfFTeid, third_digit, network_in, fteid_in, has_v4, has_v6, least, least_of, least_by, only_if, said, said_of, said_by, or_bad, value_at}
+use Rattle.gtp_ie.specs.Spelling.{SpellsImsi, SpellsApn, SaysOf, SaysBy, Says, Spells, SpellsNone}
 use Rattle.gtp_values.proofs.Decided.{known_ok, known_err}
 
 -- what is found is what is
@@ -144,38 +147,35 @@ network_from n is = and_from (are_decimal n.mcc) (are_decimal n.mnc) (all_decima
 
 -- ---- any type
 
--- one of two, by a test
-finds_cond : (b : Bool) (r s : Option Value) (P Q : Value → Type 0) → (b ≡ true → Finds r P) → Finds s Q → Finds (cond b r s) (λ v. cond b (P v) (Q v))
-finds_cond true r s P Q d e = d refl
-finds_cond false r s P Q d e = e
-
 finds_none : Finds None (λ v. ⊥)
 finds_none = record { some = λ v h. absurd cc; is = λ v h. absurd h }
 
-enough : (kind : ℕ) (body : List ℕ) → (kind == 71) ≡ true → least kind body ≤ length body → 1 ≤ length body
-enough kind body t long = subst (λ (k : ℕ). least k body ≤ length body) (eqb-true kind 71 t) long
+-- what is read of a body that is long enough is what it says, by its form
+form_finds : (form : Form) (body : List ℕ) → least_of form body ≤ length body → Finds (said_of form body) (SaysOf form body)
+form_finds forms.Imsi body long = imsi_finds body
+form_finds forms.Cause body long = finds_always _
+form_finds forms.Recovery body long = finds_always _
+form_finds forms.Apn body long = apn_finds body long
+form_finds forms.Ambr body long = finds_always _
+form_finds forms.Ebi body long = finds_always _
+form_finds forms.Paa body long = finds_always _
+form_finds forms.Qos body long = finds_always _
+form_finds forms.Rat body long = finds_always _
+form_finds forms.Plmn body long = finds_if (are_network_digits (network_in body)) (OfPlmn (network_in body)) (IsNetwork (network_in body)) (network_to body) (network_from (network_in body))
+form_finds forms.Tft body long = finds_if (nat_le (length body) 255) (OfTft body) (length body ≤ 255) (λ h. grind (arith, nat_tests)) (λ h. grind (arith, nat_tests))
+form_finds forms.FTeid body long = finds_if (has_v4 body || has_v6 body) (OfFTeid (fteid_in body)) (IsTrue (has_v4 body || has_v6 body)) (λ h. h) (λ h. h)
+form_finds forms.ChargingId body long = finds_always _
+form_finds forms.PdnType body long = finds_always _
+form_finds forms.Pti body long = finds_always _
+form_finds forms.Selection body long = finds_always _
 
--- what is read of a body that is long enough is what it says
+finds_by : (o : Option Form) (body : List ℕ) → least_by o body ≤ length body → Finds (said_by o body) (SaysBy o body)
+finds_by None body long = finds_none
+finds_by (Some form) body long = form_finds form body long
+
 pub said_finds : (kind : ℕ) (body : List ℕ) → least kind body ≤ length body → Finds (said kind body) (Says kind body)
 unfolding Says
-said_finds kind body long =
-    finds_cond (kind == 1) _ _ _ _ (λ t. imsi_finds body)
-    (finds_cond (kind == 2) _ _ _ _ (λ t. finds_always _)
-    (finds_cond (kind == 3) _ _ _ _ (λ t. finds_always _)
-    (finds_cond (kind == 71) _ _ _ _ (λ t. apn_finds body (enough kind body t long))
-    (finds_cond (kind == 72) _ _ _ _ (λ t. finds_always _)
-    (finds_cond (kind == 73) _ _ _ _ (λ t. finds_always _)
-    (finds_cond (kind == 79) _ _ _ _ (λ t. finds_always _)
-    (finds_cond (kind == 80) _ _ _ _ (λ t. finds_always _)
-    (finds_cond (kind == 82) _ _ _ _ (λ t. finds_always _)
-    (finds_cond (kind == 83) _ _ _ _ (λ t. finds_if (are_network_digits (network_in body)) (OfPlmn (network_in body)) (IsNetwork (network_in body)) (network_to body) (network_from (network_in body)))
-    (finds_cond (kind == 84) _ _ _ _ (λ t. finds_if (nat_le (length body) 255) (OfTft body) (length body ≤ 255) (λ h. grind (arith, nat_tests)) (λ h. grind (arith, nat_tests)))
-    (finds_cond (kind == 87) _ _ _ _ (λ t. finds_if (has_v4 body || has_v6 body) (OfFTeid (fteid_in body)) (IsTrue (has_v4 body || has_v6 body)) (λ h. h) (λ h. h))
-    (finds_cond (kind == 94) _ _ _ _ (λ t. finds_always _)
-    (finds_cond (kind == 99) _ _ _ _ (λ t. finds_always _)
-    (finds_cond (kind == 100) _ _ _ _ (λ t. finds_always _)
-    (finds_cond (kind == 128) _ _ _ _ (λ t. finds_always _)
-    finds_none)))))))))))))))
+said_finds kind body long = finds_by (form_of kind) body long
 
 -- reading a body decides which value it spells, and why it spells none
 pub value_decided : (kind : ℕ) (body : List ℕ) → Decides (value_at kind body) (Spells kind body) (SpellsNone kind body)

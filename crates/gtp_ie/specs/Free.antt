@@ -1,10 +1,13 @@
 -- When another body says the same as a given one: the octets of its form are the same, but for spare bits, and after the
 -- form there are any. Octets and bits are counted as the figures of TS 29.274 clause 8 count them: octet 5 is the first of
 -- the body, bit 8 the highest.
-use Rattle.std.specs.Prelude.{◌≡◌, ◌==◌, ◌&&◌, ◌||◌, ℕ, ◌+◌, Bool, List, [], ◌∷◌, map, length, take, nat_lt, if◌then◌else◌}
+use Rattle.std.specs.Prelude.{◌≡◌, ◌==◌, ◌&&◌, ℕ, ◌+◌, List, [], ◌∷◌, map, length, take, nat_lt, if◌then◌else◌, Option, Some, None}
+use Rattle.gtp_ie.specs.declared.form.Form.{Form}
+use Rattle.gtp_ie.specs.declared.form.Form.TheVariants as forms
+use Rattle.gtp_ie.specs.Form.{form_of}
 use Rattle.gtp_ie.specs.Layout.{bits}
 use Rattle.gtp_ie.specs.Spelling.{Spells}
-use Rattle.gtp_ie.specs.Value.{Value, least, encoding_of}
+use Rattle.gtp_ie.specs.Value.{Value, least_of, encoding_of}
 
 -- an octet of elements of a type, and the runs of its bits that count, each from a high bit to a low one; its other bits are
 -- spare
@@ -47,17 +50,21 @@ abbrev pub counted_from : ℕ → ℕ → List ℕ → List (List ℕ)
 counted_from kind n [] = []
 counted_from kind n (octet ∷ octets) = counted_by spare_lines kind n octet ∷ counted_from kind (n + 1) octets
 
--- IMSI, access point name and traffic flow template: the form is the whole body
-abbrev pub is_whole : ℕ → Bool
-is_whole kind = (kind == 1) || ((kind == 71) || (kind == 84))
+-- how many octets a form has: of IMSI, access point name and traffic flow template those of the body, of a cause two, or six
+-- where there are so many, and else the least that the body may have
+abbrev pub length_of : Form → List ℕ → ℕ
+length_of forms.Imsi body = length body
+length_of forms.Apn body = length body
+length_of forms.Tft body = length body
+length_of forms.Cause body = if nat_lt (length body) 6 then 2 else 6
+length_of form body = least_of form body
 
--- how many octets the form has: those of the body, for a cause two, or six where there are so many, and else the least that
--- the body may have
+abbrev pub length_by : Option Form → List ℕ → ℕ
+length_by None body = 0
+length_by (Some form) body = length_of form body
+
 abbrev pub form_length : ℕ → List ℕ → ℕ
-form_length kind body =
-    if is_whole kind then length body
-    else (if kind == 2 then (if nat_lt (length body) 6 then 2 else 6)
-    else least kind body)
+form_length kind body = length_by (form_of kind) body
 
 -- what counts of a body, octet by octet
 abbrev pub counted : ℕ → List ℕ → List (List ℕ)

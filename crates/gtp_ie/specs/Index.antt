@@ -1,37 +1,39 @@
 -- Where the first element of a type and instance stands.
 use Rattle.std.specs.Prelude.{◌≡◌, ◌==◌, ◌&&◌, ◌<◌, ◌≤◌, ℕ, ◌+◌, ◌-◌, List, [], ◌∷◌, length, drop, get_or, Result, Ok, Err, if◌then◌else◌}
+use Rattle.gtp_ie.specs.declared.form.Form.TheVariants as forms
+use Rattle.gtp_ie.specs.Form.{number_of, bearer_context}
 use Rattle.gtp_ie.specs.Element.{Element, elements_of}
 use Rattle.gtp_ie.specs.View.{IsWhole}
 
 -- the slot of a type's elements of instance 0; all types that no message has a row of share one
 abbrev pub slot_of_type : ℕ → ℕ
 slot_of_type kind =
-    if kind == 1 then 1
-    else (if kind == 2 then 2
-    else (if kind == 3 then 3
-    else (if kind == 71 then 4
-    else (if kind == 72 then 5
-    else (if kind == 73 then 6
-    else (if kind == 79 then 7
-    else (if kind == 80 then 8
-    else (if kind == 82 then 9
-    else (if kind == 83 then 10
-    else (if kind == 84 then 11
-    else (if kind == 87 then 12
-    else (if kind == 93 then 13
-    else (if kind == 94 then 14
-    else (if kind == 99 then 15
-    else (if kind == 100 then 16
-    else (if kind == 128 then 17
+    if kind == number_of forms.Imsi then 1
+    else (if kind == number_of forms.Cause then 2
+    else (if kind == number_of forms.Recovery then 3
+    else (if kind == number_of forms.Apn then 4
+    else (if kind == number_of forms.Ambr then 5
+    else (if kind == number_of forms.Ebi then 6
+    else (if kind == number_of forms.Paa then 7
+    else (if kind == number_of forms.Qos then 8
+    else (if kind == number_of forms.Rat then 9
+    else (if kind == number_of forms.Plmn then 10
+    else (if kind == number_of forms.Tft then 11
+    else (if kind == number_of forms.FTeid then 12
+    else (if kind == bearer_context then 13
+    else (if kind == number_of forms.ChargingId then 14
+    else (if kind == number_of forms.PdnType then 15
+    else (if kind == number_of forms.Pti then 16
+    else (if kind == number_of forms.Selection then 17
     else 0))))))))))))))))
 
 -- the slot of a further instance
 abbrev pub slot_of_further : ℕ → ℕ → ℕ
 slot_of_further kind instance =
-    if (kind == 73) && (instance == 1) then 18
-    else (if (kind == 87) && (instance == 1) then 19
-    else (if (kind == 87) && (instance == 2) then 20
-    else (if (kind == 87) && (instance == 3) then 21
+    if (kind == number_of forms.Ebi) && (instance == 1) then 18
+    else (if (kind == number_of forms.FTeid) && (instance == 1) then 19
+    else (if (kind == number_of forms.FTeid) && (instance == 2) then 20
+    else (if (kind == number_of forms.FTeid) && (instance == 3) then 21
     else 0)))
 
 -- the slot of a type and instance

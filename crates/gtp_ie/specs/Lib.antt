@@ -3,6 +3,7 @@ pub mod View
 pub mod Index
 pub mod Walked
 pub mod Layout
+pub mod Form
 pub mod Digits
 pub mod Value
 pub mod Parts

@@ -1,11 +1,14 @@
 -- Which bodies spell which values, one case for each type of element, and which spell none. Spare bits and, but for names
 -- and templates that are the whole body, octets after the form stand in no case: they are free.
-use Rattle.std.specs.Prelude.{◌≡◌, ◌==◌, cond, ◌||◌, IsTrue, ℕ, ◌≤◌, ◌<◌, List, length}
+use Rattle.std.specs.Prelude.{◌≡◌, ◌||◌, IsTrue, ℕ, ◌≤◌, ◌<◌, List, length, Option, Some, None}
 use Rattle.gtp_values.specs.Apn.{IsApn}
 use Rattle.gtp_values.specs.Imsi.{IsImsi}
 use Rattle.gtp_values.specs.Plmn.{IsNetwork}
 use Rattle.gtp_ie.specs.declared.fault.ReadFault.{ReadFault}
 use Rattle.gtp_ie.specs.declared.fault.ReadFault.TheVariants.{Short, Bad}
+use Rattle.gtp_ie.specs.declared.form.Form.{Form}
+use Rattle.gtp_ie.specs.declared.form.Form.TheVariants as forms
+use Rattle.gtp_ie.specs.Form.{form_of}
 use Rattle.gtp_ie.specs.Digits.{packed}
 use Rattle.gtp_ie.specs.Value.{Value, OfImsi, OfCause, OfRecovery, OfApn, OfAmbr, OfEbi, OfPaa, OfQos, OfRat, OfPlmn, OfTft, OfFTeid, OfChargingId, OfPdnType, OfPti, OfSelection, cause_in, recovery_in, ambr_in, ebi_in, paa_in, qos_in, rat_in, network_in, fteid_in, charging_id_in, asked_pdn_type_in, pti_in, selection_in, has_v4, has_v6, least}
 
@@ -29,26 +32,32 @@ SpellsTft body v = (length body ≤ 255) × (v ≡ OfTft body)
 abbrev pub SpellsFTeid : List ℕ → Value → Type 0
 SpellsFTeid body v = IsTrue (has_v4 body || has_v6 body) × (v ≡ OfFTeid (fteid_in body))
 
--- what a body that is long enough says, by the type of the element (TS 29.274 8.1)
+-- what a body that is long enough says, by its form (TS 29.274 8.1)
+abbrev pub SaysOf : Form → List ℕ → Value → Type 0
+SaysOf forms.Imsi body v = SpellsImsi body v
+SaysOf forms.Cause body v = v ≡ OfCause (cause_in body)
+SaysOf forms.Recovery body v = v ≡ OfRecovery (recovery_in body)
+SaysOf forms.Apn body v = SpellsApn body v
+SaysOf forms.Ambr body v = v ≡ OfAmbr (ambr_in body)
+SaysOf forms.Ebi body v = v ≡ OfEbi (ebi_in body)
+SaysOf forms.Paa body v = v ≡ OfPaa (paa_in body)
+SaysOf forms.Qos body v = v ≡ OfQos (qos_in body)
+SaysOf forms.Rat body v = v ≡ OfRat (rat_in body)
+SaysOf forms.Plmn body v = SpellsPlmn body v
+SaysOf forms.Tft body v = SpellsTft body v
+SaysOf forms.FTeid body v = SpellsFTeid body v
+SaysOf forms.ChargingId body v = v ≡ OfChargingId (charging_id_in body)
+SaysOf forms.PdnType body v = v ≡ OfPdnType (asked_pdn_type_in body)
+SaysOf forms.Pti body v = v ≡ OfPti (pti_in body)
+SaysOf forms.Selection body v = v ≡ OfSelection (selection_in body)
+
+abbrev pub SaysBy : Option Form → List ℕ → Value → Type 0
+SaysBy None body v = ⊥
+SaysBy (Some form) body v = SaysOf form body v
+
+-- what a body that is long enough says, by the type of the element
 unfoldable pub Says : ℕ → List ℕ → Value → Type 0
-Says kind body v =
-    cond (kind == 1) (SpellsImsi body v)
-    (cond (kind == 2) (v ≡ OfCause (cause_in body))
-    (cond (kind == 3) (v ≡ OfRecovery (recovery_in body))
-    (cond (kind == 71) (SpellsApn body v)
-    (cond (kind == 72) (v ≡ OfAmbr (ambr_in body))
-    (cond (kind == 73) (v ≡ OfEbi (ebi_in body))
-    (cond (kind == 79) (v ≡ OfPaa (paa_in body))
-    (cond (kind == 80) (v ≡ OfQos (qos_in body))
-    (cond (kind == 82) (v ≡ OfRat (rat_in body))
-    (cond (kind == 83) (SpellsPlmn body v)
-    (cond (kind == 84) (SpellsTft body v)
-    (cond (kind == 87) (SpellsFTeid body v)
-    (cond (kind == 94) (v ≡ OfChargingId (charging_id_in body))
-    (cond (kind == 99) (v ≡ OfPdnType (asked_pdn_type_in body))
-    (cond (kind == 100) (v ≡ OfPti (pti_in body))
-    (cond (kind == 128) (v ≡ OfSelection (selection_in body))
-    ⊥)))))))))))))))
+Says kind body v = SaysBy (form_of kind) body v
 
 -- the body is below the least length of its type
 abbrev pub IsShort : ℕ → List ℕ → Type 0

@@ -3,6 +3,8 @@
 
 mod elements;
 mod fault;
+mod form;
+pub mod kinds;
 pub mod laws;
 mod value;
 mod view;
@@ -10,6 +12,7 @@ mod writing;
 
 pub use elements::{AllOf, Elements, Indexed, all_elements, elements_at, indexed_at};
 pub use fault::{IeFault, ReadFault};
+pub use form::Form;
 pub use value::{ChargingId, EbiValue, IeValue, PdnType, Pti, Rat, Recovery, Selection};
 pub use view::ElementView;
 pub use writing::{append, close, open, put, put_value};

@@ -31,8 +31,8 @@ pub trait IeValue: Copy {
     fn parse(body: &[u8]) -> Result<Self, ReadFault>
         ensures { Gives value result (value_at KIND body.now) };
 
-    /// That the body spells a value: the fault of `parse`, or none. A value that is large to build is not
-    /// built.
+    /// That the body spells a value: the fault of `parse`, or none. IMSI, access point name, F-TEID, PDN
+    /// address, template and QoS are not built for it.
     fn check(octets: &[u8]) -> Result<(), ReadFault>
         ensures { Gives (λ u. u) result (checked_at KIND octets.now) }
     {

@@ -1,5 +1,5 @@
 -- What elements say, as text.
-use Rattle.std.specs.Prelude.{ℕ, ◌==◌, if◌then◌else◌, List, [], ◌++◌, Option, Some, None, Result, Ok, Err, codes, decimal}
+use Rattle.std.specs.Prelude.{ℕ, List, [], ◌++◌, Option, Some, None, Result, Ok, Err, codes, decimal}
 use Rattle.hex.specs.Hex.{encode_lower}
 use Rattle.gtp_values.specs.declared.cause.Offending.{Offending}
 use Rattle.gtp_values.specs.declared.paa.Paa.{Paa}
@@ -7,6 +7,8 @@ use Rattle.gtp_values.specs.declared.paa.Paa.TheVariants as paas
 use Rattle.gtp_values.specs.declared.qos.Qos.{Qos}
 use Rattle.gtp_values.specs.declared.qos.Rates.{Rates}
 use Rattle.gtp_ie.specs.declared.fault.ReadFault.{ReadFault}
+use Rattle.gtp_ie.specs.declared.form.Form.{Form}
+use Rattle.gtp_ie.specs.Form.{name_of, form_of}
 use Rattle.gtp_ie.specs.Value.{Value, OfImsi, OfCause, OfRecovery, OfApn, OfAmbr, OfEbi, OfPaa, OfQos, OfRat, OfPlmn, OfTft, OfFTeid, OfChargingId, OfPdnType, OfPti, OfSelection, value_at}
 use Rattle.std.specs.Net.Text.{ipv4_text}
 use Rattle.gtp_values.specs.Apn.{apn_text}
@@ -69,27 +71,6 @@ shown (OfPdnType n) = decimal n
 shown (OfPti n) = decimal n
 shown (OfSelection n) = decimal n
 
--- the name of a type of element that has a form
-abbrev pub element_name : ℕ → List ℕ
-element_name kind =
-    if kind == 1 then codes "imsi"
-    else (if kind == 2 then codes "cause"
-    else (if kind == 3 then codes "recovery"
-    else (if kind == 71 then codes "apn"
-    else (if kind == 72 then codes "ambr"
-    else (if kind == 73 then codes "ebi"
-    else (if kind == 79 then codes "paa"
-    else (if kind == 80 then codes "qos"
-    else (if kind == 82 then codes "rat"
-    else (if kind == 83 then codes "serving-network"
-    else (if kind == 84 then codes "tft"
-    else (if kind == 87 then codes "fteid"
-    else (if kind == 94 then codes "charging-id"
-    else (if kind == 99 then codes "pdn-type"
-    else (if kind == 100 then codes "pti"
-    else (if kind == 128 then codes "selection"
-    else [])))))))))))))))
-
 -- the octets of a body
 abbrev pub raw_shown : List ℕ → List ℕ
 raw_shown body = codes "octets " ++ octets_text body
@@ -99,6 +80,10 @@ abbrev pub named_shown : List ℕ → List ℕ → Result Value ReadFault → Li
 named_shown name body (Ok v) = name ++ (codes " " ++ shown v)
 named_shown name body (Err f) = raw_shown body
 
--- what a body says
+-- what a body of a form says; of another type its octets
+abbrev pub form_shown : Option Form → ℕ → List ℕ → List ℕ
+form_shown None kind body = raw_shown body
+form_shown (Some form) kind body = named_shown (name_of form) body (value_at kind body)
+
 unfoldable pub body_shown : ℕ → List ℕ → List ℕ
-body_shown kind body = named_shown (element_name kind) body (value_at kind body)
+body_shown kind body = form_shown (form_of kind) kind body

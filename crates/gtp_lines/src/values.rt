@@ -3,10 +3,11 @@
 ghost use Rattle.std.specs.Prelude.{◌≡◌, ◌++◌, OnOk, codes};
 ghost use Rattle.gtp_values.specs.Bit.{bit as bit_of};
 ghost use Rattle.gtp_ie.specs.Value.{value_at};
+ghost use Rattle.gtp_ie.specs.Form.{number_of, name_of};
 ghost use Rattle.gtp_lines.specs.Values.{shown, body_shown, raw_shown, offending_shown, paa_shown, rates_shown, v4_shown, v6_shown, field_shown, named_shown, class_shown};
 
 use crate::text::{put, put_digits, put_display, put_hex, put_number, put_octets, put_teid};
-use gtp_ie::{ChargingId, EbiValue, IeValue, PdnType, Pti, Rat, Recovery, Selection};
+use gtp_ie::{ChargingId, EbiValue, Form, IeValue, PdnType, Pti, Rat, Recovery, Selection};
 use gtp_values::{Ambr, Apn, Cause, FTeid, Imsi, Ip, Offending, Paa, Plmn, Qos, Rates, Tft};
 use std::alloc::AllocError;
 
@@ -257,28 +258,41 @@ fn put_value<T: Show>(out: &mut Vec<u8>, name: &[u8], body: &[u8]) -> Result<(),
     }
 }
 
+/// Appends what a body of this form says.
+#[tactic(auto, unfolding(gtp_ie::specs::Value::value_at))]
+fn put_form(out: &mut Vec<u8>, form: Form, body: &[u8]) -> Result<(), AllocError>
+    ensures ok { OnOk result (out.new.items
+        ≡ out.old.items
+        ++ named_shown (name_of form) body.now (value_at (number_of form) body.now)) }
+{
+    let name = form.name().as_bytes();
+    match form {
+        Form::Imsi => put_value::<Imsi>(out, name, body),
+        Form::Cause => put_value::<Cause>(out, name, body),
+        Form::Recovery => put_value::<Recovery>(out, name, body),
+        Form::Apn => put_value::<Apn>(out, name, body),
+        Form::Ambr => put_value::<Ambr>(out, name, body),
+        Form::Ebi => put_value::<EbiValue>(out, name, body),
+        Form::Paa => put_value::<Paa>(out, name, body),
+        Form::Qos => put_value::<Qos>(out, name, body),
+        Form::Rat => put_value::<Rat>(out, name, body),
+        Form::Plmn => put_value::<Plmn>(out, name, body),
+        Form::Tft => put_value::<Tft>(out, name, body),
+        Form::FTeid => put_value::<FTeid>(out, name, body),
+        Form::ChargingId => put_value::<ChargingId>(out, name, body),
+        Form::PdnType => put_value::<PdnType>(out, name, body),
+        Form::Pti => put_value::<Pti>(out, name, body),
+        Form::Selection => put_value::<Selection>(out, name, body),
+    }
+}
+
 /// Appends what a body of this type of element says.
-#[tactic(auto, unfolding(crate::specs::Values::body_shown, gtp_ie::specs::Value::value_at))]
+#[tactic(auto, unfolding(crate::specs::Values::body_shown))]
 pub fn put_body(out: &mut Vec<u8>, kind: u8, body: &[u8]) -> Result<(), AllocError>
     ensures ok { OnOk result (out.new.items ≡ out.old.items ++ body_shown kind body.now) }
 {
-    match kind {
-        1 => put_value::<Imsi>(out, b"imsi", body),
-        2 => put_value::<Cause>(out, b"cause", body),
-        3 => put_value::<Recovery>(out, b"recovery", body),
-        71 => put_value::<Apn>(out, b"apn", body),
-        72 => put_value::<Ambr>(out, b"ambr", body),
-        73 => put_value::<EbiValue>(out, b"ebi", body),
-        79 => put_value::<Paa>(out, b"paa", body),
-        80 => put_value::<Qos>(out, b"qos", body),
-        82 => put_value::<Rat>(out, b"rat", body),
-        83 => put_value::<Plmn>(out, b"serving-network", body),
-        84 => put_value::<Tft>(out, b"tft", body),
-        87 => put_value::<FTeid>(out, b"fteid", body),
-        94 => put_value::<ChargingId>(out, b"charging-id", body),
-        99 => put_value::<PdnType>(out, b"pdn-type", body),
-        100 => put_value::<Pti>(out, b"pti", body),
-        128 => put_value::<Selection>(out, b"selection", body),
-        _ => put_raw(out, body),
+    match Form::of(kind) {
+        Some(form) => put_form(out, form, body),
+        None => put_raw(out, body),
     }
 }

@@ -1,7 +1,8 @@
 //! What a message carries after its chain of extension headers.
 
-ghost use Rattle.std.specs.Prelude.{◌≡◌, ◌≤◌, length, ◌+◌, ◌-◌, ◌^◌, ◌<◌, ◌++◌, min, OnOk};
+ghost use Rattle.std.specs.Prelude.{◌≡◌, ◌≤◌, length, ◌+◌, ◌^◌, ◌<◌, ◌++◌, OnOk};
 ghost use Rattle.gtp_values.specs.Steps.{Gives};
+ghost use Rattle.gtp_values.specs.Room.{Leaves};
 ghost use Rattle.gtp_user.specs.Message.{content_of};
 ghost use Rattle.gtp_user.specs.Reading.{body_at};
 ghost use Rattle.gtp_user.specs.Encoding.{content_encoding, octets_of, HasAddressSize, kind_of, teid_of, HasShortList, IsInRange};
@@ -83,7 +84,7 @@ impl UserBody<'_> {
     }
 
     /// The TEID in the header: 0 in the messages that always have a sequence number (TS 29.281 5.1).
-    pub fn header_teid(&self) -> u32
+    pub(crate) fn header_teid(&self) -> u32
         ensures teid { result ≡ teid_of (content_of self.now) }
         ensures small { result < 2 ^ 32 }
     {
@@ -98,18 +99,20 @@ impl UserBody<'_> {
         }
     }
 
-    /// How many octets it takes, at most what a `usize` holds.
+    /// What is left of a room after what it carries, `None` where that doesn't fit.
     #[tactic(auto, unfolding(crate::specs::Encoding::content_encoding))]
-    pub fn size(&self) -> usize
-        ensures { result ≡ min (length (content_encoding (content_of self.now))) (2 ^ 64 - 1) }
+    pub(crate) fn room_after(&self, room: usize) -> Option<usize>
+        ensures { Leaves room (length (content_encoding (content_of self.now))) result }
     {
         match self {
-            UserBody::EchoRequest | UserBody::EndMarker { .. } => 0,
-            UserBody::EchoResponse => 2,
-            UserBody::ErrorIndication { peer, .. } => 8 + address_octets(peer).len(),
-            UserBody::Notification { types } => types.len().saturating_add(2),
-            UserBody::Packet { payload, .. } => payload.len(),
-            UserBody::Other { octets, .. } => octets.len(),
+            UserBody::EchoRequest | UserBody::EndMarker { .. } => Some(room),
+            UserBody::EchoResponse => room.checked_sub(2),
+            UserBody::ErrorIndication { peer, .. } => {
+                room.checked_sub(8)?.checked_sub(address_octets(peer).len())
+            }
+            UserBody::Notification { types } => room.checked_sub(2)?.checked_sub(types.len()),
+            UserBody::Packet { payload, .. } => room.checked_sub(payload.len()),
+            UserBody::Other { octets, .. } => room.checked_sub(octets.len()),
         }
     }
 }

@@ -11,6 +11,9 @@ use crate::header::{write_opening, write_options};
 use crate::message::UserMessage;
 use std::alloc::Global;
 
+/// The most octets that a header can state after its first eight (TS 29.281 5.1).
+const LONGEST: usize = 65535;
+
 /// The canonical encoding of a message that `is_encodable`. `TooLong` where its length passes what
 /// two octets can state, whether or not there is memory; `Memory` where an allocation was refused.
 #[tactic(auto, using(crate::proofs::Appends::appending))]
@@ -24,11 +27,12 @@ pub fn encode(alloc: Global, message: &UserMessage) -> Result<Vec<u8>, UserFault
         ↔ (65535 + 8 < length (encoding (message_value message.now))) }
     ensures fault { IfErr result (λ f. (f ≡ UserFault.Memory) ⊎ (f ≡ UserFault.TooLong)) }
 {
-    let Ok(size) = u16::try_from(message.size()) else {
+    let Some(left) = message.room_after(LONGEST) else {
         return Err(UserFault::TooLong);
     };
-    let mut out = Vec::with_capacity(alloc, 8 + usize::from(size))?;
-    write_opening(&mut out, message, size)?;
+    let size = LONGEST - left;
+    let mut out = Vec::with_capacity(alloc, 8 + size)?;
+    write_opening(&mut out, message, size as u16)?;
     write_options(&mut out, message)?;
     out.extend_from_slice(message.ext.octets())?;
     write_body(&mut out, &message.body)?;

@@ -87,7 +87,7 @@ pub fn read_header(octets: &[u8]) -> Result<Header<'_>, UserFault>
     })
 }
 
-/// Appends the first eight octets.
+/// Appends the first eight octets; so many follow them.
 pub fn write_opening(out: &mut Vec<u8>, message: &UserMessage, size: u16) -> Result<(), AllocError>
     ensures ok { OnOk result
         (out.new.items ≡ out.old.items ++ opening_encoding size (message_value message.now)) }

@@ -1,6 +1,7 @@
 //! Messages of the user plane.
 
-ghost use Rattle.std.specs.Prelude.{◌≡◌, length, ◌-◌, ◌^◌, ◌↔◌, min, IsTrue};
+ghost use Rattle.gtp_values.specs.Room.{Leaves};
+ghost use Rattle.std.specs.Prelude.{◌≡◌, length, ◌↔◌, IsTrue};
 ghost use Rattle.gtp_user.specs.Message.{message_value};
 ghost use Rattle.gtp_user.specs.Encoding.{rest_encoding, flags_of, IsEncodable};
 ghost use Rattle.gtp_user.specs.Header.{bits};
@@ -20,7 +21,7 @@ pub enum UserBody<'a> {
     /// Echo Response (7.2.2).
     EchoResponse,
     /// Error Indication: the TEID and the address of a packet that found no context (7.3.1). The address,
-    /// 17 octets, comes first here, so that no octets at the end of a body say nothing.
+    /// 17 octets in memory, comes first here, so that a body ends without padding.
     ErrorIndication {
         peer: Ip,
         teid: Teid,
@@ -84,7 +85,7 @@ impl UserMessage<'_> {
     }
 
     /// The flags E, S and PN: one for each part that the message has.
-    pub fn flags(&self) -> u8
+    pub(crate) fn flags(&self) -> u8
         ensures { result ≡ bits (flags_of (message_value self.now)) }
     {
         u8::from(self.ext.first_kind() != 0) << 2
@@ -92,16 +93,14 @@ impl UserMessage<'_> {
             | u8::from(self.npdu.is_some())
     }
 
-    /// How many octets there are after the first eight, at most what a `usize` holds.
+    /// What is left of a room after the octets that follow the first eight, `None` where they don't fit.
     #[tactic(auto, unfolding(crate::specs::Encoding::options_encoding))]
-    pub fn size(&self) -> usize
-        ensures { result ≡ min (length (rest_encoding (message_value self.now))) (2 ^ 64 - 1) }
+    pub(crate) fn room_after(&self, room: usize) -> Option<usize>
+        ensures { Leaves room (length (rest_encoding (message_value self.now))) result }
     {
         let options = if self.flags() == 0 { 0 } else { 4 };
-        self.ext
-            .octets()
-            .len()
-            .saturating_add(self.body.size())
-            .saturating_add(options)
+        let room = room.checked_sub(options)?;
+        let room = room.checked_sub(self.ext.octets().len())?;
+        self.body.room_after(room)
     }
 }

@@ -1,5 +1,7 @@
 -- Create Bearer Request (TS 29.274 7.2.3). Written by scripts/messages from messages/create_bearer_request.md.
 use Rattle.std.specs.Prelude.{List, [], ◌∷◌, map, option_map, option_to_list, true, codes}
+use Rattle.gtp_ie.specs.Form.{number_of, bearer_context}
+use Rattle.gtp_ie.specs.declared.form.Form.TheVariants.{ChargingId, Ebi, FTeid, Pti, Qos, Tft}
 use Rattle.gtp_ie.specs.Value.{Value, OfChargingId, OfEbi, OfFTeid, OfPti, OfQos, OfTft}
 use Rattle.gtp_v2.specs.Table.{Row, Mandatory, Conditional, Optional, Single, Grouped, Field, Plain, Groups, Table}
 use Rattle.gtp_v2.specs.declared.body.create_bearer_request.CreateBearerRequest.{CreateBearerRequest}
@@ -8,11 +10,11 @@ use Rattle.gtp_v2.specs.declared.body.create_bearer_request.BearerRequestContext
 -- the rows of a bearer context in it (table 7.2.3-2)
 abbrev pub bearer_request_context_rows : List Row
 bearer_request_context_rows =
-    Mandatory 73 0  -- EPS Bearer ID
-    ∷ Mandatory 84 0  -- Bearer TFT
-    ∷ Conditional 87 1  -- F-TEID
-    ∷ Mandatory 80 0  -- Bearer QoS
-    ∷ Optional 94 0  -- Charging ID
+    Mandatory (number_of Ebi) 0  -- EPS Bearer ID
+    ∷ Mandatory (number_of Tft) 0  -- Bearer TFT
+    ∷ Conditional (number_of FTeid) 1  -- F-TEID
+    ∷ Mandatory (number_of Qos) 0  -- Bearer QoS
+    ∷ Optional (number_of ChargingId) 0  -- Charging ID
     ∷ []
 
 abbrev pub bearer_request_context_values : BearerRequestContext → List (List Value)
@@ -32,9 +34,9 @@ create_bearer_request =
       name = codes "create-bearer-request";
       has_teid = true;
       lines =
-          Single (Optional 100 0)  -- PTI
-          ∷ Single (Mandatory 73 0)  -- EPS Bearer ID
-          ∷ Grouped (Mandatory 93 0) bearer_request_context_rows  -- Bearer Context
+          Single (Optional (number_of Pti) 0)  -- PTI
+          ∷ Single (Mandatory (number_of Ebi) 0)  -- EPS Bearer ID
+          ∷ Grouped (Mandatory bearer_context 0) bearer_request_context_rows  -- Bearer Context
           ∷ [];
     }
 

@@ -1,5 +1,7 @@
 -- Create Session Request (TS 29.274 7.2.1). Written by scripts/messages from messages/create_session_request.md.
 use Rattle.std.specs.Prelude.{List, [], ◌∷◌, map, option_map, option_to_list, true, codes}
+use Rattle.gtp_ie.specs.Form.{number_of, bearer_context}
+use Rattle.gtp_ie.specs.declared.form.Form.TheVariants.{Ambr, Apn, Ebi, FTeid, Imsi, Paa, PdnType, Plmn, Qos, Rat, Recovery, Selection}
 use Rattle.gtp_ie.specs.Value.{Value, OfAmbr, OfApn, OfEbi, OfFTeid, OfImsi, OfPaa, OfPdnType, OfPlmn, OfQos, OfRat, OfRecovery, OfSelection}
 use Rattle.gtp_v2.specs.Table.{Row, Mandatory, Conditional, Optional, Single, Grouped, Field, Plain, Groups, Table}
 use Rattle.gtp_v2.specs.declared.body.create_session_request.CreateSessionRequest.{CreateSessionRequest}
@@ -8,9 +10,9 @@ use Rattle.gtp_v2.specs.declared.body.create_session_request.SessionRequestConte
 -- the rows of a bearer context in it (table 7.2.1-2)
 abbrev pub session_request_context_rows : List Row
 session_request_context_rows =
-    Mandatory 73 0  -- EPS Bearer ID
-    ∷ Mandatory 80 0  -- Bearer QoS
-    ∷ Conditional 87 2  -- F-TEID
+    Mandatory (number_of Ebi) 0  -- EPS Bearer ID
+    ∷ Mandatory (number_of Qos) 0  -- Bearer QoS
+    ∷ Conditional (number_of FTeid) 2  -- F-TEID
     ∷ []
 
 abbrev pub session_request_context_values : SessionRequestContext → List (List Value)
@@ -28,17 +30,17 @@ create_session_request =
       name = codes "create-session-request";
       has_teid = true;
       lines =
-          Single (Conditional 1 0)  -- IMSI
-          ∷ Single (Mandatory 82 0)  -- RAT Type
-          ∷ Single (Optional 83 0)  -- Serving Network
-          ∷ Single (Mandatory 87 0)  -- F-TEID
-          ∷ Single (Mandatory 71 0)  -- APN
-          ∷ Single (Optional 128 0)  -- Selection Mode
-          ∷ Single (Conditional 99 0)  -- PDN Type
-          ∷ Single (Optional 79 0)  -- PAA
-          ∷ Single (Optional 72 0)  -- AMBR
-          ∷ Grouped (Mandatory 93 0) session_request_context_rows  -- Bearer Context
-          ∷ Single (Optional 3 0)  -- Recovery
+          Single (Conditional (number_of Imsi) 0)  -- IMSI
+          ∷ Single (Mandatory (number_of Rat) 0)  -- RAT Type
+          ∷ Single (Optional (number_of Plmn) 0)  -- Serving Network
+          ∷ Single (Mandatory (number_of FTeid) 0)  -- F-TEID
+          ∷ Single (Mandatory (number_of Apn) 0)  -- APN
+          ∷ Single (Optional (number_of Selection) 0)  -- Selection Mode
+          ∷ Single (Conditional (number_of PdnType) 0)  -- PDN Type
+          ∷ Single (Optional (number_of Paa) 0)  -- PAA
+          ∷ Single (Optional (number_of Ambr) 0)  -- AMBR
+          ∷ Grouped (Mandatory bearer_context 0) session_request_context_rows  -- Bearer Context
+          ∷ Single (Optional (number_of Recovery) 0)  -- Recovery
           ∷ [];
     }
 

@@ -1,5 +1,7 @@
 -- Create Session Response (TS 29.274 7.2.2). Written by scripts/messages from messages/create_session_response.md.
 use Rattle.std.specs.Prelude.{List, [], ◌∷◌, map, option_map, option_to_list, true, codes}
+use Rattle.gtp_ie.specs.Form.{number_of, bearer_context}
+use Rattle.gtp_ie.specs.declared.form.Form.TheVariants.{Ambr, Cause, ChargingId, Ebi, FTeid, Paa, Qos, Recovery}
 use Rattle.gtp_ie.specs.Value.{Value, OfAmbr, OfCause, OfChargingId, OfEbi, OfFTeid, OfPaa, OfQos, OfRecovery}
 use Rattle.gtp_v2.specs.Table.{Row, Mandatory, Accepted, Optional, Single, Grouped, Field, Plain, Groups, Table}
 use Rattle.gtp_v2.specs.declared.body.create_session_response.CreateSessionResponse.{CreateSessionResponse}
@@ -8,11 +10,11 @@ use Rattle.gtp_v2.specs.declared.body.create_session_response.SessionResponseCon
 -- the rows of a bearer context in it (table 7.2.2-2)
 abbrev pub session_response_context_rows : List Row
 session_response_context_rows =
-    Mandatory 73 0  -- EPS Bearer ID
-    ∷ Mandatory 2 0  -- Cause
-    ∷ Accepted 87 2  -- F-TEID
-    ∷ Optional 80 0  -- Bearer QoS
-    ∷ Optional 94 0  -- Charging ID
+    Mandatory (number_of Ebi) 0  -- EPS Bearer ID
+    ∷ Mandatory (number_of Cause) 0  -- Cause
+    ∷ Accepted (number_of FTeid) 2  -- F-TEID
+    ∷ Optional (number_of Qos) 0  -- Bearer QoS
+    ∷ Optional (number_of ChargingId) 0  -- Charging ID
     ∷ []
 
 abbrev pub session_response_context_values : SessionResponseContext → List (List Value)
@@ -32,12 +34,12 @@ create_session_response =
       name = codes "create-session-response";
       has_teid = true;
       lines =
-          Single (Mandatory 2 0)  -- Cause
-          ∷ Single (Accepted 87 1)  -- F-TEID
-          ∷ Single (Accepted 79 0)  -- PAA
-          ∷ Single (Optional 72 0)  -- AMBR
-          ∷ Grouped (Accepted 93 0) session_response_context_rows  -- Bearer Context
-          ∷ Single (Optional 3 0)  -- Recovery
+          Single (Mandatory (number_of Cause) 0)  -- Cause
+          ∷ Single (Accepted (number_of FTeid) 1)  -- F-TEID
+          ∷ Single (Accepted (number_of Paa) 0)  -- PAA
+          ∷ Single (Optional (number_of Ambr) 0)  -- AMBR
+          ∷ Grouped (Accepted bearer_context 0) session_response_context_rows  -- Bearer Context
+          ∷ Single (Optional (number_of Recovery) 0)  -- Recovery
           ∷ [];
     }
 

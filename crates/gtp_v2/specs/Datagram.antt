@@ -4,6 +4,8 @@ use Rattle.gtp_values.specs.Decides.{First_or_later}
 use Rattle.gtp_ie.specs.Element.{Element}
 use Rattle.gtp_ie.specs.Octets.{AreElements, IsCut}
 use Rattle.gtp_ie.specs.declared.fault.IeFault.TheVariants.{Truncated}
+use Rattle.gtp_ie.specs.Form.{number_of}
+use Rattle.gtp_ie.specs.declared.form.Form.TheVariants.{FTeid}
 use Rattle.gtp_ie.specs.Value.{OfFTeid}
 use Rattle.gtp_values.specs.TunnelEnd.{TunnelEnd}
 use Rattle.gtp_v2.specs.declared.fault.RowFault.{RowFault}
@@ -23,8 +25,8 @@ FieldsAre lines h fields = (es : List Element) × AreElements h.at h.rest es × 
 
 -- the first end for control messages among the elements, where it reads
 abbrev pub EndIs : List Element → Option TunnelEnd → Type 0
-EndIs es None = SaysNothing 87 0 es
-EndIs es (Some e) = Says 87 0 es (OfFTeid e)
+EndIs es None = SaysNothing (number_of FTeid) 0 es
+EndIs es (Some e) = Says (number_of FTeid) 0 es (OfFTeid e)
 
 -- a Create Session Request tells its sender's end, and no other message does
 abbrev pub SenderIs : ℕ → List Element → Option TunnelEnd → Type 0

@@ -1,5 +1,7 @@
 -- Delete Bearer Request (TS 29.274 7.2.9.2). Written by scripts/messages from messages/delete_bearer_request.md.
 use Rattle.std.specs.Prelude.{List, [], ◌∷◌, map, option_map, option_to_list, true, codes}
+use Rattle.gtp_ie.specs.Form.{number_of}
+use Rattle.gtp_ie.specs.declared.form.Form.TheVariants.{Ebi}
 use Rattle.gtp_ie.specs.Value.{OfEbi}
 use Rattle.gtp_v2.specs.Table.{Optional, Single, Several, Field, Plain, Table}
 use Rattle.gtp_v2.specs.declared.body.delete_bearer_request.DeleteBearerRequest.{DeleteBearerRequest}
@@ -12,8 +14,8 @@ delete_bearer_request =
       name = codes "delete-bearer-request";
       has_teid = true;
       lines =
-          Single (Optional 73 0)  -- EPS Bearer ID
-          ∷ Several 73 1 0  -- EPS Bearer ID; told as missing at instance 0
+          Single (Optional (number_of Ebi) 0)  -- EPS Bearer ID
+          ∷ Several (number_of Ebi) 1 0  -- EPS Bearer ID; told as missing at instance 0
           ∷ [];
     }
 

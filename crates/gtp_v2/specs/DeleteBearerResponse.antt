@@ -1,5 +1,7 @@
 -- Delete Bearer Response (TS 29.274 7.2.10.2). Written by scripts/messages from messages/delete_bearer_response.md.
 use Rattle.std.specs.Prelude.{List, [], ◌∷◌, map, option_map, option_to_list, true, codes}
+use Rattle.gtp_ie.specs.Form.{number_of, bearer_context}
+use Rattle.gtp_ie.specs.declared.form.Form.TheVariants.{Cause, Ebi, Recovery}
 use Rattle.gtp_ie.specs.Value.{Value, OfCause, OfEbi, OfRecovery}
 use Rattle.gtp_v2.specs.Table.{Row, Mandatory, Optional, Single, Grouped, Field, Plain, Groups, Table}
 use Rattle.gtp_v2.specs.declared.body.delete_bearer_response.DeleteBearerResponse.{DeleteBearerResponse}
@@ -8,8 +10,8 @@ use Rattle.gtp_v2.specs.declared.body.delete_bearer_response.RemovalResponseCont
 -- the rows of a bearer context in it (table 7.2.10.2-2)
 abbrev pub removal_response_context_rows : List Row
 removal_response_context_rows =
-    Mandatory 73 0  -- EPS Bearer ID
-    ∷ Mandatory 2 0  -- Cause
+    Mandatory (number_of Ebi) 0  -- EPS Bearer ID
+    ∷ Mandatory (number_of Cause) 0  -- Cause
     ∷ []
 
 abbrev pub removal_response_context_values : RemovalResponseContext → List (List Value)
@@ -26,10 +28,10 @@ delete_bearer_response =
       name = codes "delete-bearer-response";
       has_teid = true;
       lines =
-          Single (Mandatory 2 0)  -- Cause
-          ∷ Single (Optional 73 0)  -- EPS Bearer ID
-          ∷ Grouped (Optional 93 0) removal_response_context_rows  -- Bearer Context
-          ∷ Single (Optional 3 0)  -- Recovery
+          Single (Mandatory (number_of Cause) 0)  -- Cause
+          ∷ Single (Optional (number_of Ebi) 0)  -- EPS Bearer ID
+          ∷ Grouped (Optional bearer_context 0) removal_response_context_rows  -- Bearer Context
+          ∷ Single (Optional (number_of Recovery) 0)  -- Recovery
           ∷ [];
     }
 

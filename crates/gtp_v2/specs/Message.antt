@@ -3,6 +3,8 @@ use Rattle.std.specs.Prelude.{◌≡◌, ◌<◌, length, IsOkAnd, ℕ, Bool, Li
 use Rattle.std.specs.Bool.{beq}
 use Rattle.gtp_values.specs.Steps.{◌>>=◌}
 use Rattle.gtp_ie.specs.Element.{Element, elements_of}
+use Rattle.gtp_ie.specs.Form.{number_of}
+use Rattle.gtp_ie.specs.declared.form.Form.TheVariants.{FTeid}
 use Rattle.gtp_ie.specs.Value.{Value, OfFTeid}
 use Rattle.gtp_values.specs.TunnelEnd.{TunnelEnd}
 use Rattle.gtp_v2.specs.declared.fault.Head.{Head}
@@ -37,7 +39,7 @@ end_in _ = None
 
 -- the sender's end for control messages, which a Create Session Request gives
 unfoldable pub sender_of : ℕ → List Element → Option TunnelEnd
-sender_of kind es = if kind == create_session_request.kind then end_in (optional_at 87 0 es) else None
+sender_of kind es = if kind == create_session_request.kind then end_in (optional_at (number_of FTeid) 0 es) else None
 
 -- the elements after a header, whose form comes first
 unfoldable pub list_at : Bool → Headed → Result (List Element) V2Fault

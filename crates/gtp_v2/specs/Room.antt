@@ -1,14 +1,9 @@
 -- How many octets the rows of a table take.
-use Rattle.std.specs.Prelude.{◌≡◌, ◌<◌, ◌≤◌, ◌+◌, ◌*◌, ℕ, List, [], ◌∷◌, length, Option, Some, None}
+use Rattle.std.specs.Prelude.{◌<◌, ◌≤◌, ◌+◌, ◌*◌, ℕ, List, [], ◌∷◌, length, Option, Some, None}
 use Rattle.gtp_ie.specs.Value.{Value, encoding_of}
 use Rattle.gtp_v2.specs.Table.{Row, Line, Single, Grouped, Several, Field, Plain, Groups, Table}
 use Rattle.gtp_v2.specs.Message.{Content, Fields, Raw, MessageValue}
 use Rattle.gtp_v2.specs.Tables.{table_of}
-
--- what a room leaves after so many octets: the rest, or nothing where they don't fit
-abbrev pub Leaves : ℕ → ℕ → Option ℕ → Type 0
-Leaves room taken None = room < taken
-Leaves room taken (Some left) = room ≡ taken + left
 
 -- the element of a value, where there is one: four octets before its body
 abbrev pub value_length : List Value → ℕ

@@ -4,6 +4,7 @@ ghost use Rattle.std.specs.Prelude.{◌≡◌, ◌&&◌, [], ◌∷◌, map};
 ghost use Rattle.gtp_values.specs.Steps.{Gives};
 ghost use Rattle.gtp_ie.specs.Element.{all_of};
 ghost use Rattle.gtp_ie.specs.View.{element_of};
+ghost use Rattle.gtp_ie.specs.Form.{number_of};
 ghost use Rattle.gtp_v2.specs.Lines.{line_of};
 ghost use Rattle.gtp_v2.specs.Table.{start};
 ghost use Rattle.gtp_v2.specs.Rows.{lines_at};
@@ -12,8 +13,8 @@ ghost use Rattle.gtp_v2.specs.Checked.{value_accepts, value_reads, one_accepts, 
 use crate::fault::{Need, RowFault};
 use crate::table::{Line, Row, State};
 use gtp_ie::{
-    ChargingId, EbiValue, ElementView, IeFault, IeValue, Indexed, PdnType, Pti, Rat, ReadFault,
-    Recovery, Selection,
+    ChargingId, EbiValue, ElementView, Form, IeFault, IeValue, Indexed, PdnType, Pti, Rat,
+    ReadFault, Recovery, Selection,
 };
 use gtp_values::{Ambr, Apn, Cause, FTeid, Imsi, Paa, Plmn, Qos, Tft};
 
@@ -36,29 +37,38 @@ fn cause_accepts(body: &[u8]) -> Result<bool, ReadFault>
     }
 }
 
-/// Whether the value that a body spells accepts.
+/// Whether the value that a body of this form spells accepts.
 #[tactic(auto, unfolding(crate::specs::Checked::value_accepts, gtp_ie::specs::Value::value_at))]
+fn accepts_form(form: Form, body: &[u8]) -> Result<bool, ReadFault>
+    ensures { Gives (λ b. b) result (value_accepts (number_of form) body.now) }
+{
+    match form {
+        Form::Imsi => reads::<Imsi>(body),
+        Form::Cause => cause_accepts(body),
+        Form::Recovery => reads::<Recovery>(body),
+        Form::Apn => reads::<Apn>(body),
+        Form::Ambr => reads::<Ambr>(body),
+        Form::Ebi => reads::<EbiValue>(body),
+        Form::Paa => reads::<Paa>(body),
+        Form::Qos => reads::<Qos>(body),
+        Form::Rat => reads::<Rat>(body),
+        Form::Plmn => reads::<Plmn>(body),
+        Form::Tft => reads::<Tft>(body),
+        Form::FTeid => reads::<FTeid>(body),
+        Form::ChargingId => reads::<ChargingId>(body),
+        Form::PdnType => reads::<PdnType>(body),
+        Form::Pti => reads::<Pti>(body),
+        Form::Selection => reads::<Selection>(body),
+    }
+}
+
+/// Whether the value that a body spells accepts.
 fn accepts_value(kind: u8, body: &[u8]) -> Result<bool, ReadFault>
     ensures { Gives (λ b. b) result (value_accepts kind body.now) }
 {
-    match kind {
-        1 => reads::<Imsi>(body),
-        2 => cause_accepts(body),
-        3 => reads::<Recovery>(body),
-        71 => reads::<Apn>(body),
-        72 => reads::<Ambr>(body),
-        73 => reads::<EbiValue>(body),
-        79 => reads::<Paa>(body),
-        80 => reads::<Qos>(body),
-        82 => reads::<Rat>(body),
-        83 => reads::<Plmn>(body),
-        84 => reads::<Tft>(body),
-        87 => reads::<FTeid>(body),
-        94 => reads::<ChargingId>(body),
-        99 => reads::<PdnType>(body),
-        100 => reads::<Pti>(body),
-        128 => reads::<Selection>(body),
-        _ => Err(ReadFault::Bad),
+    match Form::of(kind) {
+        Some(form) => accepts_form(form, body),
+        None => Err(ReadFault::Bad),
     }
 }
 

@@ -1,13 +1,14 @@
 //! Bearer contexts in the place where they lie.
 
+ghost use Rattle.gtp_ie.specs.Form.{bearer_context};
 ghost use Rattle.std.specs.Prelude.{◌≡◌, map, option_map};
 ghost use Rattle.gtp_ie.specs.Element.{all_of};
 ghost use Rattle.gtp_v2.specs.Viewed.{inner_of};
 ghost use Rattle.std.specs.Iterator.{YieldsFirstBy, item_count};
 ghost use Rattle.gtp_v2.specs.Rows.{optional_at};
 
-use crate::groups::BEARER_CONTEXT;
 use crate::rows::optional;
+use gtp_ie::kinds::BEARER_CONTEXT;
 use gtp_ie::{AllOf, Elements, IeValue, Indexed};
 use std::marker::Model;
 
@@ -29,7 +30,7 @@ impl<'a> Model for ContextView<'a> {
 }
 
 impl<'a> ContextView<'a> {
-    /// The value of the first element of the value's type and an instance.
+    /// The value of the first element of the value's type and an instance, where there is one and it reads.
     pub fn value<T: IeValue>(&self, instance: u8) -> Option<T>
         ensures { option_map T.value result ≡ optional_at T.KIND instance self.now }
     {
@@ -59,7 +60,7 @@ impl<'a> Model for Contexts<'a> {
 impl<'a> Contexts<'a> {
     /// The groups of these elements.
     pub fn of(elements: &Elements<'a>) -> Contexts<'a>
-        ensures { result ≡ map inner_of (all_of 93 0 elements.now) }
+        ensures { result ≡ map inner_of (all_of bearer_context 0 elements.now) }
     {
         Contexts {
             groups: elements.all(BEARER_CONTEXT, 0),

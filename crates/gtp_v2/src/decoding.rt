@@ -16,11 +16,11 @@ use crate::fault::V2Fault;
 use crate::header::{Header, read_header};
 use crate::message::{Datagram, Message};
 use crate::shapes::asked_of;
-use crate::typed::cut;
+use crate::typed::list_fault;
 use gtp_ie::indexed_at;
 use std::alloc::Global;
 
-/// What a message says that has elements after its header, which has a TEID where that is asked.
+/// What a message says that has elements after its header, which has a TEID exactly where that is asked.
 #[tactic(auto, unfolding(crate::specs::Message::content_after, crate::specs::Message::list_at))]
 fn read_listed(alloc: Global, has_teid: bool, header: &Header) -> Result<Body, V2Fault>
     ensures content { MessageGives (ContentAllocates (table_of header.now.kind)) content_of result
@@ -33,7 +33,7 @@ fn read_listed(alloc: Global, has_teid: bool, header: &Header) -> Result<Body, V
     }
     match indexed_at(header.rest, header.at) {
         Ok(elements) => read_body(alloc, header, &elements),
-        Err(fault) => Err(cut(header, fault)),
+        Err(fault) => Err(list_fault(header, fault)),
     }
 }
 

@@ -19,7 +19,8 @@ use std::alloc::Global;
 /// The most octets that a header can state after its first four (TS 29.274 5.5).
 const LONGEST: usize = 65535;
 
-/// The canonical encoding of a message, whose numbers and values are of its header's and its table's types.
+/// The canonical encoding of a message. Its numbers fit its header, and its values are of the types in its
+/// table's rows.
 fn write_message(alloc: Global, message: &Message) -> Result<Vec<u8>, V2Fault>
     requires header { PriorityNeedsTeid message.now.teid message.now.priority }
     requires kind { OctetsOnlyWithoutTable message.now.body }

@@ -1,5 +1,6 @@
 //! Rows of groups.
 
+ghost use Rattle.gtp_ie.specs.Form.{bearer_context};
 ghost use Rattle.std.specs.Prelude.{◌≡◌, ◌↔◌, ◌*◌, ◌++◌, IsTrue, List, map, length, OnOk};
 ghost use Rattle.gtp_v2.specs.declared.fault.RowFault.TheVariants.{Missing};
 ghost use Rattle.gtp_ie.specs.Element.{all_of};
@@ -9,18 +10,17 @@ ghost use Rattle.gtp_ie.specs.Value.{Value};
 ghost use Rattle.gtp_v2.specs.Table.{Row};
 ghost use Rattle.gtp_v2.specs.Rows.{rows_at, group_at, groups_at, some_groups};
 ghost use Rattle.gtp_v2.specs.Text.{rows_encoding};
-ghost use Rattle.gtp_v2.specs.Room.{Leaves, TakesAtMost};
+ghost use Rattle.gtp_values.specs.Room.{Leaves};
+ghost use Rattle.gtp_v2.specs.Room.{TakesAtMost};
 ghost use Rattle.gtp_v2.specs.Kinds.{RowsHaveKinds};
 ghost use Rattle.gtp_v2.specs.Marks.{RowsMarked};
 ghost use Rattle.gtp_v2.specs.Outcome.{GivesOrMemory, HasGroup};
 
 use crate::fault::{BodyFault, Need, RowFault};
 use crate::listed::Listed;
+use gtp_ie::kinds::BEARER_CONTEXT;
 use gtp_ie::{ElementView, Indexed};
 use std::alloc::{AllocError, Global};
-
-/// The type of a bearer context's element (TS 29.274 8.28).
-pub const BEARER_CONTEXT: u8 = 93;
 
 /// A bearer context of one kind of message.
 pub trait Context: Copy {
@@ -67,7 +67,7 @@ fn all_contexts<C: Context>(
     elements: &Indexed,
 ) -> Result<Vec<C>, BodyFault>
     ensures { GivesOrMemory HasGroup (λ v. map C.values v.items) result
-        (groups_at accepting C.rows (all_of 93 0 elements.now)) }
+        (groups_at accepting C.rows (all_of bearer_context 0 elements.now)) }
 {
     let mut contexts = Vec::new(alloc);
     let mut refused = false;
@@ -91,7 +91,7 @@ pub fn contexts<C: Context>(
     elements: &Indexed,
 ) -> Result<Listed<C>, BodyFault>
     ensures { GivesOrMemory HasGroup (λ list. map C.values list) result
-        (some_groups need 93 0 accepting C.rows (all_of 93 0 elements.now)) }
+        (some_groups need bearer_context 0 accepting C.rows (all_of bearer_context 0 elements.now)) }
 {
     let contexts = all_contexts::<C>(alloc, accepting, elements)?;
     if contexts.is_empty() {
@@ -106,7 +106,7 @@ pub fn contexts<C: Context>(
 
 /// That there is no bearer context.
 fn missing(conditional: bool) -> RowFault
-    ensures { result ≡ Missing 93 0 conditional }
+    ensures { result ≡ Missing bearer_context 0 conditional }
 {
     RowFault::Missing {
         kind: BEARER_CONTEXT,

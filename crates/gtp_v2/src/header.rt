@@ -21,6 +21,6 @@ pub struct Header<'a> {
     /// The place of the rest in the datagram.
     pub at: usize,
     pub ghost fits: { at + length rest.now < 2 ^ 64 },
-    /// Two octets state its length.
+    /// Two octets state the length of all after the first four.
     pub ghost stated: { length rest.now < 2 ^ 16 },
 }

@@ -33,7 +33,7 @@ pub use contexts::{ContextView, Contexts};
 pub use decoding::decode;
 pub use encoding::encode;
 pub use fault::{BAD_ELEMENT, Head, MISSING_ELEMENT, V2Fault};
-pub use groups::BEARER_CONTEXT;
+pub use gtp_ie::kinds::BEARER_CONTEXT;
 pub use listed::Listed;
 pub use message::{Datagram, Message};
 pub use viewing::{DatagramView, view};

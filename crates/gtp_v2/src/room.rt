@@ -1,10 +1,12 @@
 //! How much room the rows of a table take: what is left of so many octets after them, `None` where
 //! they don't fit.
 
+ghost use Rattle.gtp_ie.specs.Form.{bearer_context};
 ghost use Rattle.std.specs.Prelude.{◌+◌, ◌*◌, length, map, option_map, option_to_list, [], ◌∷◌};
 ghost use Rattle.gtp_ie.specs.Text.{element_encoding};
 ghost use Rattle.gtp_v2.specs.Text.{rows_encoding, groups_encoding};
-ghost use Rattle.gtp_v2.specs.Room.{Leaves, TakesAtMost, most_of_group, value_length, several_length};
+ghost use Rattle.gtp_values.specs.Room.{Leaves};
+ghost use Rattle.gtp_v2.specs.Room.{TakesAtMost, most_of_group, value_length, several_length};
 
 use crate::groups::Context;
 use gtp_ie::IeValue;
@@ -31,7 +33,7 @@ pub fn after_option<T: IeValue>(room: usize, value: &Option<T>) -> Option<usize>
 
 /// What is left of a room after a bearer context.
 fn after_context<C: Context>(room: usize, context: &C) -> Option<usize>
-    ensures left { Leaves room (length (element_encoding 93 0 (rows_encoding C.rows
+    ensures left { Leaves room (length (element_encoding bearer_context 0 (rows_encoding C.rows
         (C.values context.now))))
         result }
     ensures most { TakesAtMost room (most_of_group C.rows) result }
@@ -42,7 +44,7 @@ fn after_context<C: Context>(room: usize, context: &C) -> Option<usize>
 /// What is left of a room after bearer contexts.
 #[tactic(auto, unfolding(crate::specs::Text::groups_encoding))]
 pub fn after_contexts<C: Context>(room: usize, contexts: &[C]) -> Option<usize>
-    ensures left { Leaves room (length (groups_encoding 93 0 C.rows
+    ensures left { Leaves room (length (groups_encoding bearer_context 0 C.rows
         (map C.values contexts.now))) result }
     ensures most { TakesAtMost room (most_of_group C.rows * length
         (map C.values contexts.now)) result }

@@ -12,105 +12,124 @@ use crate::kinds::{
     ECHO_REQUEST, ECHO_RESPONSE, VERSION_NOT_SUPPORTED,
 };
 use crate::table::{Line, Row, Shape};
+use gtp_ie::kinds::{
+    AMBR, APN, BEARER_CONTEXT, CAUSE, CHARGING_ID, EBI, FTEID, IMSI, PAA, PDN_TYPE, PLMN, PTI, QOS,
+    RAT, RECOVERY, SELECTION, TFT,
+};
 
 const ECHO_REQUEST_LINES: &[Line] = &[
-    Line::Single(Row::Mandatory(3, 0)), // Recovery
+    Line::Single(Row::Mandatory(RECOVERY, 0)), // Recovery
 ];
 
 const ECHO_RESPONSE_LINES: &[Line] = &[
-    Line::Single(Row::Mandatory(3, 0)), // Recovery
+    Line::Single(Row::Mandatory(RECOVERY, 0)), // Recovery
 ];
 
 const VERSION_NOT_SUPPORTED_LINES: &[Line] = &[];
 
 const SESSION_REQUEST_CONTEXT_ROWS: &[Row] = &[
-    Row::Mandatory(73, 0), // EPS Bearer ID
-    Row::Mandatory(80, 0), // Bearer QoS
-    Row::Conditional(87, 2), // F-TEID
+    Row::Mandatory(EBI, 0), // EPS Bearer ID
+    Row::Mandatory(QOS, 0), // Bearer QoS
+    Row::Conditional(FTEID, 2), // F-TEID
 ];
 
 const CREATE_SESSION_REQUEST_LINES: &[Line] = &[
-    Line::Single(Row::Conditional(1, 0)), // IMSI
-    Line::Single(Row::Mandatory(82, 0)), // RAT Type
-    Line::Single(Row::Optional(83, 0)), // Serving Network
-    Line::Single(Row::Mandatory(87, 0)), // F-TEID
-    Line::Single(Row::Mandatory(71, 0)), // APN
-    Line::Single(Row::Optional(128, 0)), // Selection Mode
-    Line::Single(Row::Conditional(99, 0)), // PDN Type
-    Line::Single(Row::Optional(79, 0)), // PAA
-    Line::Single(Row::Optional(72, 0)), // AMBR
-    Line::Grouped(Row::Mandatory(93, 0), SESSION_REQUEST_CONTEXT_ROWS), // Bearer Context
-    Line::Single(Row::Optional(3, 0)), // Recovery
+    Line::Single(Row::Conditional(IMSI, 0)), // IMSI
+    Line::Single(Row::Mandatory(RAT, 0)), // RAT Type
+    Line::Single(Row::Optional(PLMN, 0)), // Serving Network
+    Line::Single(Row::Mandatory(FTEID, 0)), // F-TEID
+    Line::Single(Row::Mandatory(APN, 0)), // APN
+    Line::Single(Row::Optional(SELECTION, 0)), // Selection Mode
+    Line::Single(Row::Conditional(PDN_TYPE, 0)), // PDN Type
+    Line::Single(Row::Optional(PAA, 0)), // PAA
+    Line::Single(Row::Optional(AMBR, 0)), // AMBR
+    Line::Grouped(
+        Row::Mandatory(BEARER_CONTEXT, 0),
+        SESSION_REQUEST_CONTEXT_ROWS,
+    ), // Bearer Context
+    Line::Single(Row::Optional(RECOVERY, 0)), // Recovery
 ];
 
 const SESSION_RESPONSE_CONTEXT_ROWS: &[Row] = &[
-    Row::Mandatory(73, 0), // EPS Bearer ID
-    Row::Mandatory(2, 0), // Cause
-    Row::Accepted(87, 2), // F-TEID
-    Row::Optional(80, 0), // Bearer QoS
-    Row::Optional(94, 0), // Charging ID
+    Row::Mandatory(EBI, 0), // EPS Bearer ID
+    Row::Mandatory(CAUSE, 0), // Cause
+    Row::Accepted(FTEID, 2), // F-TEID
+    Row::Optional(QOS, 0), // Bearer QoS
+    Row::Optional(CHARGING_ID, 0), // Charging ID
 ];
 
 const CREATE_SESSION_RESPONSE_LINES: &[Line] = &[
-    Line::Single(Row::Mandatory(2, 0)), // Cause
-    Line::Single(Row::Accepted(87, 1)), // F-TEID
-    Line::Single(Row::Accepted(79, 0)), // PAA
-    Line::Single(Row::Optional(72, 0)), // AMBR
-    Line::Grouped(Row::Accepted(93, 0), SESSION_RESPONSE_CONTEXT_ROWS), // Bearer Context
-    Line::Single(Row::Optional(3, 0)), // Recovery
+    Line::Single(Row::Mandatory(CAUSE, 0)), // Cause
+    Line::Single(Row::Accepted(FTEID, 1)), // F-TEID
+    Line::Single(Row::Accepted(PAA, 0)), // PAA
+    Line::Single(Row::Optional(AMBR, 0)), // AMBR
+    Line::Grouped(
+        Row::Accepted(BEARER_CONTEXT, 0),
+        SESSION_RESPONSE_CONTEXT_ROWS,
+    ), // Bearer Context
+    Line::Single(Row::Optional(RECOVERY, 0)), // Recovery
 ];
 
 const DELETE_SESSION_REQUEST_LINES: &[Line] = &[
-    Line::Single(Row::Optional(73, 0)), // EPS Bearer ID
+    Line::Single(Row::Optional(EBI, 0)), // EPS Bearer ID
 ];
 
 const DELETE_SESSION_RESPONSE_LINES: &[Line] = &[
-    Line::Single(Row::Mandatory(2, 0)), // Cause
-    Line::Single(Row::Optional(3, 0)), // Recovery
+    Line::Single(Row::Mandatory(CAUSE, 0)), // Cause
+    Line::Single(Row::Optional(RECOVERY, 0)), // Recovery
 ];
 
 const BEARER_REQUEST_CONTEXT_ROWS: &[Row] = &[
-    Row::Mandatory(73, 0), // EPS Bearer ID
-    Row::Mandatory(84, 0), // Bearer TFT
-    Row::Conditional(87, 1), // F-TEID
-    Row::Mandatory(80, 0), // Bearer QoS
-    Row::Optional(94, 0), // Charging ID
+    Row::Mandatory(EBI, 0), // EPS Bearer ID
+    Row::Mandatory(TFT, 0), // Bearer TFT
+    Row::Conditional(FTEID, 1), // F-TEID
+    Row::Mandatory(QOS, 0), // Bearer QoS
+    Row::Optional(CHARGING_ID, 0), // Charging ID
 ];
 
 const CREATE_BEARER_REQUEST_LINES: &[Line] = &[
-    Line::Single(Row::Optional(100, 0)), // PTI
-    Line::Single(Row::Mandatory(73, 0)), // EPS Bearer ID
-    Line::Grouped(Row::Mandatory(93, 0), BEARER_REQUEST_CONTEXT_ROWS), // Bearer Context
+    Line::Single(Row::Optional(PTI, 0)), // PTI
+    Line::Single(Row::Mandatory(EBI, 0)), // EPS Bearer ID
+    Line::Grouped(
+        Row::Mandatory(BEARER_CONTEXT, 0),
+        BEARER_REQUEST_CONTEXT_ROWS,
+    ), // Bearer Context
 ];
 
 const BEARER_RESPONSE_CONTEXT_ROWS: &[Row] = &[
-    Row::Mandatory(73, 0), // EPS Bearer ID
-    Row::Mandatory(2, 0), // Cause
-    Row::Accepted(87, 2), // F-TEID
-    Row::Accepted(87, 3), // F-TEID
+    Row::Mandatory(EBI, 0), // EPS Bearer ID
+    Row::Mandatory(CAUSE, 0), // Cause
+    Row::Accepted(FTEID, 2), // F-TEID
+    Row::Accepted(FTEID, 3), // F-TEID
 ];
 
 const CREATE_BEARER_RESPONSE_LINES: &[Line] = &[
-    Line::Single(Row::Mandatory(2, 0)), // Cause
-    Line::Grouped(Row::Accepted(93, 0), BEARER_RESPONSE_CONTEXT_ROWS), // Bearer Context
-    Line::Single(Row::Optional(3, 0)), // Recovery
+    Line::Single(Row::Mandatory(CAUSE, 0)), // Cause
+    Line::Grouped(
+        Row::Accepted(BEARER_CONTEXT, 0),
+        BEARER_RESPONSE_CONTEXT_ROWS,
+    ), // Bearer Context
+    Line::Single(Row::Optional(RECOVERY, 0)), // Recovery
 ];
 
 const DELETE_BEARER_REQUEST_LINES: &[Line] = &[
-    Line::Single(Row::Optional(73, 0)), // EPS Bearer ID
-    Line::Several(73, 1, 0), // EPS Bearer ID
+    Line::Single(Row::Optional(EBI, 0)), // EPS Bearer ID
+    Line::Several(EBI, 1, 0), // EPS Bearer ID
 ];
 
 const REMOVAL_RESPONSE_CONTEXT_ROWS: &[Row] = &[
-    Row::Mandatory(73, 0), // EPS Bearer ID
-    Row::Mandatory(2, 0), // Cause
+    Row::Mandatory(EBI, 0), // EPS Bearer ID
+    Row::Mandatory(CAUSE, 0), // Cause
 ];
 
 const DELETE_BEARER_RESPONSE_LINES: &[Line] = &[
-    Line::Single(Row::Mandatory(2, 0)), // Cause
-    Line::Single(Row::Optional(73, 0)), // EPS Bearer ID
-    Line::Grouped(Row::Optional(93, 0), REMOVAL_RESPONSE_CONTEXT_ROWS), // Bearer Context
-    Line::Single(Row::Optional(3, 0)), // Recovery
+    Line::Single(Row::Mandatory(CAUSE, 0)), // Cause
+    Line::Single(Row::Optional(EBI, 0)), // EPS Bearer ID
+    Line::Grouped(
+        Row::Optional(BEARER_CONTEXT, 0),
+        REMOVAL_RESPONSE_CONTEXT_ROWS,
+    ), // Bearer Context
+    Line::Single(Row::Optional(RECOVERY, 0)), // Recovery
 ];
 
 /// What a type of message asks, where it has a table.

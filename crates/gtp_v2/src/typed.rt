@@ -5,7 +5,8 @@ ghost use Rattle.gtp_v2.specs.Table.{Line, Field, start, allocates};
 ghost use Rattle.gtp_v2.specs.Rows.{lines_at};
 ghost use Rattle.gtp_v2.specs.Headed.{headed_of};
 ghost use Rattle.gtp_v2.specs.Text.{lines_encoding};
-ghost use Rattle.gtp_v2.specs.Room.{Leaves, TakesAtMost, most_of_lines};
+ghost use Rattle.gtp_values.specs.Room.{Leaves};
+ghost use Rattle.gtp_v2.specs.Room.{TakesAtMost, most_of_lines};
 ghost use Rattle.gtp_v2.specs.Kinds.{LinesHaveKinds};
 ghost use Rattle.gtp_v2.specs.Marks.{LinesMarked};
 ghost use Rattle.gtp_v2.specs.Outcome.{GivesOrMemory};
@@ -33,7 +34,7 @@ pub trait Typed: Drop {
 
     ghost HAS_TEID: { Bool };
 
-    /// The name of its type, in lower case and with hyphens.
+    /// The name that contracts see.
     ghost named: { List ℕ };
 
     /// The lines of its table.
@@ -120,7 +121,7 @@ pub fn with_head(head: Head, fault: RowFault) -> V2Fault
 
 /// The fault of a list of elements that is cut short.
 #[cold]
-pub fn cut(header: &Header, fault: IeFault) -> V2Fault
+pub fn list_fault(header: &Header, fault: IeFault) -> V2Fault
     ensures { result ≡ Element fault (head_of (headed_of header.now) None) }
 {
     let head = head(header, None);
@@ -129,7 +130,7 @@ pub fn cut(header: &Header, fault: IeFault) -> V2Fault
 
 /// The fault of a row of these elements.
 #[cold]
-pub fn told(header: &Header, elements: &Indexed, fault: RowFault) -> V2Fault
+pub fn row_fault(header: &Header, elements: &Indexed, fault: RowFault) -> V2Fault
     ensures { result ≡ headed_fault (head_of (headed_of header.now)
         (sender_of header.now.kind elements.now)) fault }
 {
@@ -137,8 +138,8 @@ pub fn told(header: &Header, elements: &Indexed, fault: RowFault) -> V2Fault
     with_head(head, fault)
 }
 
-/// What a message says whose elements after its header are these. Not inlined, so that a message of one
-/// kind sets up no room for those of the others.
+/// What a message of this kind says whose elements after its header are these. Not inlined, so that it
+/// sets up no room for messages of the other kinds.
 #[inline(never)]
 pub fn read_typed<M: Typed>(
     alloc: Global,
@@ -153,6 +154,6 @@ pub fn read_typed<M: Typed>(
     match M::read(alloc, elements) {
         Ok(message) => Ok(message.into_body()),
         Err(BodyFault::Memory) => Err(V2Fault::Memory),
-        Err(BodyFault::Row(fault)) => Err(told(header, elements, fault)),
+        Err(BodyFault::Row(fault)) => Err(row_fault(header, elements, fault)),
     }
 }

@@ -1,5 +1,6 @@
 //! Messages read in the place where they lie.
 
+ghost use Rattle.gtp_ie.specs.Form.{bearer_context};
 ghost use Rattle.std.specs.Prelude.{◌≡◌, Ok, Err, IfOk, IfErr, IsOkAnd, List, map, Some, option_map};
 ghost use Rattle.gtp_values.specs.Steps.{Gives};
 ghost use Rattle.gtp_ie.specs.Element.{elements_of, list_of, all_of};
@@ -21,13 +22,13 @@ use crate::body::{Body, read_body, read_other};
 use crate::check::check_lines;
 use crate::contexts::Contexts;
 use crate::fault::V2Fault;
-use crate::groups::BEARER_CONTEXT;
 use crate::header::{Header, read_header};
 use crate::message::Message;
 use crate::rows::optional;
 use crate::shapes::asked_of;
 use crate::table::Line;
-use crate::typed::{cut, told};
+use crate::typed::{list_fault, row_fault};
+use gtp_ie::kinds::BEARER_CONTEXT;
 use gtp_ie::{Elements, IeValue, Indexed, indexed_at};
 use gtp_values::{Below, Seq, Teid};
 use std::alloc::Global;
@@ -53,7 +54,8 @@ impl<'a> Model for DatagramView<'a> {
     ghost invariant = { λ a. IsViewed (headed_of a.header) a.elements };
 }
 
-/// The elements after a header, which have what these lines ask.
+/// The elements after a header, which has a TEID exactly where that is asked; they have what these lines
+/// ask.
 #[tactic(auto, unfolding(crate::specs::Message::typed_at, crate::specs::Message::list_at))]
 fn view_typed<'a>(
     has_teid: bool,
@@ -70,15 +72,15 @@ fn view_typed<'a>(
     }
     let elements = match indexed_at(header.rest, header.at) {
         Ok(elements) => elements,
-        Err(fault) => return Err(cut(header, fault)),
+        Err(fault) => return Err(list_fault(header, fault)),
     };
     match check_lines(lines, &elements) {
         Ok(()) => Ok(elements),
-        Err(fault) => Err(told(header, &elements, fault)),
+        Err(fault) => Err(row_fault(header, &elements, fault)),
     }
 }
 
-/// The elements after a header, where its type has a table, all of whose lines read.
+/// The elements after a header, where its type has a table; all lines of the table read.
 #[tactic(auto, unfolding(crate::specs::Message::content_at))]
 fn view_content<'a>(header: &Header<'a>) -> Result<Option<Indexed<'a>>, V2Fault>
     ensures reads { Gives (λ _. tt) result (forgotten (content_at (headed_of header.now))) }
@@ -128,7 +130,7 @@ pub fn view(octets: &[u8]) -> Result<DatagramView<'_>, V2Fault>
     view_message(octets)
 }
 
-/// What a message says that was viewed: no row is at fault.
+/// What a message says that was viewed: only memory can be wanting.
 fn read_viewed(alloc: Global, header: &Header, elements: &Option<Indexed>) -> Result<Body, V2Fault>
     requires { IsViewed (headed_of header.now) elements.now }
     ensures content { MessageGives (ContentAllocates (table_of header.now.kind)) content_of result
@@ -191,7 +193,7 @@ impl<'a> DatagramView<'a> {
         }
     }
 
-    /// The value of the first element of the value's type and an instance, where there is one that reads.
+    /// The value of the first element of the value's type and an instance, where there is one and it reads.
     pub fn value<T: IeValue>(&self, instance: u8) -> Option<T>
         // It is of the elements.
         ensures element { option_map T.value result
@@ -226,10 +228,10 @@ impl<'a> DatagramView<'a> {
     /// has a row of them.
     pub fn contexts(&self) -> Contexts<'a>
         // They are of the elements.
-        ensures elements { result ≡ map inner_of (all_of 93 0 self.now.elements) }
+        ensures elements { result ≡ map inner_of (all_of bearer_context 0 self.now.elements) }
         // What the message's groups have is what these contexts say, row by row.
         ensures groups { (p : List Row × List (List (List Value))) →
-            in_groups 93 0 self.now.message ≡ Some p → p.1 ≡ map (values_in p.0) result }
+            in_groups bearer_context 0 self.now.message ≡ Some p → p.1 ≡ map (values_in p.0) result }
     {
         match &self.elements {
             Some(elements) => Contexts::of(&elements.from_first(BEARER_CONTEXT, 0)),

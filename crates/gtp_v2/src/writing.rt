@@ -1,12 +1,14 @@
 //! Writing the rows of a table.
 
+ghost use Rattle.gtp_ie.specs.Form.{bearer_context};
 ghost use Rattle.std.specs.Prelude.{◌≡◌, ◌<◌, [], ◌∷◌, ◌++◌, OnOk, All, map, option_map, option_to_list};
 ghost use Rattle.gtp_v2.specs.Text.{value_encoding, rows_encoding, groups_encoding, several_encoding};
 ghost use Rattle.gtp_v2.specs.Kinds.{HasKind, AtMostOneOf, RowsHaveKinds};
 ghost use Rattle.gtp_ie.specs.Text.{element_encoding};
 ghost use Rattle.gtp_ie.specs.Value.{encoding_of};
 
-use crate::groups::{BEARER_CONTEXT, Context};
+use crate::groups::Context;
+use gtp_ie::kinds::BEARER_CONTEXT;
 use gtp_ie::{IeValue, close, open, put_value};
 use std::alloc::AllocError;
 
@@ -49,7 +51,7 @@ fn put_context<C: Context>(out: &mut Vec<u8>, context: &C) -> Result<(), AllocEr
     ensures ok { OnOk result
         (out.new.items
         ≡ out.old.items
-        ++ element_encoding 93 0 (rows_encoding C.rows (C.values context.now))) }
+        ++ element_encoding bearer_context 0 (rows_encoding C.rows (C.values context.now))) }
     ensures kinds { OnOk result (RowsHaveKinds C.rows (C.values context.now)) }
 {
     let start = out.len();
@@ -64,7 +66,7 @@ fn put_context<C: Context>(out: &mut Vec<u8>, context: &C) -> Result<(), AllocEr
 pub fn put_contexts<C: Context>(out: &mut Vec<u8>, contexts: &[C]) -> Result<(), AllocError>
     ensures ok { OnOk result
         (out.new.items
-        ≡ out.old.items ++ groups_encoding 93 0 C.rows (map C.values contexts.now)) }
+        ≡ out.old.items ++ groups_encoding bearer_context 0 C.rows (map C.values contexts.now)) }
     ensures kinds { OnOk result (All (RowsHaveKinds C.rows) (map C.values contexts.now)) }
 {
     for context in contexts {

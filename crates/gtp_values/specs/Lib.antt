@@ -15,3 +15,4 @@ pub mod TunnelEnd
 pub mod Steps
 pub mod Decides
 pub mod FiniteMap
+pub mod Room

@@ -58,6 +58,14 @@ impl Apn {
         })
     }
 
+    /// Whether octets are a name, of which none is built.
+    #[tactic(auto, using(crate::proofs::Labels::labels_are, crate::proofs::Labels::are_labels))]
+    pub fn is_name(octets: &[u8]) -> bool
+        ensures { IsTrue result ↔ IsApn octets.now }
+    {
+        !octets.is_empty() && octets.len() <= 100 && are_labels(octets)
+    }
+
     /// The name whose labels a text gives, joined by dots: `TooShort` for an empty text, `TooLong`
     /// above 99 octets, `BadLabel` where they are no labels.
     #[tactic(auto, using(crate::proofs::NamesAsText::text_has_length, crate::proofs::NamesAsText::name_of_text, crate::proofs::NamesAsText::says_its_name, crate::proofs::NamesAsText::same_text))]

@@ -8,6 +8,10 @@ ghost use Rattle.gtp_ie.specs.Walked.{IsWalked, FindsElements};
 
 use super::{AllOf, Elements, front};
 use crate::fault::IeFault;
+use crate::kinds::{
+    AMBR, APN, BEARER_CONTEXT, CAUSE, CHARGING_ID, EBI, FTEID, IMSI, PAA, PDN_TYPE, PLMN, PTI, QOS,
+    RAT, RECOVERY, SELECTION, TFT,
+};
 use crate::view::ElementView;
 use std::marker::Model;
 
@@ -21,23 +25,23 @@ fn slot_of_kind(kind: u8) -> usize
     ensures range { result < 22 }
 {
     match kind {
-        1 => 1,
-        2 => 2,
-        3 => 3,
-        71 => 4,
-        72 => 5,
-        73 => 6,
-        79 => 7,
-        80 => 8,
-        82 => 9,
-        83 => 10,
-        84 => 11,
-        87 => 12,
-        93 => 13,
-        94 => 14,
-        99 => 15,
-        100 => 16,
-        128 => 17,
+        IMSI => 1,
+        CAUSE => 2,
+        RECOVERY => 3,
+        APN => 4,
+        AMBR => 5,
+        EBI => 6,
+        PAA => 7,
+        QOS => 8,
+        RAT => 9,
+        PLMN => 10,
+        TFT => 11,
+        FTEID => 12,
+        BEARER_CONTEXT => 13,
+        CHARGING_ID => 14,
+        PDN_TYPE => 15,
+        PTI => 16,
+        SELECTION => 17,
         _ => 0,
     }
 }
@@ -51,20 +55,20 @@ fn slot_of(kind: u8, instance: u8) -> usize
     if instance == 0 {
         return slot_of_kind(kind);
     }
-    if kind == 73 && instance == 1 {
+    if kind == EBI && instance == 1 {
         18
-    } else if kind == 87 && instance == 1 {
+    } else if kind == FTEID && instance == 1 {
         19
-    } else if kind == 87 && instance == 2 {
+    } else if kind == FTEID && instance == 2 {
         20
-    } else if kind == 87 && instance == 3 {
+    } else if kind == FTEID && instance == 3 {
         21
     } else {
         0
     }
 }
 
-/// Elements one after the other in less than 65,536 octets, of which the first of each type and instance
+/// Elements one after the other in fewer than 65,536 octets, of which the first of each type and instance
 /// that a message has a row of is found without a walk. Takes no memory. Contracts see the list of the
 /// elements.
 #[derive(Debug, Drop)]
@@ -136,7 +140,7 @@ impl<'a> Indexed<'a> {
         }
     }
 
-    /// The elements from the first of a type and instance on, or from an earlier one, or none.
+    /// The elements from the first one of the slot on that a type and instance have; none where it has none.
     pub fn from_first(&self, kind: u8, instance: u8) -> Elements<'a>
         ensures first { first_of kind instance result ≡ first_of kind instance self.now }
         ensures all { all_of kind instance result ≡ all_of kind instance self.now }

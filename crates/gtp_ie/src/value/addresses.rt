@@ -1,10 +1,13 @@
 //! Addresses, tunnel ends and networks as elements.
 
+ghost use Rattle.gtp_ie.specs.Form.{number_of};
+ghost use Rattle.gtp_ie.specs.declared.form.Form.TheVariants as forms;
 ghost use Rattle.std.specs.Prelude.{◌≡◌, ◌≤◌, length, take, drop};
 ghost use Rattle.std.proofs.Common.{rules};
 ghost use Rattle.gtp_ie.specs.Value.{OfPaa, OfPlmn, OfFTeid, address_encoding};
 
 use crate::fault::ReadFault;
+use crate::kinds::{FTEID, PAA, PLMN};
 use crate::value::IeValue;
 use crate::writing::append;
 use byteorder::{BigEndian, ByteOrder};
@@ -33,9 +36,9 @@ fn octets_of<const N: usize>(address: &Option<[u8; N]>) -> &[u8]
 }
 
 impl IeValue for FTeid {
-    const KIND: u8 = 87;
+    const KIND: u8 = FTEID;
 
-    ghost KIND = { 87 };
+    ghost KIND = { number_of forms.FTeid };
 
     ghost value = { OfFTeid };
 
@@ -104,9 +107,9 @@ impl IeValue for FTeid {
 }
 
 impl IeValue for Paa {
-    const KIND: u8 = 79;
+    const KIND: u8 = PAA;
 
-    ghost KIND = { 79 };
+    ghost KIND = { number_of forms.Paa };
 
     ghost value = { OfPaa };
 
@@ -173,9 +176,9 @@ impl IeValue for Paa {
 }
 
 impl IeValue for Plmn {
-    const KIND: u8 = 83;
+    const KIND: u8 = PLMN;
 
-    ghost KIND = { 83 };
+    ghost KIND = { number_of forms.Plmn };
 
     ghost value = { OfPlmn };
 

@@ -1,17 +1,20 @@
 //! Causes as elements.
 
+ghost use Rattle.gtp_ie.specs.Form.{number_of};
+ghost use Rattle.gtp_ie.specs.declared.form.Form.TheVariants as forms;
 ghost use Rattle.std.proofs.Common.{rules};
 ghost use Rattle.gtp_ie.specs.Value.{OfCause};
 
 use crate::fault::ReadFault;
+use crate::kinds::CAUSE;
 use crate::value::IeValue;
 use gtp_values::{Below, Cause, Offending};
 use std::alloc::AllocError;
 
 impl IeValue for Cause {
-    const KIND: u8 = 2;
+    const KIND: u8 = CAUSE;
 
-    ghost KIND = { 2 };
+    ghost KIND = { number_of forms.Cause };
 
     ghost value = { OfCause };
 

@@ -1,5 +1,7 @@
 //! Names of subscribers and access points, and templates: elements whose form is the whole body.
 
+ghost use Rattle.gtp_ie.specs.Form.{number_of};
+ghost use Rattle.gtp_ie.specs.declared.form.Form.TheVariants as forms;
 ghost use Rattle.std.specs.Prelude.{◌≡◌, ◌≤◌, length};
 ghost use Rattle.std.proofs.Common.{rules};
 ghost use Rattle.gtp_ie.specs.Value.{OfImsi, OfApn, OfTft};
@@ -7,6 +9,7 @@ ghost use Rattle.gtp_values.specs.Imsi.{IsImsi};
 ghost use Rattle.gtp_ie.specs.Digits.{digits_in, are_decimal, packed};
 
 use crate::fault::ReadFault;
+use crate::kinds::{APN, IMSI, TFT};
 use crate::value::IeValue;
 use crate::writing::append;
 use gtp_values::{Apn, Imsi, Octets, Tft};
@@ -63,9 +66,9 @@ fn packed_octets(digits: &[u8]) -> Octets<8>
 }
 
 impl IeValue for Imsi {
-    const KIND: u8 = 1;
+    const KIND: u8 = IMSI;
 
-    ghost KIND = { 1 };
+    ghost KIND = { number_of forms.Imsi };
 
     ghost value = { OfImsi };
 
@@ -114,9 +117,9 @@ impl IeValue for Imsi {
 }
 
 impl IeValue for Apn {
-    const KIND: u8 = 71;
+    const KIND: u8 = APN;
 
-    ghost KIND = { 71 };
+    ghost KIND = { number_of forms.Apn };
 
     ghost value = { OfApn };
 
@@ -128,6 +131,17 @@ impl IeValue for Apn {
             return Err(ReadFault::Short);
         }
         Apn::try_new(body).map_err(|_| ReadFault::Bad)
+    }
+
+    #[tactic(auto, using(crate::proofs::Read::apn_read, crate::proofs::Read::apn_unread), unfolding(crate::specs::Value::value_at))]
+    fn check(body: &[u8]) -> Result<(), ReadFault> {
+        if body.is_empty() {
+            return Err(ReadFault::Short);
+        }
+        if !Apn::is_name(body) {
+            return Err(ReadFault::Bad);
+        }
+        Ok(())
     }
 
     #[tactic(auto, unfolding(crate::specs::Value::encoding_of), using(crate::proofs::AgainNames::apn_again, crate::proofs::FreeKinds::encoding_free))]
@@ -143,9 +157,9 @@ impl IeValue for Apn {
 }
 
 impl IeValue for Tft {
-    const KIND: u8 = 84;
+    const KIND: u8 = TFT;
 
-    ghost KIND = { 84 };
+    ghost KIND = { number_of forms.Tft };
 
     ghost value = { OfTft };
 

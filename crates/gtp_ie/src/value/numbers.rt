@@ -1,5 +1,7 @@
 //! Elements that say one number.
 
+ghost use Rattle.gtp_ie.specs.Form.{number_of};
+ghost use Rattle.gtp_ie.specs.declared.form.Form.TheVariants as forms;
 ghost use Rattle.std.specs.Prelude.{◌≡◌, IfErr};
 ghost use Rattle.std.specs.Result.{OkIff};
 ghost use Rattle.std.proofs.Common.{rules};
@@ -8,6 +10,7 @@ ghost use Rattle.gtp_values.specs.declared.fault.ValueFault.TheVariants.{OutOfRa
 ghost use Rattle.gtp_ie.specs.Value.{OfRecovery, OfEbi, OfRat, OfChargingId, OfPdnType, OfPti, OfSelection};
 
 use crate::fault::ReadFault;
+use crate::kinds::{CHARGING_ID, EBI, PDN_TYPE, PTI, RAT, RECOVERY, SELECTION};
 use crate::value::IeValue;
 use byteorder::{BigEndian, ByteOrder};
 use gtp_values::{Below, Counter, Ebi, ValueFault};
@@ -18,9 +21,9 @@ use std::alloc::AllocError;
 pub struct Recovery(pub Counter);
 
 impl IeValue for Recovery {
-    const KIND: u8 = 3;
+    const KIND: u8 = RECOVERY;
 
-    ghost KIND = { 3 };
+    ghost KIND = { number_of forms.Recovery };
 
     ghost value = { λ recovery. OfRecovery recovery.0.0 };
 
@@ -72,9 +75,9 @@ impl TryFrom<EbiValue> for Ebi {
 }
 
 impl IeValue for EbiValue {
-    const KIND: u8 = 73;
+    const KIND: u8 = EBI;
 
-    ghost KIND = { 73 };
+    ghost KIND = { number_of forms.Ebi };
 
     ghost value = { λ ebi. OfEbi ebi.0 };
 
@@ -105,9 +108,9 @@ impl IeValue for EbiValue {
 pub struct ChargingId(pub u32);
 
 impl IeValue for ChargingId {
-    const KIND: u8 = 94;
+    const KIND: u8 = CHARGING_ID;
 
-    ghost KIND = { 94 };
+    ghost KIND = { number_of forms.ChargingId };
 
     ghost value = { λ id. OfChargingId id.0 };
 
@@ -141,9 +144,9 @@ impl IeValue for ChargingId {
 pub struct Rat(pub u8);
 
 impl IeValue for Rat {
-    const KIND: u8 = 82;
+    const KIND: u8 = RAT;
 
-    ghost KIND = { 82 };
+    ghost KIND = { number_of forms.Rat };
 
     ghost value = { λ x. OfRat x.0 };
 
@@ -174,9 +177,9 @@ impl IeValue for Rat {
 pub struct PdnType(pub Below<8>);
 
 impl IeValue for PdnType {
-    const KIND: u8 = 99;
+    const KIND: u8 = PDN_TYPE;
 
-    ghost KIND = { 99 };
+    ghost KIND = { number_of forms.PdnType };
 
     ghost value = { λ x. OfPdnType x.0 };
 
@@ -207,9 +210,9 @@ impl IeValue for PdnType {
 pub struct Pti(pub u8);
 
 impl IeValue for Pti {
-    const KIND: u8 = 100;
+    const KIND: u8 = PTI;
 
-    ghost KIND = { 100 };
+    ghost KIND = { number_of forms.Pti };
 
     ghost value = { λ x. OfPti x.0 };
 
@@ -240,9 +243,9 @@ impl IeValue for Pti {
 pub struct Selection(pub Below<4>);
 
 impl IeValue for Selection {
-    const KIND: u8 = 128;
+    const KIND: u8 = SELECTION;
 
-    ghost KIND = { 128 };
+    ghost KIND = { number_of forms.Selection };
 
     ghost value = { λ x. OfSelection x.0 };
 

@@ -1,11 +1,14 @@
 //! Bit rates and quality of service as elements.
 
+ghost use Rattle.gtp_ie.specs.Form.{number_of};
+ghost use Rattle.gtp_ie.specs.declared.form.Form.TheVariants as forms;
 ghost use Rattle.std.specs.Prelude.{◌≡◌, ◌≤◌, ◌+◌, length, drop};
 ghost use Rattle.byteorder.specs.Endian.{big_number};
 ghost use Rattle.std.proofs.Common.{rules};
 ghost use Rattle.gtp_ie.specs.Value.{OfAmbr, OfQos, AreRates, rates_encoding};
 
 use crate::fault::ReadFault;
+use crate::kinds::{AMBR, QOS};
 use crate::value::IeValue;
 use crate::writing::append;
 use byteorder::{BigEndian, ByteOrder};
@@ -13,9 +16,9 @@ use gtp_values::{Ambr, Below, Qos, Rate, Rates};
 use std::alloc::AllocError;
 
 impl IeValue for Ambr {
-    const KIND: u8 = 72;
+    const KIND: u8 = AMBR;
 
-    ghost KIND = { 72 };
+    ghost KIND = { number_of forms.Ambr };
 
     ghost value = { OfAmbr };
 
@@ -81,9 +84,9 @@ fn octets_of(rates: &Rates) -> [u8; 10]
 }
 
 impl IeValue for Qos {
-    const KIND: u8 = 80;
+    const KIND: u8 = QOS;
 
-    ghost KIND = { 80 };
+    ghost KIND = { number_of forms.Qos };
 
     ghost value = { OfQos };
 

@@ -10,8 +10,7 @@ use crate::header::Header;
 use byteorder::{BigEndian, ByteOrder};
 use gtp_values::{Below, Seq, Teid};
 
-/// The header of a message with a TEID, after its first four octets. In line, like the two below: else
-/// each header would be moved twice.
+/// The header of a message with a TEID, after its first four octets.
 #[inline(always)]
 fn with_teid(first: u8, kind: u8, octets: &[u8]) -> Result<Header<'_>, V2Fault>
     requires { length octets.now < 2 ^ 16 }
@@ -56,7 +55,8 @@ fn without_teid(kind: u8, octets: &[u8]) -> Result<Header<'_>, V2Fault>
     })
 }
 
-/// The header of a datagram, which it fills exactly.
+/// The header of a datagram, which it fills exactly. In line, with the two forms above: else each header
+/// would be moved twice more.
 #[inline(always)]
 pub fn read_header(octets: &[u8]) -> Result<Header<'_>, V2Fault>
     ensures header { Gives headed_of result (header_at octets.now) }
