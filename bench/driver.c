@@ -22,6 +22,7 @@ struct packet_parts {
 uint64_t gtp_bench_view(const uint8_t *octets, size_t len);
 uint64_t gtp_bench_view_values(const uint8_t *octets, size_t len);
 uint64_t gtp_bench_decode(const uint8_t *octets, size_t len);
+uint64_t gtp_bench_view_message(const uint8_t *octets, size_t len);
 uint64_t gtp_bench_fault(const uint8_t *octets, size_t len);
 uint64_t gtp_bench_encode(const uint8_t *octets, size_t len, uint32_t times);
 uint64_t gtp_bench_packet(const uint8_t *octets, size_t len);
@@ -104,6 +105,7 @@ static double now(void)
 ONCE(gtp_bench_view)
 ONCE(gtp_bench_view_values)
 ONCE(gtp_bench_decode)
+ONCE(gtp_bench_view_message)
 ONCE(gtp_bench_packet)
 PARTS(gtp_bench_packet_parts)
 OFTEN(gtp_bench_encode)
@@ -122,6 +124,7 @@ typedef void pass(enum datagram d);
 #define VALUES gtp_bench_view_values_pass, baseline_view_pass
 #define READ gtp_bench_decode_pass, baseline_view_pass
 #define OWN gtp_bench_decode_pass, baseline_decode_pass
+#define MADE gtp_bench_view_message_pass, baseline_decode_pass
 #define WRITE gtp_bench_encode_pass, baseline_encode_pass
 static const struct {
     const char *name;
@@ -144,6 +147,9 @@ static const struct {
     { "decode to owned, Create Bearer Request", BEARER_REQUEST, OWN },
     { "decode to owned, Create Bearer Response", BEARER_RESPONSE, OWN },
     { "decode to owned, Echo Request", ECHO_REQUEST, OWN },
+    { "view and its message, Create Session Request", SESSION_REQUEST, MADE },
+    { "view and its message, Create Session Response", SESSION_RESPONSE, MADE },
+    { "view and its message, Echo Request", ECHO_REQUEST, MADE },
     { "encode, Create Session Request", SESSION_REQUEST, WRITE },
     { "encode, Create Session Response", SESSION_RESPONSE, WRITE },
     { "encode, Create Bearer Request", BEARER_REQUEST, WRITE },
@@ -190,6 +196,7 @@ static void compare(enum datagram d, const uint8_t *octets, size_t len)
         if (gtp_bench_fault(octets, len) != baseline_fault(octets, len)) stop("faults are not alike");
         if (gtp_bench_view(octets, len) != baseline_view(octets, len)) stop("views are not alike");
         if (gtp_bench_decode(octets, len) != baseline_decode(octets, len)) stop("messages are not alike");
+        if (gtp_bench_view_message(octets, len) != gtp_bench_decode(octets, len)) stop("a view has another message");
         return;
     }
     struct packet_parts ours = { 0 }, theirs = { 0 };

@@ -84,13 +84,32 @@ fn members(body: &Body) -> usize {
     }
 }
 
-/// Decodes a datagram: one more than its sequence number and the members of its list, or 0 for a fault.
+/// One more than the sequence number of a message and the members of its list.
+fn answer_of(message: &Message) -> u64 {
+    (members(&message.body) as u64).wrapping_add(1 + u64::from(message.seq.number()))
+}
+
+/// Decodes a datagram: the answer of its message, or 0 for a fault.
 pub fn decode_once(alloc: Global, octets: &[u8]) -> u64 {
     match decoded(alloc, octets) {
-        Ok(datagram) => {
-            let message = &datagram.message;
-            (members(&message.body) as u64).wrapping_add(1 + u64::from(message.seq.number()))
-        }
+        Ok(datagram) => answer_of(&datagram.message),
+        Err(_) => 0,
+    }
+}
+
+/// Not inlined, as `decoded`.
+#[inline(never)]
+fn owned(alloc: Global, seen: &DatagramView) -> Result<Message, V2Fault> {
+    seen.to_message(alloc)
+}
+
+/// Views a datagram and makes its message: the answer of that, or 0 for a fault.
+pub fn view_message(alloc: Global, octets: &[u8]) -> u64 {
+    let Ok(seen) = viewed(octets) else {
+        return 0;
+    };
+    match owned(alloc, &seen) {
+        Ok(message) => answer_of(&message),
         Err(_) => 0,
     }
 }

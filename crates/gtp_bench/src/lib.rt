@@ -32,6 +32,12 @@ pub extern "C" fn gtp_bench_decode(alloc: Global, octets: &[u8]) -> u64 {
     control::decode_once(alloc, octets)
 }
 
+/// Views a control datagram, makes its message and lets that go: 0 for a fault.
+#[unsafe(no_mangle)]
+pub extern "C" fn gtp_bench_view_message(alloc: Global, octets: &[u8]) -> u64 {
+    control::view_message(alloc, octets)
+}
+
 /// The first fault of a control datagram, as a number: 0 for none.
 #[unsafe(no_mangle)]
 pub extern "C" fn gtp_bench_fault(octets: &[u8]) -> u64 {

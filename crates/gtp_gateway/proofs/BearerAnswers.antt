@@ -11,8 +11,7 @@ use Rattle.gtp_ie.specs.Element.{Element}
 use Rattle.gtp_ie.specs.Value.{Value}
 use Rattle.gtp_v2.specs.Datagram.{IsMessage}
 use Rattle.gtp_v2.specs.Message.{MessageValue}
-use Rattle.gtp_v2.specs.Rows.{optional_at}
-use Rattle.gtp_v2.specs.Viewed.{values_in}
+use Rattle.gtp_v2.specs.Viewed.{optional_at, values_in}
 use Rattle.gtp_machine.specs.declared.role.Role.{Role}
 use Rattle.gtp_machine.specs.declared.outcome.DropReason.TheVariants.{NoPending, Mismatch}
 use Rattle.gtp_machine.specs.declared.outcome.Outcome.TheVariants.{Opened, Clash, Rejected}

@@ -6,10 +6,9 @@ use Rattle.gtp_ie.specs.Element.{Element}
 use Rattle.gtp_ie.specs.Value.{Value, OfEbi, OfFTeid}
 use Rattle.gtp_tables.specs.Identity.{HasAll}
 use Rattle.gtp_v2.specs.CreateBearerRequest.{bearer_request_context_rows}
-use Rattle.gtp_v2.specs.Rows.{optional_at}
+use Rattle.gtp_v2.specs.Viewed.{optional_at, values_in, in_row}
 use Rattle.gtp_v2.specs.Datagram.{IsMessage}
 use Rattle.gtp_v2.specs.Message.{MessageValue}
-use Rattle.gtp_v2.specs.Viewed.{values_in, in_row}
 use Rattle.gtp_machine.specs.declared.role.Role.{Role}
 use Rattle.gtp_machine.specs.Choice.{HasFreeIdentity}
 use Rattle.gtp_machine.specs.Decoded.{row, number_at, end_at, wanted, message_of}

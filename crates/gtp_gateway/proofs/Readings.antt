@@ -2,7 +2,8 @@
 use Rattle.std.proofs.Common.{◌≡◌, ℕ, Bool, true, false, List, [], ◌∷◌, Result, Ok, Err, refl}
 use Rattle.std.specs.Prelude.{◌==◌, if◌then◌else◌}
 use Rattle.gtp_v2.specs.Table.{Field}
-use Rattle.gtp_v2.specs.Message.{Content, Fields, Raw, MessageValue, message_at}
+use Rattle.gtp_v2.specs.Message.{Content, Fields, Raw, MessageValue}
+use Rattle.gtp_v2.specs.reading.Message.{message_at}
 use Rattle.gtp_v2.specs.declared.fault.V2Fault.{V2Fault}
 use Rattle.gtp_ie.specs.Value.{Value}
 use Rattle.gtp_machine.specs.Message.{Message, Control, plane_of}

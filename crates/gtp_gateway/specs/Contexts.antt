@@ -4,8 +4,7 @@ use Rattle.gtp_ie.specs.Element.{Element}
 use Rattle.gtp_ie.specs.Value.{Value, OfCause, OfEbi}
 use Rattle.gtp_values.specs.FiniteMap.{Among}
 use Rattle.gtp_v2.specs.Message.{MessageValue}
-use Rattle.gtp_v2.specs.Rows.{optional_at}
-use Rattle.gtp_v2.specs.Viewed.{in_groups, values_in}
+use Rattle.gtp_v2.specs.Viewed.{optional_at, in_groups, values_in}
 use Rattle.gtp_machine.specs.Decoded.{end_in, first_in}
 use Rattle.gtp_machine.specs.Element.{teid_in}
 use Rattle.gtp_gateway.specs.declared.contexts.ResponseContext.{ResponseContext}

@@ -4,7 +4,7 @@
 ghost use Rattle.std.specs.Prelude.{◌≡◌, ◌↔◌, IsTrue, List, Some, option_map};
 ghost use Rattle.gtp_ie.specs.Element.{Element};
 ghost use Rattle.gtp_ie.specs.Value.{Value};
-ghost use Rattle.gtp_v2.specs.Rows.{optional_at};
+ghost use Rattle.gtp_v2.specs.Viewed.{optional_at};
 ghost use Rattle.gtp_machine.specs.Element.{IsAccepting, ipv4_of, teid_in};
 ghost use Rattle.gtp_machine.specs.Decoded.{address_of, number_from};
 ghost use Rattle.gtp_gateway.specs.Contexts.{AreContexts, ReadsContext, ReadsOnly};

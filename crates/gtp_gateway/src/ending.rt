@@ -2,7 +2,7 @@
 
 ghost use Rattle.gtp_gateway.specs.GoesOn.{GoesOn};
 ghost use Rattle.gtp_gateway.specs.UserTaken.{WaitOn};
-ghost use Rattle.std.specs.Prelude.{◌≡◌, ◌<◌, ◌≤◌, ◌↔◌, [], map, length, false, Some, None, IsTrue, IfOk, OnOk, OnErr};
+ghost use Rattle.std.specs.Prelude.{◌≡◌, ◌<◌, ◌≤◌, ◌↔◌, ℕ, List, [], map, length, false, Some, None, IsTrue, IfOk, OnOk, OnErr};
 ghost use Rattle.gtp_ie.specs.Element.{all_of};
 ghost use Rattle.gtp_v2.specs.Datagram.{IsMessage};
 ghost use Rattle.gtp_v2.specs.Viewed.{Carries};
@@ -36,7 +36,7 @@ use crate::user::written_teid;
 use gtp_ie::IeValue;
 use gtp_machine::{DropReason, Outcome};
 use gtp_tables::{Session, State};
-use gtp_v2::{Body, DatagramView, EbiValue, Message, RemovalResponseContext};
+use gtp_v2::{DatagramView, EbiValue, Message, RemovalResponseContext};
 use gtp_values::{Below, Ebi, Endpoint, Memory, Seq, Teid};
 use std::alloc::Global;
 
@@ -74,16 +74,15 @@ pub enum RemovalVerdict {
 
 /// The identities in the list of a Delete Bearer Request.
 fn identities_in(alloc: Global, view: &DatagramView<'_>) -> Result<Vec<EbiValue>, Memory>
-    requires { view.now.message.kind ≡ 99 }
+    requires spelled { (octets : List ℕ) × IsMessage octets view.now.message }
+    requires kind { view.now.message.kind ≡ 99 }
     ensures { IfOk result (λ identities. ReadsIdentities view.now.message identities.items) }
 {
-    let Ok(message) = view.to_message(alloc) else {
-        return Err(Memory);
-    };
-    match message.body {
-        Body::DeleteBearerRequest(request) => Ok(request.ebis.into_vec()),
-        _ => unreachable!(),
+    let mut identities = Vec::new(alloc);
+    for identity in view.values::<EbiValue>(1) {
+        identities.push(identity)?;
     }
+    Ok(identities)
 }
 
 /// Whether the list of a Delete Bearer Request has more identities than bearers have, by its

@@ -2,8 +2,7 @@
 
 ghost use Rattle.std.specs.Prelude.{◌≡◌, ◌↔◌, ◌∷◌, [], Some, IsTrue};
 ghost use Rattle.gtp_ie.specs.Value.{Value};
-ghost use Rattle.gtp_v2.specs.Rows.{optional_at};
-ghost use Rattle.gtp_v2.specs.Viewed.{in_row};
+ghost use Rattle.gtp_v2.specs.Viewed.{optional_at, in_row};
 
 use gtp_ie::IeValue;
 use gtp_v2::{ContextView, Contexts, DatagramView};

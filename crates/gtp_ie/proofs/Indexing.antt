@@ -3,9 +3,9 @@ use Rattle.std.proofs.Common.{rules, ◌≡◌, ℕ, zero, suc, ◌+◌, ◌-◌
 use Rattle.std.specs.Prelude.{◌==◌}
 use Rattle.std.proofs.lemmas.List.{drop_at, length-drop, length-append, get_or-set_same, get_or-set_other, get_or-replicate, get_or_past, length-set, length-replicate}
 use Rattle.std.proofs.lemmas.Bool.{eqb-true, eqb-false, cases_lt}
-use Rattle.gtp_ie.specs.Element.{Element, front_of, elements_of, and_then_more, list_of, stop_of, is_of, first_of, all_of}
-use Rattle.gtp_ie.specs.View.{IsWhole}
-use Rattle.gtp_ie.specs.Index.{slot, from_slot, walk_from_slot, elements_left, IsIndexed}
+use Rattle.gtp_ie.specs.Element.{Element, front_of, elements_of, and_then_more, list_of, is_of, first_of, all_of}
+use Rattle.gtp_ie.specs.reading.View.{stop_of, IsWhole}
+use Rattle.gtp_ie.specs.reading.Index.{slot, from_slot, walk_from_slot, elements_left, IsIndexed}
 use Rattle.gtp_ie.proofs.Walk.{walk_on, walk_ends, stop_on, front_long}
 use Rattle.gtp_ie.proofs.Walked.{front_begins}
 

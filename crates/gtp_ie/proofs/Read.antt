@@ -6,7 +6,7 @@ use Rattle.gtp_values.specs.Plmn.{Network, IsNetwork}
 use Rattle.gtp_values.proofs.Same.{network_with}
 use Rattle.gtp_ie.specs.declared.fault.ReadFault.TheVariants.{Bad}
 use Rattle.gtp_ie.specs.Digits.{packed, digits_in}
-use Rattle.gtp_ie.specs.Value.{OfImsi, OfApn, OfPlmn, network_in, value_at}
+use Rattle.gtp_ie.specs.Value.{OfApn, OfPlmn, network_in, value_at}
 use Rattle.std.specs.Int.Bits.{bit_and}
 use Rattle.std.proofs.lemmas.Nat.{and_mask}
 use Rattle.std.specs.Prelude.{◌==◌}
@@ -20,10 +20,6 @@ apn_read body long is = (value_decided 71 body).is (OfApn body) (record { long_e
 pub apn_unread : (body : List ℕ) → 1 ≤ length body → (IsApn body → ⊥) → value_at 71 body ≡ Err Bad
 unfolding Says
 apn_unread body long none = (value_decided 71 body).fails Bad (record { long_enough = long; silent = λ v s. none s.0 })
-
-pub imsi_read : (body : List ℕ) → 3 ≤ length body → IsImsi (digits_in body) → value_at 1 body ≡ Ok (OfImsi (digits_in body))
-unfolding Says
-imsi_read body long is = (value_decided 1 body).is (OfImsi (digits_in body)) (record { long_enough = long; says = (digits_in body, is, sym (packed_again body), refl) })
 
 pub imsi_unread : (body : List ℕ) → 3 ≤ length body → (IsImsi (digits_in body) → ⊥) → value_at 1 body ≡ Err Bad
 unfolding Says

@@ -4,7 +4,8 @@ use Rattle.std.specs.Prelude.{IfOk, IsOkAnd, IsErrOf, ◌↔◌}
 use Rattle.gtp_values.specs.Steps.{Gives}
 use Rattle.gtp_ie.specs.declared.fault.ReadFault.{ReadFault}
 use Rattle.gtp_ie.specs.Value.{Value, value_at}
-use Rattle.gtp_ie.specs.Spelling.{Spells, SpellsNone}
+use Rattle.gtp_ie.specs.Spelling.{Spells}
+use Rattle.gtp_ie.specs.reading.Spelling.{SpellsNone}
 use Rattle.gtp_ie.proofs.Spelled.{value_decided}
 
 pub reads_value : {X : Type 0} (view : X → Value) (r : Result X ReadFault) (kind : ℕ) (body : List ℕ) → Gives view r (value_at kind body) → IfOk r (λ x. Spells kind body (view x))

@@ -20,7 +20,8 @@ use Rattle.gtp_ie.specs.Form.{form_of}
 use Rattle.gtp_ie.specs.Layout.{octet, bits}
 use Rattle.gtp_ie.specs.Digits.{packed, last_digits, digits_in, are_decimal, are_imsi_digits, are_network_digits}
 use Rattle.gtp_ie.specs.Value.{Value, OfImsi, OfApn, OfPlmn, OfTft, OfFTeid, third_digit, network_in, fteid_in, has_v4, has_v6, least, least_of, least_by, only_if, said, said_of, said_by, or_bad, value_at}
-use Rattle.gtp_ie.specs.Spelling.{SpellsImsi, SpellsApn, SaysOf, SaysBy, Says, Spells, SpellsNone}
+use Rattle.gtp_ie.specs.Spelling.{SpellsImsi, SpellsApn, SaysOf, SaysBy, Says, Spells}
+use Rattle.gtp_ie.specs.reading.Spelling.{SpellsNone}
 use Rattle.gtp_values.proofs.Decided.{known_ok, known_err}
 
 -- what is found is what is

@@ -1,6 +1,6 @@
+-- what clauses of public functions, public traits and laws speak of
 pub mod Element
 pub mod View
-pub mod Index
 pub mod Walked
 pub mod Layout
 pub mod Form
@@ -12,3 +12,5 @@ pub mod Text
 pub mod Spelling
 pub mod Free
 pub mod Codes
+-- reading functions, for private contracts, models of private fields and proofs: specs/reading.antt lists them
+pub mod reading

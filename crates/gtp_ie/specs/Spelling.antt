@@ -4,8 +4,6 @@ use Rattle.std.specs.Prelude.{◌≡◌, ◌||◌, IsTrue, ℕ, ◌≤◌, ◌<�
 use Rattle.gtp_values.specs.Apn.{IsApn}
 use Rattle.gtp_values.specs.Imsi.{IsImsi}
 use Rattle.gtp_values.specs.Plmn.{IsNetwork}
-use Rattle.gtp_ie.specs.declared.fault.ReadFault.{ReadFault}
-use Rattle.gtp_ie.specs.declared.fault.ReadFault.TheVariants.{Short, Bad}
 use Rattle.gtp_ie.specs.declared.form.Form.{Form}
 use Rattle.gtp_ie.specs.declared.form.Form.TheVariants as forms
 use Rattle.gtp_ie.specs.Form.{form_of}
@@ -72,8 +70,3 @@ pub record Spells (kind : ℕ) (body : List ℕ) (v : Value) : Type 0 where
 pub record IsBad (kind : ℕ) (body : List ℕ) : Type 0 where
   pub long_enough : least kind body ≤ length body
   pub silent : (v : Value) → Says kind body v → ⊥
-
--- why a body spells no value
-abbrev pub SpellsNone : ℕ → List ℕ → ReadFault → Type 0
-SpellsNone kind body Short = IsShort kind body
-SpellsNone kind body Bad = IsBad kind body

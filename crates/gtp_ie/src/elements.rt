@@ -2,7 +2,8 @@
 
 ghost use Rattle.std.specs.Prelude.{◌≡◌, ◌+◌, ◌<◌, ◌^◌, [], length, option_map};
 ghost use Rattle.gtp_ie.specs.Element.{Element, front_of, elements_of, first_of, all_of};
-ghost use Rattle.gtp_ie.specs.View.{element_of, FrontIs};
+ghost use Rattle.gtp_ie.specs.View.{element_of};
+ghost use Rattle.gtp_ie.specs.reading.View.{FrontIs};
 ghost use Rattle.std.specs.Iterator.{YieldsFirstBy, item_count};
 ghost use Rattle.gtp_ie.specs.Walked.{IsWalked, FindsElements};
 
@@ -66,7 +67,7 @@ pub struct Elements<'a> {
 impl<'a> Model for Elements<'a> {
     ghost use Rattle.std.specs.Prelude.{List};
     ghost use Rattle.gtp_ie.specs.Element.{Element, elements_of, list_of};
-    ghost use Rattle.gtp_ie.specs.View.{IsWhole};
+    ghost use Rattle.gtp_ie.specs.reading.View.{IsWhole};
 
     ghost Value = { List Element };
 

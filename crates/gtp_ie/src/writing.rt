@@ -61,12 +61,11 @@ pub fn put_value<T: IeValue>(out: &mut Vec<u8>, instance: u8, value: &T) -> Resu
     ensures err { OnErr result (out.new.items ≡ out.old.items) }
 {
     let start = out.len();
-    open(out, T::KIND, instance)?;
+    out.extend_from_slice(&[T::KIND, 0, value.body_length() as u8, instance])?;
     if let Err(refused) = value.write(out) {
         out.truncate(start);
         return Err(refused);
     }
-    close(out, start);
     Ok(())
 }
 

@@ -2,7 +2,7 @@
 
 ghost use Rattle.std.specs.Prelude.{◌≡◌, ◌++◌, [], OnOk};
 ghost use Rattle.std.specs.List.{flat_map};
-ghost use Rattle.gtp_user.specs.Chained.{extension_of};
+ghost use Rattle.gtp_user.specs.Chain.{extension_of};
 ghost use Rattle.gtp_user.specs.Message.{content_of, message_value};
 ghost use Rattle.gtp_lines.specs.User.{named, user_title, target_shown, some_shown, user_head_line, extension_line, octets_line, carried_shown, user_fault_detail, user_fault_shown, user_fault_line, user_lines};
 

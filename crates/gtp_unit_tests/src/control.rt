@@ -773,6 +773,27 @@ fn contexts_in_place(rt: HostRuntime) -> Result<(), Fail> {
 }
 
 #[test]
+fn listed_values_in_place(rt: HostRuntime) -> Result<(), Fail> {
+    // A Delete Bearer Request for the bearers 6 and 8.
+    let octets = octets_of(rt.alloc(), "48630012010000010000010049000101064900010108")?;
+    let mut values = view(&octets)?.values::<EbiValue>(1);
+    assert!(rt; values.next() == Some(EbiValue(Below::new(6))));
+    assert!(rt; values.next() == Some(EbiValue(Below::new(8))));
+    assert!(rt; values.next().is_none());
+    Ok(())
+}
+
+#[test]
+fn values_that_do_not_read(rt: HostRuntime) -> Result<(), Fail> {
+    // An Echo Request in which an identity without an octet stands before the identity 6.
+    let octets = octets_of(rt.alloc(), "40010012000001000300010007490000004900010006")?;
+    let mut values = view(&octets)?.values::<EbiValue>(0);
+    assert!(rt; values.next() == Some(EbiValue(Below::new(6))));
+    assert!(rt; values.next().is_none());
+    Ok(())
+}
+
+#[test]
 fn octets_in_place(rt: HostRuntime) -> Result<(), Fail> {
     let octets = octets_of(rt.alloc(), "482200080100000100000700")?;
     let seen = view(&octets)?;

@@ -8,7 +8,7 @@ use Rattle.std.proofs.lemmas.List.{take-append-drop, length-take, length-append,
 use Rattle.std.proofs.lemmas.Option.{same_Some}
 use Rattle.gtp_values.specs.declared.address.Ip.TheVariants as addresses
 use Rattle.gtp_user.specs.Element.{Element, Recovery, TeidData, Peer, Types, Skipped, BeginsElement}
-use Rattle.gtp_user.specs.Elements.{split, split_body, recovery_at, teid_at, types_of, types_at, address_of, with_rest, peer_of, skipped_of, element_at}
+use Rattle.gtp_user.specs.reading.Elements.{split, split_body, recovery_at, teid_at, types_of, types_at, address_of, with_rest, peer_of, skipped_of, element_at}
 use Rattle.gtp_values.proofs.Outcomes.{none_some}
 use Rattle.gtp_values.proofs.Tests.{unequal}
 

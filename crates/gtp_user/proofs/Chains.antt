@@ -9,7 +9,7 @@ use Rattle.gtp_user.specs.declared.fault.UserFault.TheVariants as faults
 use Rattle.gtp_values.specs.Steps.{◌>>=◌}
 use Rattle.gtp_values.specs.Decides.{Decides, First_or_later}
 use Rattle.gtp_user.specs.Chain.{Extension, BeginsExtension, Leads, IsChain, ExtensionFails, ChainFails, WholeChainFails, first_kind, chain_encoding, AreExtensions}
-use Rattle.gtp_user.specs.Walk.{Front, front_at, Chained, with_front, walk, chain_at, headers_of, rest_of, with_no_rest, whole_at}
+use Rattle.gtp_user.specs.reading.Walk.{Front, front_at, Chained, with_front, walk, chain_at, headers_of, rest_of, with_no_rest, whole_at}
 use Rattle.gtp_values.proofs.Outcomes.{ok_same, err_same, apart, decided_by}
 use Rattle.gtp_values.proofs.Decided.{bind_at, bind_at_err, decide_bind, decide_map, decide_as, known_ok, known_err}
 

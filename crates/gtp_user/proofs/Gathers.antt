@@ -5,8 +5,8 @@ use Rattle.gtp_user.specs.declared.fault.UserFault.{UserFault}
 use Rattle.gtp_user.specs.declared.fault.UserFault.TheVariants as faults
 use Rattle.gtp_values.specs.Steps.{◌>>=◌}
 use Rattle.gtp_user.specs.Element.{Element, Recovery, TeidData, Peer, Types, Skipped, has_recovery, first_teid, first_peer, first_types}
-use Rattle.gtp_user.specs.Elements.{Found, found_in, or_else, and_found, elements_at, elements_in, element_at, go_on}
-use Rattle.gtp_user.specs.Gathered.{found_at}
+use Rattle.gtp_user.specs.reading.Elements.{Found, found_in, or_else, and_found, elements_at, elements_in, element_at, go_on}
+use Rattle.gtp_user.specs.reading.Gathered.{found_at}
 use Rattle.gtp_user.proofs.Begun.{element_shorter}
 
 -- what follows an element, where both ways agree on what follows

@@ -7,7 +7,8 @@ use Rattle.std.proofs.lemmas.Bool.{cases_lt, eqb-true}
 use Rattle.gtp_user.specs.declared.fault.UserFault.{UserFault}
 use Rattle.gtp_user.specs.declared.fault.UserFault.TheVariants as faults
 use Rattle.gtp_values.specs.Decides.{Decides}
-use Rattle.gtp_user.specs.Headed.{Headed, where_set, header_at, after_flags}
+use Rattle.gtp_user.specs.Headed.{Headed, where_set}
+use Rattle.gtp_user.specs.reading.Headed.{header_at, after_flags}
 use Rattle.gtp_user.specs.Header.{Flags, bits, Opens, HeadedPlain, HeadedByFlags, IsHeaded, HeaderFails}
 use Rattle.gtp_values.specs.Bit.{bit}
 use Rattle.gtp_values.proofs.Outcomes.{decided_by}

@@ -9,14 +9,15 @@ use Rattle.gtp_user.specs.declared.fault.UserFault.TheVariants as faults
 use Rattle.gtp_values.specs.Steps.{◌>>=◌}
 use Rattle.gtp_values.specs.Decides.{Decides, First_or_later}
 use Rattle.gtp_user.specs.Chain.{Extension, IsChain, ChainFails}
-use Rattle.gtp_user.specs.Walk.{Chained, chain_at}
-use Rattle.gtp_user.specs.Headed.{Headed, header_at}
+use Rattle.gtp_user.specs.reading.Walk.{Chained, chain_at}
+use Rattle.gtp_user.specs.Headed.{Headed}
+use Rattle.gtp_user.specs.reading.Headed.{header_at}
 use Rattle.gtp_user.specs.Header.{IsHeaded, HeaderFails}
 use Rattle.gtp_user.specs.Element.{Element, AreElements, IsCut, has_recovery, first_teid, first_peer, first_types}
-use Rattle.gtp_user.specs.Elements.{Found, found_in, elements_at}
-use Rattle.gtp_user.specs.Gathered.{found_at}
+use Rattle.gtp_user.specs.reading.Elements.{Found, found_in, elements_at}
+use Rattle.gtp_user.specs.reading.Gathered.{found_at}
 use Rattle.gtp_user.specs.Message.{Content, EchoRequest, EchoResponse, ErrorIndication, Notification, EndMarker, Packet, Other, MessageValue, numbered}
-use Rattle.gtp_user.specs.Reading.{needed, echo_response, error_indication, notification, body_at, message_of, message_at}
+use Rattle.gtp_user.specs.reading.Message.{needed, echo_response, error_indication, notification, body_at, message_of, message_at}
 use Rattle.gtp_user.specs.Datagram.{Carries, Lacks, CarriesNone, IsUserMessage, FailsAfterHeader, IsUserFault}
 use Rattle.gtp_values.proofs.Decided.{decide_bind, decide_map, decide_ok, decide_as, known_ok, known_err}
 use Rattle.gtp_user.proofs.Headers.{header_decided}

@@ -14,7 +14,7 @@ use Rattle.gtp_user.specs.contracts.message.UserBodyPartialEq.TheImpl as user_bo
 use Rattle.gtp_user.specs.contracts.message.UserMessagePartialEq.TheImpl as messages
 use Rattle.gtp_user.specs.Message.{ErrorIndication, Notification, EndMarker, Packet, Other, content_of, message_value}
 use Rattle.gtp_user.specs.Chain.{Extension, header_eq, first_kind, chain_encoding}
-use Rattle.gtp_user.specs.Walk.{headers_in, HasNoRest}
+use Rattle.gtp_user.specs.reading.Walk.{headers_in, HasNoRest}
 use Rattle.gtp_user.proofs.Chains.{whole_is}
 use Rattle.gtp_user.proofs.Messages.{message_by}
 

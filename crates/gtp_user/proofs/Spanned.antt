@@ -6,7 +6,7 @@ use Rattle.gtp_user.specs.declared.fault.UserFault.TheVariants as faults
 use Rattle.gtp_values.specs.Steps.{◌>>=◌}
 use Rattle.gtp_values.specs.Decides.{Decides}
 use Rattle.gtp_user.specs.Element.{Element, BeginsElement, Spans, AreElements, IsCut}
-use Rattle.gtp_user.specs.Elements.{element_at, go_on, elements_in, elements_at}
+use Rattle.gtp_user.specs.reading.Elements.{element_at, go_on, elements_in, elements_at}
 use Rattle.gtp_user.proofs.Begun.{found, element_begins, begins_element, begins_shorter}
 use Rattle.gtp_values.proofs.Decided.{decide_map, decide_as, known_ok, known_err}
 use Rattle.gtp_values.proofs.Outcomes.{none_some}

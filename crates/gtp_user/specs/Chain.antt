@@ -4,6 +4,7 @@ use Rattle.std.specs.Ordering.{on, eq_of_both}
 use Rattle.std.specs.Cmp.Lexicographic.{pointwise}
 use Rattle.gtp_user.specs.declared.fault.UserFault.{UserFault}
 use Rattle.gtp_user.specs.declared.fault.UserFault.TheVariants as faults
+use Rattle.gtp_user.specs.declared.extension.ExtensionHeader.{ExtensionHeader}
 
 -- an extension header: its type and its content
 pub record Extension : Type 0 where
@@ -13,6 +14,10 @@ pub record Extension : Type 0 where
 -- whether two headers have the same type and the same content
 abbrev pub header_eq : Extension → Extension → Bool
 header_eq = eq_of_both (on (λ e. e.kind) ◌==◌) (on (λ e. e.content) (pointwise ◌==◌))
+
+-- a header of the program, without where it lies
+abbrev pub extension_of : ExtensionHeader → Extension
+extension_of h = record { kind = h.kind; content = h.content.now }
 
 -- the octets are a header, the type of the next one, and then the rest (5.2.1): a length in units of four octets, which counts itself and the
 -- type of the next header, and so is at least 1. A type with the highest bit set is for who understands it (figure 5.2.1-2), and none is understood here

@@ -1,13 +1,11 @@
+-- what clauses of public functions, public traits and laws speak of
 pub mod Chain
-pub mod Walk
-pub mod Chained
 pub mod Headed
 pub mod Header
 pub mod Element
-pub mod Elements
-pub mod Gathered
 pub mod Message
-pub mod Reading
 pub mod Datagram
 pub mod Encoding
 pub mod Codes
+-- reading functions, for private contracts, models of private fields and proofs: specs/reading.antt lists them
+pub mod reading

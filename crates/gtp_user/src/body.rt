@@ -4,7 +4,7 @@ ghost use Rattle.std.specs.Prelude.{◌≡◌, ◌≤◌, length, ◌+◌, ◌^�
 ghost use Rattle.gtp_values.specs.Steps.{Gives};
 ghost use Rattle.gtp_values.specs.Room.{Leaves};
 ghost use Rattle.gtp_user.specs.Message.{content_of};
-ghost use Rattle.gtp_user.specs.Reading.{body_at};
+ghost use Rattle.gtp_user.specs.reading.Message.{body_at};
 ghost use Rattle.gtp_user.specs.Encoding.{content_encoding, octets_of, HasAddressSize, kind_of, teid_of, HasShortList, IsInRange};
 
 use crate::element::read_elements;
@@ -20,7 +20,7 @@ use std::alloc::AllocError;
 
 /// What a message of this type carries in the octets after its chain, the last ones of a datagram of
 /// `end` octets.
-#[tactic(auto, unfolding(crate::specs::Reading::body_at))]
+#[tactic(auto, unfolding(crate::specs::reading::Message::body_at))]
 pub fn read_body(kind: u8, teid: Teid, octets: &[u8], end: usize) -> Result<UserBody<'_>, UserFault>
     requires { length octets.now ≤ end }
     ensures { Gives content_of result (body_at end kind teid.0 octets.now) }

@@ -4,7 +4,7 @@ ghost use Rattle.std.specs.Prelude.{◌≡◌, IfOk, IfErr, IsOkAnd, Err};
 ghost use Rattle.gtp_values.specs.Steps.{Gives};
 ghost use Rattle.gtp_user.specs.declared.fault.UserFault.{UserFault as AnyFault};
 ghost use Rattle.gtp_user.specs.Message.{MessageValue, message_value};
-ghost use Rattle.gtp_user.specs.Reading.{message_at};
+ghost use Rattle.gtp_user.specs.reading.Message.{message_at};
 ghost use Rattle.gtp_user.specs.Datagram.{IsUserMessage, IsUserFault};
 
 use crate::body::read_body;
@@ -14,7 +14,7 @@ use crate::header::read_header;
 use crate::message::{UserBody, UserMessage};
 
 /// The message that a datagram spells, by one reading.
-#[tactic(auto, unfolding(crate::specs::Reading::message_at))]
+#[tactic(auto, unfolding(crate::specs::reading::Message::message_at))]
 fn read_message(octets: &[u8]) -> Result<UserMessage<'_>, UserFault>
     ensures { Gives message_value result (message_at octets.now) }
 {

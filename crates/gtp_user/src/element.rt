@@ -2,8 +2,9 @@
 
 ghost use Rattle.std.specs.Prelude.{◌≡◌, ◌≤◌, ◌<◌, ◌∷◌, [], length, option_map};
 ghost use Rattle.gtp_values.specs.Steps.{Gives};
-ghost use Rattle.gtp_user.specs.Elements.{split, split_body, address_of, peer_of, types_at, recovery_at, teid_at, skipped_of, element_at, and_found, found_in};
-ghost use Rattle.gtp_user.specs.Gathered.{parts_of, ElementIs, found_of, element_of, found_at};
+ghost use Rattle.gtp_user.specs.reading.Elements.{split, split_body, address_of, peer_of, types_at, recovery_at, teid_at, skipped_of, element_at, and_found, found_in};
+ghost use Rattle.gtp_user.specs.reading.Gathered.{parts_of, ElementIs, found_of, element_of};
+ghost use Rattle.gtp_user.specs.reading.Gathered.{found_at};
 
 use crate::fault::UserFault;
 use crate::numbers::{EXTENSION_TYPES, PEER_ADDRESS, RECOVERY, TEID_DATA};
@@ -109,7 +110,7 @@ fn read_skipped(octets: &[u8]) -> Option<(Element<'_>, &[u8])>
 }
 
 /// The element at the start of the octets, and the octets after it.
-#[tactic(auto, unfolding(crate::specs::Elements::element_at))]
+#[tactic(auto, unfolding(crate::specs::reading::Elements::element_at))]
 fn read_element(octets: &[u8]) -> Option<(Element<'_>, &[u8])>
     ensures { ElementIs result (element_at octets.now) }
 {
@@ -137,7 +138,7 @@ pub struct Found<'a> {
 
 impl<'a> Found<'a> {
     /// What was found before, and then this element.
-    #[tactic(auto, unfolding(crate::specs::Elements::found_in))]
+    #[tactic(auto, unfolding(crate::specs::reading::Elements::found_in))]
     fn and(self, element: Element<'a>) -> Found<'a>
         ensures { found_of result
             ≡ and_found (found_of self.entry) (found_in (element_of element.entry ∷ [])) }

@@ -4,9 +4,9 @@ ghost use Rattle.std.specs.Prelude.{◌≡◌, ◌+◌, ◌≤◌, ◌<◌, [], 
 ghost use Rattle.std.specs.Iterator.{YieldsFirstBy, item_count};
 ghost use Rattle.gtp_user.specs.declared.fault.UserFault.{UserFault as AnyFault};
 ghost use Rattle.gtp_values.specs.Steps.{Gives};
-ghost use Rattle.gtp_user.specs.Chain.{Extension, IsChain, WholeChainFails, AreExtensions, first_kind, chain_encoding};
-ghost use Rattle.gtp_user.specs.Walk.{front_at, chain_at, whole_at};
-ghost use Rattle.gtp_user.specs.Chained.{extension_of, front_of, chained_of};
+ghost use Rattle.gtp_user.specs.Chain.{Extension, IsChain, WholeChainFails, AreExtensions, first_kind, chain_encoding, extension_of};
+ghost use Rattle.gtp_user.specs.reading.Walk.{front_at, chain_at, whole_at};
+ghost use Rattle.gtp_user.specs.reading.Chained.{front_of, chained_of};
 
 use crate::fault::UserFault;
 use std::marker::Model;
@@ -66,7 +66,7 @@ pub struct Extensions<'a> {
 impl<'a> Model for Extensions<'a> {
     ghost use Rattle.std.specs.Prelude.{List};
     ghost use Rattle.gtp_user.specs.Chain.{Extension};
-    ghost use Rattle.gtp_user.specs.Walk.{headers_in, HasNoRest};
+    ghost use Rattle.gtp_user.specs.reading.Walk.{headers_in, HasNoRest};
 
     ghost Value = { List Extension };
 
@@ -101,7 +101,7 @@ pub fn read_chain(
 }
 
 /// The headers of a whole chain, by one reading.
-#[tactic(auto, unfolding(crate::specs::Walk::whole_at))]
+#[tactic(auto, unfolding(crate::specs::reading::Walk::whole_at))]
 fn read_whole(first: u8, octets: &[u8]) -> Result<Extensions<'_>, UserFault>
     ensures { Gives (λ headers. headers) result (whole_at first octets.now) }
 {
@@ -223,7 +223,7 @@ pub struct ExtensionHeaders<'a> {
 impl<'a> Model for ExtensionHeaders<'a> {
     ghost use Rattle.std.specs.Prelude.{List};
     ghost use Rattle.gtp_user.specs.Chain.{Extension};
-    ghost use Rattle.gtp_user.specs.Walk.{headers_in, HasNoRest};
+    ghost use Rattle.gtp_user.specs.reading.Walk.{headers_in, HasNoRest};
 
     ghost Value = { List Extension };
 

@@ -2,7 +2,7 @@
 
 ghost use Rattle.std.specs.Prelude.{◌≡◌, ◌≤◌, ◌%◌, length, IfOk, ◌+◌, ◌^◌, ◌<◌, ◌++◌, IfSome, OnOk};
 ghost use Rattle.gtp_values.specs.Steps.{Gives};
-ghost use Rattle.gtp_user.specs.Headed.{headed_of, header_at, after_flags};
+ghost use Rattle.gtp_user.specs.reading.Headed.{headed_of, header_at, after_flags};
 ghost use Rattle.gtp_user.specs.Message.{content_of, message_value};
 ghost use Rattle.gtp_user.specs.Encoding.{options_encoding, opening_encoding, teid_of};
 

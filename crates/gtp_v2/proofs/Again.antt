@@ -12,8 +12,8 @@ use Rattle.gtp_ie.specs.Spelling.{Spells}
 use Rattle.gtp_ie.proofs.Placed.{placed, IsPlain, element_octets, spans_placed, bodies, bodies-placed, first_from_bodies, none_from_bodies, HaveBodies, all_from_bodies}
 use Rattle.gtp_values.proofs.Tests.{both}
 use Rattle.gtp_ie.proofs.Slots.{Slot, element_with, slot_elements, slots_elements, is_fresh, are_distinct, IsFound, all_found}
-use Rattle.gtp_v2.specs.Table.{Row, Mandatory, Conditional, Accepted, Optional, Line, Single, Grouped, Several, Field, Plain, Groups, State, start}
-use Rattle.gtp_v2.specs.Rows.{accepts, after, kind_of, instance_of, whole, lines_at}
+use Rattle.gtp_v2.specs.Table.{Row, Mandatory, Conditional, Accepted, Optional, Line, Single, Grouped, Several, Field, Plain, Groups, State, start, accepts, after, kind_of, instance_of}
+use Rattle.gtp_v2.specs.reading.Rows.{whole, lines_at}
 use Rattle.gtp_v2.specs.Grammar.{Says, One, AtMostOne, RowIs, RowsAre, GroupIs, EachIs, GroupsAre, OneIs, LineIs, LinesAre}
 use Rattle.gtp_v2.proofs.Decided.{whole_decided, lines_decided}
 use Rattle.gtp_values.proofs.Decided.{bind_at}

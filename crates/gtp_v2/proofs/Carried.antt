@@ -4,12 +4,15 @@ use Rattle.gtp_values.proofs.Decided.{bind_ok}
 use Rattle.gtp_ie.specs.Element.{Element, elements_of, list_of}
 use Rattle.gtp_ie.specs.Octets.{AreElements}
 use Rattle.gtp_v2.specs.Table.{Table}
-use Rattle.gtp_v2.specs.Checked.{forgotten}
+use Rattle.gtp_v2.specs.reading.Checked.{forgotten}
 use Rattle.gtp_v2.specs.Tables.{table_of}
-use Rattle.gtp_v2.specs.Headed.{Headed, header_at}
+use Rattle.gtp_v2.specs.Headed.{Headed}
+use Rattle.gtp_v2.specs.reading.Headed.{header_at}
 use Rattle.gtp_v2.specs.Header.{IsHeaded}
-use Rattle.gtp_v2.specs.Message.{Content, Fields, with_content, raw_of, typed_at, by_table, content_at}
-use Rattle.gtp_v2.specs.Viewed.{Viewed, viewed, IsViewed, content_or_none, elements_by, list_or_none, place_of, ElementsAre, Carries}
+use Rattle.gtp_v2.specs.Message.{Content, Fields, with_content, raw_of}
+use Rattle.gtp_v2.specs.reading.Message.{typed_at, by_table, content_at}
+use Rattle.gtp_v2.specs.Viewed.{Viewed, place_of, ElementsAre, Carries}
+use Rattle.gtp_v2.specs.reading.Viewed.{viewed, IsViewed, content_or_none, elements_by, list_or_none}
 use Rattle.gtp_v2.proofs.Checks.{was_read}
 use Rattle.gtp_v2.proofs.Decided.{whole_decided}
 use Rattle.gtp_v2.proofs.Headers.{header_decided}

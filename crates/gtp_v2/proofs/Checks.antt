@@ -13,9 +13,9 @@ use Rattle.gtp_v2.specs.declared.fault.Need.TheVariants as needs
 use Rattle.gtp_v2.specs.Table.{Row, Line, Single, Grouped, Several, Plain, Groups, Mandatory, State, after, accepts, need_of, kind_of, instance_of, is_silent}
 use Rattle.gtp_v2.specs.declared.table.Line.{Line as Kept}
 use Rattle.gtp_v2.specs.declared.table.Line.TheVariants as kept
-use Rattle.gtp_v2.specs.Lines.{line_of}
-use Rattle.gtp_v2.specs.Rows.{row_at, rows_at, group_at, groups_at, each_at, line_at, lines_at, some_groups, several_at, values_at, one_at, no_group, no_value}
-use Rattle.gtp_v2.specs.Checked.{row_says, rows_accept, forgotten, group_passes, one_accepts, says, with_one, after_groups, after_values, line_says, lines_say, merged, groups_silent, groups_say, values_say, several_say}
+use Rattle.gtp_v2.specs.reading.Lines.{line_of}
+use Rattle.gtp_v2.specs.reading.Rows.{row_at, rows_at, group_at, groups_at, each_at, line_at, lines_at, some_groups, several_at, values_at, one_at, no_group, no_value}
+use Rattle.gtp_v2.specs.reading.Checked.{row_says, rows_accept, forgotten, group_passes, one_accepts, says, with_one, after_groups, after_values, line_says, lines_say, merged, groups_silent, groups_say, values_say, several_say}
 use Rattle.gtp_v2.proofs.Loop.{with_front, goes_on, ends, is_done, nothing_before}
 
 -- ---- rows
@@ -39,7 +39,7 @@ forget_bind : {X Y Z E : Type 0} (r : Result X E) (k : X → Result Y E) (g : X 
 forget_bind (Ok x) k g same = same x
 forget_bind (Err e) k g same = refl
 
-forget_map : {X Y E : Type 0} (r : Result X E) (g : X → Y) → forgotten (r >>= λ x. Ok (g x)) ≡ forgotten r
+pub forget_map : {X Y E : Type 0} (r : Result X E) (g : X → Y) → forgotten (r >>= λ x. Ok (g x)) ≡ forgotten r
 forget_map (Ok x) g = refl
 forget_map (Err e) g = refl
 

@@ -13,14 +13,16 @@ use Rattle.gtp_ie.proofs.Walked.{elements_decided}
 use Rattle.gtp_v2.specs.declared.fault.Need.{Need}
 use Rattle.gtp_v2.specs.declared.fault.Need.TheVariants as needs
 use Rattle.gtp_ie.specs.Value.{Value, value_at}
-use Rattle.gtp_ie.specs.Spelling.{Spells, SpellsNone}
+use Rattle.gtp_ie.specs.Spelling.{Spells}
+use Rattle.gtp_ie.specs.reading.Spelling.{SpellsNone}
 use Rattle.gtp_ie.proofs.Spelled.{value_decided}
 use Rattle.gtp_values.proofs.Outcomes.{done, ok_same, err_same, apart}
 use Rattle.gtp_values.proofs.Decided.{decide_bind, decide_map, decide_cons, decide_ok, decide_as, known_ok, known_err}
 use Rattle.gtp_v2.specs.declared.fault.RowFault.{RowFault}
 use Rattle.gtp_v2.specs.declared.fault.RowFault.TheVariants as faults
-use Rattle.gtp_v2.specs.Table.{Row, Mandatory, Conditional, Accepted, Optional, Line, Single, Grouped, Several, Plain, Groups, State}
-use Rattle.gtp_v2.specs.Rows.{named, needed, needed_at, welcome, value_or_none, optional_at, needed_if_at, row_at, rows_at, accepts, whole, one_at, each_at, values_at, group_at, groups_at, no_group, some_groups, no_value, several_at, line_at, lines_at, need_of, kind_of, instance_of, after}
+use Rattle.gtp_v2.specs.Table.{Row, Mandatory, Conditional, Accepted, Optional, Line, Single, Grouped, Several, Plain, Groups, State, accepts, need_of, kind_of, instance_of, after}
+use Rattle.gtp_v2.specs.reading.Rows.{named, needed, needed_at, needed_if_at, row_at, rows_at, whole, one_at, each_at, values_at, group_at, groups_at, no_group, some_groups, no_value, several_at, line_at, lines_at}
+use Rattle.gtp_v2.specs.Viewed.{welcome, value_or_none, optional_at}
 use Rattle.gtp_v2.specs.Grammar.{Says, SaysNothing, One, AtMostOne, NeededFails, absent, short, bad, RowIs, RowFails, RowsAre, RowsFail, IsCutShort, GroupIs, GroupFails, EachIs, SomeFails, GroupsAre, GroupsFail, OneIs, OneFails, short_one, bad_one, SeveralAre, SeveralFail, IsEnough, NoGroup, SomeGroups, SomeGroupsFail, LineIs, LineFails, LinesAre, LinesFail}
 
 abbrev free_at : ℕ → ℕ → List Element → Result (List Value) RowFault

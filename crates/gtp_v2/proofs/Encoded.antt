@@ -6,10 +6,11 @@ use Rattle.gtp_values.proofs.Decided.{bind_ok}
 use Rattle.gtp_ie.specs.Element.{elements_of}
 use Rattle.gtp_values.proofs.Tests.{both}
 use Rattle.gtp_v2.specs.Table.{start, Table}
-use Rattle.gtp_v2.specs.Rows.{whole, lines_at}
+use Rattle.gtp_v2.specs.reading.Rows.{whole, lines_at}
 use Rattle.gtp_v2.specs.Apart.{lines_apart, all_fit, is_table}
 use Rattle.gtp_v2.proofs.Meets.{LinesMeet}
-use Rattle.gtp_v2.specs.Headed.{Headed, header_at}
+use Rattle.gtp_v2.specs.Headed.{Headed}
+use Rattle.gtp_v2.specs.reading.Headed.{header_at}
 use Rattle.gtp_v2.specs.Message.{Content, Fields, Raw, MessageValue}
 use Rattle.gtp_v2.specs.Tables.{tables, table_among, table_of}
 use Rattle.gtp_v2.specs.Text.{lines_encoding}

@@ -5,20 +5,17 @@ use Rattle.std.proofs.lemmas.Option.{same_Some}
 use Rattle.gtp_values.specs.Steps.{◌>>=◌}
 use Rattle.gtp_values.proofs.Decided.{bind_ok}
 use Rattle.gtp_values.proofs.Outcomes.{done, ok_same}
-use Rattle.gtp_ie.specs.Element.{Element, elements_of, list_of, all_of}
+use Rattle.gtp_ie.specs.Element.{Element, elements_of, all_of}
 use Rattle.gtp_ie.specs.Value.{Value}
 use Rattle.gtp_v2.specs.declared.fault.RowFault.{RowFault}
 use Rattle.gtp_v2.specs.declared.fault.Need.{Need}
 use Rattle.gtp_v2.specs.declared.fault.Need.TheVariants as needs
-use Rattle.gtp_v2.specs.Headed.{Headed}
-use Rattle.gtp_v2.specs.Message.{Content, Fields, typed_at, by_table, content_at}
+use Rattle.gtp_v2.specs.Message.{Content}
 use Rattle.gtp_v2.specs.Tables.{table_of}
-use Rattle.gtp_v2.specs.Checked.{forgotten}
-use Rattle.gtp_v2.proofs.Checks.{was_read}
 use Rattle.gtp_v2.specs.Table.{Line, Single, Grouped, Several, Field, Groups, State, start, after, Table, need_of, Row, Mandatory, Conditional, Accepted, Optional, kind_of, instance_of, accepts}
-use Rattle.gtp_v2.specs.Rows.{line_at, lines_at, some_groups, no_group, row_at, rows_at, group_at, groups_at, each_at, whole, needed_at, needed_if_at, optional_at}
-use Rattle.gtp_v2.specs.Viewed.{Viewed, viewed, IsViewed, content_or_none, elements_by, groups_among, groups_by, in_groups, inner_of, values_in, front_value}
-use Rattle.gtp_v2.proofs.Views.{whole_is, row_is, both_same, typed_is, content_ok, content_is}
+use Rattle.gtp_v2.specs.reading.Rows.{line_at, lines_at, some_groups, no_group, row_at, rows_at, group_at, groups_at, each_at, whole, needed_at, needed_if_at}
+use Rattle.gtp_v2.specs.Viewed.{optional_at, Viewed, groups_among, groups_by, in_groups, inner_of, values_in, front_value}
+use Rattle.gtp_v2.proofs.Views.{whole_is, row_is, both_same, ReadBy, IsRead}
 
 -- a row has one value at most
 one_or_none : (r : Result Value RowFault) (values : List Value) → (r >>= λ v. done RowFault (v ∷ [])) ≡ Ok values → option_to_list (front_value values) ≡ values
@@ -100,32 +97,10 @@ lines_found kind instance state (line ∷ lines) es fields p h is =
         (some_are (need_of state.accepting row) (kind_of row) (instance_of row) (groups_at state.accepting rows (all_of (kind_of row) (instance_of row) es)) g.0 g.1) rest
         (subst (λ (f : Field). groups_among kind instance (Grouped row rows ∷ lines) (f ∷ others) ≡ Some p) (sym (ok_same RowFault (Groups g.0) field g.2)) is)
 
-found_by : (kind instance : ℕ) (table : Option Table) (h : Headed) (es : List Element) (p : List Row × List (List (List Value)))
-    → forgotten (by_table table h) ≡ Ok tt → Some es ≡ elements_by table h → groups_by kind instance table (content_or_none (by_table table h)) ≡ Some p → AreFound kind instance es p
-found_by kind instance None h es p reads walked is = absurd cc
-found_by kind instance (Some table) h es p reads walked is =
-    let r = was_read (by_table (Some table) h) reads in
-    let b = bind_ok (typed_at table.has_teid table.lines h) (λ fields. content_ok (Fields fields)) r.0 r.1 in
-    let content : content_or_none (by_table (Some table) h) ≡ Fields b.0 = content_is (by_table (Some table) h) r.0 r.1 ∙ sym (content_is (content_ok (Fields b.0)) r.0 b.2) in
-    subst (λ (xs : List Element). AreFound kind instance xs p) (sym (same_Some es (list_of (elements_of h.at h.rest)) walked))
-    (lines_found kind instance start table.lines (list_of (elements_of h.at h.rest)) b.0 p (typed_is table.has_teid table.lines h b.0 b.1)
-    (subst (λ (c : Content). groups_by kind instance (Some table) c ≡ Some p) content is))
+groups_by_rows : (kind instance : ℕ) (table : Option Table) (content : Content) (es : List Element) → ReadBy table content es → (p : List Row × List (List (List Value))) → groups_by kind instance table content ≡ Some p → AreFound kind instance es p
+groups_by_rows kind instance None content es read p is = absurd cc
+groups_by_rows kind instance (Some table) content es read p is = lines_found kind instance start table.lines es read.0 p read.2 (subst (λ (c : Content). groups_by kind instance (Some table) c ≡ Some p) read.1 is)
 
-pub groups_are : (kind instance : ℕ) (h : Headed) (elements : Option (List Element)) (es : List Element) (m : Viewed) → elements ≡ Some es → viewed h elements ≡ m → IsViewed h elements
-    → (p : List Row × List (List (List Value))) → in_groups kind instance m.message ≡ Some p → p.1 ≡ map (values_in p.0) (map inner_of (all_of kind instance es))
-unfolding content_at
-groups_are kind instance h elements es m some view inv p is =
-    found_by kind instance (table_of h.kind) h es p inv.reads (sym some ∙ inv.walked) (subst (λ (v : Viewed). in_groups kind instance v.message ≡ Some p) (sym view) is)
-
--- without elements there are no groups
-none_found : (kind instance : ℕ) (table : Option Table) (h : Headed) (c : Content) (p : List Row × List (List (List Value))) → None ≡ elements_by table h → groups_by kind instance table c ≡ Some p → ⊥
-none_found kind instance None h c p walked is = cc
-none_found kind instance (Some table) h c p walked is = cc
-
-pub contexts_are : (kind instance : ℕ) (h : Headed) (elements : Option (List Element)) (m : Viewed) → viewed h elements ≡ m → IsViewed h elements
-    → (p : List Row × List (List (List Value))) → in_groups kind instance m.message ≡ Some p → p.1 ≡ map (values_in p.0) (map inner_of (all_of kind instance m.elements))
-unfolding content_at
-contexts_are kind instance h None m view inv p is =
-    absurd (none_found kind instance (table_of h.kind) h (content_or_none (by_table (table_of h.kind) h)) p inv.walked (subst (λ (v : Viewed). in_groups kind instance v.message ≡ Some p) (sym view) is))
-contexts_are kind instance h (Some es) m view inv p is =
-    groups_are kind instance h (Some es) es m refl view inv p is ∙ ap (λ (v : Viewed). map (values_in p.0) (map inner_of (all_of kind instance v.elements))) view
+-- the groups of the message are those of its elements
+pub groups_are : (kind instance : ℕ) (v : Viewed) → IsRead v → (p : List Row × List (List (List Value))) → in_groups kind instance v.message ≡ Some p → p.1 ≡ map (values_in p.0) (map inner_of (all_of kind instance v.elements))
+groups_are kind instance v read p is = groups_by_rows kind instance (table_of v.message.kind) v.message.content v.elements read p is

@@ -7,7 +7,8 @@ use Rattle.std.proofs.lemmas.Bool.{cases_lt, eqb-true}
 use Rattle.gtp_values.specs.Decides.{Decides}
 use Rattle.gtp_v2.specs.declared.fault.V2Fault.{V2Fault}
 use Rattle.gtp_v2.specs.declared.fault.V2Fault.TheVariants as faults
-use Rattle.gtp_v2.specs.Headed.{Headed, header_at, after_teid, after_no_teid}
+use Rattle.gtp_v2.specs.Headed.{Headed}
+use Rattle.gtp_v2.specs.reading.Headed.{header_at, after_teid, after_no_teid}
 use Rattle.gtp_v2.specs.Header.{HeadedPlain, HeadedByTeid, IsHeaded, HeaderFails}
 use Rattle.gtp_values.proofs.Outcomes.{decided_by}
 use Rattle.gtp_values.proofs.Tests.{unequal}

@@ -16,7 +16,8 @@ use Rattle.gtp_v2.specs.Header.{HeaderFails}
 use Rattle.gtp_v2.specs.Message.{with_head}
 use Rattle.gtp_v2.specs.Tables.{table_of}
 use Rattle.gtp_v2.specs.Datagram.{FailsBy, IsFault}
-use Rattle.gtp_v2.specs.Instances.{RowInstanceIsSmall, InstanceIsSmall}
+use Rattle.gtp_v2.specs.reading.Instances.{RowInstanceIsSmall}
+use Rattle.gtp_v2.specs.Instances.{InstanceIsSmall}
 use Rattle.gtp_values.proofs.Tests.{both}
 use Rattle.gtp_v2.proofs.Encoded.{tables_fit}
 

@@ -21,4 +21,6 @@ pub mod Unknown
 pub mod Checks
 pub mod Views
 pub mod GroupValues
+pub mod ListValues
+pub mod CheckedLines
 pub mod Carried

@@ -5,7 +5,7 @@ use Rattle.std.proofs.lemmas.List.{append-nil, map_push}
 use Rattle.gtp_ie.specs.Element.{Element}
 use Rattle.gtp_values.specs.Steps.{◌>>=◌}
 use Rattle.gtp_v2.specs.declared.fault.RowFault.{RowFault}
-use Rattle.gtp_v2.specs.Rows.{each_at}
+use Rattle.gtp_v2.specs.reading.Rows.{each_at}
 
 -- what was read before, and what is still read
 abbrev pub with_front : {X : Type 0} → List X → Result (List X) RowFault → Result (List X) RowFault

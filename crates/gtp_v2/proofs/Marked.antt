@@ -10,8 +10,8 @@ use Rattle.gtp_ie.specs.Octets.{AreElements}
 use Rattle.gtp_ie.specs.Text.{element_encoding}
 use Rattle.gtp_ie.specs.Value.{Value, encoding_of}
 use Rattle.gtp_values.proofs.Tests.{both}
-use Rattle.gtp_v2.specs.Table.{Row, Mandatory, Conditional, Accepted, Optional, Line, Single, Grouped, Several, Field, Plain, Groups, State, start, Table}
-use Rattle.gtp_v2.specs.Rows.{accepts, after, need_of, kind_of, instance_of, whole, lines_at}
+use Rattle.gtp_v2.specs.Table.{Row, Mandatory, Conditional, Accepted, Optional, Line, Single, Grouped, Several, Field, Plain, Groups, State, start, Table, accepts, after, need_of, kind_of, instance_of}
+use Rattle.gtp_v2.specs.reading.Rows.{whole, lines_at}
 use Rattle.gtp_v2.specs.Grammar.{IsEnough, LinesAre}
 use Rattle.gtp_v2.specs.Text.{value_encoding, rows_encoding, groups_encoding, several_encoding, line_encoding, lines_encoding}
 use Rattle.gtp_v2.specs.Apart.{are_apart, all_small, fits, lines_apart, all_fit, is_table}

@@ -5,8 +5,7 @@ use Rattle.std.specs.List.{AllByRecursion}
 use Rattle.std.proofs.lemmas.List.Elements.{All-from_recursion}
 use Rattle.gtp_ie.specs.Element.{Element, all_of}
 use Rattle.gtp_ie.specs.Value.{Value}
-use Rattle.gtp_v2.specs.Table.{Row, Mandatory, Conditional, Accepted, Optional, Line, Single, Grouped, Several, Field, State, start, Table}
-use Rattle.gtp_v2.specs.Rows.{accepts, after, need_of, kind_of, instance_of}
+use Rattle.gtp_v2.specs.Table.{Row, Mandatory, Conditional, Accepted, Optional, Line, Single, Grouped, Several, Field, State, start, Table, accepts, after, need_of, kind_of, instance_of}
 use Rattle.gtp_v2.specs.Grammar.{One, RowIs, RowsAre, GroupsAre, IsEnough, LineIs, LinesAre}
 use Rattle.gtp_v2.specs.Marks.{RowsMarked, LineMarked, LinesMarked, ContentMarked, MeetsMarks}
 use Rattle.gtp_v2.specs.Headed.{Headed}

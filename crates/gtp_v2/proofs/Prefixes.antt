@@ -4,7 +4,8 @@ use Rattle.std.specs.Prelude.{◌==◌, ◌-◌, nat_lt}
 use Rattle.std.proofs.lemmas.Bool.Decides.{nat_tests}
 use Rattle.std.proofs.lemmas.List.{length-take}
 use Rattle.gtp_v2.specs.declared.fault.V2Fault.TheVariants as faults
-use Rattle.gtp_v2.specs.Headed.{Headed, header_at}
+use Rattle.gtp_v2.specs.Headed.{Headed}
+use Rattle.gtp_v2.specs.reading.Headed.{header_at}
 use Rattle.gtp_v2.specs.Message.{MessageValue}
 use Rattle.gtp_v2.specs.Datagram.{IsMessage, IsFault}
 use Rattle.gtp_v2.proofs.Headers.{header_decided}

@@ -1,4 +1,4 @@
--- Where `==` of what messages carry is true, contracts see the same; and then it is the same. Written by scripts/messages from messages/.
+-- Where `==` of what messages carry is true, contracts see the same; and then it is the same. Written by scripts/messages from the tables in specs/.
 use Rattle.std.proofs.Common.{◌≡◌, ◌∙◌, ℕ, Option, Some, None, ap, refl, sym}
 use Rattle.std.specs.Bool.{Decides}
 use Rattle.std.specs.Cmp.Lexicographic.{bytes_decides}

@@ -7,8 +7,8 @@ use Rattle.gtp_ie.specs.Element.{Element, first_of}
 use Rattle.gtp_ie.specs.Value.{Value, OfFTeid, fteid_in, value_at}
 use Rattle.gtp_ie.specs.Spelling.{Spells, Says as BodySays}
 use Rattle.gtp_ie.proofs.Spelled.{value_decided}
-use Rattle.gtp_v2.specs.Rows.{value_or_none, welcome, optional_at}
-use Rattle.gtp_v2.specs.Message.{end_in, sender_of}
+use Rattle.gtp_v2.specs.Viewed.{value_or_none, welcome, optional_at}
+use Rattle.gtp_v2.specs.reading.Message.{end_in, sender_of}
 use Rattle.gtp_v2.specs.Datagram.{EndIs, SenderIs}
 
 -- the end that a value was made of

@@ -16,12 +16,14 @@ use Rattle.gtp_ie.specs.declared.fault.IeFault.TheVariants.{Truncated}
 use Rattle.gtp_v2.specs.declared.fault.RowFault.TheVariants as row_faults
 use Rattle.gtp_v2.specs.declared.fault.Head.{Head}
 use Rattle.gtp_v2.specs.Table.{Line, Field, start, Table}
-use Rattle.gtp_v2.specs.Rows.{whole, lines_at}
+use Rattle.gtp_v2.specs.reading.Rows.{whole, lines_at}
 use Rattle.gtp_v2.specs.Grammar.{IsCutShort, LinesAre, LinesFail}
-use Rattle.gtp_v2.specs.Headed.{Headed, header_at}
+use Rattle.gtp_v2.specs.Headed.{Headed}
+use Rattle.gtp_v2.specs.reading.Headed.{header_at}
 use Rattle.gtp_v2.specs.Header.{IsHeaded, HeaderFails}
 use Rattle.gtp_v2.proofs.Headers.{header_decided}
-use Rattle.gtp_v2.specs.Message.{head_of, with_head, sender_of, told, list_at, fields_at, typed_at, by_table, content_at, Content, Fields, Raw, MessageValue, with_content, message_at, FaultIs, MessageGives, MessageAllocates}
+use Rattle.gtp_v2.specs.Message.{head_of, with_head, Content, Fields, Raw, MessageValue, with_content, FaultIs, MessageGives, MessageAllocates}
+use Rattle.gtp_v2.specs.reading.Message.{sender_of, told, list_at, fields_at, typed_at, by_table, content_at, message_at}
 use Rattle.gtp_v2.specs.Tables.{table_of}
 use Rattle.gtp_v2.specs.Instances.{InstanceIsSmall}
 use Rattle.gtp_v2.proofs.Instances.{fault_small}

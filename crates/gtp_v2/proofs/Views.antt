@@ -15,15 +15,17 @@ use Rattle.gtp_v2.specs.declared.fault.Head.{Head}
 use Rattle.gtp_v2.specs.declared.fault.V2Fault.{V2Fault}
 use Rattle.gtp_v2.specs.declared.fault.V2Fault.TheVariants as faults
 use Rattle.gtp_v2.specs.Table.{Row, Mandatory, Conditional, Accepted, Optional, Line, Single, Grouped, Several, Field, Plain, State, start, after, Table, kind_of, instance_of}
-use Rattle.gtp_v2.specs.Rows.{row_at, needed, needed_at, needed_if_at, optional_at, one_at, named, welcome, value_or_none, line_at, lines_at, whole}
-use Rattle.gtp_v2.specs.Checked.{forgotten}
+use Rattle.gtp_v2.specs.reading.Rows.{row_at, needed, needed_at, needed_if_at, one_at, named, line_at, lines_at, whole}
+use Rattle.gtp_v2.specs.Viewed.{optional_at, welcome, value_or_none, Viewed, values_among, values_by, in_row, front_value}
+use Rattle.gtp_v2.specs.reading.Checked.{forgotten}
 use Rattle.gtp_v2.specs.Headed.{Headed}
-use Rattle.gtp_v2.specs.Message.{Content, Fields, MessageValue, head_of, told, sender_of, list_at, fields_at, typed_at, as_fields, by_table, content_among, content_after, content_at, message_at}
+use Rattle.gtp_v2.specs.Message.{Content, Fields, MessageValue, head_of}
+use Rattle.gtp_v2.specs.reading.Message.{told, sender_of, list_at, fields_at, typed_at, as_fields, by_table, content_among, content_after, content_at, message_at}
 use Rattle.gtp_v2.specs.Tables.{table_of}
 use Rattle.gtp_v2.specs.declared.table.Shape.{Shape}
-use Rattle.gtp_v2.specs.Lines.{shape_of, shape_in}
+use Rattle.gtp_v2.specs.reading.Lines.{shape_of, shape_in}
 use Rattle.gtp_v2.specs.Datagram.{IsMessage, IsFault}
-use Rattle.gtp_v2.specs.Viewed.{Viewed, viewed, IsViewed, content_or_none, elements_by, list_or_none, values_among, values_by, in_row, front_value}
+use Rattle.gtp_v2.specs.reading.Viewed.{viewed, IsViewed, content_or_none, elements_by, list_or_none}
 use Rattle.gtp_v2.proofs.Checks.{was_read}
 use Rattle.gtp_v2.proofs.Told.{message_decided}
 
@@ -47,7 +49,7 @@ first view (Err g) octets h f is = ap (λ (e : V2Fault). Err e) (err_same Messag
 
 -- ---- what a row has, an element has
 
-one_is : (kind instance : ℕ) (e : Element) (v : Value) → one_at kind instance e ≡ Ok v → value_or_none (value_at kind e.body) ≡ Some v
+pub one_is : (kind instance : ℕ) (e : Element) (v : Value) → one_at kind instance e ≡ Ok v → value_or_none (value_at kind e.body) ≡ Some v
 unfolding one_at
 one_is kind instance e v h = by_value (value_at kind e.body) h where
   by_value : (r : Result Value ReadFault) → named kind instance e.at r ≡ Ok v → value_or_none r ≡ Some v
@@ -187,24 +189,34 @@ pub content_asked : (h : Headed) (asked : Shape) → Some (shape_of asked) ≡ o
 unfolding content_at content_after
 content_asked h asked is = after_asked (table_of h.kind) asked h is
 
-by_table_is : (kind instance : ℕ) (table : Option Table) (h : Headed) (es : List Element) (values : List Value)
-    → forgotten (by_table table h) ≡ Ok tt → Some es ≡ elements_by table h → values_by kind instance table (content_or_none (by_table table h)) ≡ Some values → optional_at kind instance es ≡ front_value values
-by_table_is kind instance None h es values reads walked is = absurd cc
-by_table_is kind instance (Some table) h es values reads walked is =
+-- the fields of a message with a table are read of these elements
+abbrev pub ReadBy : Option Table → Content → List Element → Type 0
+ReadBy None content es = Unit {0}
+ReadBy (Some table) content es = (fields : List Field) × (content ≡ Fields fields) × (lines_at start table.lines es ≡ Ok fields)
+
+read_by : (table : Option Table) (h : Headed) (elements : Option (List Element)) → forgotten (by_table table h) ≡ Ok tt → elements ≡ elements_by table h → ReadBy table (content_or_none (by_table table h)) (list_or_none elements)
+read_by None h elements reads walked = tt
+read_by (Some table) h elements reads walked =
     let r = was_read (by_table (Some table) h) reads in
     let b = bind_ok (typed_at table.has_teid table.lines h) (λ fields. content_ok (Fields fields)) r.0 r.1 in
     let content : content_or_none (by_table (Some table) h) ≡ Fields b.0 = content_is (by_table (Some table) h) r.0 r.1 ∙ sym (content_is (content_ok (Fields b.0)) r.0 b.2) in
-    let all : es ≡ list_of (elements_of h.at h.rest) = same_Some es (list_of (elements_of h.at h.rest)) walked in
-    subst (λ (xs : List Element). optional_at kind instance xs ≡ front_value values) (sym all)
-    (lines_is kind instance start table.lines (list_of (elements_of h.at h.rest)) b.0 values (typed_is table.has_teid table.lines h b.0 b.1)
-    (subst (λ (c : Content). values_by kind instance (Some table) c ≡ Some values) content is))
+    (b.0, content, subst (λ (es : List Element). lines_at start table.lines es ≡ Ok b.0) (sym (ap list_or_none walked)) (typed_is table.has_teid table.lines h b.0 b.1))
+
+-- so are those of a message that is viewed
+abbrev pub IsRead : Viewed → Type 0
+IsRead v = ReadBy (table_of v.message.kind) v.message.content v.elements
+
+pub is_read : (h : Headed) (elements : Option (List Element)) (v : Viewed) → viewed h elements ≡ v → IsViewed h elements → IsRead v
+unfolding content_at
+is_read h elements v view inv = subst IsRead view (read_by (table_of h.kind) h elements inv.reads inv.walked)
+
+field_by : (kind instance : ℕ) (table : Option Table) (content : Content) (es : List Element) → ReadBy table content es → (values : List Value) → values_by kind instance table content ≡ Some values → optional_at kind instance es ≡ front_value values
+field_by kind instance None content es read values is = absurd cc
+field_by kind instance (Some table) content es read values is = lines_is kind instance start table.lines es read.0 values read.2 (subst (λ (c : Content). values_by kind instance (Some table) c ≡ Some values) read.1 is)
 
 -- a field of the message is what the first element says
-pub field_is : (kind instance : ℕ) (h : Headed) (elements : Option (List Element)) (es : List Element) (m : Viewed) → elements ≡ Some es → viewed h elements ≡ m → IsViewed h elements
-    → (values : List Value) → in_row kind instance m.message ≡ Some values → optional_at kind instance es ≡ front_value values
-unfolding content_at
-field_is kind instance h elements es m some view inv values is =
-    by_table_is kind instance (table_of h.kind) h es values inv.reads (sym some ∙ inv.walked) (subst (λ (v : Viewed). in_row kind instance v.message ≡ Some values) (sym view) is)
+pub field_is : (kind instance : ℕ) (v : Viewed) → IsRead v → (values : List Value) → in_row kind instance v.message ≡ Some values → optional_at kind instance v.elements ≡ front_value values
+field_is kind instance v read values is = field_by kind instance (table_of v.message.kind) v.message.content v.elements read values is
 
 -- where no elements are kept there are none
 pub none_is : (kind instance : ℕ) (h : Headed) (elements : Option (List Element)) (m : Viewed) → elements ≡ None → viewed h elements ≡ m → None ≡ optional_at kind instance m.elements

@@ -1,4 +1,4 @@
--- Create Session Request (TS 29.274 7.2.1). Written by scripts/messages from messages/create_session_request.md.
+-- Create Session Request.
 use Rattle.std.specs.Prelude.{List, [], ◌∷◌, map, option_map, option_to_list, true, codes}
 use Rattle.gtp_ie.specs.Form.{number_of, bearer_context}
 use Rattle.gtp_ie.specs.declared.form.Form.TheVariants.{Ambr, Apn, Ebi, FTeid, Imsi, Paa, PdnType, Plmn, Qos, Rat, Recovery, Selection}
@@ -7,14 +7,15 @@ use Rattle.gtp_v2.specs.Table.{Row, Mandatory, Conditional, Optional, Single, Gr
 use Rattle.gtp_v2.specs.declared.body.create_session_request.CreateSessionRequest.{CreateSessionRequest}
 use Rattle.gtp_v2.specs.declared.body.create_session_request.SessionRequestContext.{SessionRequestContext}
 
--- the rows of a bearer context in it (table 7.2.1-2)
+-- A bearer that a Create Session Request asks for (TS 29.274 table 7.2.1-2).
 abbrev pub session_request_context_rows : List Row
 session_request_context_rows =
-    Mandatory (number_of Ebi) 0  -- EPS Bearer ID
-    ∷ Mandatory (number_of Qos) 0  -- Bearer QoS
-    ∷ Conditional (number_of FTeid) 2  -- F-TEID
+    Mandatory (number_of Ebi) 0  -- ebi (EPS Bearer ID): The identity of the bearer.
+    ∷ Mandatory (number_of Qos) 0  -- qos: What the bearer is to carry, and how.
+    ∷ Conditional (number_of FTeid) 2  -- user: The serving gateway's end for user packets.
     ∷ []
 
+-- which values the fields of one are
 abbrev pub session_request_context_values : SessionRequestContext → List (List Value)
 session_request_context_values c =
     (OfEbi c.ebi.0 ∷ [])
@@ -22,7 +23,7 @@ session_request_context_values c =
     ∷ (OfFTeid c.user ∷ [])
     ∷ []
 
--- its table
+-- A request for a session with its default bearer (TS 29.274 7.2.1).
 abbrev pub create_session_request : Table
 create_session_request =
     record {
@@ -30,17 +31,19 @@ create_session_request =
       name = codes "create-session-request";
       has_teid = true;
       lines =
-          Single (Conditional (number_of Imsi) 0)  -- IMSI
-          ∷ Single (Mandatory (number_of Rat) 0)  -- RAT Type
-          ∷ Single (Optional (number_of Plmn) 0)  -- Serving Network
-          ∷ Single (Mandatory (number_of FTeid) 0)  -- F-TEID
-          ∷ Single (Mandatory (number_of Apn) 0)  -- APN
-          ∷ Single (Optional (number_of Selection) 0)  -- Selection Mode
-          ∷ Single (Conditional (number_of PdnType) 0)  -- PDN Type
-          ∷ Single (Optional (number_of Paa) 0)  -- PAA
-          ∷ Single (Optional (number_of Ambr) 0)  -- AMBR
-          ∷ Grouped (Mandatory bearer_context 0) session_request_context_rows  -- Bearer Context
-          ∷ Single (Optional (number_of Recovery) 0)  -- Recovery
+          Single (Conditional (number_of Imsi) 0)  -- imsi: The subscriber.
+          ∷ Single (Mandatory (number_of Rat) 0)  -- rat: The radio access technology.
+          ∷ Single (Optional (number_of Plmn) 0)  -- serving_network: The network in which the subscriber is.
+          ∷ Single (Mandatory (number_of FTeid) 0)  -- control: The serving gateway's end for control messages.
+          ∷ Single (Mandatory (number_of Apn) 0)  -- apn: The access point that is asked for.
+          ∷ Single (Optional (number_of Selection) 0)  -- selection: How the access point was selected.
+          ∷ Single (Conditional (number_of PdnType) 0)  -- pdn_type: The kind of address that is asked for.
+          ∷ Single (Optional (number_of Paa) 0)  -- paa: An address that is asked for.
+          ∷ Single (Optional (number_of Ambr) 0)  -- ambr: The most that the bearers of this access point without
+          --   guaranteed rates may carry together, in kilobits a second.
+          ∷ Grouped (Mandatory bearer_context 0) session_request_context_rows  -- contexts: The bearers that are asked
+          --   for: the default one, and at this interface no other.
+          ∷ Single (Optional (number_of Recovery) 0)  -- recovery: The sender's restart counter.
           ∷ [];
     }
 

@@ -1,4 +1,4 @@
--- Delete Session Request (TS 29.274 7.2.9.1). Written by scripts/messages from messages/delete_session_request.md.
+-- Delete Session Request.
 use Rattle.std.specs.Prelude.{List, [], ◌∷◌, option_map, option_to_list, true, codes}
 use Rattle.gtp_ie.specs.Form.{number_of}
 use Rattle.gtp_ie.specs.declared.form.Form.TheVariants.{Ebi}
@@ -6,7 +6,7 @@ use Rattle.gtp_ie.specs.Value.{OfEbi}
 use Rattle.gtp_v2.specs.Table.{Optional, Single, Field, Plain, Table}
 use Rattle.gtp_v2.specs.declared.body.delete_session_request.DeleteSessionRequest.{DeleteSessionRequest}
 
--- its table
+-- A request to end a session (TS 29.274 7.2.9.1).
 abbrev pub delete_session_request : Table
 delete_session_request =
     record {
@@ -14,7 +14,7 @@ delete_session_request =
       name = codes "delete-session-request";
       has_teid = true;
       lines =
-          Single (Optional (number_of Ebi) 0)  -- EPS Bearer ID
+          Single (Optional (number_of Ebi) 0)  -- linked_ebi (EPS Bearer ID): The identity of the session's default bearer.
           ∷ [];
     }
 

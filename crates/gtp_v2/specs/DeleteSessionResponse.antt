@@ -1,4 +1,4 @@
--- Delete Session Response (TS 29.274 7.2.10.1). Written by scripts/messages from messages/delete_session_response.md.
+-- Delete Session Response.
 use Rattle.std.specs.Prelude.{List, [], ◌∷◌, option_map, option_to_list, true, codes}
 use Rattle.gtp_ie.specs.Form.{number_of}
 use Rattle.gtp_ie.specs.declared.form.Form.TheVariants.{Cause, Recovery}
@@ -6,7 +6,7 @@ use Rattle.gtp_ie.specs.Value.{OfCause, OfRecovery}
 use Rattle.gtp_v2.specs.Table.{Mandatory, Optional, Single, Field, Plain, Table}
 use Rattle.gtp_v2.specs.declared.body.delete_session_response.DeleteSessionResponse.{DeleteSessionResponse}
 
--- its table
+-- The answer to a Delete Session Request (TS 29.274 7.2.10.1).
 abbrev pub delete_session_response : Table
 delete_session_response =
     record {
@@ -14,8 +14,8 @@ delete_session_response =
       name = codes "delete-session-response";
       has_teid = true;
       lines =
-          Single (Mandatory (number_of Cause) 0)  -- Cause
-          ∷ Single (Optional (number_of Recovery) 0)  -- Recovery
+          Single (Mandatory (number_of Cause) 0)  -- cause: Whether the session ended, and why not.
+          ∷ Single (Optional (number_of Recovery) 0)  -- recovery: The sender's restart counter.
           ∷ [];
     }
 

@@ -1,4 +1,4 @@
--- Echo Request (TS 29.274 7.1.1). Written by scripts/messages from messages/echo_request.md.
+-- Echo Request.
 use Rattle.std.specs.Prelude.{List, [], ◌∷◌, false, codes}
 use Rattle.gtp_ie.specs.Form.{number_of}
 use Rattle.gtp_ie.specs.declared.form.Form.TheVariants.{Recovery}
@@ -6,7 +6,7 @@ use Rattle.gtp_ie.specs.Value.{OfRecovery}
 use Rattle.gtp_v2.specs.Table.{Mandatory, Single, Field, Plain, Table}
 use Rattle.gtp_v2.specs.declared.body.echo_request.EchoRequest.{EchoRequest}
 
--- its table
+-- A question whether the peer is alive (TS 29.274 7.1.1).
 abbrev pub echo_request : Table
 echo_request =
     record {
@@ -14,7 +14,7 @@ echo_request =
       name = codes "echo-request";
       has_teid = false;
       lines =
-          Single (Mandatory (number_of Recovery) 0)  -- Recovery
+          Single (Mandatory (number_of Recovery) 0)  -- recovery: The sender's restart counter.
           ∷ [];
     }
 

@@ -1,4 +1,4 @@
--- Echo Response (TS 29.274 7.1.2). Written by scripts/messages from messages/echo_response.md.
+-- Echo Response.
 use Rattle.std.specs.Prelude.{List, [], ◌∷◌, false, codes}
 use Rattle.gtp_ie.specs.Form.{number_of}
 use Rattle.gtp_ie.specs.declared.form.Form.TheVariants.{Recovery}
@@ -6,7 +6,7 @@ use Rattle.gtp_ie.specs.Value.{OfRecovery}
 use Rattle.gtp_v2.specs.Table.{Mandatory, Single, Field, Plain, Table}
 use Rattle.gtp_v2.specs.declared.body.echo_response.EchoResponse.{EchoResponse}
 
--- its table
+-- The answer that the peer is alive (TS 29.274 7.1.2).
 abbrev pub echo_response : Table
 echo_response =
     record {
@@ -14,7 +14,7 @@ echo_response =
       name = codes "echo-response";
       has_teid = false;
       lines =
-          Single (Mandatory (number_of Recovery) 0)  -- Recovery
+          Single (Mandatory (number_of Recovery) 0)  -- recovery: The sender's restart counter.
           ∷ [];
     }
 

@@ -2,8 +2,6 @@
 use Rattle.std.specs.Prelude.{◌<◌}
 use Rattle.gtp_ie.specs.declared.fault.IeFault.{IeFault}
 use Rattle.gtp_ie.specs.declared.fault.IeFault.TheVariants.{ShortValue, BadValue}
-use Rattle.gtp_v2.specs.declared.fault.RowFault.{RowFault}
-use Rattle.gtp_v2.specs.declared.fault.RowFault.TheVariants as row_faults
 use Rattle.gtp_v2.specs.declared.fault.V2Fault.{V2Fault}
 use Rattle.gtp_v2.specs.declared.fault.V2Fault.TheVariants as faults
 
@@ -12,11 +10,6 @@ abbrev pub ElementInstanceIsSmall : IeFault → Type 0
 ElementInstanceIsSmall (ShortValue kind instance at) = instance < 16
 ElementInstanceIsSmall (BadValue kind instance at) = instance < 16
 ElementInstanceIsSmall fault = Unit {0}
-
--- of a row at fault
-abbrev pub RowInstanceIsSmall : RowFault → Type 0
-RowInstanceIsSmall (row_faults.Missing kind instance conditional) = instance < 16
-RowInstanceIsSmall (row_faults.Element fault) = ElementInstanceIsSmall fault
 
 -- an instance that the fault of a datagram names is below 16
 abbrev pub InstanceIsSmall : V2Fault → Type 0

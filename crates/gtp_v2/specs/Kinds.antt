@@ -2,8 +2,7 @@
 use Rattle.std.specs.Prelude.{ℕ, List, [], ◌∷◌, Option, Some, None, All}
 use Rattle.gtp_ie.specs.Value.{Value, encoding_of}
 use Rattle.gtp_ie.specs.Spelling.{Spells}
-use Rattle.gtp_v2.specs.Table.{Row, Line, Single, Grouped, Several, Field, Plain, Groups, Table}
-use Rattle.gtp_v2.specs.Rows.{kind_of}
+use Rattle.gtp_v2.specs.Table.{Row, Line, Single, Grouped, Several, Field, Plain, Groups, Table, kind_of}
 use Rattle.gtp_v2.specs.Message.{Content, Fields, Raw}
 
 -- a value of a type of element: its text spells it

@@ -1,7 +1,6 @@
+-- what clauses of public functions, public traits and laws speak of
 pub mod Table
 pub mod Needs
-pub mod Rows
-pub mod Outcome
 pub mod Tables
 pub mod Priority
 pub mod Headed
@@ -18,8 +17,6 @@ pub mod Datagram
 pub mod Prefixes
 pub mod Instances
 pub mod Encoding
-pub mod Lines
-pub mod Checked
 pub mod Codes
 pub mod Viewed
 -- the messages
@@ -34,3 +31,5 @@ pub mod CreateBearerRequest
 pub mod CreateBearerResponse
 pub mod DeleteBearerRequest
 pub mod DeleteBearerResponse
+-- reading functions, for private contracts, models of private fields and proofs: specs/reading.antt lists them
+pub mod reading

@@ -1,8 +1,7 @@
 -- Which messages meet the marks of their table (TS 29.274 6.1.1): what is needed is there.
 use Rattle.std.specs.Prelude.{◌≡◌, ◌<◌, Bool, true, ◌&&◌, List, ◌∷◌, length, Option, Some, is_some, All}
 use Rattle.gtp_ie.specs.Value.{Value}
-use Rattle.gtp_v2.specs.Table.{Row, Line, Single, Grouped, Several, Field, Plain, Groups, State, start, Table}
-use Rattle.gtp_v2.specs.Rows.{accepts, after, need_of}
+use Rattle.gtp_v2.specs.Table.{Row, Line, Single, Grouped, Several, Field, Plain, Groups, State, start, Table, accepts, after, need_of}
 use Rattle.gtp_v2.specs.Grammar.{IsEnough}
 use Rattle.gtp_v2.specs.Message.{Content, Fields, MessageValue}
 use Rattle.gtp_v2.specs.Tables.{table_of}

@@ -3,8 +3,7 @@ use Rattle.std.specs.Prelude.{ℕ, List, [], ◌∷◌, ◌++◌}
 use Rattle.std.specs.List.{flat_map}
 use Rattle.gtp_ie.specs.Text.{element_encoding}
 use Rattle.gtp_ie.specs.Value.{Value, encoding_of}
-use Rattle.gtp_v2.specs.Table.{Row, Line, Single, Grouped, Several, Field, Plain, Groups}
-use Rattle.gtp_v2.specs.Rows.{kind_of, instance_of}
+use Rattle.gtp_v2.specs.Table.{Row, Line, Single, Grouped, Several, Field, Plain, Groups, kind_of, instance_of}
 
 -- the element of a value, where there is one
 unfoldable pub value_encoding : ℕ → ℕ → List Value → List ℕ

@@ -1,41 +1,17 @@
 -- What a view of a datagram stands for.
-use Rattle.std.specs.Prelude.{◌≡◌, ℕ, ◌+◌, ◌==◌, ◌&&◌, List, [], ◌∷◌, Option, Some, None, Result, Ok, Err, if◌then◌else◌, drop, option_to_list}
-use Rattle.gtp_ie.specs.Element.{Element, elements_of, list_of}
+use Rattle.std.specs.Prelude.{◌≡◌, ℕ, ◌+◌, ◌==◌, ◌&&◌, List, [], ◌∷◌, ◌++◌, Option, Some, None, if◌then◌else◌, drop, option_to_list, Result, Ok, Err}
+use Rattle.gtp_ie.specs.Element.{Element, elements_of, list_of, first_of}
 use Rattle.gtp_ie.specs.Octets.{AreElements}
-use Rattle.gtp_ie.specs.Value.{Value}
+use Rattle.gtp_ie.specs.Value.{Value, value_at}
 use Rattle.gtp_v2.specs.Table.{Row, Line, Single, Grouped, Several, Field, Plain, Groups, Table, kind_of, instance_of}
-use Rattle.gtp_v2.specs.Rows.{optional_at}
-use Rattle.gtp_v2.specs.Checked.{forgotten}
-use Rattle.gtp_v2.specs.Headed.{Headed}
-use Rattle.gtp_v2.specs.Message.{Content, Fields, Raw, MessageValue, with_content, content_at}
+use Rattle.gtp_v2.specs.Message.{Content, Fields, Raw, MessageValue}
 use Rattle.gtp_v2.specs.Tables.{table_of}
+use Rattle.gtp_ie.specs.declared.fault.ReadFault.{ReadFault}
 
 -- the message that is spelled, and the elements after its header (none of a message kept as octets)
 pub record Viewed : Type 0 where
   pub message : MessageValue
   pub elements : List Element
-
--- what a header is followed by
-abbrev pub content_or_none : {E : Type 0} → Result Content E → Content
-content_or_none (Ok content) = content
-content_or_none (Err f) = Raw []
-
--- the elements after a header, where its type has a table
-abbrev pub elements_by : Option Table → Headed → Option (List Element)
-elements_by None h = None
-elements_by (Some table) h = Some (list_of (elements_of h.at h.rest))
-
-abbrev pub list_or_none : Option (List Element) → List Element
-list_or_none None = []
-list_or_none (Some es) = es
-
-abbrev pub viewed : Headed → Option (List Element) → Viewed
-viewed h elements = record { message = with_content h (content_or_none (content_at h)); elements = list_or_none elements }
-
--- the octets after the header spell something, and these are the elements
-pub record IsViewed (h : Headed) (elements : Option (List Element)) : Type 0 where
-  pub reads : forgotten (content_at h) ≡ Ok tt
-  pub walked : elements ≡ elements_by (table_of h.kind) h
 
 -- where what a message carries begins: after a header without a TEID, or with one (TS 29.274 5.1)
 abbrev pub place_of : Option ℕ → ℕ
@@ -70,6 +46,41 @@ in_row kind instance m = values_by kind instance (table_of m.kind) m.content
 abbrev pub front_value : List Value → Option Value
 front_value [] = None
 front_value (v ∷ values) = Some v
+
+-- the value of a reading, if it has one
+abbrev pub value_or_none : Result Value ReadFault → Option Value
+value_or_none (Ok v) = Some v
+value_or_none (Err f) = None
+
+-- the value of an element that is not needed
+abbrev pub welcome : ℕ → Option Element → Option Value
+welcome kind None = None
+welcome kind (Some e) = value_or_none (value_at kind e.body)
+
+-- the value of the first element of a type and instance, where there is one and it reads
+unfoldable pub optional_at : ℕ → ℕ → List Element → Option Value
+optional_at kind instance es = welcome kind (first_of kind instance es)
+
+-- ---- lists of values
+
+-- the values of those elements that spell one, in order
+abbrev pub values_of : ℕ → List Element → List Value
+values_of kind [] = []
+values_of kind (e ∷ es) = option_to_list (value_or_none (value_at kind e.body)) ++ values_of kind es
+
+-- the values in the row of a type and instance of which a message may have several; None where there is no such row
+abbrev pub list_among : ℕ → ℕ → List Line → List Field → Option (List Value)
+list_among kind instance (Several k i missed ∷ lines) (Plain values ∷ fields) = if (k == kind) && (i == instance) then Some values else list_among kind instance lines fields
+list_among kind instance (Single row ∷ lines) (field ∷ fields) = list_among kind instance lines fields
+list_among kind instance (Grouped row rows ∷ lines) (field ∷ fields) = list_among kind instance lines fields
+list_among kind instance lines fields = None
+
+abbrev pub list_by : ℕ → ℕ → Option Table → Content → Option (List Value)
+list_by kind instance (Some table) (Fields fields) = list_among kind instance table.lines fields
+list_by kind instance table content = None
+
+abbrev pub in_list : ℕ → ℕ → MessageValue → Option (List Value)
+in_list kind instance m = list_by kind instance (table_of m.kind) m.content
 
 -- ---- groups
 

@@ -2,14 +2,15 @@
 
 ghost use Rattle.std.specs.Prelude.{◌≡◌, ◌↔◌, ◌++◌, length, IsTrue, None, option_map, OnOk, IfOk};
 ghost use Rattle.gtp_v2.specs.Tables.{table_of};
-ghost use Rattle.gtp_v2.specs.Message.{MessageGives, ContentAllocates, content_at, content_among, raw_of};
+ghost use Rattle.gtp_v2.specs.Message.{MessageGives, ContentAllocates, raw_of};
+ghost use Rattle.gtp_v2.specs.reading.Message.{content_at, content_among};
 ghost use Rattle.gtp_v2.specs.Body.{content_of, kind_of, OctetsOnlyWithoutTable};
 ghost use Rattle.gtp_v2.specs.Encoding.{carried_by};
 ghost use Rattle.gtp_values.specs.Room.{Leaves};
 ghost use Rattle.gtp_v2.specs.Room.{TakesAtMost, most_carried_by};
 ghost use Rattle.gtp_v2.specs.Marks.{ContentMarked};
 ghost use Rattle.gtp_v2.specs.Kinds.{ContentHasKinds};
-ghost use Rattle.gtp_v2.specs.Headed.{headed_of};
+ghost use Rattle.gtp_v2.specs.reading.Headed.{headed_of};
 
 use crate::fault::V2Fault;
 use crate::header::Header;
@@ -169,7 +170,7 @@ pub fn type_name(kind: u8) -> Option<&'static str>
 }
 
 /// A message of another type, as octets.
-#[tactic(auto, unfolding(crate::specs::Message::content_at))]
+#[tactic(auto, unfolding(crate::specs::reading::Message::content_at))]
 pub fn read_other(alloc: Global, header: &Header) -> Result<Body, V2Fault>
     requires { table_of header.now.kind ≡ None }
     ensures content { MessageGives (ContentAllocates (table_of header.now.kind)) content_of result
@@ -191,7 +192,7 @@ pub fn read_other(alloc: Global, header: &Header) -> Result<Body, V2Fault>
 }
 
 /// What a message says whose elements after its header are these.
-#[tactic(auto, unfolding(crate::specs::Message::content_at))]
+#[tactic(auto, unfolding(crate::specs::reading::Message::content_at))]
 pub fn read_body(alloc: Global, header: &Header, elements: &Indexed) -> Result<Body, V2Fault>
     ensures content { MessageGives (ContentAllocates (table_of header.now.kind)) content_of result
         (content_among (table_of header.now.kind) (headed_of header.now) elements.now) }

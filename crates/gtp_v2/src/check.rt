@@ -5,16 +5,17 @@ ghost use Rattle.gtp_values.specs.Steps.{Gives};
 ghost use Rattle.gtp_ie.specs.Element.{all_of};
 ghost use Rattle.gtp_ie.specs.View.{element_of};
 ghost use Rattle.gtp_ie.specs.Form.{number_of};
-ghost use Rattle.gtp_v2.specs.Lines.{line_of};
+ghost use Rattle.gtp_v2.specs.reading.Lines.{line_of};
 ghost use Rattle.gtp_v2.specs.Table.{start};
-ghost use Rattle.gtp_v2.specs.Rows.{lines_at};
-ghost use Rattle.gtp_v2.specs.Checked.{value_accepts, value_reads, one_accepts, needed_accepts as needed_accepts_of, optional_accepts as optional_accepts_of, row_says, rows_accept, forgotten, group_passes, groups_silent, groups_say, values_say, with_one, several_say, line_says, lines_say};
+ghost use Rattle.gtp_v2.specs.reading.Rows.{lines_at};
+ghost use Rattle.gtp_v2.specs.reading.Checked.{value_accepts, value_reads, one_accepts, needed_accepts as needed_accepts_of, optional_accepts as optional_accepts_of, row_says, rows_accept, forgotten, group_passes, groups_silent, groups_say, values_say, with_one, several_say, line_says, lines_say};
 
 use crate::fault::{Need, RowFault};
+use crate::repeated::unread;
 use crate::table::{Line, Row, State};
 use gtp_ie::{
-    ChargingId, EbiValue, ElementView, Form, IeFault, IeValue, Indexed, PdnType, Pti, Rat,
-    ReadFault, Recovery, Selection,
+    ChargingId, EbiValue, ElementView, Form, IeValue, Indexed, PdnType, Pti, Rat, ReadFault,
+    Recovery, Selection,
 };
 use gtp_values::{Ambr, Apn, Cause, FTeid, Imsi, Paa, Plmn, Qos, Tft};
 
@@ -27,7 +28,7 @@ fn reads<T: IeValue>(body: &[u8]) -> Result<bool, ReadFault>
 }
 
 /// Whether the cause that a body spells accepts.
-#[tactic(auto, unfolding(crate::specs::Checked::value_accepts))]
+#[tactic(auto, unfolding(crate::specs::reading::Checked::value_accepts))]
 fn cause_accepts(body: &[u8]) -> Result<bool, ReadFault>
     ensures { Gives (λ b. b) result (value_accepts 2 body.now) }
 {
@@ -38,7 +39,7 @@ fn cause_accepts(body: &[u8]) -> Result<bool, ReadFault>
 }
 
 /// Whether the value that a body of this form spells accepts.
-#[tactic(auto, unfolding(crate::specs::Checked::value_accepts, gtp_ie::specs::Value::value_at))]
+#[tactic(auto, unfolding(crate::specs::reading::Checked::value_accepts, gtp_ie::specs::Value::value_at))]
 fn accepts_form(form: Form, body: &[u8]) -> Result<bool, ReadFault>
     ensures { Gives (λ b. b) result (value_accepts (number_of form) body.now) }
 {
@@ -73,27 +74,18 @@ fn accepts_value(kind: u8, body: &[u8]) -> Result<bool, ReadFault>
 }
 
 /// Whether the value of an element accepts.
-#[tactic(auto, unfolding(crate::specs::Rows::one_at, crate::specs::Checked::one_accepts, crate::specs::Checked::value_accepts))]
+#[tactic(auto, unfolding(crate::specs::reading::Rows::one_at, crate::specs::reading::Checked::one_accepts, crate::specs::reading::Checked::value_accepts))]
 fn accepts_one(kind: u8, instance: u8, view: &ElementView) -> Result<bool, RowFault>
     ensures { Gives (λ b. b) result (one_accepts kind instance (element_of view.now)) }
 {
     match accepts_value(kind, view.body) {
         Ok(accepting) => Ok(accepting),
-        Err(ReadFault::Short) => Err(RowFault::Element(IeFault::ShortValue {
-            kind,
-            instance,
-            at: view.at,
-        })),
-        Err(ReadFault::Bad) => Err(RowFault::Element(IeFault::BadValue {
-            kind,
-            instance,
-            at: view.at,
-        })),
+        Err(fault) => Err(unread(kind, instance, view.at, fault)),
     }
 }
 
 /// Whether the first element of a type and instance accepts, which is needed.
-#[tactic(auto, unfolding(crate::specs::Rows::needed_at, crate::specs::Checked::needed_accepts, crate::specs::Checked::one_accepts))]
+#[tactic(auto, unfolding(crate::specs::reading::Rows::needed_at, crate::specs::reading::Checked::needed_accepts, crate::specs::reading::Checked::one_accepts))]
 fn needed_accepts(
     conditional: bool,
     kind: u8,
@@ -113,7 +105,7 @@ fn needed_accepts(
 }
 
 /// Whether the first element of a type and instance accepts, where it reads.
-#[tactic(auto, unfolding(crate::specs::Rows::optional_at, crate::specs::Checked::optional_accepts, crate::specs::Checked::value_accepts))]
+#[tactic(auto, unfolding(crate::specs::Viewed::optional_at, crate::specs::reading::Checked::optional_accepts, crate::specs::reading::Checked::value_accepts))]
 fn optional_accepts(kind: u8, instance: u8, elements: &Indexed) -> Option<bool>
     ensures { result ≡ optional_accepts_of kind instance elements.now }
 {
@@ -122,7 +114,7 @@ fn optional_accepts(kind: u8, instance: u8, elements: &Indexed) -> Option<bool>
 }
 
 /// What the values of a row say.
-#[tactic(auto, unfolding(crate::specs::Rows::needed_if_at, crate::specs::Checked::needed_accepts, crate::specs::Checked::optional_accepts, crate::specs::Checked::row_says))]
+#[tactic(auto, unfolding(crate::specs::reading::Rows::needed_if_at, crate::specs::reading::Checked::needed_accepts, crate::specs::reading::Checked::optional_accepts, crate::specs::reading::Checked::row_says))]
 fn check_row(accepting: bool, row: Row, elements: &Indexed) -> Result<State, RowFault>
     ensures { Gives (λ s. s) result (row_says accepting row elements.now) }
 {
@@ -163,7 +155,7 @@ fn check_rows(accepting: bool, rows: &[Row], elements: &Indexed) -> Result<bool,
 }
 
 /// That the rows of a group read.
-#[tactic(auto, using(crate::proofs::Checks::rows_forget), unfolding(crate::specs::Checked::group_passes, crate::specs::Rows::group_at))]
+#[tactic(auto, using(crate::proofs::Checks::rows_forget), unfolding(crate::specs::reading::Checked::group_passes, crate::specs::reading::Rows::group_at))]
 fn check_group(accepting: bool, rows: &[Row], view: &ElementView) -> Result<(), RowFault>
     ensures { Gives (λ u. u) result (group_passes accepting rows.now (element_of view.now)) }
 {
@@ -192,7 +184,7 @@ fn check_each(
 }
 
 /// What groups say.
-#[tactic(auto, unfolding(crate::specs::Checked::groups_say))]
+#[tactic(auto, unfolding(crate::specs::reading::Checked::groups_say))]
 fn check_groups(
     need: Need,
     kind: u8,
@@ -258,7 +250,7 @@ fn check_values(kind: u8, instance: u8, elements: &Indexed) -> Result<State, Row
 }
 
 /// What the values of a row of several say.
-#[tactic(auto, unfolding(crate::specs::Checked::several_say))]
+#[tactic(auto, unfolding(crate::specs::reading::Checked::several_say))]
 fn check_several(
     needed: bool,
     kind: u8,

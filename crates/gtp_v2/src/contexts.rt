@@ -3,9 +3,8 @@
 ghost use Rattle.gtp_ie.specs.Form.{bearer_context};
 ghost use Rattle.std.specs.Prelude.{◌≡◌, map, option_map};
 ghost use Rattle.gtp_ie.specs.Element.{all_of};
-ghost use Rattle.gtp_v2.specs.Viewed.{inner_of};
+ghost use Rattle.gtp_v2.specs.Viewed.{inner_of, optional_at};
 ghost use Rattle.std.specs.Iterator.{YieldsFirstBy, item_count};
-ghost use Rattle.gtp_v2.specs.Rows.{optional_at};
 
 use crate::rows::optional;
 use gtp_ie::kinds::BEARER_CONTEXT;
@@ -22,7 +21,7 @@ pub struct ContextView<'a> {
 impl<'a> Model for ContextView<'a> {
     ghost use Rattle.std.specs.Prelude.{List};
     ghost use Rattle.gtp_ie.specs.Element.{Element};
-    ghost use Rattle.gtp_v2.specs.Viewed.{list_or_none};
+    ghost use Rattle.gtp_v2.specs.reading.Viewed.{list_or_none};
 
     ghost Value = { List Element };
 

@@ -2,8 +2,9 @@
 
 ghost use Rattle.std.specs.Prelude.{◌≡◌, IfOk, Err, IsOkAnd, ◌⊎◌, IfErr};
 ghost use Rattle.gtp_v2.specs.Priority.{PriorityNeedsTeid};
-ghost use Rattle.gtp_v2.specs.Headed.{headed_of};
-ghost use Rattle.gtp_v2.specs.Message.{MessageGives, MessageAllocates, ContentAllocates, MessageValue, content_after, content_at, message_at};
+ghost use Rattle.gtp_v2.specs.reading.Headed.{headed_of};
+ghost use Rattle.gtp_v2.specs.Message.{MessageGives, MessageAllocates, ContentAllocates, MessageValue};
+ghost use Rattle.gtp_v2.specs.reading.Message.{content_after, content_at, message_at};
 ghost use Rattle.gtp_v2.specs.Tables.{table_of};
 ghost use Rattle.gtp_v2.specs.Body.{content_of, kind_of, message_value, OctetsOnlyWithoutTable};
 ghost use Rattle.gtp_v2.specs.Marks.{MeetsMarks};
@@ -21,7 +22,7 @@ use gtp_ie::indexed_at;
 use std::alloc::Global;
 
 /// What a message says that has elements after its header, which has a TEID exactly where that is asked.
-#[tactic(auto, unfolding(crate::specs::Message::content_after, crate::specs::Message::list_at))]
+#[tactic(auto, unfolding(crate::specs::reading::Message::content_after, crate::specs::reading::Message::list_at))]
 fn read_listed(alloc: Global, has_teid: bool, header: &Header) -> Result<Body, V2Fault>
     ensures content { MessageGives (ContentAllocates (table_of header.now.kind)) content_of result
         (content_after has_teid (headed_of header.now)) }
@@ -51,7 +52,7 @@ fn read_content(alloc: Global, header: &Header) -> Result<Body, V2Fault>
 }
 
 /// The message that a datagram spells, by one reading.
-#[tactic(auto, unfolding(crate::specs::Message::message_at))]
+#[tactic(auto, unfolding(crate::specs::reading::Message::message_at))]
 fn read_datagram(alloc: Global, octets: &[u8]) -> Result<Datagram, V2Fault>
     ensures message { MessageGives MessageAllocates (λ d. message_value d.message) result
         (message_at octets.now) }

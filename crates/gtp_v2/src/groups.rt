@@ -8,13 +8,13 @@ ghost use Rattle.gtp_ie.specs.View.{element_of};
 ghost use Rattle.gtp_values.specs.Steps.{Gives};
 ghost use Rattle.gtp_ie.specs.Value.{Value};
 ghost use Rattle.gtp_v2.specs.Table.{Row};
-ghost use Rattle.gtp_v2.specs.Rows.{rows_at, group_at, groups_at, some_groups};
+ghost use Rattle.gtp_v2.specs.reading.Rows.{rows_at, group_at, groups_at, some_groups};
 ghost use Rattle.gtp_v2.specs.Text.{rows_encoding};
 ghost use Rattle.gtp_values.specs.Room.{Leaves};
 ghost use Rattle.gtp_v2.specs.Room.{TakesAtMost};
 ghost use Rattle.gtp_v2.specs.Kinds.{RowsHaveKinds};
 ghost use Rattle.gtp_v2.specs.Marks.{RowsMarked};
-ghost use Rattle.gtp_v2.specs.Outcome.{GivesOrMemory, HasGroup};
+ghost use Rattle.gtp_v2.specs.reading.Outcome.{GivesOrMemory, HasGroup};
 
 use crate::fault::{BodyFault, Need, RowFault};
 use crate::listed::Listed;
@@ -52,7 +52,7 @@ pub trait Context: Copy {
 }
 
 /// The context that an element holds.
-#[tactic(auto, unfolding(crate::specs::Rows::group_at))]
+#[tactic(auto, unfolding(crate::specs::reading::Rows::group_at))]
 fn context_in<C: Context>(accepting: bool, view: &ElementView) -> Result<C, RowFault>
     ensures { Gives C.values result (group_at accepting C.rows (element_of view.now)) }
 {
@@ -83,7 +83,7 @@ fn all_contexts<C: Context>(
 }
 
 /// The bearer contexts among the elements, at least one where that is needed.
-#[tactic(auto, unfolding(crate::specs::Rows::some_groups))]
+#[tactic(auto, unfolding(crate::specs::reading::Rows::some_groups))]
 pub fn contexts<C: Context>(
     alloc: Global,
     need: Need,

@@ -20,6 +20,7 @@ mod rows;
 mod shapes;
 mod table;
 mod typed;
+mod values;
 mod viewing;
 mod writing;
 
@@ -36,6 +37,7 @@ pub use fault::{BAD_ELEMENT, Head, MISSING_ELEMENT, V2Fault};
 pub use gtp_ie::kinds::BEARER_CONTEXT;
 pub use listed::Listed;
 pub use message::{Datagram, Message};
+pub use values::Values;
 pub use viewing::{DatagramView, view};
 
 /// What the signatures and contracts here name of the crates below.

@@ -1,35 +1,34 @@
 //! Rows of which a message may have several values.
 
-ghost use Rattle.std.specs.Prelude.{map};
+ghost use Rattle.std.specs.Prelude.{◌≡◌, Err, map};
 ghost use Rattle.gtp_ie.specs.Element.{all_of};
 ghost use Rattle.gtp_values.specs.Steps.{Gives};
 ghost use Rattle.gtp_ie.specs.View.{element_of};
-ghost use Rattle.gtp_v2.specs.Rows.{one_at, values_at, several_at};
-ghost use Rattle.gtp_v2.specs.Outcome.{GivesOrMemory, HasValue};
+ghost use Rattle.gtp_v2.specs.reading.Rows.{named, one_at, values_at, several_at};
+ghost use Rattle.gtp_v2.specs.reading.Outcome.{GivesOrMemory, HasValue};
 
 use crate::fault::{BodyFault, RowFault};
 use crate::listed::Listed;
 use gtp_ie::{ElementView, IeFault, IeValue, Indexed, ReadFault};
 use std::alloc::Global;
 
+/// The fault of an element whose body has no value.
+#[cold]
+pub fn unread(kind: u8, instance: u8, at: usize, fault: ReadFault) -> RowFault
+    ensures { Err result ≡ named kind instance at (Err fault) }
+{
+    RowFault::Element(match fault {
+        ReadFault::Short => IeFault::ShortValue { kind, instance, at },
+        ReadFault::Bad => IeFault::BadValue { kind, instance, at },
+    })
+}
+
 /// The value of an element.
-#[tactic(auto, unfolding(crate::specs::Rows::one_at))]
+#[tactic(auto, unfolding(crate::specs::reading::Rows::one_at))]
 pub fn value_in<T: IeValue>(instance: u8, view: &ElementView) -> Result<T, RowFault>
     ensures { Gives T.value result (one_at T.KIND instance (element_of view.now)) }
 {
-    match T::parse(view.body) {
-        Ok(value) => Ok(value),
-        Err(ReadFault::Short) => Err(RowFault::Element(IeFault::ShortValue {
-            kind: T::KIND,
-            instance,
-            at: view.at,
-        })),
-        Err(ReadFault::Bad) => Err(RowFault::Element(IeFault::BadValue {
-            kind: T::KIND,
-            instance,
-            at: view.at,
-        })),
-    }
+    T::parse(view.body).map_err(|fault| unread(T::KIND, instance, view.at, fault))
 }
 
 /// The values of the elements of the value's type and an instance.
@@ -56,7 +55,7 @@ fn all_values<T: IeValue>(
 
 /// The values of the elements of the value's type and an instance; where one is needed and there is
 /// none, it is the element of the instance `missed` that is missing.
-#[tactic(auto, unfolding(crate::specs::Rows::several_at))]
+#[tactic(auto, unfolding(crate::specs::reading::Rows::several_at))]
 pub fn several<T: IeValue>(
     alloc: Global,
     needed: bool,

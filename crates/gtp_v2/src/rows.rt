@@ -2,14 +2,15 @@
 
 ghost use Rattle.std.specs.Prelude.{◌≡◌, true, false, option_map};
 ghost use Rattle.gtp_values.specs.Steps.{Gives};
-ghost use Rattle.gtp_v2.specs.Rows.{needed_at, optional_at, needed_if_at};
+ghost use Rattle.gtp_v2.specs.reading.Rows.{needed_at, needed_if_at};
+ghost use Rattle.gtp_v2.specs.Viewed.{optional_at};
 
 use crate::fault::RowFault;
 use crate::repeated::value_in;
 use gtp_ie::{IeValue, Indexed};
 
 /// The value of the first element of the value's type and an instance, which is needed.
-#[tactic(auto, unfolding(crate::specs::Rows::needed_at))]
+#[tactic(auto, unfolding(crate::specs::reading::Rows::needed_at))]
 pub fn needed<T: IeValue>(
     conditional: bool,
     elements: &Indexed,
@@ -43,7 +44,7 @@ pub fn conditional<T: IeValue>(elements: &Indexed, instance: u8) -> Result<T, Ro
 
 /// The value of the first element of the value's type and an instance, of an optional row: an element
 /// that doesn't read counts as absent.
-#[tactic(auto, unfolding(crate::specs::Rows::optional_at))]
+#[tactic(auto, unfolding(crate::specs::Viewed::optional_at))]
 pub fn optional<T: IeValue>(elements: &Indexed, instance: u8) -> Option<T>
     ensures { option_map T.value result ≡ optional_at T.KIND instance elements.now }
 {
@@ -52,7 +53,7 @@ pub fn optional<T: IeValue>(elements: &Indexed, instance: u8) -> Option<T>
 }
 
 /// The value of the first element of the value's type and an instance, of a row that some messages need.
-#[tactic(auto, unfolding(crate::specs::Rows::needed_if_at))]
+#[tactic(auto, unfolding(crate::specs::reading::Rows::needed_if_at))]
 pub fn needed_if<T: IeValue>(
     is_needed: bool,
     elements: &Indexed,

@@ -1,9 +1,9 @@
-//! What each type of message asks (TS 29.274 7).
+//! What each type of message asks (TS 29.274 7): the lines of its table that can be at fault, or that others depend on.
 //!
-//! Written by scripts/messages from messages/.
+//! Written by scripts/messages from the tables in specs/.
 
 ghost use Rattle.std.specs.Prelude.{◌≡◌, option_map};
-ghost use Rattle.gtp_v2.specs.Lines.{shape_of, shape_in};
+ghost use Rattle.gtp_v2.specs.reading.Lines.{shape_of, shape_in};
 ghost use Rattle.gtp_v2.specs.Tables.{table_of};
 
 use crate::kinds::{
@@ -13,8 +13,7 @@ use crate::kinds::{
 };
 use crate::table::{Line, Row, Shape};
 use gtp_ie::kinds::{
-    AMBR, APN, BEARER_CONTEXT, CAUSE, CHARGING_ID, EBI, FTEID, IMSI, PAA, PDN_TYPE, PLMN, PTI, QOS,
-    RAT, RECOVERY, SELECTION, TFT,
+    APN, BEARER_CONTEXT, CAUSE, EBI, FTEID, IMSI, PAA, PDN_TYPE, QOS, RAT, RECOVERY, TFT,
 };
 
 const ECHO_REQUEST_LINES: &[Line] = &[
@@ -36,47 +35,35 @@ const SESSION_REQUEST_CONTEXT_ROWS: &[Row] = &[
 const CREATE_SESSION_REQUEST_LINES: &[Line] = &[
     Line::Single(Row::Conditional(IMSI, 0)), // IMSI
     Line::Single(Row::Mandatory(RAT, 0)), // RAT Type
-    Line::Single(Row::Optional(PLMN, 0)), // Serving Network
     Line::Single(Row::Mandatory(FTEID, 0)), // F-TEID
     Line::Single(Row::Mandatory(APN, 0)), // APN
-    Line::Single(Row::Optional(SELECTION, 0)), // Selection Mode
     Line::Single(Row::Conditional(PDN_TYPE, 0)), // PDN Type
-    Line::Single(Row::Optional(PAA, 0)), // PAA
-    Line::Single(Row::Optional(AMBR, 0)), // AMBR
     Line::Grouped(
         Row::Mandatory(BEARER_CONTEXT, 0),
         SESSION_REQUEST_CONTEXT_ROWS,
     ), // Bearer Context
-    Line::Single(Row::Optional(RECOVERY, 0)), // Recovery
 ];
 
 const SESSION_RESPONSE_CONTEXT_ROWS: &[Row] = &[
     Row::Mandatory(EBI, 0), // EPS Bearer ID
     Row::Mandatory(CAUSE, 0), // Cause
     Row::Accepted(FTEID, 2), // F-TEID
-    Row::Optional(QOS, 0), // Bearer QoS
-    Row::Optional(CHARGING_ID, 0), // Charging ID
 ];
 
 const CREATE_SESSION_RESPONSE_LINES: &[Line] = &[
     Line::Single(Row::Mandatory(CAUSE, 0)), // Cause
     Line::Single(Row::Accepted(FTEID, 1)), // F-TEID
     Line::Single(Row::Accepted(PAA, 0)), // PAA
-    Line::Single(Row::Optional(AMBR, 0)), // AMBR
     Line::Grouped(
         Row::Accepted(BEARER_CONTEXT, 0),
         SESSION_RESPONSE_CONTEXT_ROWS,
     ), // Bearer Context
-    Line::Single(Row::Optional(RECOVERY, 0)), // Recovery
 ];
 
-const DELETE_SESSION_REQUEST_LINES: &[Line] = &[
-    Line::Single(Row::Optional(EBI, 0)), // EPS Bearer ID
-];
+const DELETE_SESSION_REQUEST_LINES: &[Line] = &[];
 
 const DELETE_SESSION_RESPONSE_LINES: &[Line] = &[
     Line::Single(Row::Mandatory(CAUSE, 0)), // Cause
-    Line::Single(Row::Optional(RECOVERY, 0)), // Recovery
 ];
 
 const BEARER_REQUEST_CONTEXT_ROWS: &[Row] = &[
@@ -84,11 +71,9 @@ const BEARER_REQUEST_CONTEXT_ROWS: &[Row] = &[
     Row::Mandatory(TFT, 0), // Bearer TFT
     Row::Conditional(FTEID, 1), // F-TEID
     Row::Mandatory(QOS, 0), // Bearer QoS
-    Row::Optional(CHARGING_ID, 0), // Charging ID
 ];
 
 const CREATE_BEARER_REQUEST_LINES: &[Line] = &[
-    Line::Single(Row::Optional(PTI, 0)), // PTI
     Line::Single(Row::Mandatory(EBI, 0)), // EPS Bearer ID
     Line::Grouped(
         Row::Mandatory(BEARER_CONTEXT, 0),
@@ -109,7 +94,6 @@ const CREATE_BEARER_RESPONSE_LINES: &[Line] = &[
         Row::Accepted(BEARER_CONTEXT, 0),
         BEARER_RESPONSE_CONTEXT_ROWS,
     ), // Bearer Context
-    Line::Single(Row::Optional(RECOVERY, 0)), // Recovery
 ];
 
 const DELETE_BEARER_REQUEST_LINES: &[Line] = &[
@@ -124,12 +108,10 @@ const REMOVAL_RESPONSE_CONTEXT_ROWS: &[Row] = &[
 
 const DELETE_BEARER_RESPONSE_LINES: &[Line] = &[
     Line::Single(Row::Mandatory(CAUSE, 0)), // Cause
-    Line::Single(Row::Optional(EBI, 0)), // EPS Bearer ID
     Line::Grouped(
         Row::Optional(BEARER_CONTEXT, 0),
         REMOVAL_RESPONSE_CONTEXT_ROWS,
     ), // Bearer Context
-    Line::Single(Row::Optional(RECOVERY, 0)), // Recovery
 ];
 
 /// What a type of message asks, where it has a table.

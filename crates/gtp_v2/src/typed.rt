@@ -2,15 +2,16 @@
 
 ghost use Rattle.std.specs.Prelude.{◌≡◌, ◌↔◌, ◌++◌, OnOk, IfOk, Bool, ℕ, List, IsTrue, length, true, None};
 ghost use Rattle.gtp_v2.specs.Table.{Line, Field, start, allocates};
-ghost use Rattle.gtp_v2.specs.Rows.{lines_at};
-ghost use Rattle.gtp_v2.specs.Headed.{headed_of};
+ghost use Rattle.gtp_v2.specs.reading.Rows.{lines_at};
+ghost use Rattle.gtp_v2.specs.reading.Headed.{headed_of};
 ghost use Rattle.gtp_v2.specs.Text.{lines_encoding};
 ghost use Rattle.gtp_values.specs.Room.{Leaves};
 ghost use Rattle.gtp_v2.specs.Room.{TakesAtMost, most_of_lines};
 ghost use Rattle.gtp_v2.specs.Kinds.{LinesHaveKinds};
 ghost use Rattle.gtp_v2.specs.Marks.{LinesMarked};
-ghost use Rattle.gtp_v2.specs.Outcome.{GivesOrMemory};
-ghost use Rattle.gtp_v2.specs.Message.{head_of, sender_of, with_head as headed_fault, Fields, as_fields, fields_at, FieldsAllocate, MessageGives};
+ghost use Rattle.gtp_v2.specs.reading.Outcome.{GivesOrMemory};
+ghost use Rattle.gtp_v2.specs.Message.{head_of, with_head as headed_fault, Fields, FieldsAllocate, MessageGives};
+ghost use Rattle.gtp_v2.specs.reading.Message.{sender_of, as_fields, fields_at};
 ghost use Rattle.gtp_v2.specs.Body.{content_of, kind_of, OctetsOnlyWithoutTable};
 ghost use Rattle.gtp_v2.specs.declared.fault.V2Fault.TheVariants.{Element};
 
@@ -89,7 +90,7 @@ pub fn head(header: &Header, sender: Option<FTeid>) -> Head
 }
 
 /// The sender's end for control messages, which a Create Session Request gives.
-#[tactic(auto, unfolding(crate::specs::Message::sender_of))]
+#[tactic(auto, unfolding(crate::specs::reading::Message::sender_of))]
 pub fn sender(kind: u8, elements: &Indexed) -> Option<FTeid>
     ensures { result ≡ sender_of kind elements.now }
 {

@@ -5,17 +5,17 @@ ghost use Rattle.std.specs.Prelude.{◌≡◌, Ok, Err, IfOk, IfErr, IsOkAnd, Li
 ghost use Rattle.gtp_values.specs.Steps.{Gives};
 ghost use Rattle.gtp_ie.specs.Element.{elements_of, list_of, all_of};
 ghost use Rattle.gtp_ie.specs.Value.{Value};
-ghost use Rattle.gtp_v2.specs.Lines.{line_of};
+ghost use Rattle.gtp_v2.specs.reading.Lines.{line_of};
 ghost use Rattle.gtp_v2.specs.Table.{Row};
-ghost use Rattle.gtp_v2.specs.Headed.{headed_of};
-ghost use Rattle.gtp_v2.specs.Checked.{forgotten};
-ghost use Rattle.gtp_v2.specs.Rows.{optional_at};
-ghost use Rattle.gtp_v2.specs.Message.{MessageValue, raw_of, typed_at, content_at, message_at, MessageGives, MessageAllocates, ContentAllocates};
+ghost use Rattle.gtp_v2.specs.reading.Headed.{headed_of};
+ghost use Rattle.gtp_v2.specs.reading.Checked.{forgotten};
+ghost use Rattle.gtp_v2.specs.Viewed.{optional_at, Viewed, Carries, in_row, front_value, in_groups, inner_of, values_in, in_list, values_of};
+ghost use Rattle.gtp_v2.specs.Message.{MessageValue, raw_of, MessageGives, MessageAllocates, ContentAllocates};
+ghost use Rattle.gtp_v2.specs.reading.Message.{typed_at, content_at, message_at};
 ghost use Rattle.gtp_v2.specs.Body.{content_of, kind_of, message_value, OctetsOnlyWithoutTable};
 ghost use Rattle.gtp_v2.specs.Datagram.{IsMessage, IsFault};
-ghost use Rattle.gtp_v2.specs.Viewed.{Viewed, Carries, in_row, front_value, in_groups, inner_of, values_in};
 ghost use Rattle.gtp_v2.specs.Tables.{table_of};
-ghost use Rattle.gtp_v2.specs.Viewed.{elements_by, IsViewed};
+ghost use Rattle.gtp_v2.specs.reading.Viewed.{elements_by, IsViewed};
 ghost use Rattle.gtp_v2.specs.declared.fault.V2Fault.{V2Fault as AnyFault};
 
 use crate::body::{Body, read_body, read_other};
@@ -28,6 +28,7 @@ use crate::rows::optional;
 use crate::shapes::asked_of;
 use crate::table::Line;
 use crate::typed::{list_fault, row_fault};
+use crate::values::Values;
 use gtp_ie::kinds::BEARER_CONTEXT;
 use gtp_ie::{Elements, IeValue, Indexed, indexed_at};
 use gtp_values::{Below, Seq, Teid};
@@ -44,8 +45,9 @@ pub struct DatagramView<'a> {
 }
 
 impl<'a> Model for DatagramView<'a> {
-    ghost use Rattle.gtp_v2.specs.Headed.{headed_of};
-    ghost use Rattle.gtp_v2.specs.Viewed.{Viewed, viewed, IsViewed};
+    ghost use Rattle.gtp_v2.specs.reading.Headed.{headed_of};
+    ghost use Rattle.gtp_v2.specs.Viewed.{Viewed};
+    ghost use Rattle.gtp_v2.specs.reading.Viewed.{viewed, IsViewed};
 
     ghost Value = { Viewed };
 
@@ -56,7 +58,7 @@ impl<'a> Model for DatagramView<'a> {
 
 /// The elements after a header, which has a TEID exactly where that is asked; they have what these lines
 /// ask.
-#[tactic(auto, unfolding(crate::specs::Message::typed_at, crate::specs::Message::list_at))]
+#[tactic(auto, unfolding(crate::specs::reading::Message::typed_at, crate::specs::reading::Message::list_at))]
 fn view_typed<'a>(
     has_teid: bool,
     lines: &[Line],
@@ -81,7 +83,7 @@ fn view_typed<'a>(
 }
 
 /// The elements after a header, where its type has a table; all lines of the table read.
-#[tactic(auto, unfolding(crate::specs::Message::content_at))]
+#[tactic(auto, unfolding(crate::specs::reading::Message::content_at))]
 fn view_content<'a>(header: &Header<'a>) -> Result<Option<Indexed<'a>>, V2Fault>
     ensures reads { Gives (λ _. tt) result (forgotten (content_at (headed_of header.now))) }
     ensures elements { IfOk result (λ es. es
@@ -97,7 +99,7 @@ fn view_content<'a>(header: &Header<'a>) -> Result<Option<Indexed<'a>>, V2Fault>
 }
 
 /// A view of the message that a datagram spells, by one reading.
-#[tactic(auto, unfolding(crate::specs::Message::message_at))]
+#[tactic(auto, unfolding(crate::specs::reading::Message::message_at))]
 fn view_message(octets: &[u8]) -> Result<DatagramView<'_>, V2Fault>
     ensures message { Gives (λ v. v.message) result (message_at octets.now) }
     ensures elements { IfOk result (Carries octets.now) }
@@ -206,6 +208,22 @@ impl<'a> DatagramView<'a> {
         match &self.elements {
             Some(elements) => optional::<T>(elements, instance),
             None => None,
+        }
+    }
+
+    /// The values of the elements of the value's type and an instance, in order; an element that does not
+    /// read is passed over.
+    pub fn values<T: IeValue>(&self, instance: u8) -> Values<'a, T>
+        // They are of the elements.
+        ensures elements { result ≡ values_of T.KIND (all_of T.KIND instance self.now.elements) }
+        // And they are what the message has in the row of several values of that type and instance, where its
+        // table has one.
+        ensures list { (values : List Value) →
+            in_list T.KIND instance self.now.message ≡ Some values → result ≡ values }
+    {
+        match &self.elements {
+            Some(elements) => Values::of(elements.all(T::KIND, instance)),
+            None => Values::of(Elements::none().all(T::KIND, instance)),
         }
     }
 

@@ -56,6 +56,14 @@ impl Imsi {
         })
     }
 
+    /// The identity with these digits: 6 to 15, each 0 to 9.
+    pub fn of(digits: Octets<15>) -> Imsi
+        requires { IsImsi digits }
+        ensures { result ≡ digits }
+    {
+        Imsi { digits }
+    }
+
     /// The identity that a text of decimal digits says: `TooShort` below 6 octets, `TooLong` above
     /// 15, `BadDigit` where one isn't a digit.
     pub fn from_text(text: &str) -> Result<Imsi, ValueFault>

@@ -2,7 +2,7 @@
 
 ghost use Rattle.std.specs.Prelude.{◌≡◌, ◌+◌, ◌<◌, ◌^◌, length, option_map};
 ghost use Rattle.gtp_ie.specs.Element.{elements_of, first_of, all_of};
-ghost use Rattle.gtp_ie.specs.Index.{slot, slot_of_type};
+ghost use Rattle.gtp_ie.specs.reading.Index.{slot, slot_of_type};
 ghost use Rattle.gtp_ie.specs.View.{element_of};
 ghost use Rattle.gtp_ie.specs.Walked.{IsWalked, FindsElements};
 
@@ -46,8 +46,9 @@ fn slot_of_kind(kind: u8) -> usize
     }
 }
 
-/// The slot of a type and instance.
-#[tactic(auto, unfolding(crate::specs::Index::slot))]
+/// The slot of a type and instance. Inlined, since most callers name both.
+#[inline(always)]
+#[tactic(auto, unfolding(crate::specs::reading::Index::slot))]
 fn slot_of(kind: u8, instance: u8) -> usize
     ensures value { result ≡ slot kind instance }
     ensures range { result < 22 }
@@ -68,6 +69,15 @@ fn slot_of(kind: u8, instance: u8) -> usize
     }
 }
 
+/// The same, where a walk asks for the slot of any element.
+#[inline(never)]
+fn slot_in_walk(kind: u8, instance: u8) -> usize
+    ensures value { result ≡ slot kind instance }
+    ensures range { result < 22 }
+{
+    slot_of(kind, instance)
+}
+
 /// Elements one after the other in fewer than 65,536 octets, of which the first of each type and instance
 /// that a message has a row of is found without a walk. Takes no memory. Contracts see the list of the
 /// elements.
@@ -82,7 +92,7 @@ pub struct Indexed<'a> {
 impl<'a> Model for Indexed<'a> {
     ghost use Rattle.std.specs.Prelude.{List};
     ghost use Rattle.gtp_ie.specs.Element.{Element, elements_of, list_of};
-    ghost use Rattle.gtp_ie.specs.Index.{IsIndexed};
+    ghost use Rattle.gtp_ie.specs.reading.Index.{IsIndexed};
 
     ghost Value = { List Element };
 
@@ -115,7 +125,7 @@ fn index_from(octets: &[u8], base: usize) -> Result<Indexed<'_>, IeFault>
         let Some((view, after)) = front(rest, at) else {
             return Err(IeFault::Truncated { at });
         };
-        let slot = slot_of(view.kind, view.instance);
+        let slot = slot_in_walk(view.kind, view.instance);
         if lefts[slot] == 0 {
             lefts[slot] = rest.len() as u16;
         }

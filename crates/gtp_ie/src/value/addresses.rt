@@ -2,9 +2,11 @@
 
 ghost use Rattle.gtp_ie.specs.Form.{number_of};
 ghost use Rattle.gtp_ie.specs.declared.form.Form.TheVariants as forms;
-ghost use Rattle.std.specs.Prelude.{◌≡◌, ◌≤◌, length, take, drop};
+ghost use Rattle.std.specs.Prelude.{◌≡◌, ◌≤◌, ◌<◌, ◌+◌, length, take, drop, IfOk, IfErr, OnOk, OnErr};
+ghost use Rattle.gtp_ie.specs.declared.fault.ReadFault.TheVariants.{Short};
 ghost use Rattle.std.proofs.Common.{rules};
 ghost use Rattle.gtp_ie.specs.Value.{OfPaa, OfPlmn, OfFTeid, address_encoding};
+ghost use Rattle.gtp_ie.specs.Value.{has_v4, has_v6, room, least_of};
 
 use crate::fault::ReadFault;
 use crate::kinds::{FTEID, PAA, PLMN};
@@ -35,6 +37,41 @@ fn octets_of<const N: usize>(address: &Option<[u8; N]>) -> &[u8]
     }
 }
 
+/// What the flags of an F-TEID say of the parts after them.
+#[derive(Clone, Copy)]
+struct EndParts {
+    has_v4: bool,
+    has_v6: bool,
+    /// Where the version 4 address ends, or would begin.
+    after_v4: usize,
+}
+
+/// The parts of an F-TEID's body, where it is long enough for them.
+fn parts_of(body: &[u8]) -> Result<EndParts, ReadFault>
+    ensures v4 { IfOk result (λ p. p.has_v4 ≡ has_v4 body.now) }
+    ensures v6 { IfOk result (λ p. p.has_v6 ≡ has_v6 body.now) }
+    ensures place { IfOk result (λ p. p.after_v4 ≡ 5 + room (has_v4 body.now) 4) }
+    ensures long { OnOk result (least_of forms.FTeid body.now ≤ length body.now) }
+    ensures short { OnErr result (length body.now < least_of forms.FTeid body.now) }
+    ensures fault { IfErr result (λ f. f ≡ Short) }
+{
+    let [flags, ..] = body else {
+        return Err(ReadFault::Short);
+    };
+    let has_v4 = *flags >> 7 == 1;
+    let has_v6 = *flags >> 6 & 1 == 1;
+    let after_v4 = if has_v4 { 9 } else { 5 };
+    let end = if has_v6 { after_v4 + 16 } else { after_v4 };
+    if body.len() < end {
+        return Err(ReadFault::Short);
+    }
+    Ok(EndParts {
+        has_v4,
+        has_v6,
+        after_v4,
+    })
+}
+
 impl IeValue for FTeid {
     const KIND: u8 = FTEID;
 
@@ -46,43 +83,25 @@ impl IeValue for FTeid {
 
     #[tactic(auto, unfolding(crate::specs::Value::value_at))]
     fn parse(body: &[u8]) -> Result<FTeid, ReadFault> {
-        let [flags, ..] = body else {
-            return Err(ReadFault::Short);
-        };
-        let has_v4 = *flags >> 7 == 1;
-        let has_v6 = *flags >> 6 & 1 == 1;
-        let after_v4 = if has_v4 { 9 } else { 5 };
-        let end = if has_v6 { after_v4 + 16 } else { after_v4 };
-        if body.len() < end {
-            return Err(ReadFault::Short);
-        }
-        let v4 = if has_v4 {
+        let parts = parts_of(body)?;
+        let v4 = if parts.has_v4 {
             Some(first::<4>(&body[5..]))
         } else {
             None
         };
-        let v6 = if has_v6 {
-            Some(first::<16>(&body[after_v4..]))
+        let v6 = if parts.has_v6 {
+            Some(first::<16>(&body[parts.after_v4..]))
         } else {
             None
         };
         let teid = Teid(BigEndian::read_u32(&body[1..]));
-        FTeid::try_new(*flags & 0x3f, teid, v4, v6).map_err(|_| ReadFault::Bad)
+        FTeid::try_new(body[0] & 0x3f, teid, v4, v6).map_err(|_| ReadFault::Bad)
     }
 
     #[tactic(auto, unfolding(crate::specs::Value::value_at))]
     fn check(body: &[u8]) -> Result<(), ReadFault> {
-        let [flags, ..] = body else {
-            return Err(ReadFault::Short);
-        };
-        let has_v4 = *flags >> 7 == 1;
-        let has_v6 = *flags >> 6 & 1 == 1;
-        let after_v4 = if has_v4 { 9 } else { 5 };
-        let end = if has_v6 { after_v4 + 16 } else { after_v4 };
-        if body.len() < end {
-            return Err(ReadFault::Short);
-        }
-        if !has_v4 && !has_v6 {
+        let parts = parts_of(body)?;
+        if !parts.has_v4 && !parts.has_v6 {
             return Err(ReadFault::Bad);
         }
         Ok(())

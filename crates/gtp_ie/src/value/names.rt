@@ -16,8 +16,8 @@ use gtp_values::{Apn, Imsi, Octets, Tft};
 use std::alloc::AllocError;
 
 /// The digits in the halves of octets, the low half first, but for a filler at the end.
-fn unpacked(body: &[u8]) -> Octets<16>
-    requires { length body.now ≤ 8 }
+fn unpacked(body: &[u8]) -> Octets<15>
+    requires { length (digits_in body.now) ≤ 15 }
     ensures { result ≡ digits_in body.now }
 {
     let mut digits = Octets::new();
@@ -74,15 +74,10 @@ impl IeValue for Imsi {
 
     ghost one_value = { Prim.search rules };
 
-    #[tactic(auto, unfolding(crate::specs::Value::value_at), using(crate::proofs::Read::imsi_read, crate::proofs::Read::imsi_unread, crate::proofs::Read::imsi_long))]
+    #[tactic(auto, unfolding(crate::specs::Value::value_at))]
     fn parse(body: &[u8]) -> Result<Imsi, ReadFault> {
-        if body.len() < 3 {
-            return Err(ReadFault::Short);
-        }
-        if body.len() > 8 {
-            return Err(ReadFault::Bad);
-        }
-        Imsi::try_new(unpacked(body).as_slice()).map_err(|_| ReadFault::Bad)
+        Self::check(body)?;
+        Ok(Imsi::of(unpacked(body)))
     }
 
     #[tactic(auto, unfolding(crate::specs::Value::value_at), using(crate::proofs::Read::imsi_long))]

@@ -3,14 +3,15 @@ use Rattle.std.proofs.Common.{◌≡◌, inl, inr, ℕ, ◌<◌, ◌≤◌, ◌-
 use Rattle.std.proofs.lemmas.Bool.Decides.{nat_tests}
 use Rattle.gtp_v2.specs.declared.fault.V2Fault.{V2Fault}
 use Rattle.gtp_v2.specs.declared.fault.V2Fault.TheVariants as faults
-use Rattle.gtp_v2.specs.Message.{MessageValue, message_at}
+use Rattle.gtp_v2.specs.Message.{MessageValue}
+use Rattle.gtp_v2.specs.reading.Message.{message_at}
 use Rattle.gtp_v2.specs.Prefixes.{prefix_fault}
 use Rattle.gtp_v2.proofs.Told as control
 use Rattle.gtp_v2.proofs.Prefixes.{prefixes_fail}
 use Rattle.gtp_user.specs.declared.fault.UserFault.{UserFault}
 use Rattle.gtp_user.specs.declared.fault.UserFault.TheVariants as user_faults
 use Rattle.gtp_user.specs.Message as user_messages
-use Rattle.gtp_user.specs.Reading as user_octets
+use Rattle.gtp_user.specs.reading.Message as user_octets
 use Rattle.gtp_user.proofs.Messages as user
 use Rattle.gtp_user.proofs.Prefixes.{few_fail, fewer_fail}
 use Rattle.gtp_machine.specs.Input.{Control_fault, User_fault, Control_message, User_message}

@@ -16,7 +16,8 @@ use Rattle.gtp_v2.specs.declared.table.Row.TheVariants.{Mandatory, Accepted}
 use Rattle.gtp_v2.specs.Table.{Field, Plain, Groups, accepts, start}
 use Rattle.gtp_v2.specs.CreateSessionResponse.{create_session_response, session_response_context_rows}
 use Rattle.gtp_v2.specs.CreateBearerResponse.{create_bearer_response, bearer_response_context_rows}
-use Rattle.gtp_v2.specs.Message.{Content, Fields, Raw, MessageValue, message_at}
+use Rattle.gtp_v2.specs.Message.{Content, Fields, Raw, MessageValue}
+use Rattle.gtp_v2.specs.reading.Message.{message_at}
 use Rattle.gtp_v2.specs.Datagram.{IsMessage, CarriesBy}
 use Rattle.gtp_v2.specs.Tables.{table_of}
 use Rattle.gtp_v2.specs.declared.fault.Head.{Head}

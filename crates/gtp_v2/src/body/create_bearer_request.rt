@@ -1,12 +1,12 @@
 //! Create Bearer Request (TS 29.274 7.2.3).
 //!
-//! Written by scripts/messages from messages/create_bearer_request.md.
+//! Written by scripts/messages from specs/CreateBearerRequest.antt.
 
 ghost use Rattle.std.specs.Prelude.{true};
 ghost use Rattle.gtp_values.specs.Steps.{Gives};
 ghost use Rattle.gtp_v2.specs.Table.{start};
-ghost use Rattle.gtp_v2.specs.Rows.{lines_at, rows_at};
-ghost use Rattle.gtp_v2.specs.Outcome.{GivesOrMemory};
+ghost use Rattle.gtp_v2.specs.reading.Rows.{lines_at, rows_at};
+ghost use Rattle.gtp_v2.specs.reading.Outcome.{GivesOrMemory};
 ghost use Rattle.gtp_v2.specs.CreateBearerRequest.{create_bearer_request, create_bearer_request_fields, bearer_request_context_rows, bearer_request_context_values};
 
 use crate::body::Body;
@@ -57,7 +57,7 @@ impl Typed for CreateBearerRequest {
         Body::CreateBearerRequest(self)
     }
 
-    #[tactic(auto, unfolding(crate::specs::Rows::lines_at))]
+    #[tactic(auto, unfolding(crate::specs::reading::Rows::lines_at))]
     fn read(alloc: Global, elements: &Indexed) -> Result<CreateBearerRequest, BodyFault> {
         let pti = optional::<Pti>(elements, 0);
         let linked_ebi = mandatory::<EbiValue>(elements, 0)?;
@@ -109,7 +109,7 @@ impl Context for BearerRequestContext {
 
     ghost values = { bearer_request_context_values };
 
-    #[tactic(auto, unfolding(crate::specs::Rows::rows_at))]
+    #[tactic(auto, unfolding(crate::specs::reading::Rows::rows_at))]
     fn read(_accepting: bool, elements: &Indexed) -> Result<BearerRequestContext, RowFault> {
         let ebi = mandatory::<EbiValue>(elements, 0)?;
         let tft = mandatory::<Tft>(elements, 0)?;

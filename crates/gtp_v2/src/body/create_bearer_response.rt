@@ -1,12 +1,12 @@
 //! Create Bearer Response (TS 29.274 7.2.4).
 //!
-//! Written by scripts/messages from messages/create_bearer_response.md.
+//! Written by scripts/messages from specs/CreateBearerResponse.antt.
 
 ghost use Rattle.std.specs.Prelude.{true};
 ghost use Rattle.gtp_values.specs.Steps.{Gives};
 ghost use Rattle.gtp_v2.specs.Table.{start};
-ghost use Rattle.gtp_v2.specs.Rows.{lines_at, rows_at};
-ghost use Rattle.gtp_v2.specs.Outcome.{GivesOrMemory};
+ghost use Rattle.gtp_v2.specs.reading.Rows.{lines_at, rows_at};
+ghost use Rattle.gtp_v2.specs.reading.Outcome.{GivesOrMemory};
 ghost use Rattle.gtp_v2.specs.CreateBearerResponse.{create_bearer_response, create_bearer_response_fields, bearer_response_context_rows, bearer_response_context_values};
 
 use crate::body::Body;
@@ -57,7 +57,7 @@ impl Typed for CreateBearerResponse {
         Body::CreateBearerResponse(self)
     }
 
-    #[tactic(auto, unfolding(crate::specs::Rows::lines_at))]
+    #[tactic(auto, unfolding(crate::specs::reading::Rows::lines_at))]
     fn read(alloc: Global, elements: &Indexed) -> Result<CreateBearerResponse, BodyFault> {
         let cause = mandatory::<Cause>(elements, 0)?;
         let accepting = cause.is_accepting();
@@ -112,7 +112,7 @@ impl Context for BearerResponseContext {
 
     ghost values = { bearer_response_context_values };
 
-    #[tactic(auto, unfolding(crate::specs::Rows::rows_at))]
+    #[tactic(auto, unfolding(crate::specs::reading::Rows::rows_at))]
     fn read(accepting: bool, elements: &Indexed) -> Result<BearerResponseContext, RowFault> {
         let ebi = mandatory::<EbiValue>(elements, 0)?;
         let cause = mandatory::<Cause>(elements, 0)?;

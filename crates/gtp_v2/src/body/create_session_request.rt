@@ -1,12 +1,12 @@
 //! Create Session Request (TS 29.274 7.2.1).
 //!
-//! Written by scripts/messages from messages/create_session_request.md.
+//! Written by scripts/messages from specs/CreateSessionRequest.antt.
 
 ghost use Rattle.std.specs.Prelude.{true};
 ghost use Rattle.gtp_values.specs.Steps.{Gives};
 ghost use Rattle.gtp_v2.specs.Table.{start};
-ghost use Rattle.gtp_v2.specs.Rows.{lines_at, rows_at};
-ghost use Rattle.gtp_v2.specs.Outcome.{GivesOrMemory};
+ghost use Rattle.gtp_v2.specs.reading.Rows.{lines_at, rows_at};
+ghost use Rattle.gtp_v2.specs.reading.Outcome.{GivesOrMemory};
 ghost use Rattle.gtp_v2.specs.CreateSessionRequest.{create_session_request, create_session_request_fields, session_request_context_rows, session_request_context_values};
 
 use crate::body::Body;
@@ -74,7 +74,7 @@ impl Typed for CreateSessionRequest {
         Body::CreateSessionRequest(self)
     }
 
-    #[tactic(auto, unfolding(crate::specs::Rows::lines_at))]
+    #[tactic(auto, unfolding(crate::specs::reading::Rows::lines_at))]
     fn read(alloc: Global, elements: &Indexed) -> Result<CreateSessionRequest, BodyFault> {
         let imsi = conditional::<Imsi>(elements, 0)?;
         let rat = mandatory::<Rat>(elements, 0)?;
@@ -154,7 +154,7 @@ impl Context for SessionRequestContext {
 
     ghost values = { session_request_context_values };
 
-    #[tactic(auto, unfolding(crate::specs::Rows::rows_at))]
+    #[tactic(auto, unfolding(crate::specs::reading::Rows::rows_at))]
     fn read(_accepting: bool, elements: &Indexed) -> Result<SessionRequestContext, RowFault> {
         let ebi = mandatory::<EbiValue>(elements, 0)?;
         let qos = mandatory::<Qos>(elements, 0)?;

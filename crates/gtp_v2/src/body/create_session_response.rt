@@ -1,12 +1,12 @@
 //! Create Session Response (TS 29.274 7.2.2).
 //!
-//! Written by scripts/messages from messages/create_session_response.md.
+//! Written by scripts/messages from specs/CreateSessionResponse.antt.
 
 ghost use Rattle.std.specs.Prelude.{true};
 ghost use Rattle.gtp_values.specs.Steps.{Gives};
 ghost use Rattle.gtp_v2.specs.Table.{start};
-ghost use Rattle.gtp_v2.specs.Rows.{lines_at, rows_at};
-ghost use Rattle.gtp_v2.specs.Outcome.{GivesOrMemory};
+ghost use Rattle.gtp_v2.specs.reading.Rows.{lines_at, rows_at};
+ghost use Rattle.gtp_v2.specs.reading.Outcome.{GivesOrMemory};
 ghost use Rattle.gtp_v2.specs.CreateSessionResponse.{create_session_response, create_session_response_fields, session_response_context_rows, session_response_context_values};
 
 use crate::body::Body;
@@ -64,7 +64,7 @@ impl Typed for CreateSessionResponse {
         Body::CreateSessionResponse(self)
     }
 
-    #[tactic(auto, unfolding(crate::specs::Rows::lines_at))]
+    #[tactic(auto, unfolding(crate::specs::reading::Rows::lines_at))]
     fn read(alloc: Global, elements: &Indexed) -> Result<CreateSessionResponse, BodyFault> {
         let cause = mandatory::<Cause>(elements, 0)?;
         let accepting = cause.is_accepting();
@@ -133,7 +133,7 @@ impl Context for SessionResponseContext {
 
     ghost values = { session_response_context_values };
 
-    #[tactic(auto, unfolding(crate::specs::Rows::rows_at))]
+    #[tactic(auto, unfolding(crate::specs::reading::Rows::rows_at))]
     fn read(accepting: bool, elements: &Indexed) -> Result<SessionResponseContext, RowFault> {
         let ebi = mandatory::<EbiValue>(elements, 0)?;
         let cause = mandatory::<Cause>(elements, 0)?;

@@ -1,11 +1,11 @@
 //! Delete Bearer Request (TS 29.274 7.2.9.2).
 //!
-//! Written by scripts/messages from messages/delete_bearer_request.md.
+//! Written by scripts/messages from specs/DeleteBearerRequest.antt.
 
 ghost use Rattle.std.specs.Prelude.{true};
 ghost use Rattle.gtp_v2.specs.Table.{start};
-ghost use Rattle.gtp_v2.specs.Rows.{lines_at};
-ghost use Rattle.gtp_v2.specs.Outcome.{GivesOrMemory};
+ghost use Rattle.gtp_v2.specs.reading.Rows.{lines_at};
+ghost use Rattle.gtp_v2.specs.reading.Outcome.{GivesOrMemory};
 ghost use Rattle.gtp_v2.specs.DeleteBearerRequest.{delete_bearer_request, delete_bearer_request_fields};
 
 use crate::body::Body;
@@ -52,7 +52,7 @@ impl Typed for DeleteBearerRequest {
         Body::DeleteBearerRequest(self)
     }
 
-    #[tactic(auto, unfolding(crate::specs::Rows::lines_at))]
+    #[tactic(auto, unfolding(crate::specs::reading::Rows::lines_at))]
     fn read(alloc: Global, elements: &Indexed) -> Result<DeleteBearerRequest, BodyFault> {
         let linked_ebi = optional::<EbiValue>(elements, 0);
         let ebis = several::<EbiValue>(alloc, linked_ebi.is_none(), elements, 1, 0)?;

@@ -1,12 +1,12 @@
 //! Delete Bearer Response (TS 29.274 7.2.10.2).
 //!
-//! Written by scripts/messages from messages/delete_bearer_response.md.
+//! Written by scripts/messages from specs/DeleteBearerResponse.antt.
 
 ghost use Rattle.std.specs.Prelude.{true};
 ghost use Rattle.gtp_values.specs.Steps.{Gives};
 ghost use Rattle.gtp_v2.specs.Table.{start};
-ghost use Rattle.gtp_v2.specs.Rows.{lines_at, rows_at};
-ghost use Rattle.gtp_v2.specs.Outcome.{GivesOrMemory};
+ghost use Rattle.gtp_v2.specs.reading.Rows.{lines_at, rows_at};
+ghost use Rattle.gtp_v2.specs.reading.Outcome.{GivesOrMemory};
 ghost use Rattle.gtp_v2.specs.DeleteBearerResponse.{delete_bearer_response, delete_bearer_response_fields, removal_response_context_rows, removal_response_context_values};
 
 use crate::body::Body;
@@ -59,7 +59,7 @@ impl Typed for DeleteBearerResponse {
         Body::DeleteBearerResponse(self)
     }
 
-    #[tactic(auto, unfolding(crate::specs::Rows::lines_at))]
+    #[tactic(auto, unfolding(crate::specs::reading::Rows::lines_at))]
     fn read(alloc: Global, elements: &Indexed) -> Result<DeleteBearerResponse, BodyFault> {
         let cause = mandatory::<Cause>(elements, 0)?;
         let accepting = cause.is_accepting();
@@ -116,7 +116,7 @@ impl Context for RemovalResponseContext {
 
     ghost values = { removal_response_context_values };
 
-    #[tactic(auto, unfolding(crate::specs::Rows::rows_at))]
+    #[tactic(auto, unfolding(crate::specs::reading::Rows::rows_at))]
     fn read(_accepting: bool, elements: &Indexed) -> Result<RemovalResponseContext, RowFault> {
         let ebi = mandatory::<EbiValue>(elements, 0)?;
         let cause = mandatory::<Cause>(elements, 0)?;

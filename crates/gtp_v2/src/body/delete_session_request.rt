@@ -1,11 +1,11 @@
 //! Delete Session Request (TS 29.274 7.2.9.1).
 //!
-//! Written by scripts/messages from messages/delete_session_request.md.
+//! Written by scripts/messages from specs/DeleteSessionRequest.antt.
 
 ghost use Rattle.std.specs.Prelude.{true};
 ghost use Rattle.gtp_v2.specs.Table.{start};
-ghost use Rattle.gtp_v2.specs.Rows.{lines_at};
-ghost use Rattle.gtp_v2.specs.Outcome.{GivesOrMemory};
+ghost use Rattle.gtp_v2.specs.reading.Rows.{lines_at};
+ghost use Rattle.gtp_v2.specs.reading.Outcome.{GivesOrMemory};
 ghost use Rattle.gtp_v2.specs.DeleteSessionRequest.{delete_session_request, delete_session_request_fields};
 
 use crate::body::Body;
@@ -48,7 +48,7 @@ impl Typed for DeleteSessionRequest {
         Body::DeleteSessionRequest(self)
     }
 
-    #[tactic(auto, unfolding(crate::specs::Rows::lines_at))]
+    #[tactic(auto, unfolding(crate::specs::reading::Rows::lines_at))]
     fn read(_alloc: Global, elements: &Indexed) -> Result<DeleteSessionRequest, BodyFault> {
         let linked_ebi = optional::<EbiValue>(elements, 0);
         Ok(DeleteSessionRequest { linked_ebi })

@@ -1,11 +1,11 @@
 //! Delete Session Response (TS 29.274 7.2.10.1).
 //!
-//! Written by scripts/messages from messages/delete_session_response.md.
+//! Written by scripts/messages from specs/DeleteSessionResponse.antt.
 
 ghost use Rattle.std.specs.Prelude.{true};
 ghost use Rattle.gtp_v2.specs.Table.{start};
-ghost use Rattle.gtp_v2.specs.Rows.{lines_at};
-ghost use Rattle.gtp_v2.specs.Outcome.{GivesOrMemory};
+ghost use Rattle.gtp_v2.specs.reading.Rows.{lines_at};
+ghost use Rattle.gtp_v2.specs.reading.Outcome.{GivesOrMemory};
 ghost use Rattle.gtp_v2.specs.DeleteSessionResponse.{delete_session_response, delete_session_response_fields};
 
 use crate::body::Body;
@@ -51,7 +51,7 @@ impl Typed for DeleteSessionResponse {
         Body::DeleteSessionResponse(self)
     }
 
-    #[tactic(auto, unfolding(crate::specs::Rows::lines_at))]
+    #[tactic(auto, unfolding(crate::specs::reading::Rows::lines_at))]
     fn read(_alloc: Global, elements: &Indexed) -> Result<DeleteSessionResponse, BodyFault> {
         let cause = mandatory::<Cause>(elements, 0)?;
         let recovery = optional::<Recovery>(elements, 0);

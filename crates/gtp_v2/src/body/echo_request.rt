@@ -1,11 +1,11 @@
 //! Echo Request (TS 29.274 7.1.1).
 //!
-//! Written by scripts/messages from messages/echo_request.md.
+//! Written by scripts/messages from specs/EchoRequest.antt.
 
 ghost use Rattle.std.specs.Prelude.{false};
 ghost use Rattle.gtp_v2.specs.Table.{start};
-ghost use Rattle.gtp_v2.specs.Rows.{lines_at};
-ghost use Rattle.gtp_v2.specs.Outcome.{GivesOrMemory};
+ghost use Rattle.gtp_v2.specs.reading.Rows.{lines_at};
+ghost use Rattle.gtp_v2.specs.reading.Outcome.{GivesOrMemory};
 ghost use Rattle.gtp_v2.specs.EchoRequest.{echo_request, echo_request_fields};
 
 use crate::body::Body;
@@ -48,7 +48,7 @@ impl Typed for EchoRequest {
         Body::EchoRequest(self)
     }
 
-    #[tactic(auto, unfolding(crate::specs::Rows::lines_at))]
+    #[tactic(auto, unfolding(crate::specs::reading::Rows::lines_at))]
     fn read(_alloc: Global, elements: &Indexed) -> Result<EchoRequest, BodyFault> {
         let recovery = mandatory::<Recovery>(elements, 0)?;
         Ok(EchoRequest { recovery })

@@ -1,11 +1,11 @@
 //! Version Not Supported Indication (TS 29.274 7.1.3).
 //!
-//! Written by scripts/messages from messages/version_not_supported.md.
+//! Written by scripts/messages from specs/VersionNotSupported.antt.
 
 ghost use Rattle.std.specs.Prelude.{false};
 ghost use Rattle.gtp_v2.specs.Table.{start};
-ghost use Rattle.gtp_v2.specs.Rows.{lines_at};
-ghost use Rattle.gtp_v2.specs.Outcome.{GivesOrMemory};
+ghost use Rattle.gtp_v2.specs.reading.Rows.{lines_at};
+ghost use Rattle.gtp_v2.specs.reading.Outcome.{GivesOrMemory};
 ghost use Rattle.gtp_v2.specs.VersionNotSupported.{version_not_supported, version_not_supported_fields};
 
 use crate::body::Body;
@@ -42,7 +42,7 @@ impl Typed for VersionNotSupported {
         Body::VersionNotSupported(self)
     }
 
-    #[tactic(auto, unfolding(crate::specs::Rows::lines_at))]
+    #[tactic(auto, unfolding(crate::specs::reading::Rows::lines_at))]
     fn read(_alloc: Global, _elements: &Indexed) -> Result<VersionNotSupported, BodyFault> {
         Ok(VersionNotSupported {})
     }

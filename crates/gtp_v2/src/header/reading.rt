@@ -3,7 +3,7 @@
 ghost use Rattle.std.specs.Prelude.{◌<◌, ◌^◌, length, IfOk};
 ghost use Rattle.gtp_values.specs.Steps.{Gives};
 ghost use Rattle.gtp_v2.specs.Priority.{PriorityNeedsTeid};
-ghost use Rattle.gtp_v2.specs.Headed.{headed_of, header_at, after_teid, after_no_teid};
+ghost use Rattle.gtp_v2.specs.reading.Headed.{headed_of, header_at, after_teid, after_no_teid};
 
 use crate::fault::V2Fault;
 use crate::header::Header;

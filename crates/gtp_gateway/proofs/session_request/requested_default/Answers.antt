@@ -4,8 +4,7 @@ use Rattle.gtp_ie.specs.Value.{Value}
 use Rattle.gtp_v2.specs.CreateSessionRequest.{session_request_context_rows}
 use Rattle.gtp_v2.specs.Datagram.{IsMessage}
 use Rattle.gtp_v2.specs.Message.{MessageValue}
-use Rattle.gtp_v2.specs.Rows.{optional_at}
-use Rattle.gtp_v2.specs.Viewed.{in_groups, values_in}
+use Rattle.gtp_v2.specs.Viewed.{optional_at, in_groups, values_in}
 use Rattle.std.proofs.lemmas.Option.{same_Some}
 use Rattle.gtp_machine.specs.Decoded.{row}
 use Rattle.gtp_gateway.proofs.InPlace.{IsRequestedContext, IsSessionRequest, asked, requested_context, groups_so}

@@ -1,7 +1,8 @@
 use Rattle.std.proofs.Common.{◌≡◌, ◌∙◌, ◌<◌, length, Some, sym, ap, arith}
 use Rattle.std.proofs.lemmas.Bool.Decides.{nat_tests}
 use Rattle.gtp_ie.specs.View.{element_of}
-use Rattle.gtp_ie.specs.Element.{front_of, elements_of, stop_of}
+use Rattle.gtp_ie.specs.Element.{front_of, elements_of}
+use Rattle.gtp_ie.specs.reading.View.{stop_of}
 use Rattle.gtp_ie.proofs.Walk.{walk_on, walk_stops, walk_ends, stop_on, walked, front_long, is_stopped}
 use Rattle.gtp_ie.proofs.elements.walk_from.Goals as goal
 

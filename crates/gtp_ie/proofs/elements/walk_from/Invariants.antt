@@ -1,5 +1,6 @@
 use Rattle.std.proofs.Common.{◌≡◌, ◌+◌, length}
-use Rattle.gtp_ie.specs.Element.{elements_of, stop_of}
+use Rattle.gtp_ie.specs.Element.{elements_of}
+use Rattle.gtp_ie.specs.reading.View.{stop_of}
 use Rattle.gtp_ie.proofs.elements.walk_from.Given as goal
 
 abbrev pub invariant-loop-rest : goal.invariant-loop-rest

@@ -1,5 +1,5 @@
 use Rattle.gtp_user.specs.Message.{message_value}
-use Rattle.gtp_user.specs.Reading.{message_at}
+use Rattle.gtp_user.specs.reading.Message.{message_at}
 use Rattle.gtp_user.specs.Datagram.{IsUserMessage, IsUserFault}
 use Rattle.gtp_user.proofs.Messages.{message_decided}
 use Rattle.gtp_user.proofs.Told.{told}

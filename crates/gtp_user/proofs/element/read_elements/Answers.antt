@@ -1,7 +1,7 @@
 use Rattle.std.proofs.Common.{◌≡◌, ◌∙◌, ◌<◌, length, Some, sym, ap, arith}
 use Rattle.std.proofs.lemmas.Bool.Decides.{nat_tests}
-use Rattle.gtp_user.specs.Elements.{element_at, elements_at}
-use Rattle.gtp_user.specs.Gathered.{element_of, found_of}
+use Rattle.gtp_user.specs.reading.Elements.{element_at, elements_at}
+use Rattle.gtp_user.specs.reading.Gathered.{element_of, found_of}
 use Rattle.gtp_user.proofs.Begun.{element_shorter}
 use Rattle.gtp_user.proofs.Gathers.{found_before, found_first, found_on, found_stop, found_end}
 use Rattle.gtp_user.proofs.element.read_elements.Goals as goal

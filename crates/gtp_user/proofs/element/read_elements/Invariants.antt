@@ -1,6 +1,6 @@
 use Rattle.std.proofs.Common.{◌≡◌, ◌≤◌, length}
-use Rattle.gtp_user.specs.Elements.{elements_at}
-use Rattle.gtp_user.specs.Gathered.{found_of, found_at}
+use Rattle.gtp_user.specs.reading.Elements.{elements_at}
+use Rattle.gtp_user.specs.reading.Gathered.{found_of, found_at}
 use Rattle.gtp_user.proofs.Gathers.{found_before}
 use Rattle.gtp_user.proofs.element.read_elements.Given as goal
 

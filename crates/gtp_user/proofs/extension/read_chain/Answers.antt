@@ -1,7 +1,7 @@
 use Rattle.std.proofs.Common.{◌≡◌, ◌<◌, subst, arith}
 use Rattle.std.proofs.lemmas.Result.{err_from_is_err_and}
 use Rattle.std.proofs.lemmas.Bool.Decides.{nat_tests}
-use Rattle.gtp_user.specs.Chained.{front_of}
+use Rattle.gtp_user.specs.reading.Chained.{front_of}
 use Rattle.gtp_user.proofs.Chains.{SoFar, so_far_stops, so_far_goes_on, so_far_ends}
 use Rattle.gtp_user.proofs.extension.read_chain.Goals as goal
 

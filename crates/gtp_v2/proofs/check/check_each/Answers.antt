@@ -2,7 +2,7 @@ use Rattle.std.proofs.Common.{◌∙◌}
 use Rattle.std.proofs.lemmas.Result.{err_from_is_err_and}
 use Rattle.gtp_ie.specs.View.{element_of}
 use Rattle.gtp_ie.specs.Element.{all_of}
-use Rattle.gtp_v2.specs.Rows.{group_at, groups_at}
+use Rattle.gtp_v2.specs.reading.Rows.{group_at, groups_at}
 use Rattle.gtp_v2.proofs.Checks.{passes_first, group_on, group_stop, groups_end, none_of}
 use Rattle.gtp_v2.proofs.check.check_each.Goals as goal
 

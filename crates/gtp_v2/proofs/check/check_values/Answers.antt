@@ -2,7 +2,7 @@ use Rattle.std.proofs.Common.{◌∙◌}
 use Rattle.std.proofs.lemmas.Result.{err_from_is_err_and}
 use Rattle.gtp_ie.specs.View.{element_of}
 use Rattle.gtp_ie.specs.Element.{all_of}
-use Rattle.gtp_v2.specs.Rows.{one_at, values_at}
+use Rattle.gtp_v2.specs.reading.Rows.{one_at, values_at}
 use Rattle.gtp_v2.proofs.Checks.{passes_first, value_on, value_stop, values_end, said_of}
 use Rattle.gtp_v2.proofs.check.check_values.Goals as goal
 

@@ -2,8 +2,8 @@ use Rattle.std.proofs.Common.{map, refl, sym, ap, ◌∙◌}
 use Rattle.std.proofs.lemmas.Result.{err_from_is_err_and}
 use Rattle.gtp_ie.specs.View.{element_of}
 use Rattle.gtp_ie.specs.Element.{all_of}
-use Rattle.gtp_v2.specs.Rows.{group_at, groups_at}
-use Rattle.gtp_v2.specs.Outcome.{HasGroup}
+use Rattle.gtp_v2.specs.reading.Rows.{group_at, groups_at}
+use Rattle.gtp_v2.specs.reading.Outcome.{HasGroup}
 use Rattle.gtp_v2.proofs.Loop.{gathers_first, gathers_on, gathers_fault, gathered, pushed, refused_some}
 use Rattle.gtp_v2.proofs.groups.all_contexts.Goals as goal
 

@@ -2,8 +2,8 @@ use Rattle.std.proofs.Common.{ℕ, map, refl, sym, ap, ◌∙◌}
 use Rattle.std.proofs.lemmas.Result.{err_from_is_err_and}
 use Rattle.gtp_ie.specs.View.{element_of}
 use Rattle.gtp_ie.specs.Element.{all_of}
-use Rattle.gtp_v2.specs.Rows.{one_at, values_at}
-use Rattle.gtp_v2.specs.Outcome.{HasValue}
+use Rattle.gtp_v2.specs.reading.Rows.{one_at, values_at}
+use Rattle.gtp_v2.specs.reading.Outcome.{HasValue}
 use Rattle.gtp_v2.proofs.Loop.{gathers_first, gathers_on, gathers_fault, gathered, pushed, refused_some}
 use Rattle.gtp_v2.proofs.repeated.all_values.Goals as goal
 

@@ -1,6 +1,6 @@
 use Rattle.std.proofs.Common.{map}
 use Rattle.gtp_ie.specs.Element.{all_of}
-use Rattle.gtp_v2.specs.Rows.{one_at, values_at}
+use Rattle.gtp_v2.specs.reading.Rows.{one_at, values_at}
 use Rattle.gtp_v2.proofs.Loop.{Gathers}
 use Rattle.gtp_v2.proofs.repeated.all_values.Given as goal
 

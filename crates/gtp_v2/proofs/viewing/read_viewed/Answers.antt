@@ -1,7 +1,7 @@
 use Rattle.std.proofs.Common.{subst}
 use Rattle.std.specs.Prelude.{Result}
 use Rattle.gtp_v2.specs.declared.fault.V2Fault.{V2Fault}
-use Rattle.gtp_v2.specs.Headed.{headed_of}
+use Rattle.gtp_v2.specs.reading.Headed.{headed_of}
 use Rattle.gtp_v2.specs.Message.{Content, ContentAllocates, MessageGives}
 use Rattle.gtp_v2.specs.Body.{content_of}
 use Rattle.gtp_v2.specs.Tables.{table_of}

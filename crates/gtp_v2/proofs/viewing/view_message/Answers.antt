@@ -1,4 +1,4 @@
-use Rattle.gtp_v2.specs.Headed.{headed_of}
+use Rattle.gtp_v2.specs.reading.Headed.{headed_of}
 use Rattle.gtp_v2.proofs.Carried.{carried}
 use Rattle.gtp_v2.proofs.viewing.view_message.Goals as goal
 

@@ -1,5 +1,6 @@
 use Rattle.std.proofs.Common.{[], refl, ap, arith}
-use Rattle.gtp_ie.specs.Element.{list_of, stop_of}
+use Rattle.gtp_ie.specs.Element.{list_of}
+use Rattle.gtp_ie.specs.reading.View.{stop_of}
 use Rattle.gtp_ie.proofs.Walk.{walk_ends}
 use Rattle.gtp_ie.proofs.elements.Elements.none.Goals as goal
 

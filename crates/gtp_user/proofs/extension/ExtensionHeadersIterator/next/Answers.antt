@@ -1,6 +1,6 @@
 use Rattle.std.proofs.Common.{◌≡◌, ◌∙◌, ◌<◌, sym, ap, length, arith}
 use Rattle.std.proofs.lemmas.Bool.Decides.{nat_tests}
-use Rattle.gtp_user.specs.Chained.{front_of}
+use Rattle.gtp_user.specs.reading.Chained.{front_of}
 use Rattle.gtp_user.proofs.Chains.{whole_end, whole_next, whole_begins}
 use Rattle.gtp_user.proofs.extension.ExtensionHeadersIterator.next.Goals as goal
 

@@ -1,5 +1,5 @@
 use Rattle.std.proofs.Common.{ap}
-use Rattle.gtp_user.specs.Walk.{headers_of, rest_of}
+use Rattle.gtp_user.specs.reading.Walk.{headers_of, rest_of}
 use Rattle.gtp_user.proofs.Chains.{none_chained}
 use Rattle.gtp_user.proofs.extension.Extensions.none.Goals as goal
 

@@ -1,6 +1,6 @@
 use Rattle.std.proofs.Common.{[]}
 use Rattle.gtp_user.specs.Chain.{IsChain, WholeChainFails}
-use Rattle.gtp_user.specs.Walk.{whole_at}
+use Rattle.gtp_user.specs.reading.Walk.{whole_at}
 use Rattle.gtp_user.proofs.Chains.{whole_decided}
 use Rattle.gtp_user.proofs.Told.{told}
 use Rattle.gtp_user.proofs.extension.Extensions.try_new.Goals as goal

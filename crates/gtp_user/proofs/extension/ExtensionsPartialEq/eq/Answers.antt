@@ -1,7 +1,7 @@
 use Rattle.std.proofs.Common.{ap, ◌∙◌}
 use Rattle.std.specs.Cmp.Lexicographic.{pointwise}
 use Rattle.gtp_user.specs.Chain.{header_eq}
-use Rattle.gtp_user.specs.Walk.{headers_in}
+use Rattle.gtp_user.specs.reading.Walk.{headers_in}
 use Rattle.gtp_user.proofs.Same.{same_first, other_first}
 use Rattle.gtp_user.proofs.extension.ExtensionsPartialEq.eq.Goals as goal
 

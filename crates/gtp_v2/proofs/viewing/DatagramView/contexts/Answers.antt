@@ -1,8 +1,10 @@
 use Rattle.std.proofs.Common.{◌∙◌, sym, ap, map}
 use Rattle.gtp_ie.specs.Element.{all_of}
-use Rattle.gtp_v2.specs.Headed.{headed_of}
-use Rattle.gtp_v2.specs.Viewed.{Viewed, list_or_none, values_in, inner_of}
-use Rattle.gtp_v2.proofs.GroupValues.{contexts_are}
+use Rattle.gtp_v2.specs.reading.Headed.{headed_of}
+use Rattle.gtp_v2.specs.Viewed.{Viewed, values_in, inner_of}
+use Rattle.gtp_v2.specs.reading.Viewed.{list_or_none}
+use Rattle.gtp_v2.proofs.GroupValues.{groups_are}
+use Rattle.gtp_v2.proofs.Views.{is_read}
 use Rattle.gtp_v2.proofs.viewing.DatagramView.contexts.Goals as goal
 
 pub returns-in-Some : goal.returns-in-Some
@@ -11,7 +13,7 @@ returns-in-Some c =
     let are = ap (λ es. map inner_of (all_of 93 0 es)) kept ∙ ap (map inner_of) (sym c.from_first.ensures.all) ∙ sym c.of.ensures in
     record {
       elements = sym are;
-      groups = λ p is. contexts_are 93 0 (headed_of c.self.inside.header) c.self.inside.elements c.args.self.now c.self.view_is c.self.invariant p is ∙ ap (map (values_in p.0)) are;
+      groups = λ p is. groups_are 93 0 c.args.self.now (is_read (headed_of c.self.inside.header) c.self.inside.elements c.args.self.now c.self.view_is c.self.invariant) p is ∙ ap (map (values_in p.0)) are;
     }
 
 pub returns-in-None : goal.returns-in-None
@@ -20,5 +22,5 @@ returns-in-None c =
     let are = ap (λ es. map inner_of (all_of 93 0 es)) (kept ∙ sym c.none.ensures) ∙ sym c.of-in-None.ensures in
     record {
       elements = sym are;
-      groups = λ p is. contexts_are 93 0 (headed_of c.self.inside.header) c.self.inside.elements c.args.self.now c.self.view_is c.self.invariant p is ∙ ap (map (values_in p.0)) are;
+      groups = λ p is. groups_are 93 0 c.args.self.now (is_read (headed_of c.self.inside.header) c.self.inside.elements c.args.self.now c.self.view_is c.self.invariant) p is ∙ ap (map (values_in p.0)) are;
     }

@@ -1,5 +1,5 @@
 use Rattle.std.proofs.Common.{Some, None, refl}
-use Rattle.gtp_v2.specs.Headed.{headed_of}
+use Rattle.gtp_v2.specs.reading.Headed.{headed_of}
 use Rattle.gtp_v2.proofs.Carried.{raw_is}
 use Rattle.gtp_v2.proofs.viewing.DatagramView.octets.Goals as goal
 

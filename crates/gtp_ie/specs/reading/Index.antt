@@ -1,9 +1,9 @@
--- Where the first element of a type and instance stands.
+-- Reading functions, for private contracts and proofs: where the first element of a type and instance stands.
 use Rattle.std.specs.Prelude.{◌≡◌, ◌==◌, ◌&&◌, ◌<◌, ◌≤◌, ℕ, ◌+◌, ◌-◌, List, [], ◌∷◌, length, drop, get_or, Result, Ok, Err, if◌then◌else◌}
 use Rattle.gtp_ie.specs.declared.form.Form.TheVariants as forms
 use Rattle.gtp_ie.specs.Form.{number_of, bearer_context}
 use Rattle.gtp_ie.specs.Element.{Element, elements_of}
-use Rattle.gtp_ie.specs.View.{IsWhole}
+use Rattle.gtp_ie.specs.reading.View.{IsWhole}
 
 -- the slot of a type's elements of instance 0; all types that no message has a row of share one
 abbrev pub slot_of_type : ℕ → ℕ

@@ -1,4 +1,4 @@
--- Checking what would be read, without keeping it.
+-- Reading functions, for private contracts and proofs: checking what would be read, without keeping it.
 use Rattle.std.specs.Prelude.{ℕ, Bool, true, false, if◌then◌else◌, ◌&&◌, List, [], ◌∷◌, Option, option_map, Result, Ok, Err}
 use Rattle.gtp_ie.specs.declared.fault.ReadFault.{ReadFault}
 use Rattle.gtp_values.specs.Steps.{◌>>=◌}
@@ -9,7 +9,8 @@ use Rattle.gtp_v2.specs.declared.fault.Need.{Need}
 use Rattle.gtp_v2.specs.declared.fault.Need.TheVariants as needs
 use Rattle.gtp_v2.specs.declared.fault.RowFault.TheVariants as faults
 use Rattle.gtp_v2.specs.Table.{Row, Line, Single, Grouped, Several, Field, Plain, need_of, kind_of, instance_of, Groups, State, accepts, field_accepts, is_silent}
-use Rattle.gtp_v2.specs.Rows.{needed_at, optional_at, one_at, row_at, group_at, groups_at, values_at}
+use Rattle.gtp_v2.specs.reading.Rows.{needed_at, one_at, row_at, group_at, groups_at, values_at}
+use Rattle.gtp_v2.specs.Viewed.{optional_at}
 
 -- whether the value that a body spells accepts
 unfoldable pub value_accepts : ℕ → List ℕ → Result Bool ReadFault

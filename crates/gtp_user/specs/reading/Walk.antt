@@ -1,4 +1,4 @@
--- Reading a chain of extension headers, one after the other.
+-- Reading functions, for private contracts, models of private fields and proofs: a chain of extension headers, one after the other.
 use Rattle.std.specs.Prelude.{◌≡◌, ℕ, zero, suc, ◌+◌, ◌-◌, ◌*◌, List, [], ◌∷◌, length, take, drop, slice_index, Option, Some, None, Result, Ok, Err, nat_lt, nat_le, ◌==◌, if◌then◌else◌}
 use Rattle.gtp_user.specs.declared.fault.UserFault.{UserFault}
 use Rattle.gtp_user.specs.declared.fault.UserFault.TheVariants as faults

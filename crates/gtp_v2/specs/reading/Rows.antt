@@ -1,4 +1,4 @@
--- The values that a list of elements gives the rows of a table, or the first fault.
+-- Reading functions, for private contracts and proofs: the values that a list of elements gives the rows of a table, or the first fault.
 use Rattle.std.specs.Prelude.{length, ◌==◌, ℕ, ◌+◌, Bool, true, false, ◌&&◌, List, [], ◌∷◌, Option, Some, None, option_to_list, Result, Ok, Err, if◌then◌else◌}
 use Rattle.gtp_ie.specs.declared.fault.ReadFault.{ReadFault}
 use Rattle.gtp_ie.specs.declared.fault.ReadFault.TheVariants.{Short, Bad}
@@ -10,7 +10,8 @@ use Rattle.gtp_v2.specs.declared.fault.RowFault.{RowFault}
 use Rattle.gtp_v2.specs.declared.fault.RowFault.TheVariants as faults
 use Rattle.gtp_v2.specs.declared.fault.Need.{Need}
 use Rattle.gtp_v2.specs.declared.fault.Need.TheVariants as needs
-pub use Rattle.gtp_v2.specs.Table.{accepts, need_of, kind_of, instance_of, field_accepts, is_silent, after, Row, Mandatory, Conditional, Accepted, Optional, Line, Single, Grouped, Several, Field, Plain, Groups, State, start}
+use Rattle.gtp_v2.specs.Table.{accepts, need_of, kind_of, instance_of, after, Row, Mandatory, Conditional, Accepted, Optional, Line, Single, Grouped, Several, Field, Plain, Groups, State}
+use Rattle.gtp_v2.specs.Viewed.{optional_at}
 
 -- a reading, its fault named by the element's type, instance and place
 abbrev pub named : ℕ → ℕ → ℕ → Result Value ReadFault → Result Value RowFault
@@ -27,23 +28,9 @@ abbrev pub needed : Bool → ℕ → ℕ → Option Element → Result Value Row
 needed conditional kind instance None = Err (faults.Missing kind instance conditional)
 needed conditional kind instance (Some e) = one_at kind instance e
 
--- the value of a reading, if it has one
-abbrev pub value_or_none : Result Value ReadFault → Option Value
-value_or_none (Ok v) = Some v
-value_or_none (Err f) = None
-
--- the value of an element that is not needed
-abbrev pub welcome : ℕ → Option Element → Option Value
-welcome kind None = None
-welcome kind (Some e) = value_or_none (value_at kind e.body)
-
 -- the value of the first element of a type and instance, which is needed
 unfoldable pub needed_at : Bool → ℕ → ℕ → List Element → Result Value RowFault
 needed_at conditional kind instance es = needed conditional kind instance (first_of kind instance es)
-
--- the same, where it is not needed
-unfoldable pub optional_at : ℕ → ℕ → List Element → Option Value
-optional_at kind instance es = welcome kind (first_of kind instance es)
 
 -- the same, where that depends
 unfoldable pub needed_if_at : Bool → ℕ → ℕ → List Element → Result (Option Value) RowFault

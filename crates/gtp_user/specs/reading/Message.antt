@@ -1,12 +1,14 @@
--- Reading a datagram: the message that it spells, or its first fault.
+-- Reading functions, for private contracts and proofs: the message that a datagram spells, or its first fault.
+-- `gtp_machine` cites `message_at` in its `user_reading`, and has a law that this is the grammar's answer (`UserByGrammar`).
 use Rattle.std.specs.Prelude.{ℕ, List, length, Option, Some, None, Result, Ok, Err, ◌==◌, if◌then◌else◌}
 use Rattle.gtp_user.specs.declared.fault.UserFault.{UserFault}
 use Rattle.gtp_user.specs.declared.fault.UserFault.TheVariants as faults
 use Rattle.gtp_values.specs.Steps.{◌>>=◌}
-use Rattle.gtp_user.specs.Walk.{Chained, chain_at}
-use Rattle.gtp_user.specs.Headed.{Headed, header_at}
-use Rattle.gtp_user.specs.Elements.{Found}
-use Rattle.gtp_user.specs.Gathered.{found_at}
+use Rattle.gtp_user.specs.reading.Walk.{Chained, chain_at}
+use Rattle.gtp_user.specs.Headed.{Headed}
+use Rattle.gtp_user.specs.reading.Headed.{header_at}
+use Rattle.gtp_user.specs.reading.Elements.{Found}
+use Rattle.gtp_user.specs.reading.Gathered.{found_at}
 use Rattle.gtp_user.specs.Message.{Content, EchoRequest, EchoResponse, ErrorIndication, Notification, EndMarker, Packet, Other, MessageValue, numbered}
 
 -- an element that the message must have

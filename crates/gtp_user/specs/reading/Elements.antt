@@ -1,4 +1,4 @@
--- Reading information elements, one after the other.
+-- Reading functions, for private contracts and proofs: information elements, one after the other.
 use Rattle.std.specs.Prelude.{ℕ, zero, suc, ◌+◌, ◌-◌, ◌*◌, List, [], ◌∷◌, length, take, drop, Bool, Option, Some, None, ◌||◌, Result, Ok, Err, nat_lt, ◌==◌, if◌then◌else◌}
 use Rattle.std.specs.Int.{w32, from_be_bytes}
 use Rattle.gtp_values.specs.declared.address.Ip.{Ip}

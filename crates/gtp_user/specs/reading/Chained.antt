@@ -1,15 +1,9 @@
--- What the code's readings of extension headers stand for.
+-- Reading, for private contracts and proofs: what the code's readings of extension headers stand for.
 use Rattle.std.specs.Prelude.{ℕ, List}
 use Rattle.std.specs.Borrow.{Bor}
 use Rattle.gtp_user.specs.declared.extension.Front.{Front as FrontView}
-use Rattle.gtp_user.specs.declared.extension.ExtensionHeader.{ExtensionHeader}
 use Rattle.gtp_user.specs.declared.extension.Extensions.{Extensions}
-use Rattle.gtp_user.specs.Chain.{Extension}
-use Rattle.gtp_user.specs.Walk.{Front, Chained}
-
--- the header without where it lies
-abbrev pub extension_of : ExtensionHeader → Extension
-extension_of h = record { kind = h.kind; content = h.content.now }
+use Rattle.gtp_user.specs.reading.Walk.{Front, Chained}
 
 abbrev pub front_of : FrontView → Front
 front_of f = record { content = f.content.now; next = f.next; rest = f.rest.now }

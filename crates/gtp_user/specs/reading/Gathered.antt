@@ -1,4 +1,4 @@
--- What the code's readings of elements stand for.
+-- Reading functions, for private contracts and proofs: what the code's readings of elements stand for.
 use Rattle.std.specs.Prelude.{◌≡◌, ℕ, List, Option, option_map, Result, Ok}
 use Rattle.std.specs.Borrow.{Bor}
 use Rattle.gtp_user.specs.declared.fault.UserFault.{UserFault}
@@ -7,7 +7,7 @@ use Rattle.gtp_user.specs.declared.element.Element.TheVariants as views
 use Rattle.gtp_user.specs.declared.element.Found.{Found as FoundView}
 use Rattle.gtp_values.specs.Steps.{◌>>=◌}
 use Rattle.gtp_user.specs.Element.{Element, Recovery, TeidData, Peer, Types, Skipped}
-use Rattle.gtp_user.specs.Elements.{Found, elements_at, found_in}
+use Rattle.gtp_user.specs.reading.Elements.{Found, elements_at, found_in}
 
 -- two slices
 abbrev pub parts_of : Bor (List ℕ) × Bor (List ℕ) → List ℕ × List ℕ

@@ -1,0 +1,45 @@
+-- Reading, for private contracts and proofs: the lines of a table as the program has them, for checking.
+use Rattle.std.specs.Prelude.{Bool, true, false, ◌==◌, ◌&&◌, not, List, [], ◌∷◌, map, if◌then◌else◌}
+use Rattle.gtp_ie.specs.Form.{number_of}
+use Rattle.gtp_ie.specs.declared.form.Form.TheVariants.{Cause}
+use Rattle.gtp_v2.specs.declared.table.Line.{Line as Kept}
+use Rattle.gtp_v2.specs.declared.table.Line.TheVariants as kept
+use Rattle.gtp_v2.specs.declared.table.Shape.{Shape}
+use Rattle.gtp_v2.specs.Table.{Row, Optional, Table, Line, Single, Grouped, Several}
+
+-- a line, without where its rows lie
+abbrev pub line_of : Kept → Line
+line_of (kept.Single row) = Single row
+line_of (kept.Grouped row rows) = Grouped row rows.now
+line_of (kept.Several kind instance missed) = Several kind instance missed
+
+-- an optional row is never at fault; unless it is a cause, no other row of its group depends on it
+abbrev pub is_free : Row → Bool
+is_free (Optional kind instance) = not (kind == number_of Cause)
+is_free row = false
+
+-- the rows of a group that are checked
+abbrev pub checked_rows : List Row → List Row
+checked_rows [] = []
+checked_rows (row ∷ rows) = if is_free row then checked_rows rows else row ∷ checked_rows rows
+
+-- some line has several values, of which one is needed where no line before has one
+abbrev pub has_several : List Line → Bool
+has_several [] = false
+has_several (Several kind instance missed ∷ lines) = true
+has_several (Single row ∷ lines) = has_several lines
+has_several (Grouped row rows ∷ lines) = has_several lines
+
+-- the lines that are checked
+abbrev pub checked_lines : List Line → List Line
+checked_lines [] = []
+checked_lines (Single row ∷ lines) = if is_free row && not (has_several lines) then checked_lines lines else Single row ∷ checked_lines lines
+checked_lines (Grouped row rows ∷ lines) = Grouped row (checked_rows rows) ∷ checked_lines lines
+checked_lines (Several kind instance missed ∷ lines) = Several kind instance missed ∷ checked_lines lines
+
+-- what of a table is checked, and the same of the program's
+abbrev pub shape_in : Table → Bool × List Line
+shape_in table = (table.has_teid, checked_lines table.lines)
+
+abbrev pub shape_of : Shape → Bool × List Line
+shape_of shape = (shape.has_teid, map line_of shape.lines.now)
