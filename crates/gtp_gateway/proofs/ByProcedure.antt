@@ -106,10 +106,6 @@ removal_response_is octets m c is at read =
     let a = removal_answered octets m (type_is m.kind RemovalAnswered at) is in
     record { response = _; is = reads_so 100 _ m a.says; header = refl; number = refl; cause = cause_is a.cause c (in_row 2 0 m) (row_so 100 2 0 _ m a.says) read }
 
--- its cause stands in its row
-pub removal_cause : (octets : List ℕ) (m : MessageValue) → IsMessage octets m → procedure_at m.kind ≡ Some RemovalAnswered → (v : Value) × (in_row 2 0 m ≡ Some (v ∷ []))
-removal_cause octets m is at = let a = removal_answered octets m (type_is m.kind RemovalAnswered at) is in (a.cause, row_so 100 2 0 _ m a.says)
-
 pub takes_removal_response : (role : Role) (request : Arrival) (d : DeleteBearerResponse) (m : Message) → has role RemovalAnswered ≡ true → m ≡ Delete_bearer_response d → (n : Node) (e : Effect) → RemovalRow d n e → TakesBy role request m n e
 takes_removal_response role request d m has_it is n e takes = at_packet (λ r k. TakesBy r request k n e) RemovalAnswered role m (Delete_bearer_response d) refl has_it is takes
 

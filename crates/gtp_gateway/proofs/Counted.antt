@@ -1,7 +1,7 @@
 -- How many identities the list of a Delete Bearer Request has, where it lies.
 use Rattle.std.proofs.Common.{◌≡◌, ℕ, suc, List, [], ◌∷◌, map, length, drop, Option, Some, refl, sym, ◌∙◌, ap, subst}
 use Rattle.std.proofs.lemmas.List.{length-map}
-use Rattle.gtp_ie.specs.declared.value.numbers.EbiValue.{EbiValue}
+use Rattle.gtp_ie.specs.declared.value.ebi.EbiValue.{EbiValue}
 use Rattle.gtp_ie.specs.Element.{Element, all_of}
 use Rattle.gtp_ie.specs.Octets.{AreElements}
 use Rattle.gtp_ie.specs.Spelling.{Says as SaysValue}

@@ -9,7 +9,7 @@ use Rattle.std.specs.FinMap.{get}
 use Rattle.gtp_values.specs.declared.cause.Cause.{Cause}
 use Rattle.gtp_values.specs.declared.counter.Counter.{Counter}
 use Rattle.gtp_values.specs.declared.identifiers.Teid.{Teid}
-use Rattle.gtp_ie.specs.declared.value.numbers.EbiValue.{EbiValue}
+use Rattle.gtp_ie.specs.declared.value.ebi.EbiValue.{EbiValue}
 use Rattle.gtp_v2.specs.declared.body.Body.TheVariants as bodies
 use Rattle.gtp_v2.specs.declared.body.delete_bearer_response.RemovalResponseContext.{RemovalResponseContext}
 use Rattle.gtp_v2.specs.DeleteBearerResponse.{removal_response_context_rows, removal_response_context_values}

@@ -6,7 +6,7 @@ use Rattle.gtp_ie.specs.Element.{Element}
 use Rattle.gtp_ie.specs.Value.{Value, OfEbi, OfFTeid}
 use Rattle.gtp_tables.specs.Identity.{HasAll}
 use Rattle.gtp_v2.specs.CreateBearerRequest.{bearer_request_context_rows}
-use Rattle.gtp_v2.specs.Viewed.{optional_at, values_in, in_row}
+use Rattle.gtp_v2.specs.Viewed.{optional_at, values_in, in_row, always_has}
 use Rattle.gtp_v2.specs.Datagram.{IsMessage}
 use Rattle.gtp_v2.specs.Message.{MessageValue}
 use Rattle.gtp_machine.specs.declared.role.Role.{Role}
@@ -55,7 +55,7 @@ none_free node session all free =
 pub has_context : (octets : List ℕ) (m : MessageValue) → IsMessage octets m → procedure_at m.kind ≡ Some BearerAsked → HasBearerContext m
 has_context octets m is at =
     let a = bearer_asked octets m (type_is m.kind BearerAsked at) is in
-    record { linked = a.linked; first = a.first; further = a.further; user = a.user; links = row_so 95 73 0 _ m a.says; groups = groups_so 95 93 0 _ m a.says; ends = a.ends }
+    record { linked = ap (λ (k : ℕ). always_has k 73 0) (type_is m.kind BearerAsked at); first = a.first; further = a.further; user = a.user; groups = groups_so 95 93 0 _ m a.says; ends = a.ends }
 
 pub record IsCreateBearer (m : MessageValue) (r : BearerRequest) : Type 0 where
   pub request : CreateBearerRequest

@@ -4,7 +4,7 @@ use Rattle.std.specs.Prelude.{◌==◌, if◌then◌else◌}
 use Rattle.std.proofs.lemmas.Bool.Decides.{nat_tests}
 use Rattle.gtp_ie.specs.Element.{Element, all_of}
 use Rattle.gtp_ie.specs.Value.{Value, OfRecovery}
-use Rattle.gtp_ie.specs.declared.value.numbers.Recovery.{Recovery}
+use Rattle.gtp_ie.specs.declared.value.recovery.Recovery.{Recovery}
 use Rattle.gtp_v2.specs.Table.{Field, Plain, Groups, Table, start, after}
 use Rattle.gtp_v2.specs.Grammar.{RowsAre, GroupsAre, LinesAre}
 use Rattle.gtp_v2.specs.Headed.{Headed}
@@ -410,11 +410,3 @@ counter_read octets m p r is at tells reads = by p (type_is m.kind p at) tells
     by BearerAnswered of tells = let a = bearer_answered octets m of is in so 96 _ a.recovery a.says refl refl
     by RemovalAsked of tells = absurd cc
     by RemovalAnswered of tells = let a = removal_answered octets m of is in so 100 _ a.recovery a.says refl refl
-
--- ---- what a row that is needed has, once it was read
-
-pub found_value : {T : Type 0} (value : T → Value) (v : Value) (t : T) (r : Option T) → r ≡ Some t → option_map value r ≡ front_value (v ∷ []) → value t ≡ v
-found_value {T} value v t r found is = let same : option_map value (Some t) ≡ Some v = ap (option_map value) (sym found) ∙ is in cc
-
-pub no_value : {T : Type 0} (value : T → Value) (v : Value) (r : Option T) → r ≡ None → option_map value r ≡ front_value (v ∷ []) → ⊥
-no_value {T} value v r none is = let same : option_map value None ≡ Some v = ap (option_map value) (sym none) ∙ is in cc

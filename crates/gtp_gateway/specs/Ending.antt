@@ -4,7 +4,7 @@ use Rattle.std.specs.List.{list_any}
 use Rattle.std.specs.FinMap.{get}
 use Rattle.gtp_values.specs.declared.address.Endpoint.{Endpoint}
 use Rattle.gtp_values.specs.declared.identifiers.Teid.{Teid}
-use Rattle.gtp_ie.specs.declared.value.numbers.EbiValue.{EbiValue}
+use Rattle.gtp_ie.specs.declared.value.ebi.EbiValue.{EbiValue}
 use Rattle.gtp_ie.specs.Value.{Value, OfEbi}
 use Rattle.gtp_v2.specs.Message.{Fields, MessageValue}
 use Rattle.gtp_v2.specs.Table.{Plain}

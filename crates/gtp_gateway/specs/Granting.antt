@@ -6,7 +6,7 @@ use Rattle.gtp_tables.specs.Identity.{IsLowestUnused}
 use Rattle.gtp_ie.specs.Value.{Value, OfEbi, OfFTeid}
 use Rattle.gtp_v2.specs.CreateBearerRequest.{bearer_request_context_rows}
 use Rattle.gtp_v2.specs.Message.{MessageValue}
-use Rattle.gtp_v2.specs.Viewed.{in_row, in_groups}
+use Rattle.gtp_v2.specs.Viewed.{in_row, in_groups, always_has}
 use Rattle.gtp_machine.specs.Answer.{refusing}
 use Rattle.gtp_machine.specs.Decoded.{row}
 use Rattle.gtp_machine.specs.Element.{cause_of, tunnel_end}
@@ -33,11 +33,10 @@ use Rattle.gtp_gateway.specs.Station.{Station}
 
 -- the rows of a Create Bearer Request: its linked identity, and bearer contexts, of which the first has an F-TEID
 pub record HasBearerContext (m : MessageValue) : Type 0 where
-  pub linked : Value
+  pub linked : IsTrue (always_has m.kind 73 0)
   pub first : List (List Value)
   pub further : List (List (List Value))
   pub user : Value
-  pub links : in_row 73 0 m ≡ Some (linked ∷ [])
   pub groups : in_groups 93 0 m ≡ Some (bearer_request_context_rows, first ∷ further)
   pub ends : row 2 first ≡ user ∷ []
 

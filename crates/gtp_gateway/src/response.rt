@@ -2,7 +2,7 @@
 
 ghost use Rattle.std.specs.Prelude.{◌≡◌, ◌↔◌, ◌∷◌, [], IsTrue, Some, true, false, ℕ, List};
 ghost use Rattle.gtp_ie.specs.Value.{Value, OfCause};
-ghost use Rattle.gtp_v2.specs.Viewed.{in_row};
+ghost use Rattle.gtp_v2.specs.Viewed.{in_row, always_has};
 ghost use Rattle.gtp_reliable.specs.Pending.{purpose_of, SameTimes};
 ghost use Rattle.gtp_machine.specs.Node.{written};
 ghost use Rattle.gtp_machine.specs.Removal.{finished_about};
@@ -13,7 +13,6 @@ ghost use Rattle.gtp_gateway.specs.Response.{TakesEcho, TakesDeletion, TakesRemo
 ghost use Rattle.gtp_gateway.specs.UserTaken.{WaitOn};
 
 use crate::control_step::ControlStep;
-use crate::needed::needed;
 use crate::parts::Parts;
 use crate::purpose::Purpose;
 use gtp_machine::{DropReason, Outcome};
@@ -31,7 +30,7 @@ pub struct Response {
 
 /// What a response says of its request, where the response has a cause.
 pub fn response_in(view: &DatagramView<'_>) -> Response
-    requires { (cause : Value) × (in_row 2 0 view.now.message ≡ Some (cause ∷ [])) }
+    requires { IsTrue (always_has view.now.message.kind 2 0) }
     ensures seq { result.seq ≡ view.now.message.seq }
     ensures header { result.header.0 ≡ written view.now.message.teid }
     ensures cause { in_row 2 0 view.now.message ≡ Some (OfCause result.cause ∷ []) }
@@ -39,7 +38,7 @@ pub fn response_in(view: &DatagramView<'_>) -> Response
     Response {
         seq: view.seq(),
         header: view.teid().unwrap_or(Teid(0)),
-        cause: needed(view, 0),
+        cause: view.needed(0),
     }
 }
 

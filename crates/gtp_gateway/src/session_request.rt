@@ -7,7 +7,7 @@ ghost use Rattle.gtp_machine.specs.Message.{Create_session_request};
 ghost use Rattle.gtp_machine.specs.Message as messages;
 ghost use Rattle.gtp_gateway.specs.SessionAsked.{ReadsContext, SaysSession};
 
-use crate::needed::{needed, needed_in, none_is_left};
+use crate::needed::{needed_in, none_is_left};
 use gtp_v2::{DatagramView, EbiValue, PdnType};
 use gtp_values::{Ambr, Apn, Below, FTeid, Imsi, Qos, Seq};
 
@@ -64,10 +64,10 @@ pub fn session_request_in(view: &DatagramView<'_>) -> SessionRequest
 {
     SessionRequest {
         seq: view.seq(),
-        imsi: needed(view, 0),
-        control: needed(view, 0),
-        access_point: needed(view, 0),
-        pdn: needed(view, 0),
+        imsi: view.needed(0),
+        control: view.needed(0),
+        access_point: view.needed(0),
+        pdn: view.needed(0),
         ambr: view.value(0),
         default: requested_default(view),
     }

@@ -13,12 +13,14 @@ use Rattle.gtp_values.specs.declared.qos.Rates.{Rates}
 use Rattle.std.specs.Prelude.{◌==◌, Option, Some, None}
 use Rattle.gtp_ie.specs.Layout.{bits, is_set}
 use Rattle.gtp_ie.specs.Spelling.{Spells, Says}
+use Rattle.gtp_ie.specs.Form.{number_of}
+use Rattle.gtp_ie.specs.declared.form.Form.TheVariants as forms
 
-pub recovery_again : (counter : ℕ) → Spells 3 (encoding_of (OfRecovery counter)) (OfRecovery counter)
+pub recovery_again : (counter : ℕ) → Spells (number_of forms.Recovery) (encoding_of (OfRecovery counter)) (OfRecovery counter)
 unfolding encoding_of Says
 recovery_again counter = record { long_enough = omega arith; says = refl }
 
-pub ebi_again : (n : ℕ) → n < 16 → Spells 73 (encoding_of (OfEbi n)) (OfEbi n)
+pub ebi_again : (n : ℕ) → n < 16 → Spells (number_of forms.Ebi) (encoding_of (OfEbi n)) (OfEbi n)
 unfolding encoding_of Says
 ebi_again n small = record { long_enough = omega arith; says = ap OfEbi (omega arith) }
 
@@ -26,23 +28,23 @@ ebi_again n small = record { long_enough = omega arith; says = ap OfEbi (omega a
 pub number_again : (n : ℕ) (rest : List ℕ) → n < 2 ^ 32 → big_number 4 (big_bytes 4 n ++ rest) ≡ n
 number_again n rest small = big_from-bytes 4 n rest ∙ omega arith
 
-pub charging_id_again : (n : ℕ) → n < 2 ^ 32 → Spells 94 (encoding_of (OfChargingId n)) (OfChargingId n)
+pub charging_id_again : (n : ℕ) → n < 2 ^ 32 → Spells (number_of forms.ChargingId) (encoding_of (OfChargingId n)) (OfChargingId n)
 unfolding encoding_of Says
 charging_id_again n small = record { long_enough = omega arith; says = ap OfChargingId (sym (number_again n [] small)) }
 
-pub rat_again : (n : ℕ) → Spells 82 (encoding_of (OfRat n)) (OfRat n)
+pub rat_again : (n : ℕ) → Spells (number_of forms.Rat) (encoding_of (OfRat n)) (OfRat n)
 unfolding encoding_of Says
 rat_again n = record { long_enough = omega arith; says = refl }
 
-pub pti_again : (n : ℕ) → Spells 100 (encoding_of (OfPti n)) (OfPti n)
+pub pti_again : (n : ℕ) → Spells (number_of forms.Pti) (encoding_of (OfPti n)) (OfPti n)
 unfolding encoding_of Says
 pti_again n = record { long_enough = omega arith; says = refl }
 
-pub pdn_type_again : (n : ℕ) → n < 8 → Spells 99 (encoding_of (OfPdnType n)) (OfPdnType n)
+pub pdn_type_again : (n : ℕ) → n < 8 → Spells (number_of forms.PdnType) (encoding_of (OfPdnType n)) (OfPdnType n)
 unfolding encoding_of Says
 pdn_type_again n small = record { long_enough = omega arith; says = ap OfPdnType (omega arith) }
 
-pub selection_again : (n : ℕ) → n < 4 → Spells 128 (encoding_of (OfSelection n)) (OfSelection n)
+pub selection_again : (n : ℕ) → n < 4 → Spells (number_of forms.Selection) (encoding_of (OfSelection n)) (OfSelection n)
 unfolding encoding_of Says
 selection_again n small = record { long_enough = omega arith; says = ap OfSelection (omega arith) }
 
@@ -74,7 +76,7 @@ abbrev pub IsSmall : Option Offending → Type 0
 IsSmall None = Unit {0}
 IsSmall (Some o) = o.instance < 16
 
-cause_parts : (v : ℕ) (o : Option Offending) (p b s : Bool) → IsSmall o → Spells 2 (encoding_of (OfCause (cause_with v p b s o))) (OfCause (cause_with v p b s o))
+cause_parts : (v : ℕ) (o : Option Offending) (p b s : Bool) → IsSmall o → Spells (number_of forms.Cause) (encoding_of (OfCause (cause_with v p b s o))) (OfCause (cause_with v p b s o))
 unfolding encoding_of Says
 cause_parts v None p b s small =
     let f = flags_are p b s in
@@ -84,12 +86,12 @@ cause_parts v (Some o) p b s small =
     let same : o.instance ≡ bits 4 1 o.instance = omega arith in
     record { long_enough = omega arith; says = ap OfCause (same_cause refl (sym f.pce) (sym f.bce) (sym f.cs) (ap (λ (i : ℕ). Some (offending_with o.kind i)) same)) }
 
-pub cause_again : (c : Cause) → IsSmall c.offending → Spells 2 (encoding_of (OfCause c)) (OfCause c)
+pub cause_again : (c : Cause) → IsSmall c.offending → Spells (number_of forms.Cause) (encoding_of (OfCause c)) (OfCause c)
 cause_again c small = cause_parts c.value c.offending c.pce c.bce c.cs small
 
 -- ---- rates
 
-pub ambr_again : (a : Ambr) → a.up < 2 ^ 32 → a.down < 2 ^ 32 → Spells 72 (encoding_of (OfAmbr a)) (OfAmbr a)
+pub ambr_again : (a : Ambr) → a.up < 2 ^ 32 → a.down < 2 ^ 32 → Spells (number_of forms.Ambr) (encoding_of (OfAmbr a)) (OfAmbr a)
 unfolding encoding_of Says
 ambr_again a up down =
     let first : a.up ≡ big_number 4 (big_bytes 4 a.up ++ big_bytes 4 a.down) = sym (number_again a.up (big_bytes 4 a.down) up) in
@@ -128,7 +130,7 @@ qos_flags_are false pl false small = record { pci = is_zero _ (omega arith); lev
 abbrev qos_with : ℕ → Bool → ℕ → Bool → Rates → Rates → Qos
 qos_with qci c pl v m g = record { pci = c; pl = pl; pvi = v; qci = qci; mbr = m; gbr = g }
 
-pub qos_again : (q : Qos) → q.pl < 16 → AreRates q.mbr → AreRates q.gbr → Spells 80 (encoding_of (OfQos q)) (OfQos q)
+pub qos_again : (q : Qos) → q.pl < 16 → AreRates q.mbr → AreRates q.gbr → Spells (number_of forms.Qos) (encoding_of (OfQos q)) (OfQos q)
 unfolding encoding_of Says
 qos_again q small m g =
     let f = qos_flags_are q.pci q.pl q.pvi small in

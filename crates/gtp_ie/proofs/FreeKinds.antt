@@ -36,13 +36,13 @@ all_same : (kind : ℕ) → CountWhole kind 5 → (body other : List ℕ) → co
 all_same kind whole body other e = sym (take-length body) ∙ (whole_from kind 5 whole 5 (omega arith) (take (length body) body) (take (length other) other) e ∙ take-length other)
 
 pub imsi_free : IsFree 1
-imsi_free body other v s spells = subst (λ (b : List ℕ). Spells 1 b v) (all_same 1 (λ m o h. refl) body other s.same) spells
+imsi_free body other v s spells = subst (λ (b : List ℕ). Spells (number_of forms.Imsi) b v) (all_same (number_of forms.Imsi) (λ m o h. refl) body other s.same) spells
 
 pub apn_free : IsFree 71
-apn_free body other v s spells = subst (λ (b : List ℕ). Spells 71 b v) (all_same 71 (λ m o h. refl) body other s.same) spells
+apn_free body other v s spells = subst (λ (b : List ℕ). Spells (number_of forms.Apn) b v) (all_same (number_of forms.Apn) (λ m o h. refl) body other s.same) spells
 
 pub tft_free : IsFree 84
-tft_free body other v s spells = subst (λ (b : List ℕ). Spells 84 b v) (all_same 84 (λ m o h. refl) body other s.same) spells
+tft_free body other v s spells = subst (λ (b : List ℕ). Spells (number_of forms.Tft) b v) (all_same (number_of forms.Tft) (λ m o h. refl) body other s.same) spells
 
 -- ---- forms of so many octets with no spare bits
 

@@ -19,20 +19,20 @@ use Rattle.gtp_values.specs.contracts.qos.AmbrPartialEq.TheImpl as ambrs
 use Rattle.gtp_values.specs.contracts.qos.QosPartialEq.TheImpl as qualities
 use Rattle.gtp_values.proofs.Same as values
 use Rattle.gtp_values.proofs.Same.{whole_by, one_by}
-use Rattle.gtp_ie.specs.declared.value.numbers.Recovery.{Recovery}
-use Rattle.gtp_ie.specs.declared.value.numbers.EbiValue.{EbiValue}
-use Rattle.gtp_ie.specs.declared.value.numbers.Rat.{Rat}
-use Rattle.gtp_ie.specs.declared.value.numbers.ChargingId.{ChargingId}
-use Rattle.gtp_ie.specs.declared.value.numbers.PdnType.{PdnType}
-use Rattle.gtp_ie.specs.declared.value.numbers.Pti.{Pti}
-use Rattle.gtp_ie.specs.declared.value.numbers.Selection.{Selection}
-use Rattle.gtp_ie.specs.contracts.value.numbers.RecoveryPartialEq.TheImpl as recoveries
-use Rattle.gtp_ie.specs.contracts.value.numbers.EbiValuePartialEq.TheImpl as ebis
-use Rattle.gtp_ie.specs.contracts.value.numbers.RatPartialEq.TheImpl as rats
-use Rattle.gtp_ie.specs.contracts.value.numbers.ChargingIdPartialEq.TheImpl as charging_ids
-use Rattle.gtp_ie.specs.contracts.value.numbers.PdnTypePartialEq.TheImpl as pdn_types
-use Rattle.gtp_ie.specs.contracts.value.numbers.PtiPartialEq.TheImpl as ptis
-use Rattle.gtp_ie.specs.contracts.value.numbers.SelectionPartialEq.TheImpl as selections
+use Rattle.gtp_ie.specs.declared.value.recovery.Recovery.{Recovery}
+use Rattle.gtp_ie.specs.declared.value.ebi.EbiValue.{EbiValue}
+use Rattle.gtp_ie.specs.declared.value.rat.Rat.{Rat}
+use Rattle.gtp_ie.specs.declared.value.charging_id.ChargingId.{ChargingId}
+use Rattle.gtp_ie.specs.declared.value.pdn_type.PdnType.{PdnType}
+use Rattle.gtp_ie.specs.declared.value.pti.Pti.{Pti}
+use Rattle.gtp_ie.specs.declared.value.selection.Selection.{Selection}
+use Rattle.gtp_ie.specs.contracts.value.recovery.RecoveryPartialEq.TheImpl as recoveries
+use Rattle.gtp_ie.specs.contracts.value.ebi.EbiValuePartialEq.TheImpl as ebis
+use Rattle.gtp_ie.specs.contracts.value.rat.RatPartialEq.TheImpl as rats
+use Rattle.gtp_ie.specs.contracts.value.charging_id.ChargingIdPartialEq.TheImpl as charging_ids
+use Rattle.gtp_ie.specs.contracts.value.pdn_type.PdnTypePartialEq.TheImpl as pdn_types
+use Rattle.gtp_ie.specs.contracts.value.pti.PtiPartialEq.TheImpl as ptis
+use Rattle.gtp_ie.specs.contracts.value.selection.SelectionPartialEq.TheImpl as selections
 use Rattle.gtp_ie.specs.Value.{OfImsi, OfCause, OfRecovery, OfApn, OfAmbr, OfEbi, OfPaa, OfQos, OfRat, OfPlmn, OfTft, OfFTeid, OfChargingId, OfPdnType, OfPti, OfSelection}
 
 pub imsi_same : (a b : List ℕ) → Decides ((imsis.ghosts).eq a b) (OfImsi a ≡ OfImsi b)

@@ -1,6 +1,6 @@
 //! What elements say: the law of element values.
 
-ghost use Rattle.std.specs.Prelude.{◌≡◌, ◌↔◌, ℕ, ◌++◌, ◌≤◌, Ok, OnOk, OnErr, IfOk, IsOkAnd, IsErrOf, length};
+ghost use Rattle.std.specs.Prelude.{◌≡◌, ◌↔◌, ℕ, ◌++◌, ◌≤◌, ◌<◌, Ok, OnOk, OnErr, IfOk, IfErr, IsOk, IsOkAnd, IsErrOf, length, take};
 ghost use Rattle.gtp_values.specs.Steps.{Gives};
 ghost use Rattle.gtp_ie.specs.Value.{Value, value_at, checked_at, encoding_of};
 ghost use Rattle.gtp_ie.specs.Spelling.{Spells, IsShort, IsBad};
@@ -9,13 +9,52 @@ ghost use Rattle.gtp_ie.specs.Free.{SpellsFreely};
 use crate::fault::ReadFault;
 use std::alloc::AllocError;
 
-mod addresses;
+mod ambr;
+mod apn;
 mod cause;
-mod names;
-mod numbers;
-mod quality;
+mod charging_id;
+mod ebi;
+mod fteid;
+mod imsi;
+mod paa;
+mod pdn_type;
+mod plmn;
+mod pti;
+mod qos;
+mod rat;
+mod recovery;
+mod selection;
+mod tft;
 
-pub use numbers::{ChargingId, EbiValue, PdnType, Pti, Rat, Recovery, Selection};
+pub use charging_id::ChargingId;
+pub use ebi::EbiValue;
+pub use pdn_type::PdnType;
+pub use pti::Pti;
+pub use rat::Rat;
+pub use recovery::Recovery;
+pub use selection::Selection;
+
+/// That a body has at least so many octets.
+fn long_enough(body: &[u8], least: usize) -> Result<(), ReadFault>
+    ensures long { OnOk result (least ≤ length body.now) }
+    ensures short { OnErr result (length body.now < least) }
+    ensures fault { IfErr result (λ f. f ≡ ReadFault.Short) }
+{
+    if body.len() < least {
+        return Err(ReadFault::Short);
+    }
+    Ok(())
+}
+
+/// The first octets of a slice.
+fn first<const N: usize>(octets: &[u8]) -> [u8; N]
+    requires { N ≤ length octets.now }
+    ensures { result ≡ take N octets.now }
+{
+    let mut cells = [0u8; N];
+    cells.copy_from_slice(&octets[..N]);
+    cells
+}
 
 /// A value that the body of an element of one type spells (TS 29.274 8.1).
 pub trait IeValue: Copy {
@@ -27,17 +66,21 @@ pub trait IeValue: Copy {
     /// Which value it is.
     ghost value: { Self → Value };
 
-    /// The value that the body spells, by the form of its type.
-    fn parse(body: &[u8]) -> Result<Self, ReadFault>
-        ensures { Gives value result (value_at KIND body.now) };
+    /// That the body spells a value, by the form of its type. None is built.
+    fn check(body: &[u8]) -> Result<(), ReadFault>
+        ensures { Gives (λ u. u) result (checked_at KIND body.now) };
 
-    /// That the body spells a value: the fault of `parse`, or none. IMSI, access point name, F-TEID, PDN
-    /// address, template and QoS are not built for it.
-    fn check(octets: &[u8]) -> Result<(), ReadFault>
-        ensures { Gives (λ u. u) result (checked_at KIND octets.now) }
+    /// The value of a body that spells one.
+    fn build(body: &[u8]) -> Self
+        requires { IsOk (value_at KIND body.now) }
+        ensures { value_at KIND body.now ≡ Ok (value result) };
+
+    /// The value that the body spells, by the form of its type.
+    final fn parse(body: &[u8]) -> Result<Self, ReadFault>
+        ensures { Gives value result (value_at KIND body.now) }
     {
-        Self::parse(octets)?;
-        Ok(())
+        Self::check(body)?;
+        Ok(Self::build(body))
     }
 
     /// Appends the one body of the value: spare bits 0, and no octets after the form. Where memory runs

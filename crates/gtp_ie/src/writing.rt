@@ -36,8 +36,8 @@ pub fn open(out: &mut Vec<u8>, kind: u8, instance: u8) -> Result<(), AllocError>
     Ok(())
 }
 
-/// Writes the length of the element that begins at `start` and runs to the end, modulo 65536: who
-/// writes whole messages refuses longer ones.
+/// Writes the length of the element that begins at `start` and runs to the end, modulo 65536: a caller
+/// that writes whole messages has to refuse longer ones.
 pub fn close(out: &mut Vec<u8>, start: usize)
     requires { start + 4 ≤ length out.old.items }
     ensures { out.new.items ≡ closed start (length out.old.items - (start + 4)) out.old.items }

@@ -3,8 +3,8 @@ use Rattle.std.specs.Prelude.{◌≡◌, ◌⊎◌, ◌↔◌, ℕ, ◌<◌, ◌
 use Rattle.gtp_values.specs.declared.identifiers.Teid.{Teid}
 use Rattle.gtp_ie.specs.declared.fault.IeFault.{IeFault}
 use Rattle.gtp_ie.specs.declared.fault.IeFault.TheVariants as elements
-use Rattle.gtp_ie.specs.declared.value.numbers.Recovery.{Recovery}
-use Rattle.gtp_ie.specs.declared.value.numbers.ChargingId.{ChargingId}
+use Rattle.gtp_ie.specs.declared.value.recovery.Recovery.{Recovery}
+use Rattle.gtp_ie.specs.declared.value.charging_id.ChargingId.{ChargingId}
 use Rattle.gtp_v2.specs.declared.message.Message as decoded
 use Rattle.gtp_v2.specs.declared.body.Body.{Body}
 use Rattle.gtp_v2.specs.declared.body.Body.TheVariants as bodies

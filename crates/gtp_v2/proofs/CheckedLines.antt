@@ -22,7 +22,7 @@ use Rattle.gtp_v2.specs.Viewed.{value_or_none, welcome, optional_at}
 use Rattle.gtp_v2.specs.reading.Rows.{group_at, each_at, rows_at, lines_at, whole}
 use Rattle.gtp_v2.specs.reading.Checked.{forgotten, says, row_says, rows_accept, groups_silent, groups_say, after_groups, line_says, lines_say, merged}
 use Rattle.gtp_v2.specs.declared.table.Shape.{Shape}
-use Rattle.gtp_v2.specs.reading.Lines.{line_of, is_free, checked_rows, has_several, checked_lines, shape_of, shape_in}
+use Rattle.gtp_v2.specs.reading.Lines.{line_of, is_unchecked, checked_rows, has_several, checked_lines, shape_of, shape_in}
 use Rattle.gtp_v2.specs.Tables.{table_of}
 use Rattle.gtp_v2.specs.Headed.{Headed}
 use Rattle.gtp_v2.specs.Message.{Fields, head_of, with_head}
@@ -84,13 +84,13 @@ and_true : (b : Bool) → (b && true) ≡ b
 and_true true = refl
 and_true false = refl
 
--- a free row reads, and accepts
-free_says : (accepting : Bool) (row : Row) (es : List Element) → is_free row ≡ true → (now : State) × ((row_says accepting row es ≡ Ok now) × (now.accepting ≡ true))
+-- a row that is not checked reads, and accepts
+unchecked_says : (accepting : Bool) (row : Row) (es : List Element) → is_unchecked row ≡ true → (now : State) × ((row_says accepting row es ≡ Ok now) × (now.accepting ≡ true))
 unfolding row_says
-free_says accepting (Optional kind instance) es free = (says (Plain (option_to_list (optional_at kind instance es))), (refl, optional_accepts kind instance es (is_other _ free)))
-free_says accepting (Mandatory kind instance) es free = absurd cc
-free_says accepting (Conditional kind instance) es free = absurd cc
-free_says accepting (Accepted kind instance) es free = absurd cc
+unchecked_says accepting (Optional kind instance) es free = (says (Plain (option_to_list (optional_at kind instance es))), (refl, optional_accepts kind instance es (is_other _ free)))
+unchecked_says accepting (Mandatory kind instance) es free = absurd cc
+unchecked_says accepting (Conditional kind instance) es free = absurd cc
+unchecked_says accepting (Accepted kind instance) es free = absurd cc
 
 -- ---- rows of a group
 
@@ -103,11 +103,11 @@ rows_after a first now (Err f) es same = refl
 rows_checked : (rows : List Row) (es : List Element) (a : Bool) → rows_accept a (checked_rows rows) es ≡ rows_accept a rows es
 unfolding rows_accept
 rows_checked [] es a = refl
-rows_checked (row ∷ rows) es a = by_free (is_free row) refl (rows_checked rows es) where
-  by_free : (b : Bool) → is_free row ≡ b → ((c : Bool) → rows_accept c (checked_rows rows) es ≡ rows_accept c rows es)
+rows_checked (row ∷ rows) es a = by_free (is_unchecked row) refl (rows_checked rows es) where
+  by_free : (b : Bool) → is_unchecked row ≡ b → ((c : Bool) → rows_accept c (checked_rows rows) es ≡ rows_accept c rows es)
       → rows_accept a (cond b (checked_rows rows) (row ∷ checked_rows rows)) es ≡ (row_says a row es >>= λ one. rows_accept (a && one.accepting) rows es)
   by_free true free others =
-      let f = free_says a row es free in
+      let f = unchecked_says a row es free in
       let accepting : a ≡ a && f.0.accepting = sym (and_true a) ∙ ap (λ (b : Bool). a && b) (sym f.1.1) in
       others a ∙ ap (λ (b : Bool). rows_accept b rows es) accepting ∙ ap (λ (r : Result State RowFault). r >>= λ one. rows_accept (a && one.accepting) rows es) (sym f.1.0)
   by_free false needed others = rows_after a (checked_rows rows) rows (row_says a row es) es others
@@ -186,12 +186,12 @@ lines_checked (Grouped row rows ∷ lines) es state =
     let of = all_of (kind_of row) (instance_of row) es in
     ap (λ (r : Result State RowFault). forgotten (r >>= λ one. lines_say (merged state one) (checked_lines lines) es)) (say_checked (need_of state.accepting row) (kind_of row) (instance_of row) state.accepting rows of)
     ∙ said_after state state (checked_lines lines) lines (line_says state (Grouped row rows) es) es (λ one. lines_checked lines es (merged state one))
-lines_checked (Single row ∷ lines) es state = by_free (is_free row && not (has_several lines)) refl (lines_checked lines es) where
-  by_free : (b : Bool) → (is_free row && not (has_several lines)) ≡ b → ((s : State) → forgotten (lines_say s (checked_lines lines) es) ≡ forgotten (lines_say s lines es))
+lines_checked (Single row ∷ lines) es state = by_free (is_unchecked row && not (has_several lines)) refl (lines_checked lines es) where
+  by_free : (b : Bool) → (is_unchecked row && not (has_several lines)) ≡ b → ((s : State) → forgotten (lines_say s (checked_lines lines) es) ≡ forgotten (lines_say s lines es))
       → forgotten (lines_say state (cond b (checked_lines lines) (Single row ∷ checked_lines lines)) es) ≡ forgotten (row_says state.accepting row es >>= λ one. lines_say (merged state one) lines es)
   by_free true free others =
-      let p = both_true (is_free row) (not (has_several lines)) free in
-      let f = free_says state.accepting row es p.0 in
+      let p = both_true (is_unchecked row) (not (has_several lines)) free in
+      let f = unchecked_says state.accepting row es p.0 in
       let accepting : state.accepting ≡ state.accepting && f.0.accepting = sym (and_true state.accepting) ∙ ap (λ (b : Bool). state.accepting && b) (sym f.1.1) in
       others state ∙ no_silence state.accepting state.silent (state.silent && f.0.silent) lines es (is_other (has_several lines) p.1)
       ∙ ap (λ (a : Bool). forgotten (lines_say (state_of a (state.silent && f.0.silent)) lines es)) accepting

@@ -1,10 +1,14 @@
 -- Checking one thing after the other, as a loop does.
-use Rattle.std.specs.Prelude.{◌==◌, if◌then◌else◌}
+use Rattle.std.specs.Prelude.{◌==◌, if◌then◌else◌, IsOk}
 use Rattle.std.proofs.Common.{rules, ◌≡◌, ℕ, ◌+◌, ◌<◌, ◌≤◌, Bool, true, false, ◌&&◌, List, [], ◌∷◌, ◌++◌, map, length, get_or, drop, Result, Ok, Err, refl, sym, ap, ◌∙◌}
 use Rattle.std.proofs.lemmas.List.{at_drop_more, at_drop_all}
 use Rattle.gtp_values.specs.Steps.{◌>>=◌}
 use Rattle.gtp_ie.specs.Element.{Element, all_of}
-use Rattle.gtp_ie.specs.Value.{Value}
+use Rattle.gtp_ie.specs.View.{element_of}
+use Rattle.gtp_ie.specs.declared.view.ElementView.{ElementView}
+use Rattle.gtp_ie.specs.Value.{Value, value_at}
+use Rattle.gtp_ie.specs.declared.fault.ReadFault.{ReadFault}
+use Rattle.gtp_ie.specs.declared.fault.ReadFault.TheVariants.{Short, Bad}
 use Rattle.gtp_values.proofs.Decided.{bind_at, bind_at_err, bind_ok}
 use Rattle.gtp_values.proofs.Outcomes.{ok_same}
 use Rattle.gtp_v2.specs.declared.fault.RowFault.{RowFault}
@@ -14,7 +18,7 @@ use Rattle.gtp_v2.specs.Table.{Row, Line, Single, Grouped, Several, Plain, Group
 use Rattle.gtp_v2.specs.declared.table.Line.{Line as Kept}
 use Rattle.gtp_v2.specs.declared.table.Line.TheVariants as kept
 use Rattle.gtp_v2.specs.reading.Lines.{line_of}
-use Rattle.gtp_v2.specs.reading.Rows.{row_at, rows_at, group_at, groups_at, each_at, line_at, lines_at, some_groups, several_at, values_at, one_at, no_group, no_value}
+use Rattle.gtp_v2.specs.reading.Rows.{row_at, rows_at, group_at, groups_at, each_at, line_at, lines_at, some_groups, several_at, values_at, one_at, named, no_group, no_value}
 use Rattle.gtp_v2.specs.reading.Checked.{row_says, rows_accept, forgotten, group_passes, one_accepts, says, with_one, after_groups, after_values, line_says, lines_say, merged, groups_silent, groups_say, values_say, several_say}
 use Rattle.gtp_v2.proofs.Loop.{with_front, goes_on, ends, is_done, nothing_before}
 
@@ -142,6 +146,26 @@ passed read view seen left total none so_far = (so_far.0, so_far.1, is_done read
 pub was_read : {X E : Type 0} (r : Result X E) → forgotten r ≡ Ok tt → (x : X) × (r ≡ Ok x)
 was_read (Ok x) h = (x, refl)
 was_read (Err e) h = absurd cc
+
+pub reads_ok : {X E : Type 0} (r : Result X E) → forgotten r ≡ Ok tt → IsOk r
+reads_ok (Ok x) h = refl
+reads_ok (Err e) h = absurd cc
+
+-- the value of an element that reads
+pub one_reads : (kind instance : ℕ) (e : Element) → IsOk (one_at kind instance e) → IsOk (value_at kind e.body)
+unfolding one_at
+one_reads kind instance e ok = by_outcome (value_at kind e.body) ok where
+  by_outcome : (outcome : Result Value ReadFault) → IsOk (named kind instance e.at outcome) → IsOk outcome
+  by_outcome (Ok v) ok = refl
+  by_outcome (Err Short) ok = absurd cc
+  by_outcome (Err Bad) ok = absurd cc
+
+pub one_read : (kind instance : ℕ) (e : Element) (v : Value) → value_at kind e.body ≡ Ok v → one_at kind instance e ≡ Ok v
+unfolding one_at
+one_read kind instance e v reads = ap (named kind instance e.at) reads
+
+pub seen_read : (kind instance : ℕ) (view : ElementView) (v : Value) → value_at kind view.body.now ≡ Ok v → one_at kind instance (element_of view) ≡ Ok v
+seen_read kind instance view v reads = one_read kind instance (element_of view) v reads
 
 pub was_fault : {X E : Type 0} (r : Result X E) (f : E) → forgotten r ≡ Err f → r ≡ Err f
 was_fault (Ok x) f h = absurd cc

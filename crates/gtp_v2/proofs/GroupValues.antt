@@ -1,7 +1,6 @@
 -- What groups have, by their elements.
-use Rattle.std.proofs.Common.{rules, ◌≡◌, ℕ, ◌+◌, Bool, true, false, cond, ◌&&◌, List, [], ◌∷◌, Option, Some, None, Result, Ok, Err, refl, sym, ap, subst, ◌∙◌, map}
+use Rattle.std.proofs.Common.{rules, ◌≡◌, ℕ, ◌+◌, Bool, true, false, ◌&&◌, List, [], ◌∷◌, Option, Some, None, Result, Ok, Err, refl, sym, ap, subst, ◌∙◌, map}
 use Rattle.std.specs.Prelude.{◌==◌, if◌then◌else◌, option_to_list, length}
-use Rattle.std.proofs.lemmas.Option.{same_Some}
 use Rattle.gtp_values.specs.Steps.{◌>>=◌}
 use Rattle.gtp_values.proofs.Decided.{bind_ok}
 use Rattle.gtp_values.proofs.Outcomes.{done, ok_same}
@@ -10,12 +9,11 @@ use Rattle.gtp_ie.specs.Value.{Value}
 use Rattle.gtp_v2.specs.declared.fault.RowFault.{RowFault}
 use Rattle.gtp_v2.specs.declared.fault.Need.{Need}
 use Rattle.gtp_v2.specs.declared.fault.Need.TheVariants as needs
-use Rattle.gtp_v2.specs.Message.{Content}
 use Rattle.gtp_v2.specs.Tables.{table_of}
-use Rattle.gtp_v2.specs.Table.{Line, Single, Grouped, Several, Field, Groups, State, start, after, Table, need_of, Row, Mandatory, Conditional, Accepted, Optional, kind_of, instance_of, accepts}
-use Rattle.gtp_v2.specs.reading.Rows.{line_at, lines_at, some_groups, no_group, row_at, rows_at, group_at, groups_at, each_at, whole, needed_at, needed_if_at}
-use Rattle.gtp_v2.specs.Viewed.{optional_at, Viewed, groups_among, groups_by, in_groups, inner_of, values_in, front_value}
-use Rattle.gtp_v2.proofs.Views.{whole_is, row_is, both_same, ReadBy, IsRead}
+use Rattle.gtp_v2.specs.Table.{Line, Single, Grouped, Several, Field, Groups, State, need_of, Row, Mandatory, Conditional, Accepted, Optional, kind_of, instance_of, accepts}
+use Rattle.gtp_v2.specs.reading.Rows.{line_at, some_groups, no_group, row_at, rows_at, group_at, groups_at, each_at, whole, needed_at, needed_if_at}
+use Rattle.gtp_v2.specs.Viewed.{optional_at, Viewed, found_by, is_groups, rows_of, groups_of, in_groups, inner_of, values_in, front_value}
+use Rattle.gtp_v2.proofs.Views.{whole_is, row_is, both_same, IsRead, made_of, found_is}
 
 -- a row has one value at most
 one_or_none : (r : Result Value RowFault) (values : List Value) → (r >>= λ v. done RowFault (v ∷ [])) ≡ Ok values → option_to_list (front_value values) ≡ values
@@ -68,39 +66,22 @@ some_are need kind instance (Ok (g ∷ gs)) groups h = by_length (length (g ∷ 
   by_length false is h = h
 some_are need kind instance (Err f) groups h = absurd cc
 
-abbrev AreFound : ℕ → ℕ → List Element → List Row × List (List (List Value)) → Type 0
-AreFound kind instance es p = p.1 ≡ map (values_in p.0) (map inner_of (all_of kind instance es))
-
-at_groups : (kind instance k i : ℕ) (a : Bool) (rows : List Row) (es : List Element) (gs : List (List (List Value))) (p : List Row × List (List (List Value))) (rest : Option (List Row × List (List (List Value)))) (b : Bool)
-    → ((k == kind) && (i == instance)) ≡ b → groups_at a rows (all_of k i es) ≡ Ok gs → (rest ≡ Some p → AreFound kind instance es p) → cond b (Some (rows, gs)) rest ≡ Some p → AreFound kind instance es p
-at_groups kind instance k i a rows es gs p rest true same h others is =
-    let q = both_same k kind i instance same in
-    subst (λ (x : List Row × List (List (List Value))). AreFound kind instance es x) (same_Some (rows, gs) p is)
-    (subst (λ (n : ℕ). AreFound n instance es (rows, gs)) q.0 (subst (λ (n : ℕ). AreFound k n es (rows, gs)) q.1 (groups_values a rows (all_of k i es) gs h)))
-at_groups kind instance k i a rows es gs p rest false same h others is = others is
-
-lines_found : (kind instance : ℕ) (state : State) (lines : List Line) (es : List Element) (fields : List Field) (p : List Row × List (List (List Value)))
-    → lines_at state lines es ≡ Ok fields → groups_among kind instance lines fields ≡ Some p → AreFound kind instance es p
-unfolding lines_at some_groups
-lines_found kind instance state [] es fields p h is = absurd cc
-lines_found kind instance state (line ∷ lines) es fields p h is =
-    let b = bind_ok (line_at state line es) (λ field. lines_at (after state field) lines es >>= λ others. done RowFault (field ∷ others)) fields h in
-    let d = bind_ok (lines_at (after state b.0) lines es) (λ others. done RowFault (b.0 ∷ others)) fields b.2 in
-    by_line line b.0 b.1 d.0 (λ rest. lines_found kind instance (after state b.0) lines es d.0 p d.1 rest) (subst (λ (fs : List Field). groups_among kind instance (line ∷ lines) fs ≡ Some p) (sym (ok_same RowFault (b.0 ∷ d.0) fields d.2)) is)
-  where
-    by_line : (line : Line) (field : Field) → line_at state line es ≡ Ok field → (others : List Field) → (groups_among kind instance lines others ≡ Some p → AreFound kind instance es p) → groups_among kind instance (line ∷ lines) (field ∷ others) ≡ Some p → AreFound kind instance es p
-    by_line (Single row) field one others rest is = rest is
-    by_line (Several k i missed) field one others rest is = rest is
-    by_line (Grouped row rows) field one others rest is =
-        let g = bind_ok (some_groups (need_of state.accepting row) (kind_of row) (instance_of row) state.accepting rows (all_of (kind_of row) (instance_of row) es)) (λ groups. done RowFault (Groups groups)) field one in
-        at_groups kind instance (kind_of row) (instance_of row) state.accepting rows es g.0 p (groups_among kind instance lines others) ((kind_of row == kind) && (instance_of row == instance)) refl
-        (some_are (need_of state.accepting row) (kind_of row) (instance_of row) (groups_at state.accepting rows (all_of (kind_of row) (instance_of row) es)) g.0 g.1) rest
-        (subst (λ (f : Field). groups_among kind instance (Grouped row rows ∷ lines) (f ∷ others) ≡ Some p) (sym (ok_same RowFault (Groups g.0) field g.2)) is)
-
-groups_by_rows : (kind instance : ℕ) (table : Option Table) (content : Content) (es : List Element) → ReadBy table content es → (p : List Row × List (List (List Value))) → groups_by kind instance table content ≡ Some p → AreFound kind instance es p
-groups_by_rows kind instance None content es read p is = absurd cc
-groups_by_rows kind instance (Some table) content es read p is = lines_found kind instance start table.lines es read.0 p read.2 (subst (λ (c : Content). groups_by kind instance (Some table) c ≡ Some p) read.1 is)
+groups_found : (kind instance : ℕ) (es : List Element) (line : Line) (field : Field) (state : State) → line_at state line es ≡ Ok field → is_groups kind instance line ≡ true → groups_of field ≡ map (values_in (rows_of line)) (map inner_of (all_of kind instance es))
+unfolding some_groups
+groups_found kind instance es (Grouped row rows) field state one same =
+    let of = all_of (kind_of row) (instance_of row) es in
+    let need = need_of state.accepting row in
+    let g = bind_ok (some_groups need (kind_of row) (instance_of row) state.accepting rows of) (λ groups. done RowFault (Groups groups)) field one in
+    let p = both_same (kind_of row) kind (instance_of row) instance same in
+    ap groups_of (sym (ok_same RowFault (Groups g.0) field g.2)) ∙ groups_values state.accepting rows of g.0 (some_are need (kind_of row) (instance_of row) (groups_at state.accepting rows of) g.0 g.1)
+    ∙ (λ i. map (values_in rows) (map inner_of (all_of (p.0 i) (p.1 i) es)))
+groups_found kind instance es (Single row) field state one same = absurd cc
+groups_found kind instance es (Several k i missed) field state one same = absurd cc
 
 -- the groups of the message are those of its elements
 pub groups_are : (kind instance : ℕ) (v : Viewed) → IsRead v → (p : List Row × List (List (List Value))) → in_groups kind instance v.message ≡ Some p → p.1 ≡ map (values_in p.0) (map inner_of (all_of kind instance v.elements))
-groups_are kind instance v read p is = groups_by_rows kind instance (table_of v.message.kind) v.message.content v.elements read p is
+groups_are kind instance v read p is =
+    let q = made_of (λ (x : Line × Field). (rows_of x.0, groups_of x.1)) (found_by (is_groups kind instance) (table_of v.message.kind) v.message.content) p is in
+    let f = found_is (is_groups kind instance) v read q.0 q.1 in
+    subst (λ (x : List Row × List (List (List Value))). x.1 ≡ map (values_in x.0) (map inner_of (all_of kind instance v.elements))) q.2
+    (groups_found kind instance v.elements q.0.0 q.0.1 f.0 f.1 f.2)

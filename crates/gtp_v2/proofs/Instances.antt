@@ -17,7 +17,7 @@ use Rattle.gtp_v2.specs.Message.{with_head}
 use Rattle.gtp_v2.specs.Tables.{table_of}
 use Rattle.gtp_v2.specs.Datagram.{FailsBy, IsFault}
 use Rattle.gtp_v2.specs.reading.Instances.{RowInstanceIsSmall}
-use Rattle.gtp_v2.specs.Instances.{InstanceIsSmall}
+use Rattle.gtp_v2.specs.Instances.{IsOfOctets, InstanceIsSmall}
 use Rattle.gtp_values.proofs.Tests.{both}
 use Rattle.gtp_v2.proofs.Encoded.{tables_fit}
 
@@ -86,33 +86,44 @@ lines_small state (line ∷ lines) es f fit fails =
       | inr later ↦ lines_small (after state later.0) lines es f a.right later.2
     ]
 
-with_head_small : (head : Head) (f : RowFault) → RowInstanceIsSmall f → InstanceIsSmall (with_head head f)
-with_head_small head (row_faults.Missing kind instance conditional) small = small
-with_head_small head (row_faults.Element fault) small = small
+-- a fault of octets, and the instance that it names
+abbrev IsSmall : V2Fault → Type 0
+IsSmall f = InstanceIsSmall f × IsOfOctets f
 
-body_small : (table : Option Table) (h : Headed) (f : V2Fault) → ((t : Table) → table ≡ Some t → all_fit t.lines ≡ true) → FailsBy table h f → InstanceIsSmall f
+with_head_small : (head : Head) (f : RowFault) → RowInstanceIsSmall f → IsSmall (with_head head f)
+with_head_small head (row_faults.Missing kind instance conditional) small = (small, tt)
+with_head_small head (row_faults.Element fault) small = (small, tt)
+
+body_small : (table : Option Table) (h : Headed) (f : V2Fault) → ((t : Table) → table ≡ Some t → all_fit t.lines ≡ true) → FailsBy table h f → IsSmall f
 body_small None h f fit fails = absurd fails
 body_small (Some table) h f fit fails = elim fails [
-  | inl form ↦ subst InstanceIsSmall (sym form.1) tt
+  | inl form ↦ subst IsSmall (sym form.1) (tt, tt)
   | inr list ↦ elim list.1 [
-    | inl cut ↦ subst InstanceIsSmall (sym cut.2) tt
+    | inl cut ↦ subst IsSmall (sym cut.2) (tt, tt)
     | inr later ↦
         let row = later.2 in
-        subst InstanceIsSmall (sym row.2.2) (with_head_small _ row.0 (lines_small start table.lines later.0 row.0 (fit table refl) row.1))
+        subst IsSmall (sym row.2.2) (with_head_small _ row.0 (lines_small start table.lines later.0 row.0 (fit table refl) row.1))
   ]
 ]
 
-header_small : (octets : List ℕ) (f : V2Fault) → HeaderFails octets f → InstanceIsSmall f
-header_small octets f (inl few) = subst InstanceIsSmall (sym few.1) tt
-header_small octets f (inr (first, kind, high, low, following, text, inl (ne, is))) = subst InstanceIsSmall (sym is) tt
-header_small octets f (inr (first, kind, high, low, following, text, inr (inl (flags, lt, eq, is)))) = subst InstanceIsSmall (sym is) tt
-header_small octets f (inr (first, kind, high, low, following, text, inr (inr (inl (flags, lt, eq, ne, is))))) = subst InstanceIsSmall (sym is) tt
-header_small octets f (inr (first, kind, high, low, following, text, inr (inr (inr (inl (flags, lt, eq, long, few, is)))))) = subst InstanceIsSmall (sym is) tt
-header_small octets f (inr (first, kind, high, low, following, text, inr (inr (inr (inr (flags, lt, eq, long, few, is)))))) = subst InstanceIsSmall (sym is) tt
+header_small : (octets : List ℕ) (f : V2Fault) → HeaderFails octets f → IsSmall f
+header_small octets f (inl few) = subst IsSmall (sym few.1) (tt, tt)
+header_small octets f (inr (first, kind, high, low, following, text, inl (ne, is))) = subst IsSmall (sym is) (tt, tt)
+header_small octets f (inr (first, kind, high, low, following, text, inr (inl (flags, lt, eq, is)))) = subst IsSmall (sym is) (tt, tt)
+header_small octets f (inr (first, kind, high, low, following, text, inr (inr (inl (flags, lt, eq, ne, is))))) = subst IsSmall (sym is) (tt, tt)
+header_small octets f (inr (first, kind, high, low, following, text, inr (inr (inr (inl (flags, lt, eq, long, few, is)))))) = subst IsSmall (sym is) (tt, tt)
+header_small octets f (inr (first, kind, high, low, following, text, inr (inr (inr (inr (flags, lt, eq, long, few, is)))))) = subst IsSmall (sym is) (tt, tt)
 
--- the first fault of a datagram names an instance below 16
-pub fault_small : (octets : List ℕ) (f : V2Fault) → IsFault octets f → InstanceIsSmall f
-fault_small octets f is = elim is [
+small_fault : (octets : List ℕ) (f : V2Fault) → IsFault octets f → IsSmall f
+small_fault octets f is = elim is [
   | inl header ↦ header_small octets f header
   | inr body ↦ body_small (table_of body.0.kind) body.0 f (tables_fit body.0.kind) body.2
 ]
+
+-- the first fault of a datagram names an instance below 16
+pub fault_small : (octets : List ℕ) (f : V2Fault) → IsFault octets f → InstanceIsSmall f
+fault_small octets f is = (small_fault octets f is).0
+
+-- and is none of memory
+pub fault_of_octets : (octets : List ℕ) (f : V2Fault) → IsFault octets f → IsOfOctets f
+fault_of_octets octets f is = (small_fault octets f is).1

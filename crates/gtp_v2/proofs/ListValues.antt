@@ -1,19 +1,17 @@
 -- What lists of values have, by their elements.
-use Rattle.std.proofs.Common.{rules, ◌≡◌, ℕ, Bool, true, false, cond, ◌&&◌, List, [], ◌∷◌, ◌++◌, Option, Some, None, Result, Ok, Err, refl, sym, ap, subst, ◌∙◌}
+use Rattle.std.proofs.Common.{rules, ◌≡◌, ℕ, Bool, true, false, List, [], ◌∷◌, ◌++◌, Option, Some, Result, Ok, Err, sym, ap, ◌∙◌}
 use Rattle.std.specs.Prelude.{◌==◌, if◌then◌else◌, option_to_list, length}
-use Rattle.std.proofs.lemmas.Option.{same_Some}
 use Rattle.gtp_values.specs.Steps.{◌>>=◌}
 use Rattle.gtp_values.proofs.Decided.{bind_ok}
 use Rattle.gtp_values.proofs.Outcomes.{done, ok_same}
 use Rattle.gtp_ie.specs.Element.{Element, all_of}
 use Rattle.gtp_ie.specs.Value.{Value}
 use Rattle.gtp_v2.specs.declared.fault.RowFault.{RowFault}
-use Rattle.gtp_v2.specs.Message.{Content}
 use Rattle.gtp_v2.specs.Tables.{table_of}
-use Rattle.gtp_v2.specs.Table.{Line, Single, Grouped, Several, Field, Plain, State, start, after, Table}
-use Rattle.gtp_v2.specs.reading.Rows.{line_at, lines_at, one_at, values_at, each_at, no_value, several_at}
-use Rattle.gtp_v2.specs.Viewed.{Viewed, values_of, list_among, list_by, in_list}
-use Rattle.gtp_v2.proofs.Views.{one_is, both_same, ReadBy, IsRead}
+use Rattle.gtp_v2.specs.Table.{Line, Single, Grouped, Several, Field, Plain, State}
+use Rattle.gtp_v2.specs.reading.Rows.{line_at, one_at, values_at, each_at, no_value, several_at}
+use Rattle.gtp_v2.specs.Viewed.{Viewed, values_of, found_by, plain_of, is_list, in_list}
+use Rattle.gtp_v2.proofs.Views.{one_is, both_same, IsRead, made_of, found_is}
 
 each_value : (kind instance : ℕ) (es : List Element) (values : List Value) → values_at kind instance es ≡ Ok values → values_of kind es ≡ values
 unfolding each_at
@@ -32,40 +30,19 @@ several_are needed kind missed (Ok (v ∷ vs)) values h = by_length (length (v �
   by_length false is h = h
 several_are needed kind missed (Err f) values h = absurd cc
 
--- the values are those of the elements
-abbrev AreOf : ℕ → ℕ → List Element → List Value → Type 0
-AreOf kind instance es values = values_of kind (all_of kind instance es) ≡ values
-
-at_list : (kind instance k i : ℕ) (es : List Element) (vs values : List Value) (rest : Option (List Value)) (b : Bool)
-    → ((k == kind) && (i == instance)) ≡ b → values_at k i (all_of k i es) ≡ Ok vs → (rest ≡ Some values → AreOf kind instance es values) → cond b (Some vs) rest ≡ Some values → AreOf kind instance es values
-at_list kind instance k i es vs values rest true same h others is =
-    let q = both_same k kind i instance same in
-    subst (λ (xs : List Value). AreOf kind instance es xs) (same_Some vs values is)
-    (subst (λ (n : ℕ). AreOf n instance es vs) q.0 (subst (λ (n : ℕ). AreOf k n es vs) q.1 (each_value k i (all_of k i es) vs h)))
-at_list kind instance k i es vs values rest false same h others is = others is
-
-lines_listed : (kind instance : ℕ) (state : State) (lines : List Line) (es : List Element) (fields : List Field) (values : List Value)
-    → lines_at state lines es ≡ Ok fields → list_among kind instance lines fields ≡ Some values → AreOf kind instance es values
-unfolding lines_at several_at
-lines_listed kind instance state [] es fields values h is = absurd cc
-lines_listed kind instance state (line ∷ lines) es fields values h is =
-    let b = bind_ok (line_at state line es) (λ field. lines_at (after state field) lines es >>= λ others. done RowFault (field ∷ others)) fields h in
-    let d = bind_ok (lines_at (after state b.0) lines es) (λ others. done RowFault (b.0 ∷ others)) fields b.2 in
-    by_line line b.0 b.1 d.0 (λ rest. lines_listed kind instance (after state b.0) lines es d.0 values d.1 rest) (subst (λ (fs : List Field). list_among kind instance (line ∷ lines) fs ≡ Some values) (sym (ok_same RowFault (b.0 ∷ d.0) fields d.2)) is)
-  where
-    by_line : (line : Line) (field : Field) → line_at state line es ≡ Ok field → (others : List Field) → (list_among kind instance lines others ≡ Some values → AreOf kind instance es values) → list_among kind instance (line ∷ lines) (field ∷ others) ≡ Some values → AreOf kind instance es values
-    by_line (Single row) field one others rest is = rest is
-    by_line (Grouped row rows) field one others rest is = rest is
-    by_line (Several k i missed) field one others rest is =
-        let g = bind_ok (several_at state.silent k i missed es) (λ vs. done RowFault (Plain vs)) field one in
-        at_list kind instance k i es g.0 values (list_among kind instance lines others) ((k == kind) && (i == instance)) refl
-        (several_are state.silent k missed (values_at k i (all_of k i es)) g.0 g.1) rest
-        (subst (λ (f : Field). list_among kind instance (Several k i missed ∷ lines) (f ∷ others) ≡ Some values) (sym (ok_same RowFault (Plain g.0) field g.2)) is)
-
-list_by_rows : (kind instance : ℕ) (table : Option Table) (content : Content) (es : List Element) → ReadBy table content es → (values : List Value) → list_by kind instance table content ≡ Some values → AreOf kind instance es values
-list_by_rows kind instance None content es read values is = absurd cc
-list_by_rows kind instance (Some table) content es read values is = lines_listed kind instance start table.lines es read.0 values read.2 (subst (λ (c : Content). list_by kind instance (Some table) c ≡ Some values) read.1 is)
+list_found : (kind instance : ℕ) (es : List Element) (line : Line) (field : Field) (state : State) → line_at state line es ≡ Ok field → is_list kind instance line ≡ true → values_of kind (all_of kind instance es) ≡ plain_of field
+unfolding several_at
+list_found kind instance es (Several k i missed) field state one same =
+    let of = all_of k i es in
+    let g = bind_ok (several_at state.silent k i missed es) (λ vs. done RowFault (Plain vs)) field one in
+    let p = both_same k kind i instance same in
+    (λ j. values_of (sym p.0 j) (all_of (sym p.0 j) (sym p.1 j) es)) ∙ each_value k i of g.0 (several_are state.silent k missed (values_at k i of) g.0 g.1) ∙ ap plain_of (ok_same RowFault (Plain g.0) field g.2)
+list_found kind instance es (Single row) field state one same = absurd cc
+list_found kind instance es (Grouped row rows) field state one same = absurd cc
 
 -- a list of the message has the values of its elements
 pub list_is : (kind instance : ℕ) (v : Viewed) → IsRead v → (values : List Value) → in_list kind instance v.message ≡ Some values → values_of kind (all_of kind instance v.elements) ≡ values
-list_is kind instance v read values is = list_by_rows kind instance (table_of v.message.kind) v.message.content v.elements read values is
+list_is kind instance v read values is =
+    let q = made_of (λ (p : Line × Field). plain_of p.1) (found_by (is_list kind instance) (table_of v.message.kind) v.message.content) values is in
+    let f = found_is (is_list kind instance) v read q.0 q.1 in
+    list_found kind instance v.elements q.0.0 q.0.1 f.0 f.1 f.2 ∙ q.2

@@ -1,7 +1,7 @@
 -- Reading elements one after the other, as a loop does.
-use Rattle.std.proofs.Common.{◌≡◌, Bool, true, false, List, [], ◌∷◌, ◌++◌, map, Result, Ok, Err, refl, sym, ap, ◌∙◌, append_assoc}
-use Rattle.std.specs.Prelude.{IsOkAnd, is_ok, is_err, if◌then◌else◌}
-use Rattle.std.proofs.lemmas.List.{append-nil, map_push}
+use Rattle.std.proofs.Common.{◌≡◌, List, [], ◌∷◌, ◌++◌, Result, Ok, Err, refl, sym, ap, subst, ◌∙◌, append_assoc}
+use Rattle.std.specs.Prelude.{IsOk, IsOkAnd}
+use Rattle.std.proofs.lemmas.List.{append-nil}
 use Rattle.gtp_ie.specs.Element.{Element}
 use Rattle.gtp_values.specs.Steps.{◌>>=◌}
 use Rattle.gtp_v2.specs.declared.fault.RowFault.{RowFault}
@@ -38,54 +38,41 @@ is_done {X = X} read front left total none so_far =
     let one : with_front front (each_at read left) ≡ Ok front = rw none (ap (λ (xs : List X). Ok xs) (append-nil front)) in
     sym so_far ∙ one
 
--- ---- gathering what is read, until memory is refused
-
--- the items are what was read; or, once memory was refused, something was read
-abbrev pub Gathers : {X : Type 0} → (Element → Result X RowFault) → Bool → List X → List Element → Result (List X) RowFault → Type 0
-Gathers read false items left total = with_front items (each_at read left) ≡ total
-Gathers {X = X} read true items left total = (front : List X) × (front ≡ [] → ⊥) × (with_front front (each_at read left) ≡ total)
-
 -- before the first element
 pub nothing_before : {X : Type 0} (read : Result (List X) RowFault) → with_front [] read ≡ read
 nothing_before (Ok xs) = refl
 nothing_before (Err f) = refl
 
-pub gathers_first : {X : Type 0} (read : Element → Result X RowFault) (items : List X) (es left : List Element) → items ≡ [] → left ≡ es → Gathers read false items left (each_at read es)
+-- ---- gathering what is read, where all elements read
+
+-- what was gathered, and what is still read
+abbrev pub Gathers : {X : Type 0} → (Element → Result X RowFault) → List X → List Element → Result (List X) RowFault → Type 0
+Gathers read items left total = with_front items (each_at read left) ≡ total
+
+pub gathers_first : {X : Type 0} (read : Element → Result X RowFault) (items : List X) (es left : List Element) → items ≡ [] → left ≡ es → Gathers read items left (each_at read es)
 gathers_first read items es left none all = rw (none, all) (nothing_before (each_at read es))
 
-has_last : {X : Type 0} (front : List X) (last : X) → front ++ last ∷ [] ≡ [] → ⊥
-has_last [] last h = cc
-has_last (x ∷ front) last h = cc
+-- an element reads
+pub gathers_one : {X : Type 0} (read : Element → Result X RowFault) (items : List X) (e : Element) (es left : List Element) (total : Result (List X) RowFault)
+    → left ≡ e ∷ es → IsOk total → Gathers read items left total → IsOk (read e)
+unfolding each_at
+gathers_one {X = X} read items e es left total split all so_far =
+    by_first (read e) (each_at read es) (subst (λ (r : Result (List X) RowFault). IsOk r) (sym so_far ∙ ap (λ (es : List Element). with_front items (each_at read es)) split) all)
+  where
+    by_first : (r : Result X RowFault) (others : Result (List X) RowFault) → IsOk (with_front items (r >>= λ first. others >>= λ xs. Ok (first ∷ xs))) → IsOk r
+    by_first (Ok x) others h = refl
+    by_first (Err f) others h = h
 
--- a push that was not refused
-pub pushed : {X Y E : Type 0} (view : X → Y) (before later : List X) (x : X) (r : Result (Unit {0}) E) → later ≡ (if is_ok r then before ++ x ∷ [] else before) → is_err r ≡ false → map view later ≡ map view before ++ view x ∷ []
-pushed view before later x (Ok u) allocated fine = ap (map view) allocated ∙ map_push view before x
-pushed view before later x (Err e) allocated fine = absurd cc
-
--- no item is lost before memory is refused, and it stays refused
-pub gathers_on : {X : Type 0} (read : Element → Result X RowFault) (refused now : Bool) (items more : List X) (e : Element) (es left : List Element) (first : X) (total : Result (List X) RowFault)
-    → (refused ≡ true → now ≡ true) → (refused ≡ false → now ≡ false → more ≡ items ++ first ∷ []) → left ≡ e ∷ es → read e ≡ Ok first → Gathers read refused items left total → Gathers read now more es total
-gathers_on read false false items more e es left first total stays allocates split h so_far = rw (allocates refl refl) (goes_on read items e es left first total split h so_far)
-gathers_on read false true items more e es left first total stays allocates split h so_far = (items ++ first ∷ [], has_last items first, goes_on read items e es left first total split h so_far)
-gathers_on read true false items more e es left first total stays allocates split h so_far = absurd (let no = stays refl in cc)
-gathers_on read true true items more e es left first total stays allocates split h so_far = (so_far.0 ++ first ∷ [], has_last so_far.0 first, goes_on read so_far.0 e es left first total split h so_far.2)
-
--- an element at fault
-pub gathers_fault : {X : Type 0} (read : Element → Result X RowFault) (refused : Bool) (f : RowFault) (items : List X) (e : Element) (es left : List Element) (total : Result (List X) RowFault)
-    → left ≡ e ∷ es → read e ≡ Err f → Gathers read refused items left total → total ≡ Err f
-gathers_fault read false f items e es left total split h so_far = ends read f items e es left total split h so_far
-gathers_fault read true f items e es left total split h so_far = ends read f so_far.0 e es left total split h so_far.2
-
--- no element is left
-pub gathered : {X : Type 0} (read : Element → Result X RowFault) (refused : Bool) (items : List X) (left : List Element) (total : Result (List X) RowFault) → refused ≡ false → left ≡ [] → Gathers read refused items left total → total ≡ Ok items
-gathered read false items left total is none so_far = is_done read items left total none so_far
-gathered read true items left total is none so_far = absurd cc
-
--- no element is left, and memory was refused for those that were read
-pub refused_some : {X : Type 0} (Some : List X → Type 0) (some : (x : X) (xs : List X) → Some (x ∷ xs)) (read : Element → Result X RowFault) (refused : Bool) (items : List X) (left : List Element) (total : Result (List X) RowFault)
-    → refused ≡ true → left ≡ [] → Gathers read refused items left total → IsOkAnd total Some
-refused_some Some some read false items left total is none so_far = absurd cc
-refused_some Some some read true items left total is none so_far = rw (is_done read so_far.0 left total none so_far.2) (by_front so_far.0 so_far.1) where
-  by_front : (front : List _) → (front ≡ [] → ⊥) → Some front
-  by_front [] any = absurd (any refl)
-  by_front (x ∷ front) any = some x front
+-- and then there is some
+pub gathers_some : {X : Type 0} (Has : List X → Type 0) (has : (x : X) (xs : List X) → Has (x ∷ xs)) (read : Element → Result X RowFault) (items : List X) (e : Element) (es left : List Element) (total : Result (List X) RowFault)
+    → left ≡ e ∷ es → IsOk total → Gathers read items left total → IsOkAnd total Has
+unfolding each_at
+gathers_some {X = X} Has has read items e es left total split all so_far =
+    let same : with_front items (read e >>= λ first. each_at read es >>= λ xs. Ok (first ∷ xs)) ≡ total = ap (λ (es : List Element). with_front items (each_at read es)) (sym split) ∙ so_far in
+    subst (λ (r : Result (List X) RowFault). IsOkAnd r Has) same (by_first items (read e) (each_at read es) (subst (λ (r : Result (List X) RowFault). IsOk r) (sym same) all))
+  where
+    by_first : (front : List X) (r : Result X RowFault) (others : Result (List X) RowFault) → IsOk (with_front front (r >>= λ first. others >>= λ xs. Ok (first ∷ xs))) → IsOkAnd (with_front front (r >>= λ first. others >>= λ xs. Ok (first ∷ xs))) Has
+    by_first [] (Ok x) (Ok xs) h = has x xs
+    by_first (y ∷ ys) (Ok x) (Ok xs) h = has y (ys ++ x ∷ xs)
+    by_first front (Ok x) (Err f) h = absurd cc
+    by_first front (Err f) others h = absurd cc

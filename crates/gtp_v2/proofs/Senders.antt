@@ -10,6 +10,8 @@ use Rattle.gtp_ie.proofs.Spelled.{value_decided}
 use Rattle.gtp_v2.specs.Viewed.{value_or_none, welcome, optional_at}
 use Rattle.gtp_v2.specs.reading.Message.{end_in, sender_of}
 use Rattle.gtp_v2.specs.Datagram.{EndIs, SenderIs}
+use Rattle.gtp_ie.specs.Form.{number_of}
+use Rattle.gtp_ie.specs.declared.form.Form.TheVariants as forms
 
 -- the end that a value was made of
 pub same_end : (o : Option TunnelEnd) → o ≡ end_in (option_map OfFTeid o)
@@ -17,27 +19,27 @@ same_end None = refl
 same_end (Some e) = refl
 
 -- what an element of this type spells is a tunnel end
-spelled_end : (body : List ℕ) (v : Value) → Spells 87 body v → v ≡ OfFTeid (fteid_in body)
+spelled_end : (body : List ℕ) (v : Value) → Spells (number_of forms.FTeid) body v → v ≡ OfFTeid (fteid_in body)
 unfolding BodySays
 spelled_end body v s = s.says.1
 
 end_is : (es : List Element) (o : Option Element) → first_of 87 0 es ≡ o → EndIs es (end_in (welcome 87 o))
 end_is es None h = λ v s. cc
-end_is es (Some e) h = by_reading (value_at 87 e.body) refl where
-  by_reading : (r : Result Value ReadFault) → value_at 87 e.body ≡ r → EndIs es (end_in (value_or_none r))
+end_is es (Some e) h = by_reading (value_at (number_of forms.FTeid) e.body) refl where
+  by_reading : (r : Result Value ReadFault) → value_at (number_of forms.FTeid) e.body ≡ r → EndIs es (end_in (value_or_none r))
   by_reading (Ok v) r =
-      let s = (value_decided 87 e.body).ok v r in
+      let s = (value_decided (number_of forms.FTeid) e.body).ok v r in
       let t = spelled_end e.body v s in
-      subst (λ (w : Value). EndIs es (end_in (Some w))) (sym t) (e, h, subst (λ (w : Value). Spells 87 e.body w) t s)
-  by_reading (Err f) r = λ v p. let q = (value_decided 87 p.0.body).is v p.2 in cc
+      subst (λ (w : Value). EndIs es (end_in (Some w))) (sym t) (e, h, subst (λ (w : Value). Spells (number_of forms.FTeid) e.body w) t s)
+  by_reading (Err f) r = λ v p. let q = (value_decided (number_of forms.FTeid) p.0.body).is v p.2 in cc
 
 one_end : (es : List Element) (a b : Option TunnelEnd) → EndIs es a → EndIs es b → a ≡ b
 one_end es None None p q = refl
 one_end es None (Some e) p q = absurd (p (OfFTeid e) q)
 one_end es (Some e) None p q = absurd (q (OfFTeid e) p)
 one_end es (Some x) (Some y) p q =
-    let r = (value_decided 87 p.0.body).is (OfFTeid x) p.2 in
-    let s = (value_decided 87 q.0.body).is (OfFTeid y) q.2 in
+    let r = (value_decided (number_of forms.FTeid) p.0.body).is (OfFTeid x) p.2 in
+    let s = (value_decided (number_of forms.FTeid) q.0.body).is (OfFTeid y) q.2 in
     let t : OfFTeid x ≡ OfFTeid y = cc in
     let u : x ≡ y = cc in ap (λ (e : TunnelEnd). Some e) u
 

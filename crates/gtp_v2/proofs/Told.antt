@@ -26,7 +26,7 @@ use Rattle.gtp_v2.specs.Message.{head_of, with_head, Content, Fields, Raw, Messa
 use Rattle.gtp_v2.specs.reading.Message.{sender_of, told, list_at, fields_at, typed_at, by_table, content_at, message_at}
 use Rattle.gtp_v2.specs.Tables.{table_of}
 use Rattle.gtp_v2.specs.Instances.{InstanceIsSmall}
-use Rattle.gtp_v2.proofs.Instances.{fault_small}
+use Rattle.gtp_v2.proofs.Instances.{fault_small, fault_of_octets}
 use Rattle.gtp_v2.specs.Marks.{MeetsMarks}
 use Rattle.gtp_v2.proofs.MarksOf.{message_marked}
 use Rattle.gtp_v2.specs.Datagram.{FieldsAre, ListFails, FieldsFail, CarriesBy, FailsBy, IsMessage, IsFault, MayAllocate}
@@ -175,3 +175,15 @@ answers_small view (Err f) octets h = elim (fault_told f octets h) [
   | inl p ↦ subst InstanceIsSmall (sym p.0) tt
   | inr e ↦ fault_small octets f ((message_decided octets).err f e)
 ]
+
+-- a fault that is read is told, and it is none of memory
+pub fault_is_told : (f : V2Fault) (octets : List ℕ) → message_at octets ≡ Err f → FaultIs MessageAllocates f (message_at octets)
+fault_is_told faults.Memory octets h = absurd (fault_of_octets octets faults.Memory ((message_decided octets).err faults.Memory h))
+fault_is_told (faults.Short n) octets h = h
+fault_is_told (faults.Version n) octets h = h
+fault_is_told faults.Piggyback octets h = h
+fault_is_told (faults.Length stated held) octets h = h
+fault_is_told (faults.FlagT kind) octets h = h
+fault_is_told (faults.Missing kind instance conditional head) octets h = h
+fault_is_told (faults.Element fault head) octets h = h
+fault_is_told faults.TooLong octets h = h

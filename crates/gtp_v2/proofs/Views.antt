@@ -16,14 +16,12 @@ use Rattle.gtp_v2.specs.declared.fault.V2Fault.{V2Fault}
 use Rattle.gtp_v2.specs.declared.fault.V2Fault.TheVariants as faults
 use Rattle.gtp_v2.specs.Table.{Row, Mandatory, Conditional, Accepted, Optional, Line, Single, Grouped, Several, Field, Plain, State, start, after, Table, kind_of, instance_of}
 use Rattle.gtp_v2.specs.reading.Rows.{row_at, needed, needed_at, needed_if_at, one_at, named, line_at, lines_at, whole}
-use Rattle.gtp_v2.specs.Viewed.{optional_at, welcome, value_or_none, Viewed, values_among, values_by, in_row, front_value}
+use Rattle.gtp_v2.specs.Viewed.{optional_at, welcome, value_or_none, Viewed, found_among, found_by, plain_of, is_row, is_needed, needs_among, needs_by, always_has, in_row, front_value}
 use Rattle.gtp_v2.specs.reading.Checked.{forgotten}
 use Rattle.gtp_v2.specs.Headed.{Headed}
 use Rattle.gtp_v2.specs.Message.{Content, Fields, MessageValue, head_of}
-use Rattle.gtp_v2.specs.reading.Message.{told, sender_of, list_at, fields_at, typed_at, as_fields, by_table, content_among, content_after, content_at, message_at}
+use Rattle.gtp_v2.specs.reading.Message.{told, sender_of, list_at, fields_at, typed_at, as_fields, by_table, content_among, content_at, message_at}
 use Rattle.gtp_v2.specs.Tables.{table_of}
-use Rattle.gtp_v2.specs.declared.table.Shape.{Shape}
-use Rattle.gtp_v2.specs.reading.Lines.{shape_of, shape_in}
 use Rattle.gtp_v2.specs.Datagram.{IsMessage, IsFault}
 use Rattle.gtp_v2.specs.reading.Viewed.{viewed, IsViewed, content_or_none, elements_by, list_or_none}
 use Rattle.gtp_v2.proofs.Checks.{was_read}
@@ -90,38 +88,29 @@ row_is accepting (Optional kind instance) es values h = optional_row (optional_a
 pub both_same : (a b c d : ℕ) → ((a == b) && (c == d)) ≡ true → (a ≡ b) × (c ≡ d)
 both_same a b c d h = search rules
 
-at_row : (kind instance : ℕ) (accepting : Bool) (row : Row) (es : List Element) (vs values : List Value) (rest : Option (List Value)) (b : Bool) → ((kind_of row == kind) && (instance_of row == instance)) ≡ b
-    → row_at accepting row es ≡ Ok vs → (rest ≡ Some values → optional_at kind instance es ≡ front_value values) → cond b (Some vs) rest ≡ Some values → optional_at kind instance es ≡ front_value values
-at_row kind instance accepting row es vs values rest true same h others is =
-    let p = both_same (kind_of row) kind (instance_of row) instance same in
-    subst (λ (k : ℕ). optional_at k instance es ≡ front_value values) p.0
-    (subst (λ (i : ℕ). optional_at (kind_of row) i es ≡ front_value values) p.1 (row_is accepting row es vs h ∙ ap front_value (same_Some vs values is)))
-at_row kind instance accepting row es vs values rest false same h others is = others is
+-- a line is found, and its field is read of these elements
+abbrev pub IsFound : (Line → Bool) → List Element → Line × Field → Type 0
+IsFound asked es p = (state : State) × (line_at state p.0 es ≡ Ok p.1) × (asked p.0 ≡ true)
 
-not_here : (goal : Type 0) (values : List Value) (rest : Option (List Value)) (b : Bool) → (rest ≡ Some values → goal) → cond b None rest ≡ Some values → goal
-not_here goal values rest true others is = absurd cc
-not_here goal values rest false others is = others is
+found_here : (asked : Line → Bool) (state : State) (line : Line) (field : Field) (es : List Element) (p : Line × Field) (rest : Option (Line × Field)) (b : Bool)
+    → asked line ≡ b → line_at state line es ≡ Ok field → (rest ≡ Some p → IsFound asked es p) → cond b (Some (line, field)) rest ≡ Some p → IsFound asked es p
+found_here asked state line field es p rest true is one others found = subst (λ (q : Line × Field). IsFound asked es q) (same_Some (line, field) p found) (state, one, is)
+found_here asked state line field es p rest false is one others found = others found
 
-line_is : (kind instance : ℕ) (state : State) (line : Line) (lines : List Line) (es : List Element) (field : Field) (fields : List Field) (values : List Value)
-    → line_at state line es ≡ Ok field → (values_among kind instance lines fields ≡ Some values → optional_at kind instance es ≡ front_value values)
-    → values_among kind instance (line ∷ lines) (field ∷ fields) ≡ Some values → optional_at kind instance es ≡ front_value values
-line_is kind instance state (Single row) lines es field fields values one others is =
-    let b = bind_ok (row_at state.accepting row es) (λ vs. done RowFault (Plain vs)) field one in
-    at_row kind instance state.accepting row es b.0 values (values_among kind instance lines fields) ((kind_of row == kind) && (instance_of row == instance)) refl b.1 others
-    (subst (λ (f : Field). values_among kind instance (Single row ∷ lines) (f ∷ fields) ≡ Some values) (sym (ok_same RowFault (Plain b.0) field b.2)) is)
-line_is kind instance state (Grouped row rows) lines es field fields values one others is = others is
-line_is kind instance state (Several k i missed) lines es field fields values one others is =
-    not_here (optional_at kind instance es ≡ front_value values) values (values_among kind instance lines fields) ((k == kind) && (i == instance)) others is
-
-lines_is : (kind instance : ℕ) (state : State) (lines : List Line) (es : List Element) (fields : List Field) (values : List Value)
-    → lines_at state lines es ≡ Ok fields → values_among kind instance lines fields ≡ Some values → optional_at kind instance es ≡ front_value values
+found_line : (asked : Line → Bool) (state : State) (lines : List Line) (es : List Element) (fields : List Field) (p : Line × Field)
+    → lines_at state lines es ≡ Ok fields → found_among asked lines fields ≡ Some p → IsFound asked es p
 unfolding lines_at
-lines_is kind instance state [] es fields values h is = absurd cc
-lines_is kind instance state (line ∷ lines) es fields values h is =
+found_line asked state [] es fields p h found = absurd cc
+found_line asked state (line ∷ lines) es fields p h found =
     let b = bind_ok (line_at state line es) (λ field. lines_at (after state field) lines es >>= λ others. done RowFault (field ∷ others)) fields h in
     let d = bind_ok (lines_at (after state b.0) lines es) (λ others. done RowFault (b.0 ∷ others)) fields b.2 in
-    line_is kind instance state line lines es b.0 d.0 values b.1 (λ rest. lines_is kind instance (after state b.0) lines es d.0 values d.1 rest)
-    (subst (λ (fs : List Field). values_among kind instance (line ∷ lines) fs ≡ Some values) (sym (ok_same RowFault (b.0 ∷ d.0) fields d.2)) is)
+    found_here asked state line b.0 es p (found_among asked lines d.0) (asked line) refl b.1 (λ rest. found_line asked (after state b.0) lines es d.0 p d.1 rest)
+    (subst (λ (fs : List Field). found_among asked (line ∷ lines) fs ≡ Some p) (sym (ok_same RowFault (b.0 ∷ d.0) fields d.2)) found)
+
+-- what an option has was made of something
+pub made_of : {X Y : Type 0} (f : X → Y) (o : Option X) (y : Y) → option_map f o ≡ Some y → (x : X) × (o ≡ Some x) × (f x ≡ y)
+made_of f None y h = absurd cc
+made_of f (Some x) y h = (x, refl, same_Some (f x) y h)
 
 pub told_is : {X : Type 0} (r : Result X RowFault) (head : Head) (x : X) → told head r ≡ Ok x → r ≡ Ok x
 told_is (Ok y) head x h = cc
@@ -172,23 +161,6 @@ pub viewed_content : (h : Headed) (elements : Option (List Element)) (es : List 
 unfolding content_at
 viewed_content h elements es inv some = content_by_list (table_of h.kind) h es inv.reads (sym some ∙ inv.walked)
 
--- a reading of a list and then of its lines, from the front or from the back
-in_turn : (r : Result (List Element) V2Fault) (lines : List Line) (h : Headed) → (r >>= λ es. as_fields (fields_at lines h es)) ≡ as_fields (r >>= λ es. fields_at lines h es)
-in_turn (Ok es) lines h = refl
-in_turn (Err f) lines h = refl
-
-after_asked : (o : Option Table) (asked : Shape) (h : Headed) → Some (shape_of asked) ≡ option_map shape_in o → (list_at asked.has_teid h >>= λ es. content_among o h es) ≡ by_table o h
-unfolding typed_at
-after_asked None asked h is = absurd cc
-after_asked (Some t) asked h is =
-    let same : asked.has_teid ≡ t.has_teid = ap (λ (p : Bool × List Line). p.0) (same_Some (shape_of asked) (shape_in t) is) in
-    ap (λ (b : Bool). list_at b h >>= λ es. as_fields (fields_at t.lines h es)) same ∙ in_turn (list_at t.has_teid h) t.lines h
-
--- what a message carries whose lines the program has
-pub content_asked : (h : Headed) (asked : Shape) → Some (shape_of asked) ≡ option_map shape_in (table_of h.kind) → content_after asked.has_teid h ≡ content_at h
-unfolding content_at content_after
-content_asked h asked is = after_asked (table_of h.kind) asked h is
-
 -- the fields of a message with a table are read of these elements
 abbrev pub ReadBy : Option Table → Content → List Element → Type 0
 ReadBy None content es = Unit {0}
@@ -210,13 +182,90 @@ pub is_read : (h : Headed) (elements : Option (List Element)) (v : Viewed) → v
 unfolding content_at
 is_read h elements v view inv = subst IsRead view (read_by (table_of h.kind) h elements inv.reads inv.walked)
 
-field_by : (kind instance : ℕ) (table : Option Table) (content : Content) (es : List Element) → ReadBy table content es → (values : List Value) → values_by kind instance table content ≡ Some values → optional_at kind instance es ≡ front_value values
-field_by kind instance None content es read values is = absurd cc
-field_by kind instance (Some table) content es read values is = lines_is kind instance start table.lines es read.0 values read.2 (subst (λ (c : Content). values_by kind instance (Some table) c ≡ Some values) read.1 is)
+-- a line of a message that is viewed is read of its elements
+found_read : (asked : Line → Bool) (table : Option Table) (content : Content) (es : List Element) → ReadBy table content es → (p : Line × Field) → found_by asked table content ≡ Some p → IsFound asked es p
+found_read asked None content es read p found = absurd cc
+found_read asked (Some table) content es read p found = found_line asked start table.lines es read.0 p read.2 (subst (λ (c : Content). found_by asked (Some table) c ≡ Some p) read.1 found)
+
+pub found_is : (asked : Line → Bool) (v : Viewed) → IsRead v → (p : Line × Field) → found_by asked (table_of v.message.kind) v.message.content ≡ Some p → IsFound asked v.elements p
+found_is asked v read p found = found_read asked (table_of v.message.kind) v.message.content v.elements read p found
+
+row_found : (kind instance : ℕ) (es : List Element) (line : Line) (field : Field) (state : State) → line_at state line es ≡ Ok field → is_row kind instance line ≡ true → optional_at kind instance es ≡ front_value (plain_of field)
+row_found kind instance es (Single row) field state one same =
+    let b = bind_ok (row_at state.accepting row es) (λ vs. done RowFault (Plain vs)) field one in
+    let p = both_same (kind_of row) kind (instance_of row) instance same in
+    (λ i. optional_at (sym p.0 i) (sym p.1 i) es) ∙ row_is state.accepting row es b.0 b.1 ∙ ap (λ (f : Field). front_value (plain_of f)) (ok_same RowFault (Plain b.0) field b.2)
+row_found kind instance es (Grouped row rows) field state one same = absurd cc
+row_found kind instance es (Several k i missed) field state one same = absurd cc
 
 -- a field of the message is what the first element says
 pub field_is : (kind instance : ℕ) (v : Viewed) → IsRead v → (values : List Value) → in_row kind instance v.message ≡ Some values → optional_at kind instance v.elements ≡ front_value values
-field_is kind instance v read values is = field_by kind instance (table_of v.message.kind) v.message.content v.elements read values is
+field_is kind instance v read values is =
+    let q = made_of (λ (p : Line × Field). plain_of p.1) (found_by (is_row kind instance) (table_of v.message.kind) v.message.content) values is in
+    let f = found_is (is_row kind instance) v read q.0 q.1 in
+    row_found kind instance v.elements q.0.0 q.0.1 f.0 f.1 f.2 ∙ ap front_value q.2
+
+-- ---- rows that always have a value
+
+abbrev HasOne : Option (Line × Field) → Type 0
+HasOne found = (v : Value) × (option_map (λ (p : Line × Field). plain_of p.1) found ≡ Some (v ∷ []))
+
+one_value : (conditional : Bool) (kind instance : ℕ) (field : Field) (es : List Element) → (needed_at conditional kind instance es >>= λ v. done RowFault (v ∷ [])) >>= (λ vs. done RowFault (Plain vs)) ≡ Ok field → (v : Value) × (plain_of field ≡ v ∷ [])
+one_value conditional kind instance field es one =
+    let b = bind_ok (needed_at conditional kind instance es >>= λ v. done RowFault (v ∷ [])) (λ vs. done RowFault (Plain vs)) field one in
+    let c = bind_ok (needed_at conditional kind instance es) (λ v. done RowFault (v ∷ [])) b.0 b.1 in
+    (c.0, sym (ap plain_of (ok_same RowFault (Plain b.0) field b.2)) ∙ sym (ok_same RowFault (c.0 ∷ []) b.0 c.2))
+
+needed_line : (state : State) (line : Line) (field : Field) (es : List Element) → line_at state line es ≡ Ok field → is_needed line ≡ true → (v : Value) × (plain_of field ≡ v ∷ [])
+needed_line state (Single (Mandatory kind instance)) field es one needed = one_value false kind instance field es one
+needed_line state (Single (Conditional kind instance)) field es one needed = one_value true kind instance field es one
+needed_line state (Single (Accepted kind instance)) field es one needed = absurd cc
+needed_line state (Single (Optional kind instance)) field es one needed = absurd cc
+needed_line state (Grouped row rows) field es one needed = absurd cc
+needed_line state (Several kind instance missed) field es one needed = absurd cc
+
+needed_here : (state : State) (line : Line) (field : Field) (es : List Element) (rest : Option (Line × Field)) (later is : Bool) → line_at state line es ≡ Ok field → cond is (is_needed line) later ≡ true → (later ≡ true → HasOne rest) → HasOne (cond is (Some (line, field)) rest)
+needed_here state line field es rest later true one needed others = let n = needed_line state line field es one needed in (n.0, ap (λ (vs : List Value). Some vs) n.1)
+needed_here state line field es rest later false one needed others = others needed
+
+needed_among : (kind instance : ℕ) (state : State) (lines : List Line) (es : List Element) (fields : List Field) → lines_at state lines es ≡ Ok fields → needs_among kind instance lines ≡ true → HasOne (found_among (is_row kind instance) lines fields)
+unfolding lines_at
+needed_among kind instance state [] es fields h needed = absurd cc
+needed_among kind instance state (line ∷ lines) es fields h needed =
+    let b = bind_ok (line_at state line es) (λ field. lines_at (after state field) lines es >>= λ others. done RowFault (field ∷ others)) fields h in
+    let d = bind_ok (lines_at (after state b.0) lines es) (λ others. done RowFault (b.0 ∷ others)) fields b.2 in
+    subst (λ (fs : List Field). HasOne (found_among (is_row kind instance) (line ∷ lines) fs)) (ok_same RowFault (b.0 ∷ d.0) fields d.2)
+    (needed_here state line b.0 es (found_among (is_row kind instance) lines d.0) (needs_among kind instance lines) (is_row kind instance line) b.1 needed (λ later. needed_among kind instance (after state b.0) lines es d.0 d.1 later))
+
+needed_by : (kind instance : ℕ) (table : Option Table) (content : Content) (es : List Element) → ReadBy table content es → needs_by kind instance table ≡ true → HasOne (found_by (is_row kind instance) table content)
+needed_by kind instance None content es read needed = absurd cc
+needed_by kind instance (Some table) content es read needed = subst (λ (c : Content). HasOne (found_by (is_row kind instance) (Some table) c)) (sym read.1) (needed_among kind instance start table.lines es read.0 read.2 needed)
+
+-- a message that is viewed has the values that its table needs
+always_is : (kind instance : ℕ) (v : Viewed) → IsRead v → always_has v.message.kind kind instance ≡ true → (x : Value) × (in_row kind instance v.message ≡ Some (x ∷ []))
+always_is kind instance v read always = needed_by kind instance (table_of v.message.kind) v.message.content v.elements read always
+
+first_reads : (kind instance : ℕ) (first : Option Element) (x : Value) → welcome kind first ≡ Some x → needed false kind instance first ≡ Ok x
+unfolding one_at
+first_reads kind instance None x is = absurd cc
+first_reads kind instance (Some e) x is = by_outcome (value_at kind e.body) is where
+  by_outcome : (r : Result Value ReadFault) → value_or_none r ≡ Some x → named kind instance e.at r ≡ Ok x
+  by_outcome (Ok v) is = ap (λ (v : Value). done RowFault v) (same_Some v x is)
+  by_outcome (Err f) is = absurd cc
+
+-- the value of a row that a message always has, in the message and in its elements
+pub record HasValue (kind instance : ℕ) (v : Viewed) : Type 0 where
+  pub value : Value
+  pub row : in_row kind instance v.message ≡ Some (value ∷ [])
+  pub first : optional_at kind instance v.elements ≡ Some value
+  pub reads : needed_at false kind instance v.elements ≡ Ok value
+
+pub value_is : (kind instance : ℕ) (v : Viewed) → IsRead v → always_has v.message.kind kind instance ≡ true → HasValue kind instance v
+unfolding optional_at needed_at
+value_is kind instance v read always =
+    let n = always_is kind instance v read always in
+    let first = field_is kind instance v read (n.0 ∷ []) n.1 in
+    record { value = n.0; row = n.1; first = first; reads = first_reads kind instance (first_of kind instance v.elements) n.0 first }
 
 -- where no elements are kept there are none
 pub none_is : (kind instance : ℕ) (h : Headed) (elements : Option (List Element)) (m : Viewed) → elements ≡ None → viewed h elements ≡ m → None ≡ optional_at kind instance m.elements

@@ -1,4 +1,4 @@
--- The instance of an element that a fault names: four bits (TS 29.274 8.2).
+-- Which faults a datagram can have, and which instance of an element they name: four bits (TS 29.274 8.2).
 use Rattle.std.specs.Prelude.{◌<◌}
 use Rattle.gtp_ie.specs.declared.fault.IeFault.{IeFault}
 use Rattle.gtp_ie.specs.declared.fault.IeFault.TheVariants.{ShortValue, BadValue}
@@ -16,3 +16,9 @@ abbrev pub InstanceIsSmall : V2Fault → Type 0
 InstanceIsSmall (faults.Missing kind instance conditional head) = instance < 16
 InstanceIsSmall (faults.Element fault head) = ElementInstanceIsSmall fault
 InstanceIsSmall fault = Unit {0}
+
+-- a fault that octets can have: not out of memory, nor too long, which is answered where a message is written
+abbrev pub IsOfOctets : V2Fault → Type 0
+IsOfOctets faults.Memory = ⊥
+IsOfOctets faults.TooLong = ⊥
+IsOfOctets fault = Unit {0}

@@ -9,9 +9,9 @@ pub use Rattle.gtp_v2.specs.declared.table.Row.{Row}
 pub use Rattle.gtp_v2.specs.declared.table.Row.TheVariants.{Mandatory, Conditional, Accepted, Optional}
 pub use Rattle.gtp_v2.specs.declared.table.State.{State}
 
--- a line of a message's table: a row; a row of groups, with the rows in each; or all values of a type and an instance. Of
--- these there is at least one where the lines before have no value, and else the element of the type and the third number
--- is missing
+-- a line of a message's table: a row; a row of groups, with the rows in each; or all values of a type and an instance. Where
+-- no line before has a value there is at least one of these; if there is none, the element of the type and of the third
+-- number, an instance, is missing
 pub data Line : Type 0 where
   Single : Row → Line
   Grouped : Row → List Row → Line

@@ -1,9 +1,9 @@
 -- What a view of a datagram stands for.
-use Rattle.std.specs.Prelude.{◌≡◌, ℕ, ◌+◌, ◌==◌, ◌&&◌, List, [], ◌∷◌, ◌++◌, Option, Some, None, if◌then◌else◌, drop, option_to_list, Result, Ok, Err}
+use Rattle.std.specs.Prelude.{◌≡◌, ℕ, ◌+◌, ◌==◌, ◌&&◌, Bool, true, false, List, [], ◌∷◌, ◌++◌, Option, Some, None, if◌then◌else◌, drop, option_map, option_to_list, Result, Ok, Err}
 use Rattle.gtp_ie.specs.Element.{Element, elements_of, list_of, first_of}
 use Rattle.gtp_ie.specs.Octets.{AreElements}
 use Rattle.gtp_ie.specs.Value.{Value, value_at}
-use Rattle.gtp_v2.specs.Table.{Row, Line, Single, Grouped, Several, Field, Plain, Groups, Table, kind_of, instance_of}
+use Rattle.gtp_v2.specs.Table.{Row, Mandatory, Conditional, Line, Single, Grouped, Several, Field, Plain, Groups, Table, kind_of, instance_of}
 use Rattle.gtp_v2.specs.Message.{Content, Fields, Raw, MessageValue}
 use Rattle.gtp_v2.specs.Tables.{table_of}
 use Rattle.gtp_ie.specs.declared.fault.ReadFault.{ReadFault}
@@ -26,22 +26,55 @@ ElementsAre octets m (Fields fields) es = AreElements (place_of m.teid) (drop (p
 abbrev pub Carries : List ℕ → Viewed → Type 0
 Carries octets v = ElementsAre octets v.message v.message.content v.elements
 
--- ---- what a message has in the row of a type and instance
+-- ---- what a message has in a line of its table
 
--- of that type and instance
-abbrev pub values_among : ℕ → ℕ → List Line → List Field → Option (List Value)
-values_among kind instance (Single row ∷ lines) (Plain values ∷ fields) = if (kind_of row == kind) && (instance_of row == instance) then Some values else values_among kind instance lines fields
-values_among kind instance (Grouped row rows ∷ lines) (field ∷ fields) = values_among kind instance lines fields
-values_among kind instance (Several k i missed ∷ lines) (field ∷ fields) = if (k == kind) && (i == instance) then None else values_among kind instance lines fields
-values_among kind instance lines fields = None
+-- the first of these lines that is asked for, and its field
+abbrev pub found_among : (Line → Bool) → List Line → List Field → Option (Line × Field)
+found_among asked (line ∷ lines) (field ∷ fields) = if asked line then Some (line, field) else found_among asked lines fields
+found_among asked lines fields = None
+
+-- the same of what a message carries, by its table
+abbrev pub found_by : (Line → Bool) → Option Table → Content → Option (Line × Field)
+found_by asked (Some table) (Fields fields) = found_among asked table.lines fields
+found_by asked table content = None
+
+-- the values of a field that has no groups
+abbrev pub plain_of : Field → List Value
+plain_of (Plain values) = values
+plain_of (Groups groups) = []
+
+-- ---- rows of at most one value
+
+-- a row of this type and instance
+abbrev pub is_row : ℕ → ℕ → Line → Bool
+is_row kind instance (Single row) = (kind_of row == kind) && (instance_of row == instance)
+is_row kind instance line = false
 
 abbrev pub values_by : ℕ → ℕ → Option Table → Content → Option (List Value)
-values_by kind instance (Some table) (Fields fields) = values_among kind instance table.lines fields
-values_by kind instance table content = None
+values_by kind instance table content = option_map (λ (p : Line × Field). plain_of p.1) (found_by (is_row kind instance) table content)
 
 -- the value in the row of a type and instance, in a list of at most one; None where the table of the message has no such row
 abbrev pub in_row : ℕ → ℕ → MessageValue → Option (List Value)
 in_row kind instance m = values_by kind instance (table_of m.kind) m.content
+
+-- a row that always has a value
+abbrev pub is_needed : Line → Bool
+is_needed (Single (Mandatory kind instance)) = true
+is_needed (Single (Conditional kind instance)) = true
+is_needed line = false
+
+-- the first row of this type and instance always has a value
+abbrev pub needs_among : ℕ → ℕ → List Line → Bool
+needs_among kind instance [] = false
+needs_among kind instance (line ∷ lines) = if is_row kind instance line then is_needed line else needs_among kind instance lines
+
+abbrev pub needs_by : ℕ → ℕ → Option Table → Bool
+needs_by kind instance None = false
+needs_by kind instance (Some table) = needs_among kind instance table.lines
+
+-- messages of this type always have a value in the row of a type and instance
+abbrev pub always_has : ℕ → ℕ → ℕ → Bool
+always_has message kind instance = needs_by kind instance (table_of message)
 
 abbrev pub front_value : List Value → Option Value
 front_value [] = None
@@ -68,17 +101,15 @@ abbrev pub values_of : ℕ → List Element → List Value
 values_of kind [] = []
 values_of kind (e ∷ es) = option_to_list (value_or_none (value_at kind e.body)) ++ values_of kind es
 
--- the values in the row of a type and instance of which a message may have several; None where there is no such row
-abbrev pub list_among : ℕ → ℕ → List Line → List Field → Option (List Value)
-list_among kind instance (Several k i missed ∷ lines) (Plain values ∷ fields) = if (k == kind) && (i == instance) then Some values else list_among kind instance lines fields
-list_among kind instance (Single row ∷ lines) (field ∷ fields) = list_among kind instance lines fields
-list_among kind instance (Grouped row rows ∷ lines) (field ∷ fields) = list_among kind instance lines fields
-list_among kind instance lines fields = None
+-- a row of several values, of this type and instance
+abbrev pub is_list : ℕ → ℕ → Line → Bool
+is_list kind instance (Several k i missed) = (k == kind) && (i == instance)
+is_list kind instance line = false
 
 abbrev pub list_by : ℕ → ℕ → Option Table → Content → Option (List Value)
-list_by kind instance (Some table) (Fields fields) = list_among kind instance table.lines fields
-list_by kind instance table content = None
+list_by kind instance table content = option_map (λ (p : Line × Field). plain_of p.1) (found_by (is_list kind instance) table content)
 
+-- the values in the row of a type and instance of which a message may have several; None where its table has no such row
 abbrev pub in_list : ℕ → ℕ → MessageValue → Option (List Value)
 in_list kind instance m = list_by kind instance (table_of m.kind) m.content
 
@@ -93,16 +124,23 @@ abbrev pub values_in : List Row → List Element → List (List Value)
 values_in [] es = []
 values_in (row ∷ rows) es = option_to_list (optional_at (kind_of row) (instance_of row) es) ∷ values_in rows es
 
--- the rows of the groups of a type and instance, and what the groups have
-abbrev pub groups_among : ℕ → ℕ → List Line → List Field → Option (List Row × List (List (List Value)))
-groups_among kind instance (Grouped row rows ∷ lines) (Groups groups ∷ fields) = if (kind_of row == kind) && (instance_of row == instance) then Some (rows, groups) else groups_among kind instance lines fields
-groups_among kind instance (Single row ∷ lines) (field ∷ fields) = groups_among kind instance lines fields
-groups_among kind instance (Several k i missed ∷ lines) (field ∷ fields) = groups_among kind instance lines fields
-groups_among kind instance lines fields = None
+-- a row of groups, of this type and instance
+abbrev pub is_groups : ℕ → ℕ → Line → Bool
+is_groups kind instance (Grouped row rows) = (kind_of row == kind) && (instance_of row == instance)
+is_groups kind instance line = false
+
+-- the rows in each group of a line, and the groups of a field
+abbrev pub rows_of : Line → List Row
+rows_of (Grouped row rows) = rows
+rows_of line = []
+
+abbrev pub groups_of : Field → List (List (List Value))
+groups_of (Groups groups) = groups
+groups_of (Plain values) = []
 
 abbrev pub groups_by : ℕ → ℕ → Option Table → Content → Option (List Row × List (List (List Value)))
-groups_by kind instance (Some table) (Fields fields) = groups_among kind instance table.lines fields
-groups_by kind instance table content = None
+groups_by kind instance table content = option_map (λ (p : Line × Field). (rows_of p.0, groups_of p.1)) (found_by (is_groups kind instance) table content)
 
+-- the rows of the groups of a type and instance in a message, and what the groups have; None where its table has no such groups
 abbrev pub in_groups : ℕ → ℕ → MessageValue → Option (List Row × List (List (List Value)))
 in_groups kind instance m = groups_by kind instance (table_of m.kind) m.content

@@ -1,6 +1,6 @@
 //! What messages say, and the list of their kinds.
 
-ghost use Rattle.std.specs.Prelude.{◌≡◌, ◌↔◌, ◌++◌, length, IsTrue, None, option_map, OnOk, IfOk};
+ghost use Rattle.std.specs.Prelude.{◌≡◌, ◌↔◌, ◌++◌, length, IsTrue, None, option_map, OnOk, IfOk, IsOk};
 ghost use Rattle.gtp_v2.specs.Tables.{table_of};
 ghost use Rattle.gtp_v2.specs.Message.{MessageGives, ContentAllocates, raw_of};
 ghost use Rattle.gtp_v2.specs.reading.Message.{content_at, content_among};
@@ -10,12 +10,13 @@ ghost use Rattle.gtp_values.specs.Room.{Leaves};
 ghost use Rattle.gtp_v2.specs.Room.{TakesAtMost, most_carried_by};
 ghost use Rattle.gtp_v2.specs.Marks.{ContentMarked};
 ghost use Rattle.gtp_v2.specs.Kinds.{ContentHasKinds};
-ghost use Rattle.gtp_v2.specs.reading.Headed.{headed_of};
+ghost use Rattle.gtp_v2.specs.reading.Headed.{headed_of, HasHeader};
 
 use crate::fault::V2Fault;
 use crate::header::Header;
 use crate::listed::Listed;
-use crate::typed::{Typed, read_typed};
+use crate::message::Datagram;
+use crate::typed::{Typed, build_typed};
 use gtp_ie::Indexed;
 use std::alloc::{AllocError, Global};
 
@@ -101,13 +102,13 @@ macro_rules! name_among {
     }};
 }
 
-/// The body whose elements after a header are these, or the octets after it.
-macro_rules! read_among {
+/// The message with this header whose elements are these, or the octets after it.
+macro_rules! build_among {
     (($alloc:expr, $header:expr, $elements:expr), $($kind:ident),+) => {{
         $(if $header.kind == $kind::KIND {
-            return read_typed::<$kind>($alloc, $header, $elements);
+            return build_typed::<$kind>($alloc, $header, $elements);
         })+
-        read_other($alloc, $header)
+        build_other($alloc, $header)
     }};
 }
 
@@ -169,14 +170,16 @@ pub fn type_name(kind: u8) -> Option<&'static str>
     with_kinds!(name_among, kind)
 }
 
-/// A message of another type, as octets.
+/// A message of another type, as octets. Not inlined: then a message with a table is written where it is wanted.
+#[inline(never)]
 #[tactic(auto, unfolding(crate::specs::reading::Message::content_at))]
-pub fn read_other(alloc: Global, header: &Header) -> Result<Body, V2Fault>
+pub fn build_other(alloc: Global, header: &Header) -> Result<Datagram, V2Fault>
     requires { table_of header.now.kind ≡ None }
-    ensures content { MessageGives (ContentAllocates (table_of header.now.kind)) content_of result
-        (content_at (headed_of header.now)) }
-    ensures kind { IfOk result (λ body. kind_of body ≡ header.now.kind) }
-    ensures octets_only { IfOk result OctetsOnlyWithoutTable }
+    ensures content { MessageGives (ContentAllocates (table_of header.now.kind))
+        (λ d. content_of d.message.body) result (content_at (headed_of header.now)) }
+    ensures kind { IfOk result (λ d. kind_of d.message.body ≡ header.now.kind) }
+    ensures header { IfOk result (λ d. HasHeader header.now d.message) }
+    ensures octets_only { IfOk result (λ d. OctetsOnlyWithoutTable d.message.body) }
 {
     let kind = header.kind;
     // No octets take no memory, so it may not be answered that it ran out.
@@ -185,21 +188,26 @@ pub fn read_other(alloc: Global, header: &Header) -> Result<Body, V2Fault>
     } else {
         Vec::from_slice(alloc, header.rest)?
     };
-    Ok(Body::Other {
-        kind,
-        octets: Listed::of(octets),
-    })
+    let octets = Listed::of(octets);
+    Ok(Datagram::of(header, Body::Other { kind, octets }))
 }
 
-/// What a message says whose elements after its header are these.
+/// The datagram with this header whose elements are these, which have what its table asks.
 #[tactic(auto, unfolding(crate::specs::reading::Message::content_at))]
-pub fn read_body(alloc: Global, header: &Header, elements: &Indexed) -> Result<Body, V2Fault>
-    ensures content { MessageGives (ContentAllocates (table_of header.now.kind)) content_of result
+pub fn build_datagram(
+    alloc: Global,
+    header: &Header,
+    elements: &Indexed,
+) -> Result<Datagram, V2Fault>
+    requires { IsOk (content_among (table_of header.now.kind) (headed_of header.now) elements.now) }
+    ensures content { MessageGives (ContentAllocates (table_of header.now.kind))
+        (λ d. content_of d.message.body) result
         (content_among (table_of header.now.kind) (headed_of header.now) elements.now) }
-    ensures kind { IfOk result (λ body. kind_of body ≡ header.now.kind) }
-    ensures octets_only { IfOk result OctetsOnlyWithoutTable }
+    ensures kind { IfOk result (λ d. kind_of d.message.body ≡ header.now.kind) }
+    ensures header { IfOk result (λ d. HasHeader header.now d.message) }
+    ensures octets_only { IfOk result (λ d. OctetsOnlyWithoutTable d.message.body) }
 {
-    with_kinds!(read_among, alloc, header, elements)
+    with_kinds!(build_among, alloc, header, elements)
 }
 
 /// What is left of a room after what a message carries, `None` where it doesn't fit.

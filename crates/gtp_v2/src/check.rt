@@ -1,21 +1,21 @@
 //! Messages checked in place, taking no memory.
 
-ghost use Rattle.std.specs.Prelude.{◌≡◌, ◌&&◌, [], ◌∷◌, map};
+ghost use Rattle.std.specs.Prelude.{◌≡◌, ◌&&◌, [], ◌∷◌, map, Err};
 ghost use Rattle.gtp_values.specs.Steps.{Gives};
 ghost use Rattle.gtp_ie.specs.Element.{all_of};
 ghost use Rattle.gtp_ie.specs.View.{element_of};
 ghost use Rattle.gtp_ie.specs.Form.{number_of};
+ghost use Rattle.gtp_ie.specs.declared.form.Form.TheVariants as forms;
 ghost use Rattle.gtp_v2.specs.reading.Lines.{line_of};
 ghost use Rattle.gtp_v2.specs.Table.{start};
-ghost use Rattle.gtp_v2.specs.reading.Rows.{lines_at};
+ghost use Rattle.gtp_v2.specs.reading.Rows.{named, lines_at};
 ghost use Rattle.gtp_v2.specs.reading.Checked.{value_accepts, value_reads, one_accepts, needed_accepts as needed_accepts_of, optional_accepts as optional_accepts_of, row_says, rows_accept, forgotten, group_passes, groups_silent, groups_say, values_say, with_one, several_say, line_says, lines_say};
 
 use crate::fault::{Need, RowFault};
-use crate::repeated::unread;
 use crate::table::{Line, Row, State};
 use gtp_ie::{
-    ChargingId, EbiValue, ElementView, Form, IeValue, Indexed, PdnType, Pti, Rat, ReadFault,
-    Recovery, Selection,
+    ChargingId, EbiValue, ElementView, Form, IeFault, IeValue, Indexed, PdnType, Pti, Rat,
+    ReadFault, Recovery, Selection,
 };
 use gtp_values::{Ambr, Apn, Cause, FTeid, Imsi, Paa, Plmn, Qos, Tft};
 
@@ -30,7 +30,7 @@ fn reads<T: IeValue>(body: &[u8]) -> Result<bool, ReadFault>
 /// Whether the cause that a body spells accepts.
 #[tactic(auto, unfolding(crate::specs::reading::Checked::value_accepts))]
 fn cause_accepts(body: &[u8]) -> Result<bool, ReadFault>
-    ensures { Gives (λ b. b) result (value_accepts 2 body.now) }
+    ensures { Gives (λ b. b) result (value_accepts (number_of forms.Cause) body.now) }
 {
     match Cause::parse(body) {
         Ok(cause) => Ok(cause.is_accepting()),
@@ -71,6 +71,17 @@ fn accepts_value(kind: u8, body: &[u8]) -> Result<bool, ReadFault>
         Some(form) => accepts_form(form, body),
         None => Err(ReadFault::Bad),
     }
+}
+
+/// The fault of an element whose body has no value.
+#[cold]
+fn unread(kind: u8, instance: u8, at: usize, fault: ReadFault) -> RowFault
+    ensures { Err result ≡ named kind instance at (Err fault) }
+{
+    RowFault::Element(match fault {
+        ReadFault::Short => IeFault::ShortValue { kind, instance, at },
+        ReadFault::Bad => IeFault::BadValue { kind, instance, at },
+    })
 }
 
 /// Whether the value of an element accepts.
@@ -164,7 +175,7 @@ fn check_group(accepting: bool, rows: &[Row], view: &ElementView) -> Result<(), 
     Ok(())
 }
 
-/// Whether there are no groups of a type and instance, all of which read.
+/// Whether there is no group of a type and instance; each that there is has to read.
 fn check_each(
     kind: u8,
     instance: u8,

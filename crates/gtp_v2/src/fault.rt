@@ -3,11 +3,10 @@
 ghost use Rattle.std.specs.Prelude.{◌≡◌};
 ghost use Rattle.gtp_v2.specs.Codes.{number_of};
 ghost use Rattle.gtp_v2.specs.Needs.{need_where};
-ghost use Rattle.gtp_v2.specs.declared.fault.BodyFault.TheVariants.{Row};
 ghost use Rattle.gtp_v2.specs.declared.fault.V2Fault.TheVariants as faults;
 
 use gtp_ie::IeFault;
-use gtp_values::{Below, FTeid, Seq, Teid};
+use gtp_values::{Below, FTeid, Memory, Seq, Teid};
 use std::alloc::AllocError;
 use thiserror::Error;
 
@@ -41,21 +40,6 @@ impl Need {
         } else {
             Need::Optional
         }
-    }
-}
-
-/// Why a message has no value.
-#[derive(Debug, Drop)]
-pub enum BodyFault {
-    Row(RowFault),
-    Memory,
-}
-
-impl From<RowFault> for BodyFault {
-    ghost from_gives = { λ fault e. e ≡ Row fault };
-
-    fn from(fault: RowFault) -> BodyFault {
-        BodyFault::Row(fault)
     }
 }
 
@@ -154,6 +138,14 @@ impl From<AllocError> for V2Fault {
     ghost from_gives = { λ _ e. e ≡ faults.Memory };
 
     fn from(_e: AllocError) -> V2Fault {
+        V2Fault::Memory
+    }
+}
+
+impl From<Memory> for V2Fault {
+    ghost from_gives = { λ _ e. e ≡ faults.Memory };
+
+    fn from(_e: Memory) -> V2Fault {
         V2Fault::Memory
     }
 }

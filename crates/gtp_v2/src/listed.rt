@@ -7,8 +7,8 @@ ghost use Rattle.std.specs.Iterator.Adapters.{IterYieldsInOrder};
 use std::marker::Model;
 use std::slice::Iter;
 
-/// The values of a row of which a message may have several, in the order of their elements.
-/// Contracts see the list.
+/// The values or groups of a row of which a message may have several, in the order of their elements; and
+/// the octets of a message that is kept as octets. Contracts see the list.
 #[derive(Debug, Drop)]
 pub struct Listed<T> {
     items: Vec<T>,

@@ -1,11 +1,13 @@
 //! Messages.
 
-ghost use Rattle.std.specs.Prelude.{◌↔◌, IsTrue};
+ghost use Rattle.std.specs.Prelude.{◌≡◌, ◌↔◌, IsTrue};
+ghost use Rattle.gtp_v2.specs.reading.Headed.{HasHeader};
 ghost use Rattle.gtp_v2.specs.Priority.{PriorityNeedsTeid};
 ghost use Rattle.gtp_v2.specs.Body.{message_value, OctetsOnlyWithoutTable};
 ghost use Rattle.gtp_v2.specs.Marks.{MeetsMarks};
 
 use crate::body::{Body, meets_marks, type_name};
+use crate::header::Header;
 use gtp_values::{Below, Seq, Teid};
 
 /// A control message (TS 29.274 5.1).
@@ -51,4 +53,20 @@ impl Message {
 #[derive(Debug, Drop, PartialEq, Eq)]
 pub struct Datagram {
     pub message: Message,
+}
+
+impl Datagram {
+    /// The message with this header that says this.
+    pub(crate) fn of(header: &Header, body: Body) -> Datagram
+        ensures header { HasHeader header.now result.message }
+        ensures body { result.message.body ≡ body }
+    {
+        let message = Message {
+            teid: header.teid,
+            seq: header.seq,
+            priority: header.priority,
+            body,
+        };
+        Datagram { message }
+    }
 }

@@ -1,43 +1,35 @@
-//! Rows of a message's table, one at a time.
+//! Rows of a message's table, one at a time, of elements that have what the table asks.
 
-ghost use Rattle.std.specs.Prelude.{◌≡◌, true, false, option_map};
-ghost use Rattle.gtp_values.specs.Steps.{Gives};
+ghost use Rattle.std.specs.Prelude.{◌≡◌, Ok, IsOk, true, false, option_map};
 ghost use Rattle.gtp_v2.specs.reading.Rows.{needed_at, needed_if_at};
 ghost use Rattle.gtp_v2.specs.Viewed.{optional_at};
 
-use crate::fault::RowFault;
-use crate::repeated::value_in;
 use gtp_ie::{IeValue, Indexed};
 
 /// The value of the first element of the value's type and an instance, which is needed.
-#[tactic(auto, unfolding(crate::specs::reading::Rows::needed_at))]
-pub fn needed<T: IeValue>(
-    conditional: bool,
-    elements: &Indexed,
-    instance: u8,
-) -> Result<T, RowFault>
-    ensures { Gives T.value result (needed_at conditional T.KIND instance elements.now) }
+#[tactic(auto, using(crate::proofs::Checks::one_reads, crate::proofs::Checks::seen_read), unfolding(crate::specs::reading::Rows::needed_at))]
+fn needed<T: IeValue>(conditional: bool, elements: &Indexed, instance: u8) -> T
+    requires { IsOk (needed_at conditional T.KIND instance elements.now) }
+    ensures { needed_at conditional T.KIND instance elements.now ≡ Ok (T.value result) }
 {
     let Some(view) = elements.first(T::KIND, instance) else {
-        return Err(RowFault::Missing {
-            kind: T::KIND,
-            instance,
-            conditional,
-        });
+        unreachable!()
     };
-    value_in(instance, &view)
+    T::build(view.body)
 }
 
 /// The value of the first element of the value's type and an instance, of a mandatory row.
-pub fn mandatory<T: IeValue>(elements: &Indexed, instance: u8) -> Result<T, RowFault>
-    ensures { Gives T.value result (needed_at false T.KIND instance elements.now) }
+pub fn mandatory<T: IeValue>(elements: &Indexed, instance: u8) -> T
+    requires { IsOk (needed_at false T.KIND instance elements.now) }
+    ensures { needed_at false T.KIND instance elements.now ≡ Ok (T.value result) }
 {
     needed(false, elements, instance)
 }
 
 /// The value of the first element of the value's type and an instance, of a conditional row.
-pub fn conditional<T: IeValue>(elements: &Indexed, instance: u8) -> Result<T, RowFault>
-    ensures { Gives T.value result (needed_at true T.KIND instance elements.now) }
+pub fn conditional<T: IeValue>(elements: &Indexed, instance: u8) -> T
+    requires { IsOk (needed_at true T.KIND instance elements.now) }
+    ensures { needed_at true T.KIND instance elements.now ≡ Ok (T.value result) }
 {
     needed(true, elements, instance)
 }
@@ -54,18 +46,14 @@ pub fn optional<T: IeValue>(elements: &Indexed, instance: u8) -> Option<T>
 
 /// The value of the first element of the value's type and an instance, of a row that some messages need.
 #[tactic(auto, unfolding(crate::specs::reading::Rows::needed_if_at))]
-pub fn needed_if<T: IeValue>(
-    is_needed: bool,
-    elements: &Indexed,
-    instance: u8,
-) -> Result<Option<T>, RowFault>
-    ensures { Gives (option_map T.value) result
-        (needed_if_at is_needed T.KIND instance elements.now) }
+pub fn needed_if<T: IeValue>(is_needed: bool, elements: &Indexed, instance: u8) -> Option<T>
+    requires { IsOk (needed_if_at is_needed T.KIND instance elements.now) }
+    ensures { needed_if_at is_needed T.KIND instance elements.now
+        ≡ Ok (option_map T.value result) }
 {
     if is_needed {
-        let value = needed(true, elements, instance)?;
-        Ok(Some(value))
+        Some(needed(true, elements, instance))
     } else {
-        Ok(optional(elements, instance))
+        optional(elements, instance)
     }
 }

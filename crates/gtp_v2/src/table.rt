@@ -25,8 +25,8 @@ pub enum Line {
     Single(Row),
     /// A row of groups, with the rows in each.
     Grouped(Row, &'static [Row]),
-    /// All values of a type and an instance. One must be there where the lines before have no value;
-    /// else the element of that type and of the third number is missing.
+    /// All values of a type and an instance. Where no line before has a value there must be one; if there is
+    /// none, the element of that type and of the third number, an instance, is missing.
     Several(u8, u8, u8),
 }
 

@@ -1,9 +1,9 @@
 //! Messages with a table.
 
-ghost use Rattle.std.specs.Prelude.{◌≡◌, ◌↔◌, ◌++◌, OnOk, IfOk, Bool, ℕ, List, IsTrue, length, true, None};
+ghost use Rattle.std.specs.Prelude.{◌≡◌, ◌↔◌, ◌++◌, OnOk, IfOk, IsOk, Bool, ℕ, List, IsTrue, length, true, None};
 ghost use Rattle.gtp_v2.specs.Table.{Line, Field, start, allocates};
 ghost use Rattle.gtp_v2.specs.reading.Rows.{lines_at};
-ghost use Rattle.gtp_v2.specs.reading.Headed.{headed_of};
+ghost use Rattle.gtp_v2.specs.reading.Headed.{headed_of, HasHeader};
 ghost use Rattle.gtp_v2.specs.Text.{lines_encoding};
 ghost use Rattle.gtp_values.specs.Room.{Leaves};
 ghost use Rattle.gtp_v2.specs.Room.{TakesAtMost, most_of_lines};
@@ -16,11 +16,12 @@ ghost use Rattle.gtp_v2.specs.Body.{content_of, kind_of, OctetsOnlyWithoutTable}
 ghost use Rattle.gtp_v2.specs.declared.fault.V2Fault.TheVariants.{Element};
 
 use crate::body::{Body, CreateSessionRequest};
-use crate::fault::{BodyFault, Head, RowFault, V2Fault};
+use crate::fault::{Head, RowFault, V2Fault};
 use crate::header::Header;
+use crate::message::Datagram;
 use crate::rows::optional;
 use gtp_ie::{IeFault, Indexed};
-use gtp_values::FTeid;
+use gtp_values::{FTeid, Memory};
 use std::alloc::{AllocError, Global};
 
 /// A kind of message that has a table of rows.
@@ -48,8 +49,9 @@ pub trait Typed: Drop {
     fn name() -> &'static str
         ensures { result.now ≡ named };
 
-    /// The message that the elements spell.
-    fn read(alloc: Global, elements: &Indexed) -> Result<Self, BodyFault>
+    /// The message that the elements spell, which have what the lines ask.
+    fn build(alloc: Global, elements: &Indexed) -> Result<Self, Memory>
+        requires { IsOk (lines_at start lines elements.now) }
         ensures { GivesOrMemory (λ all. allocates lines all ≡ true) fields result
             (lines_at start lines elements.now) };
 
@@ -139,22 +141,21 @@ pub fn row_fault(header: &Header, elements: &Indexed, fault: RowFault) -> V2Faul
     with_head(head, fault)
 }
 
-/// What a message of this kind says whose elements after its header are these. Not inlined, so that it
+/// The message of this kind whose header is this one, with these elements after it. Not inlined, so that it
 /// sets up no room for messages of the other kinds.
 #[inline(never)]
-pub fn read_typed<M: Typed>(
+pub fn build_typed<M: Typed>(
     alloc: Global,
     header: &Header,
     elements: &Indexed,
-) -> Result<Body, V2Fault>
-    ensures content { MessageGives (FieldsAllocate M.lines) content_of result
+) -> Result<Datagram, V2Fault>
+    requires { IsOk (lines_at start M.lines elements.now) }
+    ensures content { MessageGives (FieldsAllocate M.lines) (λ d. content_of d.message.body) result
         (as_fields (fields_at M.lines (headed_of header.now) elements.now)) }
-    ensures kind { IfOk result (λ body. kind_of body ≡ M.KIND) }
-    ensures octets_only { IfOk result OctetsOnlyWithoutTable }
+    ensures kind { IfOk result (λ d. kind_of d.message.body ≡ M.KIND) }
+    ensures header { IfOk result (λ d. HasHeader header.now d.message) }
+    ensures octets_only { IfOk result (λ d. OctetsOnlyWithoutTable d.message.body) }
 {
-    match M::read(alloc, elements) {
-        Ok(message) => Ok(message.into_body()),
-        Err(BodyFault::Memory) => Err(V2Fault::Memory),
-        Err(BodyFault::Row(fault)) => Err(row_fault(header, elements, fault)),
-    }
+    let typed = M::build(alloc, elements)?;
+    Ok(Datagram::of(header, typed.into_body()))
 }

@@ -1,30 +1,33 @@
 //! Messages read in the place where they lie.
 
 ghost use Rattle.gtp_ie.specs.Form.{bearer_context};
-ghost use Rattle.std.specs.Prelude.{◌≡◌, Ok, Err, IfOk, IfErr, IsOkAnd, List, map, Some, option_map};
+ghost use Rattle.std.specs.Prelude.{◌≡◌, [], ◌∷◌, IsTrue, Ok, Err, IfOk, IfErr, IsOkAnd, List, map, Some, option_map};
 ghost use Rattle.gtp_values.specs.Steps.{Gives};
 ghost use Rattle.gtp_ie.specs.Element.{elements_of, list_of, all_of};
 ghost use Rattle.gtp_ie.specs.Value.{Value};
 ghost use Rattle.gtp_v2.specs.reading.Lines.{line_of};
 ghost use Rattle.gtp_v2.specs.Table.{Row};
-ghost use Rattle.gtp_v2.specs.reading.Headed.{headed_of};
+ghost use Rattle.gtp_v2.specs.reading.Headed.{headed_of, HasHeader};
 ghost use Rattle.gtp_v2.specs.reading.Checked.{forgotten};
-ghost use Rattle.gtp_v2.specs.Viewed.{optional_at, Viewed, Carries, in_row, front_value, in_groups, inner_of, values_in, in_list, values_of};
+ghost use Rattle.gtp_v2.specs.Viewed.{optional_at, Viewed, Carries, in_row, always_has, front_value, in_groups, inner_of, values_in, in_list, values_of};
 ghost use Rattle.gtp_v2.specs.Message.{MessageValue, raw_of, MessageGives, MessageAllocates, ContentAllocates};
 ghost use Rattle.gtp_v2.specs.reading.Message.{typed_at, content_at, message_at};
 ghost use Rattle.gtp_v2.specs.Body.{content_of, kind_of, message_value, OctetsOnlyWithoutTable};
 ghost use Rattle.gtp_v2.specs.Datagram.{IsMessage, IsFault};
+ghost use Rattle.gtp_v2.specs.Instances.{InstanceIsSmall, IsOfOctets};
+ghost use Rattle.gtp_v2.specs.Marks.{MeetsMarks};
+ghost use Rattle.gtp_v2.specs.Priority.{PriorityNeedsTeid};
 ghost use Rattle.gtp_v2.specs.Tables.{table_of};
 ghost use Rattle.gtp_v2.specs.reading.Viewed.{elements_by, IsViewed};
 ghost use Rattle.gtp_v2.specs.declared.fault.V2Fault.{V2Fault as AnyFault};
 
-use crate::body::{Body, read_body, read_other};
+use crate::body::{build_datagram, build_other};
 use crate::check::check_lines;
 use crate::contexts::Contexts;
 use crate::fault::V2Fault;
 use crate::header::{Header, read_header};
-use crate::message::Message;
-use crate::rows::optional;
+use crate::message::{Datagram, Message};
+use crate::rows::{mandatory, optional};
 use crate::shapes::asked_of;
 use crate::table::Line;
 use crate::typed::{list_fault, row_fault};
@@ -100,8 +103,9 @@ fn view_content<'a>(header: &Header<'a>) -> Result<Option<Indexed<'a>>, V2Fault>
 
 /// A view of the message that a datagram spells, by one reading.
 #[tactic(auto, unfolding(crate::specs::reading::Message::message_at))]
-fn view_message(octets: &[u8]) -> Result<DatagramView<'_>, V2Fault>
+pub fn view_message(octets: &[u8]) -> Result<DatagramView<'_>, V2Fault>
     ensures message { Gives (λ v. v.message) result (message_at octets.now) }
+    ensures header { IfOk result (λ v. PriorityNeedsTeid v.message.teid v.message.priority) }
     ensures elements { IfOk result (Carries octets.now) }
 {
     let header = match read_header(octets) {
@@ -126,23 +130,34 @@ pub fn view(octets: &[u8]) -> Result<DatagramView<'_>, V2Fault>
     ensures first { (f : AnyFault) → IsFault octets.now f → result ≡ Err f }
     // A fault is the first one.
     ensures fault { IfErr result (λ f. IsFault octets.now f) }
+    // An instance that a fault names is below 16, and no fault is out of memory or too long.
+    ensures instance { IfErr result InstanceIsSmall }
+    ensures octets { IfErr result IsOfOctets }
+    // The message meets the marks of its table, and the condition of `encode` on its header.
+    ensures marks { IfOk result (λ v. MeetsMarks v.message) }
+    ensures header { IfOk result (λ v. PriorityNeedsTeid v.message.teid v.message.priority) }
     // The elements are those that the datagram carries.
     ensures elements { IfOk result (Carries octets.now) }
 {
     view_message(octets)
 }
 
-/// What a message says that was viewed: only memory can be wanting.
-fn read_viewed(alloc: Global, header: &Header, elements: &Option<Indexed>) -> Result<Body, V2Fault>
+/// The datagram that was viewed: only memory can be wanting.
+fn build_viewed(
+    alloc: Global,
+    header: &Header,
+    elements: &Option<Indexed>,
+) -> Result<Datagram, V2Fault>
     requires { IsViewed (headed_of header.now) elements.now }
-    ensures content { MessageGives (ContentAllocates (table_of header.now.kind)) content_of result
-        (content_at (headed_of header.now)) }
-    ensures kind { IfOk result (λ body. kind_of body ≡ header.now.kind) }
-    ensures octets_only { IfOk result OctetsOnlyWithoutTable }
+    ensures content { MessageGives (ContentAllocates (table_of header.now.kind))
+        (λ d. content_of d.message.body) result (content_at (headed_of header.now)) }
+    ensures kind { IfOk result (λ d. kind_of d.message.body ≡ header.now.kind) }
+    ensures header { IfOk result (λ d. HasHeader header.now d.message) }
+    ensures octets_only { IfOk result (λ d. OctetsOnlyWithoutTable d.message.body) }
 {
     match elements {
-        Some(elements) => read_body(alloc, header, elements),
-        None => read_other(alloc, header),
+        Some(elements) => build_datagram(alloc, header, elements),
+        None => build_other(alloc, header),
     }
 }
 
@@ -211,6 +226,21 @@ impl<'a> DatagramView<'a> {
         }
     }
 
+    /// The value of the first element of the value's type and an instance, of a message whose type always
+    /// has one: its table has a row of them that is mandatory or conditional.
+    pub fn needed<T: IeValue>(&self, instance: u8) -> T
+        requires { IsTrue (always_has self.now.message.kind T.KIND instance) }
+        // It is of the elements.
+        ensures element { optional_at T.KIND instance self.now.elements ≡ Some (T.value result) }
+        // And it is what the message has in that row.
+        ensures field { in_row T.KIND instance self.now.message ≡ Some (T.value result ∷ []) }
+    {
+        let Some(elements) = &self.elements else {
+            unreachable!()
+        };
+        mandatory::<T>(elements, instance)
+    }
+
     /// The values of the elements of the value's type and an instance, in order; an element that does not
     /// read is passed over.
     pub fn values<T: IeValue>(&self, instance: u8) -> Values<'a, T>
@@ -227,19 +257,23 @@ impl<'a> DatagramView<'a> {
         }
     }
 
-    /// The message, owned. `Memory` is the only fault, and only of a message for which some is allocated:
+    /// The datagram, owned. `Memory` is the only fault, and only of a message for which some is allocated:
     /// a list in it has a member, or it is kept as octets and has some.
+    pub fn to_datagram(&self, alloc: Global) -> Result<Datagram, V2Fault>
+        ensures message { MessageGives MessageAllocates (λ d. message_value d.message) result
+            (Ok self.now.message) }
+        ensures kind { IfOk result (λ d. OctetsOnlyWithoutTable d.message.body) }
+    {
+        build_viewed(alloc, &self.header, &self.elements)
+    }
+
+    /// The message, owned: that of `to_datagram`.
     pub fn to_message(&self, alloc: Global) -> Result<Message, V2Fault>
         ensures message { MessageGives MessageAllocates message_value result (Ok self.now.message) }
         ensures kind { IfOk result (λ m. OctetsOnlyWithoutTable m.body) }
     {
-        let body = read_viewed(alloc, &self.header, &self.elements)?;
-        Ok(Message {
-            teid: self.header.teid,
-            seq: self.header.seq,
-            priority: self.header.priority,
-            body,
-        })
+        let datagram = self.to_datagram(alloc)?;
+        Ok(datagram.message)
     }
 
     /// The bearer contexts of instance 0 among the elements, in order, whether or not the message's table

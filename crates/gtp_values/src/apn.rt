@@ -53,9 +53,17 @@ impl Apn {
         if !are_labels(octets) {
             return Err(ValueFault::BadLabel);
         }
-        Ok(Apn {
+        Ok(Apn::of(octets))
+    }
+
+    /// The name of these octets, which are one.
+    pub fn of(octets: &[u8]) -> Apn
+        requires { IsApn octets.now }
+        ensures { result ≡ octets.now }
+    {
+        Apn {
             octets: Octets::of(octets),
-        })
+        }
     }
 
     /// Whether octets are a name, of which none is built.

@@ -64,6 +64,19 @@ impl FTeid {
         })
     }
 
+    /// The tunnel end of these parts, of which one is an address.
+    pub fn of(interface: Below<64>, teid: Teid, v4: Option<[u8; 4]>, v6: Option<[u8; 16]>) -> FTeid
+        requires { IsTrue (is_some v4 || is_some v6) }
+        ensures { result ≡ record { interface = interface; teid = teid.0; v4 = v4; v6 = v6 } }
+    {
+        FTeid {
+            interface: interface.number(),
+            teid,
+            v4,
+            v6,
+        }
+    }
+
     /// The tunnel end of one address. It takes any interface type, so it can't be refused.
     pub fn new(interface: Below<64>, teid: Teid, address: Ip) -> FTeid
         ensures interface { result.interface ≡ interface }

@@ -45,8 +45,10 @@ impl<const N: usize> Octets<N> {
         requires count { N < 256 }
         ensures { self.new ≡ self.old ++ octet ∷ [] }
     {
-        self.cells[self.len as usize] = octet;
-        self.len += 1;
+        // Read once: the compiler can't know that no octet is written over the number.
+        let len = self.len;
+        self.cells[len as usize] = octet;
+        self.len = len + 1;
     }
 
     /// The octets of a slice.

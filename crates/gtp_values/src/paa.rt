@@ -62,6 +62,14 @@ impl OtherPdnType {
         }
     }
 
+    /// The type of this number, 0 or 4 to 7.
+    pub fn of(number: u8) -> OtherPdnType
+        requires { IsOtherPdnType number }
+        ensures { result ≡ number }
+    {
+        OtherPdnType { number }
+    }
+
     /// The number, 0 or 4 to 7.
     pub fn number(self) -> u8
         ensures value { result ≡ self }

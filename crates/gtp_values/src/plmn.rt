@@ -49,10 +49,15 @@ impl Plmn {
         if !mcc.iter().all(|digit| *digit < 10) || !mnc.iter().all(|digit| *digit < 10) {
             return Err(ValueFault::BadDigit);
         }
-        Ok(Plmn {
-            mcc: Octets::of(mcc),
-            mnc: Octets::of(mnc),
-        })
+        Ok(Plmn::of(Octets::of(mcc), Octets::of(mnc)))
+    }
+
+    /// The network with these digits, which are those of one.
+    pub fn of(mcc: Octets<3>, mnc: Octets<3>) -> Plmn
+        requires { IsNetwork (record { mcc = mcc; mnc = mnc }) }
+        ensures { result ≡ record { mcc = mcc; mnc = mnc } }
+    {
+        Plmn { mcc, mnc }
     }
 
     /// The digits of the mobile country code.

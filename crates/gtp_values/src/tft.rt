@@ -36,9 +36,17 @@ impl Tft {
         if octets.len() > 255 {
             return Err(ValueFault::TooLong);
         }
-        Ok(Tft {
+        Ok(Tft::of(octets))
+    }
+
+    /// The template of these octets, at most 255.
+    pub fn of(octets: &[u8]) -> Tft
+        requires { length octets.now ≤ 255 }
+        ensures { result ≡ octets.now }
+    {
+        Tft {
             octets: Octets::of(octets),
-        })
+        }
     }
 
     /// The octets, at most 255.

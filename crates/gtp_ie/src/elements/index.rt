@@ -150,7 +150,7 @@ impl<'a> Indexed<'a> {
         }
     }
 
-    /// The elements from the first one of the slot on that a type and instance have; none where it has none.
+    /// A part of the list that has all elements of a type and instance, in order.
     pub fn from_first(&self, kind: u8, instance: u8) -> Elements<'a>
         ensures first { first_of kind instance result ≡ first_of kind instance self.now }
         ensures all { all_of kind instance result ≡ all_of kind instance self.now }

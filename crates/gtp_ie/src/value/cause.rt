@@ -7,7 +7,7 @@ ghost use Rattle.gtp_ie.specs.Value.{OfCause};
 
 use crate::fault::ReadFault;
 use crate::kinds::CAUSE;
-use crate::value::IeValue;
+use crate::value::{IeValue, long_enough};
 use gtp_values::{Below, Cause, Offending};
 use std::alloc::AllocError;
 
@@ -21,22 +21,24 @@ impl IeValue for Cause {
     ghost one_value = { Prim.search rules };
 
     #[tactic(auto, unfolding(crate::specs::Value::value_at))]
-    fn parse(body: &[u8]) -> Result<Cause, ReadFault> {
-        if body.len() < 2 {
-            return Err(ReadFault::Short);
-        }
+    fn check(body: &[u8]) -> Result<(), ReadFault> {
+        long_enough(body, 2)
+    }
+
+    #[tactic(auto, unfolding(crate::specs::Value::value_at))]
+    fn build(body: &[u8]) -> Cause {
         let flags = body[1];
         let offending = (body.len() >= 6).then(|| Offending {
             kind: body[2],
             instance: Below::new(body[5] & 0x0f),
         });
-        Ok(Cause {
+        Cause {
             value: body[0],
             pce: flags >> 2 & 1 == 1,
             bce: flags >> 1 & 1 == 1,
             cs: flags & 1 == 1,
             offending,
-        })
+        }
     }
 
     #[tactic(auto, unfolding(crate::specs::Value::encoding_of), using(crate::proofs::Again::cause_again, crate::proofs::FreeKinds::encoding_free))]

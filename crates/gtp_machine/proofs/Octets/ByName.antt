@@ -1,8 +1,8 @@
 -- What a decoded message reads as, by the names of its fields.
 use Rattle.std.proofs.Common.{◌≡◌, ℕ, List, [], ◌∷◌, map, Option, Some, None, option_map, option_to_list, unwrap_or, refl, sym}
 use Rattle.gtp_values.specs.TunnelEnd.{TunnelEnd}
-use Rattle.gtp_ie.specs.declared.value.numbers.Recovery.{Recovery}
-use Rattle.gtp_ie.specs.declared.value.numbers.EbiValue.{EbiValue}
+use Rattle.gtp_ie.specs.declared.value.recovery.Recovery.{Recovery}
+use Rattle.gtp_ie.specs.declared.value.ebi.EbiValue.{EbiValue}
 use Rattle.gtp_ie.specs.Value.{Value, OfRecovery, OfAmbr, OfEbi, OfPaa, OfQos, OfPlmn, OfFTeid, OfChargingId, OfPti, OfSelection}
 use Rattle.gtp_v2.specs.declared.body.Body.{Body}
 use Rattle.gtp_v2.specs.declared.body.Body.TheVariants as bodies

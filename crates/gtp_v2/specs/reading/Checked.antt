@@ -54,7 +54,7 @@ forgotten (Err e) = Err e
 unfoldable pub group_passes : Bool → List Row → Element → Result (Unit {0}) RowFault
 group_passes accepting rows e = forgotten (group_at accepting rows e)
 
--- whether there are no groups, all of which read
+-- whether there is no group; each that there is has to read
 unfoldable pub groups_silent : Bool → List Row → List Element → Result Bool RowFault
 groups_silent accepting rows es = groups_at accepting rows es >>= λ groups. Ok (is_silent (Groups groups))
 

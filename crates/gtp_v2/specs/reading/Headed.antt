@@ -1,13 +1,18 @@
 -- Reading functions, for private contracts and proofs: the octets before a message's elements.
-use Rattle.std.specs.Prelude.{ℕ, ◌+◌, ◌*◌, ◌/◌, ◌%◌, List, [], ◌∷◌, length, Some, None, option_map, Result, Ok, Err, ◌==◌, if◌then◌else◌}
+use Rattle.std.specs.Prelude.{◌≡◌, ℕ, ◌+◌, ◌*◌, ◌/◌, ◌%◌, List, [], ◌∷◌, length, Some, None, option_map, Result, Ok, Err, ◌==◌, if◌then◌else◌}
 use Rattle.byteorder.specs.Endian.{big_number}
 use Rattle.gtp_v2.specs.declared.header.Header.{Header}
+use Rattle.gtp_v2.specs.declared.message.Message.{Message}
 use Rattle.gtp_v2.specs.declared.fault.V2Fault.{V2Fault}
 use Rattle.gtp_v2.specs.declared.fault.V2Fault.TheVariants.{Short, Version, Piggyback, Length}
 use Rattle.gtp_v2.specs.Headed.{Headed}
 
 abbrev pub headed_of : Header → Headed
 headed_of h = record { kind = h.kind; teid = option_map (λ t. t.0) h.teid; seq = h.seq; priority = h.priority; rest = h.rest.now; at = h.at }
+
+-- a message has this header
+abbrev pub HasHeader : Header → Message → Type 0
+HasHeader h m = (m.teid ≡ h.teid) × (m.seq ≡ h.seq) × (m.priority ≡ h.priority)
 
 -- after the first four octets of a message with a TEID
 abbrev pub after_teid : ℕ → ℕ → List ℕ → Result Headed V2Fault

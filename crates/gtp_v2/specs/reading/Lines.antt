@@ -13,15 +13,15 @@ line_of (kept.Single row) = Single row
 line_of (kept.Grouped row rows) = Grouped row rows.now
 line_of (kept.Several kind instance missed) = Several kind instance missed
 
--- an optional row is never at fault; unless it is a cause, no other row of its group depends on it
-abbrev pub is_free : Row → Bool
-is_free (Optional kind instance) = not (kind == number_of Cause)
-is_free row = false
+-- an optional row is never at fault; unless it is a cause, no other row depends on its value
+abbrev pub is_unchecked : Row → Bool
+is_unchecked (Optional kind instance) = not (kind == number_of Cause)
+is_unchecked row = false
 
 -- the rows of a group that are checked
 abbrev pub checked_rows : List Row → List Row
 checked_rows [] = []
-checked_rows (row ∷ rows) = if is_free row then checked_rows rows else row ∷ checked_rows rows
+checked_rows (row ∷ rows) = if is_unchecked row then checked_rows rows else row ∷ checked_rows rows
 
 -- some line has several values, of which one is needed where no line before has one
 abbrev pub has_several : List Line → Bool
@@ -33,7 +33,7 @@ has_several (Grouped row rows ∷ lines) = has_several lines
 -- the lines that are checked
 abbrev pub checked_lines : List Line → List Line
 checked_lines [] = []
-checked_lines (Single row ∷ lines) = if is_free row && not (has_several lines) then checked_lines lines else Single row ∷ checked_lines lines
+checked_lines (Single row ∷ lines) = if is_unchecked row && not (has_several lines) then checked_lines lines else Single row ∷ checked_lines lines
 checked_lines (Grouped row rows ∷ lines) = Grouped row (checked_rows rows) ∷ checked_lines lines
 checked_lines (Several kind instance missed ∷ lines) = Several kind instance missed ∷ checked_lines lines
 

@@ -61,10 +61,7 @@ abbrev pub content_among : Option Table → Headed → List Element → Result C
 content_among None h es = Ok (Raw h.rest)
 content_among (Some table) h es = as_fields (fields_at table.lines h es)
 
--- the same after a list whose header is asked to have this form
-unfoldable pub content_after : Bool → Headed → Result Content V2Fault
-content_after has_teid h = list_at has_teid h >>= λ es. content_among (table_of h.kind) h es
-
+-- what a message carries
 unfoldable pub content_at : Headed → Result Content V2Fault
 content_at h = by_table (table_of h.kind) h
 

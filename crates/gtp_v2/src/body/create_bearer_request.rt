@@ -2,15 +2,14 @@
 //!
 //! Written by scripts/messages from specs/CreateBearerRequest.antt.
 
-ghost use Rattle.std.specs.Prelude.{true};
-ghost use Rattle.gtp_values.specs.Steps.{Gives};
+ghost use Rattle.std.specs.Prelude.{◌≡◌, IsOk, Ok, true};
 ghost use Rattle.gtp_v2.specs.Table.{start};
 ghost use Rattle.gtp_v2.specs.reading.Rows.{lines_at, rows_at};
 ghost use Rattle.gtp_v2.specs.reading.Outcome.{GivesOrMemory};
 ghost use Rattle.gtp_v2.specs.CreateBearerRequest.{create_bearer_request, create_bearer_request_fields, bearer_request_context_rows, bearer_request_context_values};
 
 use crate::body::Body;
-use crate::fault::{BodyFault, Need, RowFault};
+use crate::fault::Need;
 use crate::groups::{Context, contexts};
 use crate::kinds::CREATE_BEARER_REQUEST;
 use crate::listed::Listed;
@@ -20,7 +19,7 @@ use crate::rows::{conditional, mandatory, optional};
 use crate::typed::Typed;
 use crate::writing::{put_contexts, put_option, put_row};
 use gtp_ie::{ChargingId, EbiValue, Indexed, Pti};
-use gtp_values::{FTeid, Qos, Tft};
+use gtp_values::{FTeid, Memory, Qos, Tft};
 use std::alloc::{AllocError, Global};
 
 /// A request for dedicated bearers (TS 29.274 7.2.3).
@@ -37,7 +36,7 @@ pub struct CreateBearerRequest {
 impl Typed for CreateBearerRequest {
     const KIND: u8 = CREATE_BEARER_REQUEST;
 
-    ghost KIND = { 95 };
+    ghost KIND = { create_bearer_request.kind };
 
     const HAS_TEID: bool = true;
 
@@ -58,9 +57,9 @@ impl Typed for CreateBearerRequest {
     }
 
     #[tactic(auto, unfolding(crate::specs::reading::Rows::lines_at))]
-    fn read(alloc: Global, elements: &Indexed) -> Result<CreateBearerRequest, BodyFault> {
+    fn build(alloc: Global, elements: &Indexed) -> Result<CreateBearerRequest, Memory> {
         let pti = optional::<Pti>(elements, 0);
-        let linked_ebi = mandatory::<EbiValue>(elements, 0)?;
+        let linked_ebi = mandatory::<EbiValue>(elements, 0);
         let contexts = contexts::<BearerRequestContext>(alloc, Need::Mandatory, true, elements)?;
         Ok(CreateBearerRequest {
             pti,
@@ -110,19 +109,19 @@ impl Context for BearerRequestContext {
     ghost values = { bearer_request_context_values };
 
     #[tactic(auto, unfolding(crate::specs::reading::Rows::rows_at))]
-    fn read(_accepting: bool, elements: &Indexed) -> Result<BearerRequestContext, RowFault> {
-        let ebi = mandatory::<EbiValue>(elements, 0)?;
-        let tft = mandatory::<Tft>(elements, 0)?;
-        let user = conditional::<FTeid>(elements, 1)?;
-        let qos = mandatory::<Qos>(elements, 0)?;
+    fn build(_accepting: bool, elements: &Indexed) -> BearerRequestContext {
+        let ebi = mandatory::<EbiValue>(elements, 0);
+        let tft = mandatory::<Tft>(elements, 0);
+        let user = conditional::<FTeid>(elements, 1);
+        let qos = mandatory::<Qos>(elements, 0);
         let charging_id = optional::<ChargingId>(elements, 0);
-        Ok(BearerRequestContext {
+        BearerRequestContext {
             ebi,
             tft,
             user,
             qos,
             charging_id,
-        })
+        }
     }
 
     #[tactic(auto, using(crate::proofs::Appends::appending))]

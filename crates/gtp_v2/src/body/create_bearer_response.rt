@@ -2,15 +2,14 @@
 //!
 //! Written by scripts/messages from specs/CreateBearerResponse.antt.
 
-ghost use Rattle.std.specs.Prelude.{true};
-ghost use Rattle.gtp_values.specs.Steps.{Gives};
+ghost use Rattle.std.specs.Prelude.{◌≡◌, IsOk, Ok, true};
 ghost use Rattle.gtp_v2.specs.Table.{start};
 ghost use Rattle.gtp_v2.specs.reading.Rows.{lines_at, rows_at};
 ghost use Rattle.gtp_v2.specs.reading.Outcome.{GivesOrMemory};
 ghost use Rattle.gtp_v2.specs.CreateBearerResponse.{create_bearer_response, create_bearer_response_fields, bearer_response_context_rows, bearer_response_context_values};
 
 use crate::body::Body;
-use crate::fault::{BodyFault, Need, RowFault};
+use crate::fault::Need;
 use crate::groups::{Context, contexts};
 use crate::kinds::CREATE_BEARER_RESPONSE;
 use crate::listed::Listed;
@@ -20,7 +19,7 @@ use crate::rows::{mandatory, needed_if, optional};
 use crate::typed::Typed;
 use crate::writing::{put_contexts, put_option, put_row};
 use gtp_ie::{EbiValue, Indexed, Recovery};
-use gtp_values::{Cause, FTeid};
+use gtp_values::{Cause, FTeid, Memory};
 use std::alloc::{AllocError, Global};
 
 /// The answer to a Create Bearer Request (TS 29.274 7.2.4).
@@ -37,7 +36,7 @@ pub struct CreateBearerResponse {
 impl Typed for CreateBearerResponse {
     const KIND: u8 = CREATE_BEARER_RESPONSE;
 
-    ghost KIND = { 96 };
+    ghost KIND = { create_bearer_response.kind };
 
     const HAS_TEID: bool = true;
 
@@ -58,8 +57,8 @@ impl Typed for CreateBearerResponse {
     }
 
     #[tactic(auto, unfolding(crate::specs::reading::Rows::lines_at))]
-    fn read(alloc: Global, elements: &Indexed) -> Result<CreateBearerResponse, BodyFault> {
-        let cause = mandatory::<Cause>(elements, 0)?;
+    fn build(alloc: Global, elements: &Indexed) -> Result<CreateBearerResponse, Memory> {
+        let cause = mandatory::<Cause>(elements, 0);
         let accepting = cause.is_accepting();
         let need = Need::where_accepting(accepting);
         let contexts = contexts::<BearerResponseContext>(alloc, need, accepting, elements)?;
@@ -113,18 +112,18 @@ impl Context for BearerResponseContext {
     ghost values = { bearer_response_context_values };
 
     #[tactic(auto, unfolding(crate::specs::reading::Rows::rows_at))]
-    fn read(accepting: bool, elements: &Indexed) -> Result<BearerResponseContext, RowFault> {
-        let ebi = mandatory::<EbiValue>(elements, 0)?;
-        let cause = mandatory::<Cause>(elements, 0)?;
+    fn build(accepting: bool, elements: &Indexed) -> BearerResponseContext {
+        let ebi = mandatory::<EbiValue>(elements, 0);
+        let cause = mandatory::<Cause>(elements, 0);
         let accepting = accepting && cause.is_accepting();
-        let serving_user = needed_if::<FTeid>(accepting, elements, 2)?;
-        let packet_user = needed_if::<FTeid>(accepting, elements, 3)?;
-        Ok(BearerResponseContext {
+        let serving_user = needed_if::<FTeid>(accepting, elements, 2);
+        let packet_user = needed_if::<FTeid>(accepting, elements, 3);
+        BearerResponseContext {
             ebi,
             cause,
             serving_user,
             packet_user,
-        })
+        }
     }
 
     #[tactic(auto, using(crate::proofs::Appends::appending))]

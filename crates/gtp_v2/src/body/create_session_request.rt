@@ -2,15 +2,14 @@
 //!
 //! Written by scripts/messages from specs/CreateSessionRequest.antt.
 
-ghost use Rattle.std.specs.Prelude.{true};
-ghost use Rattle.gtp_values.specs.Steps.{Gives};
+ghost use Rattle.std.specs.Prelude.{◌≡◌, IsOk, Ok, true};
 ghost use Rattle.gtp_v2.specs.Table.{start};
 ghost use Rattle.gtp_v2.specs.reading.Rows.{lines_at, rows_at};
 ghost use Rattle.gtp_v2.specs.reading.Outcome.{GivesOrMemory};
 ghost use Rattle.gtp_v2.specs.CreateSessionRequest.{create_session_request, create_session_request_fields, session_request_context_rows, session_request_context_values};
 
 use crate::body::Body;
-use crate::fault::{BodyFault, Need, RowFault};
+use crate::fault::Need;
 use crate::groups::{Context, contexts};
 use crate::kinds::CREATE_SESSION_REQUEST;
 use crate::listed::Listed;
@@ -20,7 +19,7 @@ use crate::rows::{conditional, mandatory, optional};
 use crate::typed::Typed;
 use crate::writing::{put_contexts, put_option, put_row};
 use gtp_ie::{EbiValue, Indexed, PdnType, Rat, Recovery, Selection};
-use gtp_values::{Ambr, Apn, FTeid, Imsi, Paa, Plmn, Qos};
+use gtp_values::{Ambr, Apn, FTeid, Imsi, Memory, Paa, Plmn, Qos};
 use std::alloc::{AllocError, Global};
 
 /// A request for a session with its default bearer (TS 29.274 7.2.1).
@@ -54,7 +53,7 @@ pub struct CreateSessionRequest {
 impl Typed for CreateSessionRequest {
     const KIND: u8 = CREATE_SESSION_REQUEST;
 
-    ghost KIND = { 32 };
+    ghost KIND = { create_session_request.kind };
 
     const HAS_TEID: bool = true;
 
@@ -75,14 +74,14 @@ impl Typed for CreateSessionRequest {
     }
 
     #[tactic(auto, unfolding(crate::specs::reading::Rows::lines_at))]
-    fn read(alloc: Global, elements: &Indexed) -> Result<CreateSessionRequest, BodyFault> {
-        let imsi = conditional::<Imsi>(elements, 0)?;
-        let rat = mandatory::<Rat>(elements, 0)?;
+    fn build(alloc: Global, elements: &Indexed) -> Result<CreateSessionRequest, Memory> {
+        let imsi = conditional::<Imsi>(elements, 0);
+        let rat = mandatory::<Rat>(elements, 0);
         let serving_network = optional::<Plmn>(elements, 0);
-        let control = mandatory::<FTeid>(elements, 0)?;
-        let apn = mandatory::<Apn>(elements, 0)?;
+        let control = mandatory::<FTeid>(elements, 0);
+        let apn = mandatory::<Apn>(elements, 0);
         let selection = optional::<Selection>(elements, 0);
-        let pdn_type = conditional::<PdnType>(elements, 0)?;
+        let pdn_type = conditional::<PdnType>(elements, 0);
         let paa = optional::<Paa>(elements, 0);
         let ambr = optional::<Ambr>(elements, 0);
         let contexts = contexts::<SessionRequestContext>(alloc, Need::Mandatory, true, elements)?;
@@ -155,11 +154,11 @@ impl Context for SessionRequestContext {
     ghost values = { session_request_context_values };
 
     #[tactic(auto, unfolding(crate::specs::reading::Rows::rows_at))]
-    fn read(_accepting: bool, elements: &Indexed) -> Result<SessionRequestContext, RowFault> {
-        let ebi = mandatory::<EbiValue>(elements, 0)?;
-        let qos = mandatory::<Qos>(elements, 0)?;
-        let user = conditional::<FTeid>(elements, 2)?;
-        Ok(SessionRequestContext { ebi, qos, user })
+    fn build(_accepting: bool, elements: &Indexed) -> SessionRequestContext {
+        let ebi = mandatory::<EbiValue>(elements, 0);
+        let qos = mandatory::<Qos>(elements, 0);
+        let user = conditional::<FTeid>(elements, 2);
+        SessionRequestContext { ebi, qos, user }
     }
 
     #[tactic(auto, using(crate::proofs::Appends::appending))]

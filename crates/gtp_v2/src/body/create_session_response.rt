@@ -2,15 +2,14 @@
 //!
 //! Written by scripts/messages from specs/CreateSessionResponse.antt.
 
-ghost use Rattle.std.specs.Prelude.{true};
-ghost use Rattle.gtp_values.specs.Steps.{Gives};
+ghost use Rattle.std.specs.Prelude.{◌≡◌, IsOk, Ok, true};
 ghost use Rattle.gtp_v2.specs.Table.{start};
 ghost use Rattle.gtp_v2.specs.reading.Rows.{lines_at, rows_at};
 ghost use Rattle.gtp_v2.specs.reading.Outcome.{GivesOrMemory};
 ghost use Rattle.gtp_v2.specs.CreateSessionResponse.{create_session_response, create_session_response_fields, session_response_context_rows, session_response_context_values};
 
 use crate::body::Body;
-use crate::fault::{BodyFault, Need, RowFault};
+use crate::fault::Need;
 use crate::groups::{Context, contexts};
 use crate::kinds::CREATE_SESSION_RESPONSE;
 use crate::listed::Listed;
@@ -20,7 +19,7 @@ use crate::rows::{mandatory, needed_if, optional};
 use crate::typed::Typed;
 use crate::writing::{put_contexts, put_option, put_row};
 use gtp_ie::{ChargingId, EbiValue, Indexed, Recovery};
-use gtp_values::{Ambr, Cause, FTeid, Paa, Qos};
+use gtp_values::{Ambr, Cause, FTeid, Memory, Paa, Qos};
 use std::alloc::{AllocError, Global};
 
 /// The answer to a Create Session Request (TS 29.274 7.2.2).
@@ -44,7 +43,7 @@ pub struct CreateSessionResponse {
 impl Typed for CreateSessionResponse {
     const KIND: u8 = CREATE_SESSION_RESPONSE;
 
-    ghost KIND = { 33 };
+    ghost KIND = { create_session_response.kind };
 
     const HAS_TEID: bool = true;
 
@@ -65,11 +64,11 @@ impl Typed for CreateSessionResponse {
     }
 
     #[tactic(auto, unfolding(crate::specs::reading::Rows::lines_at))]
-    fn read(alloc: Global, elements: &Indexed) -> Result<CreateSessionResponse, BodyFault> {
-        let cause = mandatory::<Cause>(elements, 0)?;
+    fn build(alloc: Global, elements: &Indexed) -> Result<CreateSessionResponse, Memory> {
+        let cause = mandatory::<Cause>(elements, 0);
         let accepting = cause.is_accepting();
-        let control = needed_if::<FTeid>(accepting, elements, 1)?;
-        let paa = needed_if::<Paa>(accepting, elements, 0)?;
+        let control = needed_if::<FTeid>(accepting, elements, 1);
+        let paa = needed_if::<Paa>(accepting, elements, 0);
         let ambr = optional::<Ambr>(elements, 0);
         let need = Need::where_accepting(accepting);
         let contexts = contexts::<SessionResponseContext>(alloc, need, accepting, elements)?;
@@ -134,20 +133,20 @@ impl Context for SessionResponseContext {
     ghost values = { session_response_context_values };
 
     #[tactic(auto, unfolding(crate::specs::reading::Rows::rows_at))]
-    fn read(accepting: bool, elements: &Indexed) -> Result<SessionResponseContext, RowFault> {
-        let ebi = mandatory::<EbiValue>(elements, 0)?;
-        let cause = mandatory::<Cause>(elements, 0)?;
+    fn build(accepting: bool, elements: &Indexed) -> SessionResponseContext {
+        let ebi = mandatory::<EbiValue>(elements, 0);
+        let cause = mandatory::<Cause>(elements, 0);
         let accepting = accepting && cause.is_accepting();
-        let user = needed_if::<FTeid>(accepting, elements, 2)?;
+        let user = needed_if::<FTeid>(accepting, elements, 2);
         let qos = optional::<Qos>(elements, 0);
         let charging_id = optional::<ChargingId>(elements, 0);
-        Ok(SessionResponseContext {
+        SessionResponseContext {
             ebi,
             cause,
             user,
             qos,
             charging_id,
-        })
+        }
     }
 
     #[tactic(auto, using(crate::proofs::Appends::appending))]

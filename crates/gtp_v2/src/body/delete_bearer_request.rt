@@ -2,14 +2,13 @@
 //!
 //! Written by scripts/messages from specs/DeleteBearerRequest.antt.
 
-ghost use Rattle.std.specs.Prelude.{true};
+ghost use Rattle.std.specs.Prelude.{IsOk, true};
 ghost use Rattle.gtp_v2.specs.Table.{start};
 ghost use Rattle.gtp_v2.specs.reading.Rows.{lines_at};
 ghost use Rattle.gtp_v2.specs.reading.Outcome.{GivesOrMemory};
 ghost use Rattle.gtp_v2.specs.DeleteBearerRequest.{delete_bearer_request, delete_bearer_request_fields};
 
 use crate::body::Body;
-use crate::fault::BodyFault;
 use crate::kinds::DELETE_BEARER_REQUEST;
 use crate::listed::Listed;
 use crate::repeated::several;
@@ -18,6 +17,7 @@ use crate::rows::optional;
 use crate::typed::Typed;
 use crate::writing::{put_option, put_several};
 use gtp_ie::{EbiValue, Indexed};
+use gtp_values::Memory;
 use std::alloc::{AllocError, Global};
 
 /// A request to end a session or some of its dedicated bearers (TS 29.274 7.2.9.2).
@@ -32,7 +32,7 @@ pub struct DeleteBearerRequest {
 impl Typed for DeleteBearerRequest {
     const KIND: u8 = DELETE_BEARER_REQUEST;
 
-    ghost KIND = { 99 };
+    ghost KIND = { delete_bearer_request.kind };
 
     const HAS_TEID: bool = true;
 
@@ -53,7 +53,7 @@ impl Typed for DeleteBearerRequest {
     }
 
     #[tactic(auto, unfolding(crate::specs::reading::Rows::lines_at))]
-    fn read(alloc: Global, elements: &Indexed) -> Result<DeleteBearerRequest, BodyFault> {
+    fn build(alloc: Global, elements: &Indexed) -> Result<DeleteBearerRequest, Memory> {
         let linked_ebi = optional::<EbiValue>(elements, 0);
         let ebis = several::<EbiValue>(alloc, linked_ebi.is_none(), elements, 1, 0)?;
         Ok(DeleteBearerRequest { linked_ebi, ebis })

@@ -2,15 +2,14 @@
 //!
 //! Written by scripts/messages from specs/DeleteBearerResponse.antt.
 
-ghost use Rattle.std.specs.Prelude.{true};
-ghost use Rattle.gtp_values.specs.Steps.{Gives};
+ghost use Rattle.std.specs.Prelude.{◌≡◌, IsOk, Ok, true};
 ghost use Rattle.gtp_v2.specs.Table.{start};
 ghost use Rattle.gtp_v2.specs.reading.Rows.{lines_at, rows_at};
 ghost use Rattle.gtp_v2.specs.reading.Outcome.{GivesOrMemory};
 ghost use Rattle.gtp_v2.specs.DeleteBearerResponse.{delete_bearer_response, delete_bearer_response_fields, removal_response_context_rows, removal_response_context_values};
 
 use crate::body::Body;
-use crate::fault::{BodyFault, Need, RowFault};
+use crate::fault::Need;
 use crate::groups::{Context, contexts};
 use crate::kinds::DELETE_BEARER_RESPONSE;
 use crate::listed::Listed;
@@ -20,7 +19,7 @@ use crate::rows::{mandatory, optional};
 use crate::typed::Typed;
 use crate::writing::{put_contexts, put_option, put_row};
 use gtp_ie::{EbiValue, Indexed, Recovery};
-use gtp_values::Cause;
+use gtp_values::{Cause, Memory};
 use std::alloc::{AllocError, Global};
 
 /// The answer to a Delete Bearer Request (TS 29.274 7.2.10.2).
@@ -39,7 +38,7 @@ pub struct DeleteBearerResponse {
 impl Typed for DeleteBearerResponse {
     const KIND: u8 = DELETE_BEARER_RESPONSE;
 
-    ghost KIND = { 100 };
+    ghost KIND = { delete_bearer_response.kind };
 
     const HAS_TEID: bool = true;
 
@@ -60,8 +59,8 @@ impl Typed for DeleteBearerResponse {
     }
 
     #[tactic(auto, unfolding(crate::specs::reading::Rows::lines_at))]
-    fn read(alloc: Global, elements: &Indexed) -> Result<DeleteBearerResponse, BodyFault> {
-        let cause = mandatory::<Cause>(elements, 0)?;
+    fn build(alloc: Global, elements: &Indexed) -> Result<DeleteBearerResponse, Memory> {
+        let cause = mandatory::<Cause>(elements, 0);
         let accepting = cause.is_accepting();
         let linked_ebi = optional::<EbiValue>(elements, 0);
         let contexts = contexts::<RemovalResponseContext>(
@@ -117,10 +116,10 @@ impl Context for RemovalResponseContext {
     ghost values = { removal_response_context_values };
 
     #[tactic(auto, unfolding(crate::specs::reading::Rows::rows_at))]
-    fn read(_accepting: bool, elements: &Indexed) -> Result<RemovalResponseContext, RowFault> {
-        let ebi = mandatory::<EbiValue>(elements, 0)?;
-        let cause = mandatory::<Cause>(elements, 0)?;
-        Ok(RemovalResponseContext { ebi, cause })
+    fn build(_accepting: bool, elements: &Indexed) -> RemovalResponseContext {
+        let ebi = mandatory::<EbiValue>(elements, 0);
+        let cause = mandatory::<Cause>(elements, 0);
+        RemovalResponseContext { ebi, cause }
     }
 
     #[tactic(auto, using(crate::proofs::Appends::appending))]

@@ -2,20 +2,20 @@
 //!
 //! Written by scripts/messages from specs/DeleteSessionRequest.antt.
 
-ghost use Rattle.std.specs.Prelude.{true};
+ghost use Rattle.std.specs.Prelude.{IsOk, true};
 ghost use Rattle.gtp_v2.specs.Table.{start};
 ghost use Rattle.gtp_v2.specs.reading.Rows.{lines_at};
 ghost use Rattle.gtp_v2.specs.reading.Outcome.{GivesOrMemory};
 ghost use Rattle.gtp_v2.specs.DeleteSessionRequest.{delete_session_request, delete_session_request_fields};
 
 use crate::body::Body;
-use crate::fault::BodyFault;
 use crate::kinds::DELETE_SESSION_REQUEST;
 use crate::room::after_option;
 use crate::rows::optional;
 use crate::typed::Typed;
 use crate::writing::put_option;
 use gtp_ie::{EbiValue, Indexed};
+use gtp_values::Memory;
 use std::alloc::{AllocError, Global};
 
 /// A request to end a session (TS 29.274 7.2.9.1).
@@ -28,7 +28,7 @@ pub struct DeleteSessionRequest {
 impl Typed for DeleteSessionRequest {
     const KIND: u8 = DELETE_SESSION_REQUEST;
 
-    ghost KIND = { 36 };
+    ghost KIND = { delete_session_request.kind };
 
     const HAS_TEID: bool = true;
 
@@ -49,7 +49,7 @@ impl Typed for DeleteSessionRequest {
     }
 
     #[tactic(auto, unfolding(crate::specs::reading::Rows::lines_at))]
-    fn read(_alloc: Global, elements: &Indexed) -> Result<DeleteSessionRequest, BodyFault> {
+    fn build(_alloc: Global, elements: &Indexed) -> Result<DeleteSessionRequest, Memory> {
         let linked_ebi = optional::<EbiValue>(elements, 0);
         Ok(DeleteSessionRequest { linked_ebi })
     }

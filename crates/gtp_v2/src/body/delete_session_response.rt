@@ -2,21 +2,20 @@
 //!
 //! Written by scripts/messages from specs/DeleteSessionResponse.antt.
 
-ghost use Rattle.std.specs.Prelude.{true};
+ghost use Rattle.std.specs.Prelude.{IsOk, true};
 ghost use Rattle.gtp_v2.specs.Table.{start};
 ghost use Rattle.gtp_v2.specs.reading.Rows.{lines_at};
 ghost use Rattle.gtp_v2.specs.reading.Outcome.{GivesOrMemory};
 ghost use Rattle.gtp_v2.specs.DeleteSessionResponse.{delete_session_response, delete_session_response_fields};
 
 use crate::body::Body;
-use crate::fault::BodyFault;
 use crate::kinds::DELETE_SESSION_RESPONSE;
 use crate::room::{after_option, after_row};
 use crate::rows::{mandatory, optional};
 use crate::typed::Typed;
 use crate::writing::{put_option, put_row};
 use gtp_ie::{Indexed, Recovery};
-use gtp_values::Cause;
+use gtp_values::{Cause, Memory};
 use std::alloc::{AllocError, Global};
 
 /// The answer to a Delete Session Request (TS 29.274 7.2.10.1).
@@ -31,7 +30,7 @@ pub struct DeleteSessionResponse {
 impl Typed for DeleteSessionResponse {
     const KIND: u8 = DELETE_SESSION_RESPONSE;
 
-    ghost KIND = { 37 };
+    ghost KIND = { delete_session_response.kind };
 
     const HAS_TEID: bool = true;
 
@@ -52,8 +51,8 @@ impl Typed for DeleteSessionResponse {
     }
 
     #[tactic(auto, unfolding(crate::specs::reading::Rows::lines_at))]
-    fn read(_alloc: Global, elements: &Indexed) -> Result<DeleteSessionResponse, BodyFault> {
-        let cause = mandatory::<Cause>(elements, 0)?;
+    fn build(_alloc: Global, elements: &Indexed) -> Result<DeleteSessionResponse, Memory> {
+        let cause = mandatory::<Cause>(elements, 0);
         let recovery = optional::<Recovery>(elements, 0);
         Ok(DeleteSessionResponse { cause, recovery })
     }

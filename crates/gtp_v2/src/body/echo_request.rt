@@ -2,20 +2,20 @@
 //!
 //! Written by scripts/messages from specs/EchoRequest.antt.
 
-ghost use Rattle.std.specs.Prelude.{false};
+ghost use Rattle.std.specs.Prelude.{IsOk, false};
 ghost use Rattle.gtp_v2.specs.Table.{start};
 ghost use Rattle.gtp_v2.specs.reading.Rows.{lines_at};
 ghost use Rattle.gtp_v2.specs.reading.Outcome.{GivesOrMemory};
 ghost use Rattle.gtp_v2.specs.EchoRequest.{echo_request, echo_request_fields};
 
 use crate::body::Body;
-use crate::fault::BodyFault;
 use crate::kinds::ECHO_REQUEST;
 use crate::room::after_row;
 use crate::rows::mandatory;
 use crate::typed::Typed;
 use crate::writing::put_row;
 use gtp_ie::{Indexed, Recovery};
+use gtp_values::Memory;
 use std::alloc::{AllocError, Global};
 
 /// A question whether the peer is alive (TS 29.274 7.1.1).
@@ -28,7 +28,7 @@ pub struct EchoRequest {
 impl Typed for EchoRequest {
     const KIND: u8 = ECHO_REQUEST;
 
-    ghost KIND = { 1 };
+    ghost KIND = { echo_request.kind };
 
     const HAS_TEID: bool = false;
 
@@ -49,8 +49,8 @@ impl Typed for EchoRequest {
     }
 
     #[tactic(auto, unfolding(crate::specs::reading::Rows::lines_at))]
-    fn read(_alloc: Global, elements: &Indexed) -> Result<EchoRequest, BodyFault> {
-        let recovery = mandatory::<Recovery>(elements, 0)?;
+    fn build(_alloc: Global, elements: &Indexed) -> Result<EchoRequest, Memory> {
+        let recovery = mandatory::<Recovery>(elements, 0);
         Ok(EchoRequest { recovery })
     }
 

@@ -2,20 +2,20 @@
 //!
 //! Written by scripts/messages from specs/EchoResponse.antt.
 
-ghost use Rattle.std.specs.Prelude.{false};
+ghost use Rattle.std.specs.Prelude.{IsOk, false};
 ghost use Rattle.gtp_v2.specs.Table.{start};
 ghost use Rattle.gtp_v2.specs.reading.Rows.{lines_at};
 ghost use Rattle.gtp_v2.specs.reading.Outcome.{GivesOrMemory};
 ghost use Rattle.gtp_v2.specs.EchoResponse.{echo_response, echo_response_fields};
 
 use crate::body::Body;
-use crate::fault::BodyFault;
 use crate::kinds::ECHO_RESPONSE;
 use crate::room::after_row;
 use crate::rows::mandatory;
 use crate::typed::Typed;
 use crate::writing::put_row;
 use gtp_ie::{Indexed, Recovery};
+use gtp_values::Memory;
 use std::alloc::{AllocError, Global};
 
 /// The answer that the peer is alive (TS 29.274 7.1.2).
@@ -28,7 +28,7 @@ pub struct EchoResponse {
 impl Typed for EchoResponse {
     const KIND: u8 = ECHO_RESPONSE;
 
-    ghost KIND = { 2 };
+    ghost KIND = { echo_response.kind };
 
     const HAS_TEID: bool = false;
 
@@ -49,8 +49,8 @@ impl Typed for EchoResponse {
     }
 
     #[tactic(auto, unfolding(crate::specs::reading::Rows::lines_at))]
-    fn read(_alloc: Global, elements: &Indexed) -> Result<EchoResponse, BodyFault> {
-        let recovery = mandatory::<Recovery>(elements, 0)?;
+    fn build(_alloc: Global, elements: &Indexed) -> Result<EchoResponse, Memory> {
+        let recovery = mandatory::<Recovery>(elements, 0);
         Ok(EchoResponse { recovery })
     }
 

@@ -2,17 +2,17 @@
 //!
 //! Written by scripts/messages from specs/VersionNotSupported.antt.
 
-ghost use Rattle.std.specs.Prelude.{false};
+ghost use Rattle.std.specs.Prelude.{IsOk, false};
 ghost use Rattle.gtp_v2.specs.Table.{start};
 ghost use Rattle.gtp_v2.specs.reading.Rows.{lines_at};
 ghost use Rattle.gtp_v2.specs.reading.Outcome.{GivesOrMemory};
 ghost use Rattle.gtp_v2.specs.VersionNotSupported.{version_not_supported, version_not_supported_fields};
 
 use crate::body::Body;
-use crate::fault::BodyFault;
 use crate::kinds::VERSION_NOT_SUPPORTED;
 use crate::typed::Typed;
 use gtp_ie::Indexed;
+use gtp_values::Memory;
 use std::alloc::{AllocError, Global};
 
 /// That the sender supports no version above 2 (TS 29.274 7.1.3).
@@ -22,7 +22,7 @@ pub struct VersionNotSupported {}
 impl Typed for VersionNotSupported {
     const KIND: u8 = VERSION_NOT_SUPPORTED;
 
-    ghost KIND = { 3 };
+    ghost KIND = { version_not_supported.kind };
 
     const HAS_TEID: bool = false;
 
@@ -43,7 +43,7 @@ impl Typed for VersionNotSupported {
     }
 
     #[tactic(auto, unfolding(crate::specs::reading::Rows::lines_at))]
-    fn read(_alloc: Global, _elements: &Indexed) -> Result<VersionNotSupported, BodyFault> {
+    fn build(_alloc: Global, _elements: &Indexed) -> Result<VersionNotSupported, Memory> {
         Ok(VersionNotSupported {})
     }
 

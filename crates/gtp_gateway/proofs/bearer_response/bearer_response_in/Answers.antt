@@ -1,5 +1,5 @@
-use Rattle.std.proofs.Common.{sym}
-use Rattle.gtp_v2.specs.Viewed.{in_row}
+use Rattle.std.proofs.Common.{ℕ, sym, ap}
+use Rattle.gtp_v2.specs.Viewed.{in_row, always_has}
 use Rattle.gtp_gateway.specs.declared.procedure.Procedure.TheVariants.{BearerAnswered}
 use Rattle.gtp_gateway.proofs.BearerAnswers.{given_others, given_contexts, given_only}
 use Rattle.gtp_gateway.proofs.ByProcedure.{cause_is}
@@ -7,10 +7,7 @@ use Rattle.gtp_gateway.proofs.InPlace.{type_is, reads_so, row_so, bearer_answere
 use Rattle.gtp_gateway.proofs.bearer_response.bearer_response_in.Goals as goal
 
 pub response_in-requires : goal.response_in-requires
-response_in-requires c =
-    let m = c.args.view.now.message in
-    let a = bearer_answered c.requires.spelled.0 m (type_is m.kind BearerAnswered c.requires.of) c.requires.spelled.1 in
-    (a.cause, row_so 96 2 0 _ m a.says)
+response_in-requires c = ap (λ (k : ℕ). always_has k 2 0) (type_is c.args.view.now.message.kind BearerAnswered c.requires.of)
 
 pub only_context_in-requires : goal.only_context_in-requires
 only_context_in-requires c = (given_others, _, given_contexts c.requires.spelled.0 c.args.view.now.message c.requires.spelled.1 c.requires.of)

@@ -1,5 +1,5 @@
 use Rattle.std.proofs.Common.{◌≡◌, ◌++◌, map}
-use Rattle.gtp_ie.specs.declared.value.numbers.EbiValue.{EbiValue}
+use Rattle.gtp_ie.specs.declared.value.ebi.EbiValue.{EbiValue}
 use Rattle.gtp_ie.specs.Element.{all_of}
 use Rattle.gtp_ie.specs.Value.{OfEbi}
 use Rattle.gtp_v2.specs.Viewed.{values_of}

@@ -1,7 +1,7 @@
-use Rattle.std.proofs.Common.{◌≡◌, List, [], ◌∷◌, map, Option, Some, None, option_map, refl, sym, ◌∙◌, ap}
+use Rattle.std.proofs.Common.{◌≡◌, ℕ, List, [], ◌∷◌, map, Option, Some, None, option_map, refl, sym, ◌∙◌, ap}
 use Rattle.std.proofs.lemmas.Option.{same_Some}
 use Rattle.gtp_ie.specs.Value.{Value, OfAmbr}
-use Rattle.gtp_v2.specs.Viewed.{in_row, front_value}
+use Rattle.gtp_v2.specs.Viewed.{in_row, always_has, front_value}
 use Rattle.gtp_values.specs.declared.qos.Ambr.{Ambr}
 use Rattle.gtp_machine.specs.Decoded.{first_in, ambr_in, octets_at, number_at, end_at, requested}
 use Rattle.gtp_gateway.specs.SessionAsked.{default_values}
@@ -9,16 +9,16 @@ use Rattle.gtp_gateway.proofs.InPlace.{asked, requested_context, reads_so, row_s
 use Rattle.gtp_gateway.proofs.session_request.session_request_in.Goals as goal
 
 pub needed-requires : goal.needed-requires
-needed-requires c = let m = c.args.view.now.message in let a = asked m c.requires.spelled c.requires.of in (a.imsi, row_so 32 1 0 _ m a.says)
+needed-requires c = ap (λ (k : ℕ). always_has k 1 0) c.requires.of
 
 pub needed-requires-2 : goal.needed-requires-2
-needed-requires-2 c = let m = c.args.view.now.message in let a = asked m c.requires.spelled c.requires.of in (a.control, row_so 32 87 0 _ m a.says)
+needed-requires-2 c = ap (λ (k : ℕ). always_has k 87 0) c.requires.of
 
 pub needed-requires-3 : goal.needed-requires-3
-needed-requires-3 c = let m = c.args.view.now.message in let a = asked m c.requires.spelled c.requires.of in (a.access_point, row_so 32 71 0 _ m a.says)
+needed-requires-3 c = ap (λ (k : ℕ). always_has k 71 0) c.requires.of
 
 pub needed-requires-4 : goal.needed-requires-4
-needed-requires-4 c = let m = c.args.view.now.message in let a = asked m c.requires.spelled c.requires.of in (a.pdn, row_so 32 99 0 _ m a.says)
+needed-requires-4 c = ap (λ (k : ℕ). always_has k 99 0) c.requires.of
 
 -- a row whose value was read has it
 row_read : (row : Option (List Value)) (v w : Value) → row ≡ Some (v ∷ []) → row ≡ Some (w ∷ []) → v ≡ w
@@ -42,10 +42,10 @@ returns c =
     let m = c.args.view.now.message in
     let a = asked m c.requires.spelled c.requires.of in
     let d = c.requested_default in
-    let imsi = row_read (in_row 1 0 m) _ _ (row_so 32 1 0 _ m a.says) c.needed.ensures in
-    let control = row_read (in_row 87 0 m) _ _ (row_so 32 87 0 _ m a.says) c.needed-2.ensures in
-    let point = row_read (in_row 71 0 m) _ _ (row_so 32 71 0 _ m a.says) c.needed-3.ensures in
-    let pdn = row_read (in_row 99 0 m) _ _ (row_so 32 99 0 _ m a.says) c.needed-4.ensures in
+    let imsi = row_read (in_row 1 0 m) _ _ (row_so 32 1 0 _ m a.says) c.needed.ensures.field in
+    let control = row_read (in_row 87 0 m) _ _ (row_so 32 87 0 _ m a.says) c.needed-2.ensures.field in
+    let point = row_read (in_row 71 0 m) _ _ (row_so 32 71 0 _ m a.says) c.needed-3.ensures.field in
+    let pdn = row_read (in_row 99 0 m) _ _ (row_so 32 99 0 _ m a.says) c.needed-4.ensures.field in
     let same = same_Some _ _ (sym (groups_so 32 93 0 _ m a.says) ∙ d.ensures.groups) in
     let groups = same_first (requested_context a.first) (default_values d.result) a.further d.ensures.further (ap (λ p. p.1) same) in (
       _,

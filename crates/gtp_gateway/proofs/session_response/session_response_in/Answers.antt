@@ -1,6 +1,6 @@
-use Rattle.std.proofs.Common.{sym, ◌∙◌, ap}
+use Rattle.std.proofs.Common.{ℕ, sym, ◌∙◌, ap}
 use Rattle.gtp_machine.specs.Element.{ipv4_of, teid_in}
-use Rattle.gtp_v2.specs.Viewed.{in_row}
+use Rattle.gtp_v2.specs.Viewed.{in_row, always_has}
 use Rattle.gtp_gateway.specs.declared.procedure.Procedure.TheVariants.{SessionAnswered}
 use Rattle.gtp_gateway.proofs.ByProcedure.{cause_is}
 use Rattle.gtp_gateway.proofs.InPlace.{type_is, reads_so, row_so, session_answered}
@@ -8,10 +8,7 @@ use Rattle.gtp_gateway.proofs.SessionAnswers.{created_others, created_contexts, 
 use Rattle.gtp_gateway.proofs.session_response.session_response_in.Goals as goal
 
 pub response_in-requires : goal.response_in-requires
-response_in-requires c =
-    let m = c.args.view.now.message in
-    let a = session_answered c.requires.spelled.0 m (type_is m.kind SessionAnswered c.requires.of) c.requires.spelled.1 in
-    (a.cause, row_so 33 2 0 _ m a.says)
+response_in-requires c = ap (λ (k : ℕ). always_has k 2 0) (type_is c.args.view.now.message.kind SessionAnswered c.requires.of)
 
 pub only_context_in-requires : goal.only_context_in-requires
 only_context_in-requires c = (created_others, _, created_contexts c.requires.spelled.0 c.args.view.now.message c.requires.spelled.1 c.requires.of)

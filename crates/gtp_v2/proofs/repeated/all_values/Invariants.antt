@@ -5,4 +5,4 @@ use Rattle.gtp_v2.proofs.Loop.{Gathers}
 use Rattle.gtp_v2.proofs.repeated.all_values.Given as goal
 
 abbrev pub invariant-loop-view : goal.invariant-loop-view
-invariant-loop-view g l = Gathers (one_at g.T.IeValue.KIND l.instance) l.refused (map g.T.IeValue.value l.values.items) l.view-iterator (values_at g.T.IeValue.KIND l.instance (all_of g.T.IeValue.KIND l.instance l.elements))
+invariant-loop-view g l = Gathers (one_at g.T.IeValue.KIND l.instance) (map g.T.IeValue.value l.values.items) l.view-iterator (values_at g.T.IeValue.KIND l.instance (all_of g.T.IeValue.KIND l.instance l.elements))

@@ -1,6 +1,6 @@
 use Rattle.std.proofs.Common.{◌≡◌, ◌<◌, List, length, None, inr, sym, subst, arith}
 use Rattle.std.proofs.lemmas.Result.{IfOk-weaker}
-use Rattle.gtp_ie.specs.declared.value.numbers.EbiValue.{EbiValue}
+use Rattle.gtp_ie.specs.declared.value.ebi.EbiValue.{EbiValue}
 use Rattle.gtp_machine.specs.Choice.{HasHeldRoom}
 use Rattle.gtp_machine.specs.Input.{Effect}
 use Rattle.gtp_machine.specs.Serving.{RemovalJudged, RemovalAsked}

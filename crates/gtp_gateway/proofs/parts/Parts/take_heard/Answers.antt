@@ -1,5 +1,6 @@
-use Rattle.std.proofs.Common.{◌≡◌, true, Some, refl, sym, ◌∙◌, ap, subst}
+use Rattle.std.proofs.Common.{◌≡◌, ℕ, true, Some, refl, sym, ◌∙◌, ap, subst}
 use Rattle.std.proofs.lemmas.Result.{IfOk-weaker, on_err_weaker}
+use Rattle.gtp_v2.specs.Viewed.{always_has}
 use Rattle.gtp_machine.specs.Answer.{echoed}
 use Rattle.gtp_machine.specs.Message.{recovery_of}
 use Rattle.gtp_machine.specs.Decoded.{message_of}
@@ -12,7 +13,7 @@ use Rattle.gtp_gateway.specs.Hearing.{node_heard}
 use Rattle.gtp_gateway.specs.Parts.{arrival_of}
 use Rattle.gtp_gateway.specs.Procedure.{has, TakesBy}
 use Rattle.gtp_gateway.specs.Station.{station_of}
-use Rattle.gtp_gateway.proofs.ByProcedure.{unheard, deletion_request_is, takes_deletion_request, echo_request_is, takes_echo_request, echo_response_is, takes_echo_response, deletion_response_is, takes_deletion_response, removal_response_is, removal_cause, takes_removal_response, takes_session_request}
+use Rattle.gtp_gateway.proofs.ByProcedure.{unheard, deletion_request_is, takes_deletion_request, echo_request_is, takes_echo_request, echo_response_is, takes_echo_response, deletion_response_is, takes_deletion_response, removal_response_is, takes_removal_response, takes_session_request}
 use Rattle.gtp_gateway.proofs.Endings.{delete_bearer_is, takes_removal_request}
 use Rattle.gtp_gateway.proofs.Giving.{wait_on}
 use Rattle.gtp_gateway.proofs.GoingOn.{tied_of, on_goes}
@@ -121,7 +122,7 @@ pub bearer_request_in-request-requires : goal.bearer_request_in-request-requires
 bearer_request_in-request-requires c = has_context c.args.octets.now c.args.view.now.message c.requires.spelled (c.requires.of ∙ ap (λ (p : Procedure). Some p) c.in-BearerAsked.is)
 
 pub response_in-response-requires-in-RemovalAnswered : goal.response_in-response-requires-in-RemovalAnswered
-response_in-response-requires-in-RemovalAnswered c = removal_cause c.args.octets.now c.args.view.now.message c.requires.spelled (c.requires.of ∙ ap (λ (p : Procedure). Some p) c.in-RemovalAnswered.is)
+response_in-response-requires-in-RemovalAnswered c = ap (λ (k : ℕ). always_has k 2 0) (type_is c.args.view.now.message.kind procedures.RemovalAnswered (c.requires.of ∙ ap (λ (p : Procedure). Some p) c.in-RemovalAnswered.is))
 
 pub returns-in-SessionAnswered-clause-taken : goal.returns-in-SessionAnswered-clause-taken
 returns-in-SessionAnswered-clause-taken c =

@@ -1,5 +1,0 @@
-use Rattle.gtp_ie.proofs.AgainAddresses.{fteid_again}
-use Rattle.gtp_ie.proofs.value.addresses.FTeidIeValue.write.Goals as goal
-
-pub returns-clause-again : goal.returns-clause-again
-returns-clause-again c = fteid_again c.args.self.now c.interface.ensures.range

@@ -1,8 +1,0 @@
-use Rattle.std.proofs.Common.{◌<◌, arith}
-use Rattle.gtp_ie.proofs.Again.{qos_again}
-use Rattle.gtp_ie.proofs.value.quality.QosIeValue.write.Goals as goal
-
-pub returns-clause-again : goal.returns-clause-again
-returns-clause-again c =
-    let small : c.args.self.now.pl < 16 = omega arith in
-    qos_again c.args.self.now small c.octets_of.ensures.range c.octets_of-2.ensures.range
