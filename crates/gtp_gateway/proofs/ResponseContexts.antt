@@ -1,6 +1,6 @@
 -- Bearer contexts of responses, by their elements.
-use Rattle.std.proofs.Common.{◌≡◌, inl, inr, List, [], ◌∷◌, map, Option, Some, None, refl, sym, ◌∙◌, ap, subst}
-use Rattle.std.specs.Prelude.{option_to_list, IsSomeAnd}
+use Rattle.std.proofs.Common.{◌≡◌, inl, inr, List, [], ◌∷◌, map, true, Option, Some, None, refl, sym, ◌∙◌, ap, subst}
+use Rattle.std.specs.Prelude.{option_to_list, is_some, IsSomeAnd}
 use Rattle.gtp_ie.specs.Element.{Element}
 use Rattle.gtp_ie.specs.Value.{Value}
 use Rattle.gtp_values.specs.FiniteMap.{Among}
@@ -27,19 +27,19 @@ listed (Some p) values others groups cs stand tie = sym stand.0 ∙ (tie p refl 
 pub first_among : (f : List Element → Group) (groups : List Group) (c : List Element) (cs rest : List (List Element)) → groups ≡ map f cs → cs ≡ c ∷ rest → Among (f c) groups
 first_among f groups c cs rest are is = subst (λ (gs : List Group). Among (f c) gs) (sym (are ∙ ap (map f) is)) (inl refl)
 
-identity_there : (o p : Option Value) (others : Group) → HasCause (option_to_list o ∷ option_to_list p ∷ others) → (v : Value) × (o ≡ Some v)
+identity_there : (o p : Option Value) (others : Group) → HasCause (option_to_list o ∷ option_to_list p ∷ others) → is_some o ≡ true
 identity_there None p others has = absurd (let is = has.is in cc)
-identity_there (Some v) p others has = (v, refl)
+identity_there (Some v) p others has = refl
 
-cause_there : (o p : Option Value) (others : Group) → HasCause (option_to_list o ∷ option_to_list p ∷ others) → (v : Value) × (p ≡ Some v)
+cause_there : (o p : Option Value) (others : Group) → HasCause (option_to_list o ∷ option_to_list p ∷ others) → is_some p ≡ true
 cause_there o None others has = absurd (let is = has.is in cc)
-cause_there o (Some v) others has = (v, refl)
+cause_there o (Some v) others has = refl
 
 -- so each of them has an identity and a cause
-pub has_identity : (others : List Element → Group) (es : List Element) → HasCause (context_values others es) → (v : Value) × (optional_at 73 0 es ≡ Some v)
+pub has_identity : (others : List Element → Group) (es : List Element) → HasCause (context_values others es) → is_some (optional_at 73 0 es) ≡ true
 has_identity others es has = identity_there (optional_at 73 0 es) (optional_at 2 0 es) (others es) has
 
-pub has_cause : (others : List Element → Group) (es : List Element) → HasCause (context_values others es) → (v : Value) × (optional_at 2 0 es ≡ Some v)
+pub has_cause : (others : List Element → Group) (es : List Element) → HasCause (context_values others es) → is_some (optional_at 2 0 es) ≡ true
 has_cause others es has = cause_there (optional_at 73 0 es) (optional_at 2 0 es) (others es) has
 
 -- ---- what the grammar says of bearer contexts

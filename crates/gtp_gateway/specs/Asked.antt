@@ -1,4 +1,6 @@
 -- Requests that a gateway gets.
+use Rattle.gtp_ie.specs.Form.{number_of}
+use Rattle.gtp_ie.specs.declared.form.Form.TheVariants as forms
 use Rattle.std.specs.Prelude.{◌≡◌, ℕ, List, Some, option_map}
 use Rattle.gtp_values.specs.declared.address.Endpoint.{Endpoint}
 use Rattle.gtp_ie.specs.Value.{Value, OfEbi}
@@ -23,7 +25,7 @@ use Rattle.gtp_gateway.specs.Station.{Station}
 pub record ReadsDeletion (m : MessageValue) (r : DeletionRequest) : Type 0 where
   pub number : r.seq ≡ m.seq
   pub header : r.header.0 ≡ written m.teid
-  pub linked : (vs : List Value) → in_row 73 0 m ≡ Some vs → option_map (λ e. OfEbi e) r.linked ≡ front_value vs
+  pub linked : (vs : List Value) → in_row (number_of forms.Ebi) 0 m ≡ Some vs → option_map (λ e. OfEbi e) r.linked ≡ front_value vs
 
 -- the machine's message says what was read
 pub record SaysDeletion (r : DeletionRequest) (d : messages.DeleteSessionRequest) : Type 0 where

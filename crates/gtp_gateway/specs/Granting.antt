@@ -1,4 +1,6 @@
 -- Create Bearer Requests, as the serving gateway takes them.
+use Rattle.gtp_ie.specs.Form.{number_of, bearer_context}
+use Rattle.gtp_ie.specs.declared.form.Form.TheVariants as forms
 use Rattle.std.specs.Prelude.{◌≡◌, ◌↔◌, ℕ, Bool, true, false, IsTrue, List, [], ◌∷◌, Option, Some, None}
 use Rattle.gtp_values.specs.declared.address.Endpoint.{Endpoint}
 use Rattle.gtp_values.specs.Cause.{is_accepting_value}
@@ -33,11 +35,11 @@ use Rattle.gtp_gateway.specs.Station.{Station}
 
 -- the rows of a Create Bearer Request: its linked identity, and bearer contexts, of which the first has an F-TEID
 pub record HasBearerContext (m : MessageValue) : Type 0 where
-  pub linked : IsTrue (always_has m.kind 73 0)
+  pub linked : IsTrue (always_has m.kind (number_of forms.Ebi) 0)
   pub first : List (List Value)
   pub further : List (List (List Value))
   pub user : Value
-  pub groups : in_groups 93 0 m ≡ Some (bearer_request_context_rows, first ∷ further)
+  pub groups : in_groups bearer_context 0 m ≡ Some (bearer_request_context_rows, first ∷ further)
   pub ends : row 2 first ≡ user ∷ []
 
 -- what was read of the bearer contexts is what stands in them
@@ -49,8 +51,8 @@ pub record ReadsContexts (r : BearerRequest) (first : List (List Value)) (furthe
 pub record ReadsBearer (m : MessageValue) (r : BearerRequest) : Type 0 where
   pub number : r.seq ≡ m.seq
   pub header : r.header.0 ≡ written m.teid
-  pub linked : in_row 73 0 m ≡ Some (OfEbi r.linked ∷ [])
-  pub contexts : (first : List (List Value)) (further : List (List (List Value))) → in_groups 93 0 m ≡ Some (bearer_request_context_rows, first ∷ further) → ReadsContexts r first further
+  pub linked : in_row (number_of forms.Ebi) 0 m ≡ Some (OfEbi r.linked ∷ [])
+  pub contexts : (first : List (List Value)) (further : List (List (List Value))) → in_groups bearer_context 0 m ≡ Some (bearer_request_context_rows, first ∷ further) → ReadsContexts r first further
 
 -- the machine's message says what was read
 pub record SaysBearer (r : BearerRequest) (q : messages.CreateBearerRequest) : Type 0 where

@@ -1,5 +1,15 @@
 -- The procedures of the control plane, by the message that each takes.
 use Rattle.std.specs.Prelude.{◌≡◌, ℕ, ◌==◌, Bool, true, false, Option, Some, None, if◌then◌else◌}
+use Rattle.gtp_v2.specs.EchoRequest.{echo_request}
+use Rattle.gtp_v2.specs.EchoResponse.{echo_response}
+use Rattle.gtp_v2.specs.CreateSessionRequest.{create_session_request}
+use Rattle.gtp_v2.specs.CreateSessionResponse.{create_session_response}
+use Rattle.gtp_v2.specs.DeleteSessionRequest.{delete_session_request}
+use Rattle.gtp_v2.specs.DeleteSessionResponse.{delete_session_response}
+use Rattle.gtp_v2.specs.CreateBearerRequest.{create_bearer_request}
+use Rattle.gtp_v2.specs.CreateBearerResponse.{create_bearer_response}
+use Rattle.gtp_v2.specs.DeleteBearerRequest.{delete_bearer_request}
+use Rattle.gtp_v2.specs.DeleteBearerResponse.{delete_bearer_response}
 use Rattle.gtp_machine.specs.declared.role.Role.{Role}
 use Rattle.gtp_machine.specs.declared.role.Role.TheVariants.{Serving, Packet}
 use Rattle.gtp_machine.specs.Message.{Message}
@@ -13,16 +23,16 @@ use Rattle.gtp_gateway.specs.declared.procedure.Procedure.TheVariants.{EchoAsked
 -- the procedure that takes messages of a type (TS 29.274 6.1)
 abbrev pub procedure_at : ℕ → Option Procedure
 procedure_at kind =
-    if kind == 1 then Some EchoAsked
-    else (if kind == 2 then Some EchoAnswered
-    else (if kind == 32 then Some SessionAsked
-    else (if kind == 33 then Some SessionAnswered
-    else (if kind == 36 then Some DeletionAsked
-    else (if kind == 37 then Some DeletionAnswered
-    else (if kind == 95 then Some BearerAsked
-    else (if kind == 96 then Some BearerAnswered
-    else (if kind == 99 then Some RemovalAsked
-    else (if kind == 100 then Some RemovalAnswered
+    if kind == echo_request.kind then Some EchoAsked
+    else (if kind == echo_response.kind then Some EchoAnswered
+    else (if kind == create_session_request.kind then Some SessionAsked
+    else (if kind == create_session_response.kind then Some SessionAnswered
+    else (if kind == delete_session_request.kind then Some DeletionAsked
+    else (if kind == delete_session_response.kind then Some DeletionAnswered
+    else (if kind == create_bearer_request.kind then Some BearerAsked
+    else (if kind == create_bearer_response.kind then Some BearerAnswered
+    else (if kind == delete_bearer_request.kind then Some RemovalAsked
+    else (if kind == delete_bearer_response.kind then Some RemovalAnswered
     else None)))))))))
 
 -- whether a gateway has the procedure

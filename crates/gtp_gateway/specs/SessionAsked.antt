@@ -1,4 +1,5 @@
 -- Create Session Requests that a gateway gets.
+use Rattle.gtp_ie.specs.Form.{bearer_context}
 use Rattle.std.specs.Prelude.{◌≡◌, ◌↔◌, ℕ, true, List, [], ◌∷◌, Some}
 use Rattle.gtp_ie.specs.Value.{Value, OfEbi, OfQos, OfFTeid}
 use Rattle.gtp_v2.specs.CreateSessionRequest.{session_request_context_rows}
@@ -18,7 +19,7 @@ default_values d = (OfEbi d.identity ∷ []) ∷ (OfQos d.qos ∷ []) ∷ (OfFTe
 -- what was read of the default bearer is what stands in the first bearer context
 pub record ReadsContext (m : MessageValue) (d : RequestedDefault) : Type 0 where
   pub further : List (List (List Value))
-  pub groups : in_groups 93 0 m ≡ Some (session_request_context_rows, default_values d ∷ further)
+  pub groups : in_groups bearer_context 0 m ≡ Some (session_request_context_rows, default_values d ∷ further)
   pub alone : (d.is_alone ≡ true) ↔ (further ≡ [])
 
 -- the machine's message says what was read

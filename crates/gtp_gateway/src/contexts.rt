@@ -1,7 +1,9 @@
 //! What responses and their bearer contexts say, read where they lie (TS 29.274 tables 7.2.2-2,
 //! 7.2.4-2).
 
-ghost use Rattle.std.specs.Prelude.{◌≡◌, ◌↔◌, IsTrue, List, Some, option_map};
+ghost use Rattle.gtp_ie.specs.Form.{number_of};
+ghost use Rattle.gtp_ie.specs.declared.form.Form.TheVariants as forms;
+ghost use Rattle.std.specs.Prelude.{◌≡◌, ◌↔◌, IsTrue, List, is_some, option_map};
 ghost use Rattle.gtp_ie.specs.Element.{Element};
 ghost use Rattle.gtp_ie.specs.Value.{Value};
 ghost use Rattle.gtp_v2.specs.Viewed.{optional_at};
@@ -60,19 +62,14 @@ pub fn ipv4_in(address: Option<Paa>) -> Option<u32>
 
 /// What a bearer context says that has an identity and a cause.
 fn context_in(context: &ContextView<'_>) -> ResponseContext
-    requires identity { (v : Value) × (optional_at 73 0 context.now ≡ Some v) }
-    requires cause { (v : Value) × (optional_at 2 0 context.now ≡ Some v) }
+    requires identity { IsTrue (is_some (optional_at (number_of forms.Ebi) 0 context.now)) }
+    requires cause { IsTrue (is_some (optional_at (number_of forms.Cause) 0 context.now)) }
     ensures { ReadsContext context.now result }
 {
-    let Some(EbiValue(identity)) = context.value::<EbiValue>(0) else {
-        unreachable!()
-    };
-    let Some(cause) = context.value::<Cause>(0) else {
-        unreachable!()
-    };
+    let EbiValue(identity) = context.needed(0);
     ResponseContext {
         identity,
-        cause,
+        cause: context.needed(0),
         user: teid_of(context.value(2)),
         returned: teid_of(context.value(3)),
     }

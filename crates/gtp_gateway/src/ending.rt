@@ -4,6 +4,9 @@ ghost use Rattle.gtp_gateway.specs.GoesOn.{GoesOn};
 ghost use Rattle.gtp_gateway.specs.UserTaken.{WaitOn};
 ghost use Rattle.std.specs.Prelude.{◌≡◌, ◌<◌, ◌≤◌, ◌↔◌, ℕ, List, [], map, length, false, Some, None, IsTrue, IfOk, OnOk, OnErr};
 ghost use Rattle.gtp_ie.specs.Element.{all_of};
+ghost use Rattle.gtp_ie.specs.Form.{number_of};
+ghost use Rattle.gtp_ie.specs.declared.form.Form.TheVariants as forms;
+ghost use Rattle.gtp_v2.specs.DeleteBearerRequest.{delete_bearer_request};
 ghost use Rattle.gtp_v2.specs.Datagram.{IsMessage};
 ghost use Rattle.gtp_v2.specs.Viewed.{Carries};
 ghost use Rattle.gtp_machine.specs.Element.{cause_of};
@@ -75,7 +78,7 @@ pub enum RemovalVerdict {
 /// The identities in the list of a Delete Bearer Request.
 fn identities_in(alloc: Global, view: &DatagramView<'_>) -> Result<Vec<EbiValue>, Memory>
     requires spelled { (octets : List ℕ) × IsMessage octets view.now.message }
-    requires kind { view.now.message.kind ≡ 99 }
+    requires kind { view.now.message.kind ≡ delete_bearer_request.kind }
     ensures { IfOk result (λ identities. ReadsIdentities view.now.message identities.items) }
 {
     let mut identities = Vec::new(alloc);
@@ -88,7 +91,7 @@ fn identities_in(alloc: Global, view: &DatagramView<'_>) -> Result<Vec<EbiValue>
 /// Whether the list of a Delete Bearer Request has more identities than bearers have, by its
 /// elements.
 fn has_too_many(view: &DatagramView<'_>) -> bool
-    ensures { IsTrue result ↔ (11 < length (all_of 73 1 view.now.elements)) }
+    ensures { IsTrue result ↔ (11 < length (all_of (number_of forms.Ebi) 1 view.now.elements)) }
 {
     let mut count = 0;
     for _ in view.elements().all(EbiValue::KIND, 1) {
@@ -379,7 +382,7 @@ impl Parts {
         requires few { length self.old.held.pairs < 4096 }
         requires asked { IsForBearers request.now header.0 (node_of self.old) }
         requires spelled { IsMessage octets.now view.now.message × Carries octets.now view.now }
-        requires kind { view.now.message.kind ≡ 99 }
+        requires kind { view.now.message.kind ≡ delete_bearer_request.kind }
         ensures taken { IfOk result (λ step. TakesRemovalRequest source octets.now view.now.message
             request.now (station_of self.old) step (station_of self.new)) }
         ensures goes { OnOk result
@@ -420,7 +423,7 @@ impl Parts {
         requires whole { IsWhole (station_of self.old) }
         requires fresh { IsFresh source octets.now (station_of self.old) self.old.held.pairs }
         requires spelled { IsMessage octets.now view.now.message × Carries octets.now view.now }
-        requires kind { view.now.message.kind ≡ 99 }
+        requires kind { view.now.message.kind ≡ delete_bearer_request.kind }
         ensures taken { IfOk result (λ step. TakesRemovalRequest source octets.now view.now.message
             request.now (station_of self.old) step (station_of self.new)) }
         ensures goes { OnOk result

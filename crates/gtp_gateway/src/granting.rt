@@ -24,7 +24,6 @@ use crate::control_step::ControlStep;
 use crate::drawing::OneDrawn;
 use crate::faulty::Request;
 use crate::messages::{own_end, plain_cause, refusal};
-use crate::needed::needed_in;
 use crate::parts::Parts;
 use crate::user::written_teid;
 use gtp_machine::DropReason;
@@ -85,7 +84,7 @@ pub fn bearer_request_in(view: &DatagramView<'_>) -> BearerRequest
         seq: view.seq(),
         header: view.teid().unwrap_or(Teid(0)),
         linked: view.needed::<EbiValue>(0).0,
-        user: needed_in(&first, 1),
+        user: first.needed(1),
         is_alone: contexts.next().is_none(),
     }
 }

@@ -26,7 +26,6 @@ mod in_place;
 pub mod laws;
 mod listing;
 mod messages;
-mod needed;
 mod parts;
 mod procedure;
 mod purpose;

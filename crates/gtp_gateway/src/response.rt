@@ -1,5 +1,7 @@
 //! Responses that a gateway gets (TS 29.274 7.6): each fits a request that waits, or is dropped.
 
+ghost use Rattle.gtp_ie.specs.Form.{number_of};
+ghost use Rattle.gtp_ie.specs.declared.form.Form.TheVariants as forms;
 ghost use Rattle.std.specs.Prelude.{◌≡◌, ◌↔◌, ◌∷◌, [], IsTrue, Some, true, false, ℕ, List};
 ghost use Rattle.gtp_ie.specs.Value.{Value, OfCause};
 ghost use Rattle.gtp_v2.specs.Viewed.{in_row, always_has};
@@ -30,10 +32,10 @@ pub struct Response {
 
 /// What a response says of its request, where the response has a cause.
 pub fn response_in(view: &DatagramView<'_>) -> Response
-    requires { IsTrue (always_has view.now.message.kind 2 0) }
+    requires { IsTrue (always_has view.now.message.kind (number_of forms.Cause) 0) }
     ensures seq { result.seq ≡ view.now.message.seq }
     ensures header { result.header.0 ≡ written view.now.message.teid }
-    ensures cause { in_row 2 0 view.now.message ≡ Some (OfCause result.cause ∷ []) }
+    ensures cause { in_row (number_of forms.Cause) 0 view.now.message ≡ Some (OfCause result.cause ∷ []) }
 {
     Response {
         seq: view.seq(),

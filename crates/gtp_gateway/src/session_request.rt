@@ -1,14 +1,14 @@
 //! Create Session Requests (TS 29.274 7.2.1), as they are read.
 
-ghost use Rattle.std.specs.Prelude.{◌≡◌, ℕ, List};
+ghost use Rattle.std.specs.Prelude.{◌≡◌, ◌↔◌, [], ℕ, List, IsTrue};
+ghost use Rattle.gtp_v2.specs.CreateSessionRequest.{create_session_request};
 ghost use Rattle.gtp_v2.specs.Datagram.{IsMessage};
 ghost use Rattle.gtp_machine.specs.Decoded.{message_of};
 ghost use Rattle.gtp_machine.specs.Message.{Create_session_request};
 ghost use Rattle.gtp_machine.specs.Message as messages;
 ghost use Rattle.gtp_gateway.specs.SessionAsked.{ReadsContext, SaysSession};
 
-use crate::needed::{needed_in, none_is_left};
-use gtp_v2::{DatagramView, EbiValue, PdnType};
+use gtp_v2::{Contexts, DatagramView, EbiValue, PdnType};
 use gtp_values::{Ambr, Apn, Below, FTeid, Imsi, Qos, Seq};
 
 /// What a Create Session Request says of the session that it asks for.
@@ -36,21 +36,28 @@ pub struct RequestedDefault {
     pub is_alone: bool,
 }
 
+/// Whether no further bearer context is left.
+fn none_is_left(contexts: &mut Contexts<'_>) -> bool
+    ensures { IsTrue result ↔ (contexts.old ≡ []) }
+{
+    contexts.next().is_none()
+}
+
 /// What the message says of the default bearer.
 fn requested_default(view: &DatagramView<'_>) -> RequestedDefault
     requires spelled { (octets : List ℕ) × IsMessage octets view.now.message }
-    requires of { view.now.message.kind ≡ 32 }
+    requires of { view.now.message.kind ≡ create_session_request.kind }
     ensures { ReadsContext view.now.message result }
 {
     let mut contexts = view.contexts();
     let Some(first) = contexts.next() else {
         unreachable!()
     };
-    let EbiValue(identity) = needed_in(&first, 0);
+    let EbiValue(identity) = first.needed(0);
     RequestedDefault {
         identity,
-        qos: needed_in(&first, 0),
-        user: needed_in(&first, 2),
+        qos: first.needed(0),
+        user: first.needed(2),
         is_alone: none_is_left(&mut contexts),
     }
 }
@@ -58,7 +65,7 @@ fn requested_default(view: &DatagramView<'_>) -> RequestedDefault
 /// What a Create Session Request says.
 pub fn session_request_in(view: &DatagramView<'_>) -> SessionRequest
     requires spelled { (octets : List ℕ) × IsMessage octets view.now.message }
-    requires of { view.now.message.kind ≡ 32 }
+    requires of { view.now.message.kind ≡ create_session_request.kind }
     ensures { (q : messages.CreateSessionRequest)
         × (message_of view.now.message ≡ Create_session_request q) × SaysSession result q }
 {

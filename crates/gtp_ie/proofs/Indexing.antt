@@ -4,7 +4,7 @@ use Rattle.std.specs.Prelude.{◌==◌}
 use Rattle.std.proofs.lemmas.List.{drop_at, length-drop, length-append, get_or-set_same, get_or-set_other, get_or-replicate, get_or_past, length-set, length-replicate}
 use Rattle.std.proofs.lemmas.Bool.{eqb-true, eqb-false, cases_lt}
 use Rattle.gtp_ie.specs.Element.{Element, front_of, elements_of, and_then_more, list_of, is_of, first_of, all_of}
-use Rattle.gtp_ie.specs.reading.View.{stop_of, IsWhole}
+use Rattle.gtp_ie.specs.reading.View.{stop_of}
 use Rattle.gtp_ie.specs.reading.Index.{slot, from_slot, walk_from_slot, elements_left, IsIndexed}
 use Rattle.gtp_ie.proofs.Walk.{walk_on, walk_ends, stop_on, front_long}
 use Rattle.gtp_ie.proofs.Walked.{front_begins}
@@ -64,14 +64,6 @@ all_left base octets lefts kind instance s indexed is few =
     ap (λ r. all_of kind instance (list_of r)) (indexed.slots s few)
     ∙ ap (all_of kind instance) (list_from s (elements_of base octets) ∙ ap (λ n. from_slot n (list_of (elements_of base octets))) is)
     ∙ all_from kind instance (list_of (elements_of base octets))
-
--- the octets that are left are whole elements
-pub whole_left : (base : ℕ) (octets lefts : List ℕ) (s : ℕ) → IsIndexed base octets lefts → s < 22 → IsWhole (base + (length octets - get_or lefts s 0)) (drop (length octets - get_or lefts s 0) octets)
-whole_left base octets lefts s indexed few =
-    record {
-      whole = ap stop_of (indexed.slots s few) ∙ stop_from s (elements_of base octets) ∙ indexed.whole.whole;
-      place = omega (arith, indexed.whole.place, indexed.room s, length-drop (length octets - get_or lefts s 0) octets);
-    }
 
 -- ---- the walk that fills the index
 
@@ -212,18 +204,6 @@ nothing_known s = by_place (cases_lt s 22) where
   by_place : (s < 22) ⊎ (22 ≤ s) → get_or nothing s 0 ≡ 0
   by_place (inl few) = get_or-replicate 22 s 0 0 few
   by_place (inr past) = get_or_past nothing s 0 (omega (arith, length-replicate {A = ℕ} 22 0))
-
--- at the first element nothing is known
-pub index_first : (base : ℕ) (octets : List ℕ) → Indexes base octets nothing octets base
-index_first base octets =
-    record {
-      stop = refl;
-      place = refl;
-      passed = ([], refl);
-      count = refl;
-      room = λ s. omega (arith, nothing_known s);
-      slots = λ s few. subst (SlotIs base octets (elements_of base octets) s) (sym (nothing_known s)) refl;
-    }
 
 -- after the last element the index is whole
 pub index_last : (base : ℕ) (octets lefts rest : List ℕ) (at : ℕ) → base + length octets < 2 ^ 64 → length rest ≡ 0 → Indexes base octets lefts rest at → IsIndexed base octets lefts

@@ -4,7 +4,7 @@
 use Rattle.std.specs.Prelude.{◌≡◌, ◌==◌, ◌&&◌, ℕ, ◌+◌, List, [], ◌∷◌, map, length, take, nat_lt, if◌then◌else◌, Option, Some, None}
 use Rattle.gtp_ie.specs.declared.form.Form.{Form}
 use Rattle.gtp_ie.specs.declared.form.Form.TheVariants as forms
-use Rattle.gtp_ie.specs.Form.{form_of}
+use Rattle.gtp_ie.specs.Form.{number_of, form_of}
 use Rattle.gtp_ie.specs.Layout.{bits}
 use Rattle.gtp_ie.specs.Spelling.{Spells}
 use Rattle.gtp_ie.specs.Value.{Value, least_of, encoding_of}
@@ -23,20 +23,20 @@ line kind octet runs = record { kind = kind; octet = octet; runs = runs }
 abbrev pub spare_lines : List Line
 spare_lines =
     -- 8.4, cause: its three flags; of the element at fault the length isn't looked at, and the instance is four bits
-    line 2 6 ((3, 1) ∷ [])
-    ∷ line 2 8 []
-    ∷ line 2 9 []
-    ∷ line 2 10 ((4, 1) ∷ [])
+    line (number_of forms.Cause) 6 ((3, 1) ∷ [])
+    ∷ line (number_of forms.Cause) 8 []
+    ∷ line (number_of forms.Cause) 9 []
+    ∷ line (number_of forms.Cause) 10 ((4, 1) ∷ [])
     -- 8.8, EPS bearer identity
-    ∷ line 73 5 ((4, 1) ∷ [])
+    ∷ line (number_of forms.Ebi) 5 ((4, 1) ∷ [])
     -- 8.14, PDN address allocation: the PDN type
-    ∷ line 79 5 ((3, 1) ∷ [])
+    ∷ line (number_of forms.Paa) 5 ((3, 1) ∷ [])
     -- 8.15, bearer quality of service: PCI and PL, and PVI
-    ∷ line 80 5 ((7, 3) ∷ (1, 1) ∷ [])
+    ∷ line (number_of forms.Qos) 5 ((7, 3) ∷ (1, 1) ∷ [])
     -- 8.34, PDN type
-    ∷ line 99 5 ((3, 1) ∷ [])
+    ∷ line (number_of forms.PdnType) 5 ((3, 1) ∷ [])
     -- 8.58, selection mode
-    ∷ line 128 5 ((2, 1) ∷ [])
+    ∷ line (number_of forms.Selection) 5 ((2, 1) ∷ [])
     ∷ []
 
 -- what counts of an octet: the numbers in its runs of bits, by the line that is of it, or all of it where none is

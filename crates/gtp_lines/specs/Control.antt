@@ -5,6 +5,7 @@ use Rattle.gtp_ie.specs.declared.fault.IeFault.{IeFault}
 use Rattle.gtp_ie.specs.declared.fault.IeFault.TheVariants as elements
 use Rattle.gtp_ie.specs.Codes as element_codes
 use Rattle.gtp_ie.specs.Element.{Element, elements_of}
+use Rattle.gtp_ie.specs.Form.{bearer_context}
 use Rattle.gtp_ie.specs.Octets.{AreElements}
 use Rattle.gtp_v2.specs.declared.fault.V2Fault.{V2Fault}
 use Rattle.gtp_v2.specs.declared.fault.V2Fault.TheVariants as faults
@@ -33,7 +34,7 @@ group_shown e (Err at) = raw_shown e.body ++ codes "\n"
 
 -- the lines of an element
 abbrev pub element_lines : Element → List ℕ
-element_lines e = element_head e ++ (if e.kind == 93 then group_shown e (elements_of (e.at + 4) e.body) else (body_shown e.kind e.body ++ codes "\n"))
+element_lines e = element_head e ++ (if e.kind == bearer_context then group_shown e (elements_of (e.at + 4) e.body) else (body_shown e.kind e.body ++ codes "\n"))
 
 -- the name of a type of message: that of its table, where it has one
 abbrev pub name_shown : Option Table → List ℕ

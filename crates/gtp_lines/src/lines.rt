@@ -28,7 +28,7 @@ fn put_message(out: &mut Vec<u8>, seen: &DatagramView) -> Result<(), AllocError>
         ++ carried_lines seen.now.message.content seen.now.elements)) }
 {
     put_head(out, seen)?;
-    match seen.octets() {
+    match seen.raw() {
         Some(carried) => {
             put_raw(out, carried)?;
             put(out, b"\n")

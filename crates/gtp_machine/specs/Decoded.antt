@@ -10,6 +10,16 @@ use Rattle.gtp_values.specs.declared.qos.Rates.{Rates}
 use Rattle.gtp_values.specs.declared.paa.Paa.{Paa}
 use Rattle.gtp_values.specs.declared.paa.Paa.TheVariants as paas
 use Rattle.gtp_ie.specs.Value.{Value, OfImsi, OfCause, OfRecovery, OfApn, OfAmbr, OfEbi, OfPaa, OfQos, OfRat, OfPlmn, OfTft, OfFTeid, OfChargingId, OfPdnType, OfPti, OfSelection}
+use Rattle.gtp_v2.specs.EchoRequest.{echo_request}
+use Rattle.gtp_v2.specs.EchoResponse.{echo_response}
+use Rattle.gtp_v2.specs.CreateSessionRequest.{create_session_request}
+use Rattle.gtp_v2.specs.CreateSessionResponse.{create_session_response}
+use Rattle.gtp_v2.specs.DeleteSessionRequest.{delete_session_request}
+use Rattle.gtp_v2.specs.DeleteSessionResponse.{delete_session_response}
+use Rattle.gtp_v2.specs.CreateBearerRequest.{create_bearer_request}
+use Rattle.gtp_v2.specs.CreateBearerResponse.{create_bearer_response}
+use Rattle.gtp_v2.specs.DeleteBearerRequest.{delete_bearer_request}
+use Rattle.gtp_v2.specs.DeleteBearerResponse.{delete_bearer_response}
 use Rattle.gtp_v2.specs.Table.{Field, Plain, Groups}
 use Rattle.gtp_v2.specs.Message.{Content, Fields, Raw, MessageValue}
 use Rattle.gtp_machine.specs.Element.{PdnAddress, Ipv4, Other_address, cause_of}
@@ -178,23 +188,23 @@ session_request_in header number f (first ∷ further) =
 
 -- a Create Bearer Request (7.2.3) with these bearer contexts; each that octets spell has one
 abbrev pub bearer_request_in : ℕ → ℕ → List Field → List (List (List Value)) → Message
-bearer_request_in header number f [] = Other_control 95
+bearer_request_in header number f [] = Other_control create_bearer_request.kind
 bearer_request_in header number f (first ∷ further) =
     Create_bearer_request (record { header = header; number = number; transaction = first_in number_of (values_at 0 f); linked = number_at (values_at 1 f); context = wanted first; further = map wanted further })
 
 -- the message of a type with these fields, under the TEID and the sequence number of its header; a type that no gateway knows says no more
 abbrev pub message_in : ℕ → ℕ → ℕ → List Field → Message
 message_in kind header number f =
-    if kind == 1 then Echo_request (record { number = number; recovery = number_at (values_at 0 f) })
-    else (if kind == 2 then Echo_response (record { number = number; recovery = number_at (values_at 0 f) })
-    else (if kind == 32 then session_request_in header number f (groups_at 9 f)
-    else (if kind == 33 then Create_session_response (record { header = header; number = number; cause = cause_at (values_at 0 f); control = first_in end_in (values_at 1 f); address = first_in paa_in (values_at 2 f); ambr = first_in ambr_in (values_at 3 f); contexts = map created (groups_at 4 f); recovery = first_in number_of (values_at 5 f) })
-    else (if kind == 36 then Delete_session_request (record { header = header; number = number; linked = first_in number_of (values_at 0 f) })
-    else (if kind == 37 then Delete_session_response (record { header = header; number = number; cause = cause_at (values_at 0 f); recovery = first_in number_of (values_at 1 f) })
-    else (if kind == 95 then bearer_request_in header number f (groups_at 2 f)
-    else (if kind == 96 then Create_bearer_response (record { header = header; number = number; cause = cause_at (values_at 0 f); contexts = map given (groups_at 1 f); recovery = first_in number_of (values_at 2 f) })
-    else (if kind == 99 then Delete_bearer_request (record { header = header; number = number; linked = first_in number_of (values_at 0 f); identities = map (λ v. unwrap_or (number_of v) 0) (values_at 1 f) })
-    else (if kind == 100 then Delete_bearer_response (record { header = header; number = number; cause = cause_at (values_at 0 f); linked = first_in number_of (values_at 1 f); contexts = map removed (groups_at 2 f); recovery = first_in number_of (values_at 3 f) })
+    if kind == echo_request.kind then Echo_request (record { number = number; recovery = number_at (values_at 0 f) })
+    else (if kind == echo_response.kind then Echo_response (record { number = number; recovery = number_at (values_at 0 f) })
+    else (if kind == create_session_request.kind then session_request_in header number f (groups_at 9 f)
+    else (if kind == create_session_response.kind then Create_session_response (record { header = header; number = number; cause = cause_at (values_at 0 f); control = first_in end_in (values_at 1 f); address = first_in paa_in (values_at 2 f); ambr = first_in ambr_in (values_at 3 f); contexts = map created (groups_at 4 f); recovery = first_in number_of (values_at 5 f) })
+    else (if kind == delete_session_request.kind then Delete_session_request (record { header = header; number = number; linked = first_in number_of (values_at 0 f) })
+    else (if kind == delete_session_response.kind then Delete_session_response (record { header = header; number = number; cause = cause_at (values_at 0 f); recovery = first_in number_of (values_at 1 f) })
+    else (if kind == create_bearer_request.kind then bearer_request_in header number f (groups_at 2 f)
+    else (if kind == create_bearer_response.kind then Create_bearer_response (record { header = header; number = number; cause = cause_at (values_at 0 f); contexts = map given (groups_at 1 f); recovery = first_in number_of (values_at 2 f) })
+    else (if kind == delete_bearer_request.kind then Delete_bearer_request (record { header = header; number = number; linked = first_in number_of (values_at 0 f); identities = map (λ v. unwrap_or (number_of v) 0) (values_at 1 f) })
+    else (if kind == delete_bearer_response.kind then Delete_bearer_response (record { header = header; number = number; cause = cause_at (values_at 0 f); linked = first_in number_of (values_at 1 f); contexts = map removed (groups_at 2 f); recovery = first_in number_of (values_at 3 f) })
     else Other_control kind)))))))))
 
 -- the message of a type that carries this; the octets of another type are not looked at

@@ -19,6 +19,10 @@ use Rattle.gtp_v2.specs.Codes.{number_of, short_number, length_number, element_n
 use Rattle.gtp_v2.specs.declared.fault.Head.{Head}
 use Rattle.gtp_v2.specs.declared.fault.V2Fault.{V2Fault}
 use Rattle.gtp_v2.specs.declared.fault.V2Fault.TheVariants as faults
+use Rattle.gtp_v2.specs.CreateSessionRequest.{create_session_request}
+use Rattle.gtp_v2.specs.DeleteSessionRequest.{delete_session_request}
+use Rattle.gtp_v2.specs.CreateBearerRequest.{create_bearer_request}
+use Rattle.gtp_v2.specs.DeleteBearerRequest.{delete_bearer_request}
 use Rattle.gtp_v2.specs.Body.{kind_of, message_value}
 use Rattle.gtp_v2.specs.Message.{MessageValue}
 use Rattle.gtp_v2.specs.reading.Message.{message_at}
@@ -109,7 +113,7 @@ bearer_requested header number r first further =
 
 -- a Create Bearer Request by its bearer contexts; each that is decoded has one
 abbrev pub bearer_request_of : ℕ → ℕ → bearer_requests.CreateBearerRequest → List BearerRequestContext → Message
-bearer_request_of header number r [] = Other_control 95
+bearer_request_of header number r [] = Other_control create_bearer_request.kind
 bearer_request_of header number r (first ∷ further) = Create_bearer_request (bearer_requested header number r first further)
 
 -- what a control message says, by its type (6.1), under the TEID and the sequence number of its header; a type that no gateway knows says no more
@@ -133,10 +137,10 @@ control_message m = body_message (header_in m.teid) m.seq m.body
 -- the requests whose faults are answered, by their type (6.1)
 abbrev pub request_kind : ℕ → Option RequestKind
 request_kind kind =
-    if kind == 32 then Some Of_create_session
-    else (if kind == 36 then Some Of_delete_session
-    else (if kind == 95 then Some Of_create_bearer
-    else (if kind == 99 then Some Of_delete_bearer
+    if kind == create_session_request.kind then Some Of_create_session
+    else (if kind == delete_session_request.kind then Some Of_delete_session
+    else (if kind == create_bearer_request.kind then Some Of_create_bearer
+    else (if kind == delete_bearer_request.kind then Some Of_delete_bearer
     else None)))
 
 -- an element at fault (7.7): of a request that is answered, or of another message

@@ -5,6 +5,16 @@ use Rattle.gtp_values.specs.declared.address.Endpoint.{Endpoint}
 use Rattle.gtp_values.specs.declared.paa.Paa.{Paa}
 use Rattle.gtp_values.specs.declared.paa.Paa.TheVariants as paas
 use Rattle.gtp_ie.specs.Value.{Value, OfImsi, OfCause, OfRecovery, OfApn, OfAmbr, OfEbi, OfPaa, OfQos, OfRat, OfPlmn, OfTft, OfFTeid, OfChargingId, OfPdnType, OfPti, OfSelection}
+use Rattle.gtp_v2.specs.EchoRequest.{echo_request}
+use Rattle.gtp_v2.specs.EchoResponse.{echo_response}
+use Rattle.gtp_v2.specs.CreateSessionRequest.{create_session_request}
+use Rattle.gtp_v2.specs.CreateSessionResponse.{create_session_response}
+use Rattle.gtp_v2.specs.DeleteSessionRequest.{delete_session_request}
+use Rattle.gtp_v2.specs.DeleteSessionResponse.{delete_session_response}
+use Rattle.gtp_v2.specs.CreateBearerRequest.{create_bearer_request}
+use Rattle.gtp_v2.specs.CreateBearerResponse.{create_bearer_response}
+use Rattle.gtp_v2.specs.DeleteBearerRequest.{delete_bearer_request}
+use Rattle.gtp_v2.specs.DeleteBearerResponse.{delete_bearer_response}
 use Rattle.gtp_v2.specs.Table.{Field, Plain, Groups}
 use Rattle.gtp_v2.specs.Message.{Fields, Raw, MessageValue}
 use Rattle.gtp_v2.specs.Encoding.{canonical_encoding, Meets}
@@ -51,10 +61,10 @@ typed kind teid number fields = record { kind = kind; teid = teid; seq = number;
 
 -- What a message of the control plane says, by the fields of its table (7.1, 7.2). Of a message of another type nothing is known but its type.
 abbrev pub control_value : Message → MessageValue
-control_value (Echo_request e) = typed 1 None e.number (Plain (OfRecovery e.recovery ∷ []) ∷ [])
-control_value (Echo_response e) = typed 2 None e.number (Plain (OfRecovery e.recovery ∷ []) ∷ [])
+control_value (Echo_request e) = typed echo_request.kind None e.number (Plain (OfRecovery e.recovery ∷ []) ∷ [])
+control_value (Echo_response e) = typed echo_response.kind None e.number (Plain (OfRecovery e.recovery ∷ []) ∷ [])
 control_value (Create_session_request q) =
-    typed 32 (Some q.header) q.number (
+    typed create_session_request.kind (Some q.header) q.number (
     Plain (OfImsi q.imsi ∷ [])
     ∷ Plain (OfRat q.rat ∷ [])
     ∷ Plain (where_there OfPlmn q.network)
@@ -69,7 +79,7 @@ control_value (Create_session_request q) =
     ∷ []
     )
 control_value (Create_session_response a) =
-    typed 33 (Some a.header) a.number (
+    typed create_session_response.kind (Some a.header) a.number (
     Plain (OfCause a.cause ∷ [])
     ∷ Plain (where_there OfFTeid a.control)
     ∷ Plain (where_there (λ p. OfPaa (paa_of p)) a.address)
@@ -78,13 +88,13 @@ control_value (Create_session_response a) =
     ∷ Plain (where_there OfRecovery a.recovery)
     ∷ []
     )
-control_value (Delete_session_request d) = typed 36 (Some d.header) d.number (Plain (where_there OfEbi d.linked) ∷ [])
-control_value (Delete_session_response d) = typed 37 (Some d.header) d.number (Plain (OfCause d.cause ∷ []) ∷ Plain (where_there OfRecovery d.recovery) ∷ [])
-control_value (Create_bearer_request r) = typed 95 (Some r.header) r.number (Plain (where_there OfPti r.transaction) ∷ Plain (OfEbi r.linked ∷ []) ∷ Groups (map wanted_rows (r.context ∷ r.further)) ∷ [])
-control_value (Create_bearer_response x) = typed 96 (Some x.header) x.number (Plain (OfCause x.cause ∷ []) ∷ Groups (map given_rows x.contexts) ∷ Plain (where_there OfRecovery x.recovery) ∷ [])
-control_value (Delete_bearer_request d) = typed 99 (Some d.header) d.number (Plain (where_there OfEbi d.linked) ∷ Plain (map OfEbi d.identities) ∷ [])
+control_value (Delete_session_request d) = typed delete_session_request.kind (Some d.header) d.number (Plain (where_there OfEbi d.linked) ∷ [])
+control_value (Delete_session_response d) = typed delete_session_response.kind (Some d.header) d.number (Plain (OfCause d.cause ∷ []) ∷ Plain (where_there OfRecovery d.recovery) ∷ [])
+control_value (Create_bearer_request r) = typed create_bearer_request.kind (Some r.header) r.number (Plain (where_there OfPti r.transaction) ∷ Plain (OfEbi r.linked ∷ []) ∷ Groups (map wanted_rows (r.context ∷ r.further)) ∷ [])
+control_value (Create_bearer_response x) = typed create_bearer_response.kind (Some x.header) x.number (Plain (OfCause x.cause ∷ []) ∷ Groups (map given_rows x.contexts) ∷ Plain (where_there OfRecovery x.recovery) ∷ [])
+control_value (Delete_bearer_request d) = typed delete_bearer_request.kind (Some d.header) d.number (Plain (where_there OfEbi d.linked) ∷ Plain (map OfEbi d.identities) ∷ [])
 control_value (Delete_bearer_response d) =
-    typed 100 (Some d.header) d.number (Plain (OfCause d.cause ∷ []) ∷ Plain (where_there OfEbi d.linked) ∷ Groups (map removed_rows d.contexts) ∷ Plain (where_there OfRecovery d.recovery) ∷ [])
+    typed delete_bearer_response.kind (Some d.header) d.number (Plain (OfCause d.cause ∷ []) ∷ Plain (where_there OfEbi d.linked) ∷ Groups (map removed_rows d.contexts) ∷ Plain (where_there OfRecovery d.recovery) ∷ [])
 control_value (Other_control kind) = record { kind = kind; teid = None; seq = 0; priority = None; content = Raw [] }
 control_value _ = record { kind = 0; teid = None; seq = 0; priority = None; content = Raw [] }
 

@@ -747,7 +747,8 @@ fn headers_in_place(rt: HostRuntime) -> Result<(), Fail> {
     let octets = octets_of(rt.alloc(), SESSION_REQUEST)?;
     let seen = view(&octets)?;
     assert!(rt; seen.kind() == 32 && seen.teid() == Some(Teid(0)) && seen.seq() == Seq::new(0));
-    assert!(rt; seen.priority().is_none() && seen.octets().is_none());
+    assert!(rt; seen.priority().is_none() && seen.raw().is_none());
+    assert!(rt; seen.octets() == &octets[12..]);
     Ok(())
 }
 
@@ -797,7 +798,7 @@ fn values_that_do_not_read(rt: HostRuntime) -> Result<(), Fail> {
 fn octets_in_place(rt: HostRuntime) -> Result<(), Fail> {
     let octets = octets_of(rt.alloc(), "482200080100000100000700")?;
     let seen = view(&octets)?;
-    assert!(rt; seen.octets() == Some([].as_slice()) && seen.contexts().next().is_none());
+    assert!(rt; seen.raw() == Some([].as_slice()) && seen.contexts().next().is_none());
     Ok(())
 }
 

@@ -11,7 +11,7 @@ use Rattle.gtp_v2.specs.reading.Headed.{header_at}
 use Rattle.gtp_v2.specs.Header.{IsHeaded}
 use Rattle.gtp_v2.specs.Message.{Content, Fields, with_content, raw_of}
 use Rattle.gtp_v2.specs.reading.Message.{typed_at, by_table, content_at}
-use Rattle.gtp_v2.specs.Viewed.{Viewed, place_of, ElementsAre, Carries}
+use Rattle.gtp_v2.specs.Viewed.{Viewed, place_of, ElementsAre, Carries, Follows}
 use Rattle.gtp_v2.specs.reading.Viewed.{viewed, IsViewed, content_or_none, elements_by, list_or_none}
 use Rattle.gtp_v2.proofs.Checks.{was_read}
 use Rattle.gtp_v2.proofs.Decided.{whole_decided}
@@ -53,6 +53,12 @@ carried_by octets h elements (Some table) is reads walked =
 pub carried : (octets : List ℕ) (h : Headed) (elements : Option (List Element)) → header_at octets ≡ Ok h → IsViewed h elements → Carries octets (viewed h elements)
 unfolding content_at
 carried octets h elements headed inv = carried_by octets h elements (table_of h.kind) (after_header octets h ((header_decided octets).ok h headed)) inv.reads inv.walked
+
+-- the octets after its header
+pub followed : (octets : List ℕ) (h : Headed) (elements : Option (List Element)) → header_at octets ≡ Ok h → Follows octets (viewed h elements)
+followed octets h elements headed =
+    let after = after_header octets h ((header_decided octets).ok h headed) in
+    sym after.rest ∙ ap (λ (n : ℕ). drop n octets) (sym after.place)
 
 -- the octets of a message that is kept as octets
 raw_by : (h : Headed) (elements : Option (List Element)) (rest : Option (List ℕ)) (table : Option Table) → forgotten (by_table table h) ≡ Ok tt → elements ≡ elements_by table h → (elements ≡ None → rest ≡ Some h.rest) → ((es : List Element) → elements ≡ Some es → rest ≡ None)

@@ -1,9 +1,9 @@
 -- Checking one thing after the other, as a loop does.
 use Rattle.std.specs.Prelude.{◌==◌, if◌then◌else◌, IsOk}
-use Rattle.std.proofs.Common.{rules, ◌≡◌, ℕ, ◌+◌, ◌<◌, ◌≤◌, Bool, true, false, ◌&&◌, List, [], ◌∷◌, ◌++◌, map, length, get_or, drop, Result, Ok, Err, refl, sym, ap, ◌∙◌}
+use Rattle.std.proofs.Common.{rules, ◌≡◌, ℕ, ◌+◌, ◌<◌, ◌≤◌, Bool, true, false, ◌&&◌, List, [], ◌∷◌, ◌++◌, map, length, get_or, drop, Option, Some, None, Result, Ok, Err, refl, sym, ap, ◌∙◌}
 use Rattle.std.proofs.lemmas.List.{at_drop_more, at_drop_all}
 use Rattle.gtp_values.specs.Steps.{◌>>=◌}
-use Rattle.gtp_ie.specs.Element.{Element, all_of}
+use Rattle.gtp_ie.specs.Element.{Element, first_of, all_of}
 use Rattle.gtp_ie.specs.View.{element_of}
 use Rattle.gtp_ie.specs.declared.view.ElementView.{ElementView}
 use Rattle.gtp_ie.specs.Value.{Value, value_at}
@@ -18,7 +18,7 @@ use Rattle.gtp_v2.specs.Table.{Row, Line, Single, Grouped, Several, Plain, Group
 use Rattle.gtp_v2.specs.declared.table.Line.{Line as Kept}
 use Rattle.gtp_v2.specs.declared.table.Line.TheVariants as kept
 use Rattle.gtp_v2.specs.reading.Lines.{line_of}
-use Rattle.gtp_v2.specs.reading.Rows.{row_at, rows_at, group_at, groups_at, each_at, line_at, lines_at, some_groups, several_at, values_at, one_at, named, no_group, no_value}
+use Rattle.gtp_v2.specs.reading.Rows.{row_at, rows_at, group_at, groups_at, each_at, line_at, lines_at, some_groups, several_at, values_at, one_at, named, needed, needed_at, no_group, no_value}
 use Rattle.gtp_v2.specs.reading.Checked.{row_says, rows_accept, forgotten, group_passes, one_accepts, says, with_one, after_groups, after_values, line_says, lines_say, merged, groups_silent, groups_say, values_say, several_say}
 use Rattle.gtp_v2.proofs.Loop.{with_front, goes_on, ends, is_done, nothing_before}
 
@@ -166,6 +166,21 @@ one_read kind instance e v reads = ap (named kind instance e.at) reads
 
 pub seen_read : (kind instance : ℕ) (view : ElementView) (v : Value) → value_at kind view.body.now ≡ Ok v → one_at kind instance (element_of view) ≡ Ok v
 seen_read kind instance view v reads = one_read kind instance (element_of view) v reads
+
+-- a value that is needed is the same in a mandatory row and in a conditional one
+pub needed_is : (kind instance : ℕ) (es : List Element) (v : Value) → needed_at false kind instance es ≡ Ok v → needed_at true kind instance es ≡ Ok v
+unfolding needed_at
+needed_is kind instance es v is = by_first (first_of kind instance es) is where
+  by_first : (first : Option Element) → needed false kind instance first ≡ Ok v → needed true kind instance first ≡ Ok v
+  by_first None is = absurd cc
+  by_first (Some e) is = is
+
+pub needed_so : (kind instance : ℕ) (es : List Element) → IsOk (needed_at true kind instance es) → IsOk (needed_at false kind instance es)
+unfolding needed_at
+needed_so kind instance es ok = by_first (first_of kind instance es) ok where
+  by_first : (first : Option Element) → IsOk (needed true kind instance first) → IsOk (needed false kind instance first)
+  by_first None ok = absurd cc
+  by_first (Some e) ok = ok
 
 pub was_fault : {X E : Type 0} (r : Result X E) (f : E) → forgotten r ≡ Err f → r ≡ Err f
 was_fault (Ok x) f h = absurd cc

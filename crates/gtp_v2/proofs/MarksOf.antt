@@ -47,7 +47,7 @@ lines_marked state [] es fields are = tt
 lines_marked state (line ∷ lines) es [] are = tt
 lines_marked state (line ∷ lines) es (field ∷ fields) are = (line_marked state line es field are.0, lines_marked (after state field) lines es fields are.1)
 
-content_marked : (table : Option Table) (h : Headed) (content : Content) → CarriesBy table h content → ContentMarked table (is_some h.teid) content
+pub content_marked : (table : Option Table) (h : Headed) (content : Content) → CarriesBy table h content → ContentMarked table (is_some h.teid) content
 content_marked None h content carries = tt
 content_marked (Some table) h content carries = subst (ContentMarked (Some table) (is_some h.teid)) (sym carries.3) (carries.0, lines_marked start table.lines carries.2.0 carries.1 carries.2.2)
 

@@ -1,6 +1,6 @@
 -- Reading a datagram decides which message it is.
 use Rattle.std.proofs.Common.{◌≡◌, ℕ, Bool, true, false, cond, List, Option, Some, None, Result, Ok, Err, ◌⊎◌, inl, inr, refl, ap, sym, subst, ◌∙◌}
-use Rattle.std.specs.Prelude.{◌≢◌, is_some, IfOk, IfErr, IsOkAnd}
+use Rattle.std.specs.Prelude.{◌≢◌, is_some, option_map, IfOk, IfErr, IsOkAnd}
 use Rattle.std.specs.Bool.{beq}
 use Rattle.gtp_values.specs.Steps.{◌>>=◌}
 use Rattle.gtp_values.specs.Decides.{Decides, First_or_later}
@@ -19,16 +19,20 @@ use Rattle.gtp_v2.specs.Table.{Line, Field, start, Table}
 use Rattle.gtp_v2.specs.reading.Rows.{whole, lines_at}
 use Rattle.gtp_v2.specs.Grammar.{IsCutShort, LinesAre, LinesFail}
 use Rattle.gtp_v2.specs.Headed.{Headed}
-use Rattle.gtp_v2.specs.reading.Headed.{header_at}
+use Rattle.gtp_v2.specs.reading.Headed.{headed_of, header_at, HasHeader}
+use Rattle.gtp_v2.specs.declared.header.Header.{Header}
+use Rattle.gtp_v2.specs.declared.message.Datagram.{Datagram}
+use Rattle.gtp_v2.specs.Body.{content_of, kind_of, message_value}
+use Rattle.gtp_values.specs.declared.identifiers.Teid.{Teid}
 use Rattle.gtp_v2.specs.Header.{IsHeaded, HeaderFails}
 use Rattle.gtp_v2.proofs.Headers.{header_decided}
-use Rattle.gtp_v2.specs.Message.{head_of, with_head, Content, Fields, Raw, MessageValue, with_content, FaultIs, MessageGives, MessageAllocates}
+use Rattle.gtp_v2.specs.Message.{head_of, with_head, Content, Fields, Raw, MessageValue, with_content, FaultIs, MessageGives, MessageAllocates, ContentAllocates}
 use Rattle.gtp_v2.specs.reading.Message.{sender_of, told, list_at, fields_at, typed_at, by_table, content_at, message_at}
 use Rattle.gtp_v2.specs.Tables.{table_of}
 use Rattle.gtp_v2.specs.Instances.{InstanceIsSmall}
 use Rattle.gtp_v2.proofs.Instances.{fault_small, fault_of_octets}
-use Rattle.gtp_v2.specs.Marks.{MeetsMarks}
-use Rattle.gtp_v2.proofs.MarksOf.{message_marked}
+use Rattle.gtp_v2.specs.Marks.{ContentMarked, MeetsMarks}
+use Rattle.gtp_v2.proofs.MarksOf.{content_marked}
 use Rattle.gtp_v2.specs.Datagram.{FieldsAre, ListFails, FieldsFail, CarriesBy, FailsBy, IsMessage, IsFault, MayAllocate}
 use Rattle.gtp_v2.proofs.Decided.{whole_decided, lines_decided}
 use Rattle.gtp_v2.proofs.Senders.{sender_is, sender_only}
@@ -97,11 +101,6 @@ message_decided octets =
 pub answers_ok : {X : Type 0} (view : X → MessageValue) (r : Result X V2Fault) (octets : List ℕ) → MessageGives MessageAllocates view r (message_at octets) → IfOk r (λ m. IsMessage octets (view m))
 answers_ok view (Ok x) octets h = (message_decided octets).ok (view x) h
 answers_ok view (Err f) octets h = tt
-
--- and it meets the marks of its table
-pub answers_marked : {X : Type 0} (view : X → MessageValue) (r : Result X V2Fault) (octets : List ℕ) → MessageGives MessageAllocates view r (message_at octets) → IfOk r (λ m. MeetsMarks (view m))
-answers_marked view (Ok x) octets h = message_marked octets (view x) ((message_decided octets).ok (view x) h)
-answers_marked view (Err f) octets h = tt
 
 -- out of memory, for a message for which memory is allocated, or the fault that the octets have
 fault_told : (f : V2Fault) (octets : List ℕ) → FaultIs MessageAllocates f (message_at octets) → ((f ≡ faults.Memory) × MayAllocate octets) ⊎ (message_at octets ≡ Err f)
@@ -187,3 +186,14 @@ fault_is_told (faults.FlagT kind) octets h = h
 fault_is_told (faults.Missing kind instance conditional head) octets h = h
 fault_is_told (faults.Element fault head) octets h = h
 fault_is_told faults.TooLong octets h = h
+
+-- a message that was built of what carries its header and content meets the marks of its table
+pub built_marked : (h : Header) (r : Result Datagram V2Fault) → MessageGives (ContentAllocates (table_of h.kind)) (λ d. content_of d.message.body) r (content_at (headed_of h)) → IfOk r (λ d. kind_of d.message.body ≡ h.kind) → IfOk r (λ d. HasHeader h d.message)
+    → IfOk r (λ d. MeetsMarks (message_value d.message))
+unfolding content_at
+built_marked h (Ok d) gives kind header =
+    let content = content_of d.message.body in
+    let marked = content_marked (table_of h.kind) (headed_of h) content ((content_decided (table_of h.kind) (headed_of h)).ok content gives) in
+    subst (λ (k : ℕ). ContentMarked (table_of k) (is_some (option_map (λ (t : Teid). t.0) d.message.teid)) content) (sym kind)
+    (subst (λ (o : Option Teid). ContentMarked (table_of h.kind) (is_some (option_map (λ (t : Teid). t.0) o)) content) (sym header.0) marked)
+built_marked h (Err f) gives kind header = tt

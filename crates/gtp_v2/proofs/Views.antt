@@ -267,6 +267,19 @@ value_is kind instance v read always =
     let first = field_is kind instance v read (n.0 ∷ []) n.1 in
     record { value = n.0; row = n.1; first = first; reads = first_reads kind instance (first_of kind instance v.elements) n.0 first }
 
+-- the value of a first element that reads
+pub record HasFirst (kind instance : ℕ) (es : List Element) : Type 0 where
+  pub value : Value
+  pub first : optional_at kind instance es ≡ Some value
+  pub reads : needed_at false kind instance es ≡ Ok value
+
+pub first_is : (kind instance : ℕ) (es : List Element) → is_some (optional_at kind instance es) ≡ true → HasFirst kind instance es
+unfolding optional_at needed_at
+first_is kind instance es there = by_first (welcome kind (first_of kind instance es)) refl there where
+  by_first : (o : Option Value) → welcome kind (first_of kind instance es) ≡ o → is_some o ≡ true → HasFirst kind instance es
+  by_first None same there = absurd cc
+  by_first (Some x) same there = record { value = x; first = same; reads = first_reads kind instance (first_of kind instance es) x same }
+
 -- where no elements are kept there are none
 pub none_is : (kind instance : ℕ) (h : Headed) (elements : Option (List Element)) (m : Viewed) → elements ≡ None → viewed h elements ≡ m → None ≡ optional_at kind instance m.elements
 unfolding optional_at

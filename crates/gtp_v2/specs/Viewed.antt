@@ -8,9 +8,10 @@ use Rattle.gtp_v2.specs.Message.{Content, Fields, Raw, MessageValue}
 use Rattle.gtp_v2.specs.Tables.{table_of}
 use Rattle.gtp_ie.specs.declared.fault.ReadFault.{ReadFault}
 
--- the message that is spelled, and the elements after its header (none of a message kept as octets)
+-- the message that is spelled, the octets after its header, and the elements that these are (none of a message kept as octets)
 pub record Viewed : Type 0 where
   pub message : MessageValue
+  pub octets : List ℕ
   pub elements : List Element
 
 -- where what a message carries begins: after a header without a TEID, or with one (TS 29.274 5.1)
@@ -25,6 +26,10 @@ ElementsAre octets m (Fields fields) es = AreElements (place_of m.teid) (drop (p
 
 abbrev pub Carries : List ℕ → Viewed → Type 0
 Carries octets v = ElementsAre octets v.message v.message.content v.elements
+
+-- the octets after the header of a datagram
+abbrev pub Follows : List ℕ → Viewed → Type 0
+Follows octets v = v.octets ≡ drop (place_of v.message.teid) octets
 
 -- ---- what a message has in a line of its table
 

@@ -94,22 +94,22 @@ macro_rules! kind_among {
 
 /// The name of a type.
 macro_rules! name_among {
-    (($number:expr), $($kind:ident),+) => {{
-        $(if $number == $kind::KIND {
-            return Some($kind::name());
-        })+
-        None
-    }};
+    (($number:expr), $($kind:ident),+) => {
+        match $number {
+            $($kind::KIND => Some($kind::name()),)+
+            _ => None,
+        }
+    };
 }
 
 /// The message with this header whose elements are these, or the octets after it.
 macro_rules! build_among {
-    (($alloc:expr, $header:expr, $elements:expr), $($kind:ident),+) => {{
-        $(if $header.kind == $kind::KIND {
-            return build_typed::<$kind>($alloc, $header, $elements);
-        })+
-        build_other($alloc, $header)
-    }};
+    (($alloc:expr, $header:expr, $elements:expr), $($kind:ident),+) => {
+        match $header.kind {
+            $($kind::KIND => build_typed::<$kind>($alloc, $header, $elements),)+
+            _ => build_other($alloc, $header),
+        }
+    };
 }
 
 /// What is left of a room after what a body carries.
@@ -170,7 +170,8 @@ pub fn type_name(kind: u8) -> Option<&'static str>
     with_kinds!(name_among, kind)
 }
 
-/// A message of another type, as octets. Not inlined: then a message with a table is written where it is wanted.
+/// A message of another type, as octets. Not inlined, so that a message with a table is written where the
+/// caller wants it, and not moved there.
 #[inline(never)]
 #[tactic(auto, unfolding(crate::specs::reading::Message::content_at))]
 pub fn build_other(alloc: Global, header: &Header) -> Result<Datagram, V2Fault>
@@ -192,7 +193,9 @@ pub fn build_other(alloc: Global, header: &Header) -> Result<Datagram, V2Fault>
     Ok(Datagram::of(header, Body::Other { kind, octets }))
 }
 
-/// The datagram with this header whose elements are these, which have what its table asks.
+/// The datagram with this header whose elements are these, which have what its table asks. Not inlined,
+/// so that a message is moved once for all kinds, and not once more for each caller.
+#[inline(never)]
 #[tactic(auto, unfolding(crate::specs::reading::Message::content_at))]
 pub fn build_datagram(
     alloc: Global,

@@ -19,7 +19,7 @@ use gtp_ie::{
 };
 use gtp_values::{Ambr, Apn, Cause, FTeid, Imsi, Paa, Plmn, Qos, Tft};
 
-/// That a body spells a value of a type that is no cause.
+/// That a body spells a value of a type that is no cause, and so accepts: only a cause can refuse.
 fn reads<T: IeValue>(body: &[u8]) -> Result<bool, ReadFault>
     ensures { Gives (λ b. b) result (value_reads T.KIND body.now) }
 {

@@ -1,12 +1,12 @@
 //! Bearer contexts in the place where they lie.
 
 ghost use Rattle.gtp_ie.specs.Form.{bearer_context};
-ghost use Rattle.std.specs.Prelude.{◌≡◌, map, option_map};
+ghost use Rattle.std.specs.Prelude.{◌≡◌, map, option_map, Some, IsTrue, is_some};
 ghost use Rattle.gtp_ie.specs.Element.{all_of};
 ghost use Rattle.gtp_v2.specs.Viewed.{inner_of, optional_at};
 ghost use Rattle.std.specs.Iterator.{YieldsFirstBy, item_count};
 
-use crate::rows::optional;
+use crate::rows::{mandatory, optional};
 use gtp_ie::kinds::BEARER_CONTEXT;
 use gtp_ie::{AllOf, Elements, IeValue, Indexed};
 use std::marker::Model;
@@ -37,6 +37,17 @@ impl<'a> ContextView<'a> {
             Some(elements) => optional::<T>(elements, instance),
             None => None,
         }
+    }
+
+    /// The value of the first element of the value's type and an instance, which there is and which reads.
+    pub fn needed<T: IeValue>(&self, instance: u8) -> T
+        requires { IsTrue (is_some (optional_at T.KIND instance self.now)) }
+        ensures { optional_at T.KIND instance self.now ≡ Some (T.value result) }
+    {
+        let Some(elements) = &self.elements else {
+            unreachable!()
+        };
+        mandatory::<T>(elements, instance)
     }
 }
 

@@ -15,7 +15,8 @@ use crate::message::Datagram;
 use crate::viewing::view_message;
 use std::alloc::Global;
 
-/// A fault. Not inlined: then a datagram is written where it is wanted.
+/// A fault. Not inlined, so that what is built on the other way is written where the caller wants it, and
+/// not moved there.
 #[cold]
 #[inline(never)]
 fn refused(fault: V2Fault) -> Result<Datagram, V2Fault>
@@ -30,6 +31,7 @@ fn read_datagram(alloc: Global, octets: &[u8]) -> Result<Datagram, V2Fault>
         (message_at octets.now) }
     ensures kind { IfOk result (λ d. OctetsOnlyWithoutTable d.message.body) }
     ensures header { IfOk result (λ d. PriorityNeedsTeid d.message.teid d.message.priority) }
+    ensures marks { IfOk result (λ d. MeetsMarks (message_value d.message)) }
 {
     match view_message(octets) {
         Ok(seen) => seen.to_datagram(alloc),

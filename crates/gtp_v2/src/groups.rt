@@ -6,7 +6,7 @@ ghost use Rattle.gtp_ie.specs.Element.{all_of};
 ghost use Rattle.gtp_ie.specs.View.{element_of};
 ghost use Rattle.gtp_ie.specs.Value.{Value};
 ghost use Rattle.gtp_v2.specs.Table.{Row};
-ghost use Rattle.gtp_v2.specs.reading.Rows.{rows_at, group_at, groups_at, some_groups};
+ghost use Rattle.gtp_v2.specs.reading.Rows.{rows_at, group_at, groups_at};
 ghost use Rattle.gtp_v2.specs.Text.{rows_encoding};
 ghost use Rattle.gtp_values.specs.Room.{Leaves};
 ghost use Rattle.gtp_v2.specs.Room.{TakesAtMost};
@@ -14,7 +14,6 @@ ghost use Rattle.gtp_v2.specs.Kinds.{RowsHaveKinds};
 ghost use Rattle.gtp_v2.specs.Marks.{RowsMarked};
 ghost use Rattle.gtp_v2.specs.reading.Outcome.{GivesOrMemory, HasGroup};
 
-use crate::fault::Need;
 use crate::listed::Listed;
 use gtp_ie::kinds::BEARER_CONTEXT;
 use gtp_ie::{ElementView, Indexed};
@@ -63,36 +62,19 @@ fn context_in<C: Context>(accepting: bool, view: &ElementView) -> C
     C::build(accepting, &elements)
 }
 
-/// The bearer contexts among the elements.
-fn all_contexts<C: Context>(
+/// The bearer contexts among the elements, which have what their rows ask.
+pub fn contexts<C: Context>(
     alloc: Global,
     accepting: bool,
     elements: &Indexed,
-) -> Result<Vec<C>, Memory>
+) -> Result<Listed<C>, Memory>
     requires { IsOk (groups_at accepting C.rows (all_of bearer_context 0 elements.now)) }
-    ensures { GivesOrMemory HasGroup (λ v. map C.values v.items) result
+    ensures { GivesOrMemory HasGroup (λ list. map C.values list) result
         (groups_at accepting C.rows (all_of bearer_context 0 elements.now)) }
 {
     let mut contexts = Vec::new(alloc);
     for view in elements.all(BEARER_CONTEXT, 0) {
         contexts.push(context_in::<C>(accepting, &view))?;
     }
-    Ok(contexts)
-}
-
-/// The bearer contexts among the elements, of which there are as many as are needed.
-#[tactic(auto, unfolding(crate::specs::reading::Rows::some_groups))]
-pub fn contexts<C: Context>(
-    alloc: Global,
-    need: Need,
-    accepting: bool,
-    elements: &Indexed,
-) -> Result<Listed<C>, Memory>
-    requires { IsOk (some_groups need bearer_context 0 accepting C.rows
-        (all_of bearer_context 0 elements.now)) }
-    ensures { GivesOrMemory HasGroup (λ list. map C.values list) result
-        (some_groups need bearer_context 0 accepting C.rows (all_of bearer_context 0 elements.now)) }
-{
-    let contexts = all_contexts::<C>(alloc, accepting, elements)?;
     Ok(Listed::of(contexts))
 }

@@ -1,6 +1,7 @@
 //! The octets before a message's elements.
 
 ghost use Rattle.std.specs.Prelude.{◌≡◌, ◌+◌, ◌<◌, ◌^◌, length};
+ghost use Rattle.gtp_v2.specs.Priority.{PriorityNeedsTeid};
 
 use gtp_values::{Below, Seq, Teid};
 
@@ -23,4 +24,6 @@ pub struct Header<'a> {
     pub ghost fits: { at + length rest.now < 2 ^ 64 },
     /// Two octets state the length of all after the first four.
     pub ghost stated: { length rest.now < 2 ^ 16 },
+    /// A priority stands beside a TEID alone.
+    pub ghost ranked: { PriorityNeedsTeid teid priority },
 }

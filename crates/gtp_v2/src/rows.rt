@@ -6,11 +6,11 @@ ghost use Rattle.gtp_v2.specs.Viewed.{optional_at};
 
 use gtp_ie::{IeValue, Indexed};
 
-/// The value of the first element of the value's type and an instance, which is needed.
+/// The value of the first element of the value's type and an instance, of a mandatory row.
 #[tactic(auto, using(crate::proofs::Checks::one_reads, crate::proofs::Checks::seen_read), unfolding(crate::specs::reading::Rows::needed_at))]
-fn needed<T: IeValue>(conditional: bool, elements: &Indexed, instance: u8) -> T
-    requires { IsOk (needed_at conditional T.KIND instance elements.now) }
-    ensures { needed_at conditional T.KIND instance elements.now ≡ Ok (T.value result) }
+pub fn mandatory<T: IeValue>(elements: &Indexed, instance: u8) -> T
+    requires { IsOk (needed_at false T.KIND instance elements.now) }
+    ensures { needed_at false T.KIND instance elements.now ≡ Ok (T.value result) }
 {
     let Some(view) = elements.first(T::KIND, instance) else {
         unreachable!()
@@ -18,20 +18,13 @@ fn needed<T: IeValue>(conditional: bool, elements: &Indexed, instance: u8) -> T
     T::build(view.body)
 }
 
-/// The value of the first element of the value's type and an instance, of a mandatory row.
-pub fn mandatory<T: IeValue>(elements: &Indexed, instance: u8) -> T
-    requires { IsOk (needed_at false T.KIND instance elements.now) }
-    ensures { needed_at false T.KIND instance elements.now ≡ Ok (T.value result) }
-{
-    needed(false, elements, instance)
-}
-
-/// The value of the first element of the value's type and an instance, of a conditional row.
+/// The same of a conditional row: only what is told where there is no element differs.
+#[tactic(auto, using(crate::proofs::Checks::needed_so, crate::proofs::Checks::needed_is))]
 pub fn conditional<T: IeValue>(elements: &Indexed, instance: u8) -> T
     requires { IsOk (needed_at true T.KIND instance elements.now) }
     ensures { needed_at true T.KIND instance elements.now ≡ Ok (T.value result) }
 {
-    needed(true, elements, instance)
+    mandatory(elements, instance)
 }
 
 /// The value of the first element of the value's type and an instance, of an optional row: an element
@@ -52,7 +45,7 @@ pub fn needed_if<T: IeValue>(is_needed: bool, elements: &Indexed, instance: u8) 
         ≡ Ok (option_map T.value result) }
 {
     if is_needed {
-        Some(needed(true, elements, instance))
+        Some(conditional(elements, instance))
     } else {
         optional(elements, instance)
     }

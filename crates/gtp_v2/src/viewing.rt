@@ -9,7 +9,7 @@ ghost use Rattle.gtp_v2.specs.reading.Lines.{line_of};
 ghost use Rattle.gtp_v2.specs.Table.{Row};
 ghost use Rattle.gtp_v2.specs.reading.Headed.{headed_of, HasHeader};
 ghost use Rattle.gtp_v2.specs.reading.Checked.{forgotten};
-ghost use Rattle.gtp_v2.specs.Viewed.{optional_at, Viewed, Carries, in_row, always_has, front_value, in_groups, inner_of, values_in, in_list, values_of};
+ghost use Rattle.gtp_v2.specs.Viewed.{optional_at, Viewed, Carries, Follows, in_row, always_has, front_value, in_groups, inner_of, values_in, in_list, values_of};
 ghost use Rattle.gtp_v2.specs.Message.{MessageValue, raw_of, MessageGives, MessageAllocates, ContentAllocates};
 ghost use Rattle.gtp_v2.specs.reading.Message.{typed_at, content_at, message_at};
 ghost use Rattle.gtp_v2.specs.Body.{content_of, kind_of, message_value, OctetsOnlyWithoutTable};
@@ -38,8 +38,8 @@ use gtp_values::{Below, Seq, Teid};
 use std::alloc::Global;
 use std::marker::Model;
 
-/// A datagram that spells a message, where it lies. Contracts see the message, and the elements after
-/// its header.
+/// A datagram that spells a message, where it lies. Contracts see the message, the octets after its
+/// header, and their elements.
 #[derive(Debug, Drop)]
 pub struct DatagramView<'a> {
     header: Header<'a>,
@@ -106,6 +106,7 @@ fn view_content<'a>(header: &Header<'a>) -> Result<Option<Indexed<'a>>, V2Fault>
 pub fn view_message(octets: &[u8]) -> Result<DatagramView<'_>, V2Fault>
     ensures message { Gives (λ v. v.message) result (message_at octets.now) }
     ensures header { IfOk result (λ v. PriorityNeedsTeid v.message.teid v.message.priority) }
+    ensures rest { IfOk result (Follows octets.now) }
     ensures elements { IfOk result (Carries octets.now) }
 {
     let header = match read_header(octets) {
@@ -136,7 +137,8 @@ pub fn view(octets: &[u8]) -> Result<DatagramView<'_>, V2Fault>
     // The message meets the marks of its table, and the condition of `encode` on its header.
     ensures marks { IfOk result (λ v. MeetsMarks v.message) }
     ensures header { IfOk result (λ v. PriorityNeedsTeid v.message.teid v.message.priority) }
-    // The elements are those that the datagram carries.
+    // The octets after its header are those of the datagram, and its elements are those that it carries.
+    ensures rest { IfOk result (Follows octets.now) }
     ensures elements { IfOk result (Carries octets.now) }
 {
     view_message(octets)
@@ -190,8 +192,15 @@ impl<'a> DatagramView<'a> {
         self.header.priority
     }
 
-    /// The octets after the header of a message that is kept as octets; `None` of one whose type has a table.
-    pub fn octets(&self) -> Option<&'a [u8]>
+    /// The octets after the header.
+    pub fn octets(&self) -> &'a [u8]
+        ensures { result.now ≡ self.now.octets }
+    {
+        self.header.rest
+    }
+
+    /// The same of a message that is kept as octets; `None` of one whose type has a table.
+    pub fn raw(&self) -> Option<&'a [u8]>
         ensures { option_map (λ octets. octets.now) result ≡ raw_of self.now.message.content }
     {
         match &self.elements {
@@ -262,7 +271,10 @@ impl<'a> DatagramView<'a> {
     pub fn to_datagram(&self, alloc: Global) -> Result<Datagram, V2Fault>
         ensures message { MessageGives MessageAllocates (λ d. message_value d.message) result
             (Ok self.now.message) }
+        // It meets the conditions of `encode` and the marks of its table.
         ensures kind { IfOk result (λ d. OctetsOnlyWithoutTable d.message.body) }
+        ensures header { IfOk result (λ d. PriorityNeedsTeid d.message.teid d.message.priority) }
+        ensures marks { IfOk result (λ d. MeetsMarks (message_value d.message)) }
     {
         build_viewed(alloc, &self.header, &self.elements)
     }
@@ -270,7 +282,10 @@ impl<'a> DatagramView<'a> {
     /// The message, owned: that of `to_datagram`.
     pub fn to_message(&self, alloc: Global) -> Result<Message, V2Fault>
         ensures message { MessageGives MessageAllocates message_value result (Ok self.now.message) }
+        // It meets the conditions of `encode` and the marks of its table.
         ensures kind { IfOk result (λ m. OctetsOnlyWithoutTable m.body) }
+        ensures header { IfOk result (λ m. PriorityNeedsTeid m.teid m.priority) }
+        ensures marks { IfOk result (λ m. MeetsMarks (message_value m)) }
     {
         let datagram = self.to_datagram(alloc)?;
         Ok(datagram.message)

@@ -45,7 +45,7 @@ impl<const N: usize> Octets<N> {
         requires count { N < 256 }
         ensures { self.new ≡ self.old ++ octet ∷ [] }
     {
-        // Read once: the compiler can't know that no octet is written over the number.
+        // A local, since to the compiler a write into the cells may change the number.
         let len = self.len;
         self.cells[len as usize] = octet;
         self.len = len + 1;

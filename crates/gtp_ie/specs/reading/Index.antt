@@ -5,40 +5,40 @@ use Rattle.gtp_ie.specs.Form.{number_of, bearer_context}
 use Rattle.gtp_ie.specs.Element.{Element, elements_of}
 use Rattle.gtp_ie.specs.reading.View.{IsWhole}
 
--- the slot of a type's elements of instance 0; all types that no message has a row of share one
-abbrev pub slot_of_type : ℕ → ℕ
-slot_of_type kind =
-    if kind == number_of forms.Imsi then 1
-    else (if kind == number_of forms.Cause then 2
-    else (if kind == number_of forms.Recovery then 3
-    else (if kind == number_of forms.Apn then 4
-    else (if kind == number_of forms.Ambr then 5
-    else (if kind == number_of forms.Ebi then 6
-    else (if kind == number_of forms.Paa then 7
-    else (if kind == number_of forms.Qos then 8
-    else (if kind == number_of forms.Rat then 9
-    else (if kind == number_of forms.Plmn then 10
-    else (if kind == number_of forms.Tft then 11
-    else (if kind == number_of forms.FTeid then 12
-    else (if kind == bearer_context then 13
-    else (if kind == number_of forms.ChargingId then 14
-    else (if kind == number_of forms.PdnType then 15
-    else (if kind == number_of forms.Pti then 16
-    else (if kind == number_of forms.Selection then 17
-    else 0))))))))))))))))
+-- the types and instances that a message has a row of: each has a slot of its own, from 1 on
+abbrev pub slots : List (ℕ × ℕ)
+slots =
+    (number_of forms.Imsi, 0)
+    ∷ (number_of forms.Cause, 0)
+    ∷ (number_of forms.Recovery, 0)
+    ∷ (number_of forms.Apn, 0)
+    ∷ (number_of forms.Ambr, 0)
+    ∷ (number_of forms.Ebi, 0)
+    ∷ (number_of forms.Paa, 0)
+    ∷ (number_of forms.Qos, 0)
+    ∷ (number_of forms.Rat, 0)
+    ∷ (number_of forms.Plmn, 0)
+    ∷ (number_of forms.Tft, 0)
+    ∷ (number_of forms.FTeid, 0)
+    ∷ (bearer_context, 0)
+    ∷ (number_of forms.ChargingId, 0)
+    ∷ (number_of forms.PdnType, 0)
+    ∷ (number_of forms.Pti, 0)
+    ∷ (number_of forms.Selection, 0)
+    ∷ (number_of forms.Ebi, 1)
+    ∷ (number_of forms.FTeid, 1)
+    ∷ (number_of forms.FTeid, 2)
+    ∷ (number_of forms.FTeid, 3)
+    ∷ []
 
--- the slot of a further instance
-abbrev pub slot_of_further : ℕ → ℕ → ℕ
-slot_of_further kind instance =
-    if (kind == number_of forms.Ebi) && (instance == 1) then 18
-    else (if (kind == number_of forms.FTeid) && (instance == 1) then 19
-    else (if (kind == number_of forms.FTeid) && (instance == 2) then 20
-    else (if (kind == number_of forms.FTeid) && (instance == 3) then 21
-    else 0)))
+-- the slot among these, of which the first is this one; all others share slot 0
+abbrev pub slot_among : ℕ → List (ℕ × ℕ) → ℕ → ℕ → ℕ
+slot_among first [] kind instance = 0
+slot_among first ((k, i) ∷ more) kind instance = if (kind == k) && (instance == i) then first else slot_among (first + 1) more kind instance
 
 -- the slot of a type and instance
 unfoldable pub slot : ℕ → ℕ → ℕ
-slot kind instance = if instance == 0 then slot_of_type kind else slot_of_further kind instance
+slot kind instance = slot_among 1 slots kind instance
 
 -- the elements from the first one of a slot on
 abbrev pub from_slot : ℕ → List Element → List Element

@@ -2,7 +2,7 @@
 
 ghost use Rattle.std.specs.Prelude.{◌≡◌, ◌+◌, ◌<◌, ◌^◌, length, option_map};
 ghost use Rattle.gtp_ie.specs.Element.{elements_of, first_of, all_of};
-ghost use Rattle.gtp_ie.specs.reading.Index.{slot, slot_of_type};
+ghost use Rattle.gtp_ie.specs.reading.Index.{slot};
 ghost use Rattle.gtp_ie.specs.View.{element_of};
 ghost use Rattle.gtp_ie.specs.Walked.{IsWalked, FindsElements};
 
@@ -19,33 +19,6 @@ use std::marker::Model;
 /// all others.
 const SLOTS: usize = 22;
 
-/// The slot of a type's elements of instance 0.
-fn slot_of_kind(kind: u8) -> usize
-    ensures value { result ≡ slot_of_type kind }
-    ensures range { result < 22 }
-{
-    match kind {
-        IMSI => 1,
-        CAUSE => 2,
-        RECOVERY => 3,
-        APN => 4,
-        AMBR => 5,
-        EBI => 6,
-        PAA => 7,
-        QOS => 8,
-        RAT => 9,
-        PLMN => 10,
-        TFT => 11,
-        FTEID => 12,
-        BEARER_CONTEXT => 13,
-        CHARGING_ID => 14,
-        PDN_TYPE => 15,
-        PTI => 16,
-        SELECTION => 17,
-        _ => 0,
-    }
-}
-
 /// The slot of a type and instance. Inlined, since most callers name both.
 #[inline(always)]
 #[tactic(auto, unfolding(crate::specs::reading::Index::slot))]
@@ -53,19 +26,29 @@ fn slot_of(kind: u8, instance: u8) -> usize
     ensures value { result ≡ slot kind instance }
     ensures range { result < 22 }
 {
-    if instance == 0 {
-        return slot_of_kind(kind);
-    }
-    if kind == EBI && instance == 1 {
-        18
-    } else if kind == FTEID && instance == 1 {
-        19
-    } else if kind == FTEID && instance == 2 {
-        20
-    } else if kind == FTEID && instance == 3 {
-        21
-    } else {
-        0
+    match (kind, instance) {
+        (IMSI, 0) => 1,
+        (CAUSE, 0) => 2,
+        (RECOVERY, 0) => 3,
+        (APN, 0) => 4,
+        (AMBR, 0) => 5,
+        (EBI, 0) => 6,
+        (PAA, 0) => 7,
+        (QOS, 0) => 8,
+        (RAT, 0) => 9,
+        (PLMN, 0) => 10,
+        (TFT, 0) => 11,
+        (FTEID, 0) => 12,
+        (BEARER_CONTEXT, 0) => 13,
+        (CHARGING_ID, 0) => 14,
+        (PDN_TYPE, 0) => 15,
+        (PTI, 0) => 16,
+        (SELECTION, 0) => 17,
+        (EBI, 1) => 18,
+        (FTEID, 1) => 19,
+        (FTEID, 2) => 20,
+        (FTEID, 3) => 21,
+        _ => 0,
     }
 }
 

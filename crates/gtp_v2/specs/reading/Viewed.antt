@@ -24,7 +24,7 @@ list_or_none None = []
 list_or_none (Some es) = es
 
 abbrev pub viewed : Headed → Option (List Element) → Viewed
-viewed h elements = record { message = with_content h (content_or_none (content_at h)); elements = list_or_none elements }
+viewed h elements = record { message = with_content h (content_or_none (content_at h)); octets = h.rest; elements = list_or_none elements }
 
 -- the octets after the header spell something, and these are the elements
 pub record IsViewed (h : Headed) (elements : Option (List Element)) : Type 0 where

@@ -2,10 +2,7 @@
 //!
 //! Written by scripts/messages from specs/CreateBearerRequest.antt.
 
-ghost use Rattle.std.specs.Prelude.{◌≡◌, IsOk, Ok, true};
-ghost use Rattle.gtp_v2.specs.Table.{start};
-ghost use Rattle.gtp_v2.specs.reading.Rows.{lines_at, rows_at};
-ghost use Rattle.gtp_v2.specs.reading.Outcome.{GivesOrMemory};
+ghost use Rattle.std.specs.Prelude.{true};
 ghost use Rattle.gtp_v2.specs.CreateBearerRequest.{create_bearer_request, create_bearer_request_fields, bearer_request_context_rows, bearer_request_context_values};
 
 use crate::body::Body;
@@ -56,11 +53,11 @@ impl Typed for CreateBearerRequest {
         Body::CreateBearerRequest(self)
     }
 
-    #[tactic(auto, unfolding(crate::specs::reading::Rows::lines_at))]
+    #[tactic(auto, unfolding(crate::specs::reading::Rows::lines_at, crate::specs::reading::Rows::some_groups))]
     fn build(alloc: Global, elements: &Indexed) -> Result<CreateBearerRequest, Memory> {
         let pti = optional::<Pti>(elements, 0);
         let linked_ebi = mandatory::<EbiValue>(elements, 0);
-        let contexts = contexts::<BearerRequestContext>(alloc, Need::Mandatory, true, elements)?;
+        let contexts = contexts::<BearerRequestContext>(alloc, true, elements)?;
         Ok(CreateBearerRequest {
             pti,
             linked_ebi,

@@ -2,10 +2,7 @@
 //!
 //! Written by scripts/messages from specs/CreateBearerResponse.antt.
 
-ghost use Rattle.std.specs.Prelude.{◌≡◌, IsOk, Ok, true};
-ghost use Rattle.gtp_v2.specs.Table.{start};
-ghost use Rattle.gtp_v2.specs.reading.Rows.{lines_at, rows_at};
-ghost use Rattle.gtp_v2.specs.reading.Outcome.{GivesOrMemory};
+ghost use Rattle.std.specs.Prelude.{true};
 ghost use Rattle.gtp_v2.specs.CreateBearerResponse.{create_bearer_response, create_bearer_response_fields, bearer_response_context_rows, bearer_response_context_values};
 
 use crate::body::Body;
@@ -56,12 +53,11 @@ impl Typed for CreateBearerResponse {
         Body::CreateBearerResponse(self)
     }
 
-    #[tactic(auto, unfolding(crate::specs::reading::Rows::lines_at))]
+    #[tactic(auto, unfolding(crate::specs::reading::Rows::lines_at, crate::specs::reading::Rows::some_groups))]
     fn build(alloc: Global, elements: &Indexed) -> Result<CreateBearerResponse, Memory> {
         let cause = mandatory::<Cause>(elements, 0);
         let accepting = cause.is_accepting();
-        let need = Need::where_accepting(accepting);
-        let contexts = contexts::<BearerResponseContext>(alloc, need, accepting, elements)?;
+        let contexts = contexts::<BearerResponseContext>(alloc, accepting, elements)?;
         let recovery = optional::<Recovery>(elements, 0);
         Ok(CreateBearerResponse {
             cause,

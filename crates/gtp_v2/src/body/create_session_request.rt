@@ -2,10 +2,7 @@
 //!
 //! Written by scripts/messages from specs/CreateSessionRequest.antt.
 
-ghost use Rattle.std.specs.Prelude.{◌≡◌, IsOk, Ok, true};
-ghost use Rattle.gtp_v2.specs.Table.{start};
-ghost use Rattle.gtp_v2.specs.reading.Rows.{lines_at, rows_at};
-ghost use Rattle.gtp_v2.specs.reading.Outcome.{GivesOrMemory};
+ghost use Rattle.std.specs.Prelude.{true};
 ghost use Rattle.gtp_v2.specs.CreateSessionRequest.{create_session_request, create_session_request_fields, session_request_context_rows, session_request_context_values};
 
 use crate::body::Body;
@@ -73,7 +70,7 @@ impl Typed for CreateSessionRequest {
         Body::CreateSessionRequest(self)
     }
 
-    #[tactic(auto, unfolding(crate::specs::reading::Rows::lines_at))]
+    #[tactic(auto, unfolding(crate::specs::reading::Rows::lines_at, crate::specs::reading::Rows::some_groups))]
     fn build(alloc: Global, elements: &Indexed) -> Result<CreateSessionRequest, Memory> {
         let imsi = conditional::<Imsi>(elements, 0);
         let rat = mandatory::<Rat>(elements, 0);
@@ -84,7 +81,7 @@ impl Typed for CreateSessionRequest {
         let pdn_type = conditional::<PdnType>(elements, 0);
         let paa = optional::<Paa>(elements, 0);
         let ambr = optional::<Ambr>(elements, 0);
-        let contexts = contexts::<SessionRequestContext>(alloc, Need::Mandatory, true, elements)?;
+        let contexts = contexts::<SessionRequestContext>(alloc, true, elements)?;
         let recovery = optional::<Recovery>(elements, 0);
         Ok(CreateSessionRequest {
             imsi,

@@ -2,10 +2,7 @@
 //!
 //! Written by scripts/messages from specs/CreateSessionResponse.antt.
 
-ghost use Rattle.std.specs.Prelude.{◌≡◌, IsOk, Ok, true};
-ghost use Rattle.gtp_v2.specs.Table.{start};
-ghost use Rattle.gtp_v2.specs.reading.Rows.{lines_at, rows_at};
-ghost use Rattle.gtp_v2.specs.reading.Outcome.{GivesOrMemory};
+ghost use Rattle.std.specs.Prelude.{true};
 ghost use Rattle.gtp_v2.specs.CreateSessionResponse.{create_session_response, create_session_response_fields, session_response_context_rows, session_response_context_values};
 
 use crate::body::Body;
@@ -63,15 +60,14 @@ impl Typed for CreateSessionResponse {
         Body::CreateSessionResponse(self)
     }
 
-    #[tactic(auto, unfolding(crate::specs::reading::Rows::lines_at))]
+    #[tactic(auto, unfolding(crate::specs::reading::Rows::lines_at, crate::specs::reading::Rows::some_groups))]
     fn build(alloc: Global, elements: &Indexed) -> Result<CreateSessionResponse, Memory> {
         let cause = mandatory::<Cause>(elements, 0);
         let accepting = cause.is_accepting();
         let control = needed_if::<FTeid>(accepting, elements, 1);
         let paa = needed_if::<Paa>(accepting, elements, 0);
         let ambr = optional::<Ambr>(elements, 0);
-        let need = Need::where_accepting(accepting);
-        let contexts = contexts::<SessionResponseContext>(alloc, need, accepting, elements)?;
+        let contexts = contexts::<SessionResponseContext>(alloc, accepting, elements)?;
         let recovery = optional::<Recovery>(elements, 0);
         Ok(CreateSessionResponse {
             cause,

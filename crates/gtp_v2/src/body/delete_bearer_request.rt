@@ -2,10 +2,7 @@
 //!
 //! Written by scripts/messages from specs/DeleteBearerRequest.antt.
 
-ghost use Rattle.std.specs.Prelude.{IsOk, true};
-ghost use Rattle.gtp_v2.specs.Table.{start};
-ghost use Rattle.gtp_v2.specs.reading.Rows.{lines_at};
-ghost use Rattle.gtp_v2.specs.reading.Outcome.{GivesOrMemory};
+ghost use Rattle.std.specs.Prelude.{true};
 ghost use Rattle.gtp_v2.specs.DeleteBearerRequest.{delete_bearer_request, delete_bearer_request_fields};
 
 use crate::body::Body;
@@ -52,10 +49,10 @@ impl Typed for DeleteBearerRequest {
         Body::DeleteBearerRequest(self)
     }
 
-    #[tactic(auto, unfolding(crate::specs::reading::Rows::lines_at))]
+    #[tactic(auto, unfolding(crate::specs::reading::Rows::lines_at, crate::specs::reading::Rows::several_at))]
     fn build(alloc: Global, elements: &Indexed) -> Result<DeleteBearerRequest, Memory> {
         let linked_ebi = optional::<EbiValue>(elements, 0);
-        let ebis = several::<EbiValue>(alloc, linked_ebi.is_none(), elements, 1, 0)?;
+        let ebis = several::<EbiValue>(alloc, elements, 1)?;
         Ok(DeleteBearerRequest { linked_ebi, ebis })
     }
 

@@ -2,10 +2,7 @@
 //!
 //! Written by scripts/messages from specs/DeleteBearerResponse.antt.
 
-ghost use Rattle.std.specs.Prelude.{◌≡◌, IsOk, Ok, true};
-ghost use Rattle.gtp_v2.specs.Table.{start};
-ghost use Rattle.gtp_v2.specs.reading.Rows.{lines_at, rows_at};
-ghost use Rattle.gtp_v2.specs.reading.Outcome.{GivesOrMemory};
+ghost use Rattle.std.specs.Prelude.{true};
 ghost use Rattle.gtp_v2.specs.DeleteBearerResponse.{delete_bearer_response, delete_bearer_response_fields, removal_response_context_rows, removal_response_context_values};
 
 use crate::body::Body;
@@ -58,17 +55,12 @@ impl Typed for DeleteBearerResponse {
         Body::DeleteBearerResponse(self)
     }
 
-    #[tactic(auto, unfolding(crate::specs::reading::Rows::lines_at))]
+    #[tactic(auto, unfolding(crate::specs::reading::Rows::lines_at, crate::specs::reading::Rows::some_groups))]
     fn build(alloc: Global, elements: &Indexed) -> Result<DeleteBearerResponse, Memory> {
         let cause = mandatory::<Cause>(elements, 0);
         let accepting = cause.is_accepting();
         let linked_ebi = optional::<EbiValue>(elements, 0);
-        let contexts = contexts::<RemovalResponseContext>(
-            alloc,
-            Need::Optional,
-            accepting,
-            elements,
-        )?;
+        let contexts = contexts::<RemovalResponseContext>(alloc, accepting, elements)?;
         let recovery = optional::<Recovery>(elements, 0);
         Ok(DeleteBearerResponse {
             cause,

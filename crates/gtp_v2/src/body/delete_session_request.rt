@@ -2,10 +2,7 @@
 //!
 //! Written by scripts/messages from specs/DeleteSessionRequest.antt.
 
-ghost use Rattle.std.specs.Prelude.{IsOk, true};
-ghost use Rattle.gtp_v2.specs.Table.{start};
-ghost use Rattle.gtp_v2.specs.reading.Rows.{lines_at};
-ghost use Rattle.gtp_v2.specs.reading.Outcome.{GivesOrMemory};
+ghost use Rattle.std.specs.Prelude.{true};
 ghost use Rattle.gtp_v2.specs.DeleteSessionRequest.{delete_session_request, delete_session_request_fields};
 
 use crate::body::Body;

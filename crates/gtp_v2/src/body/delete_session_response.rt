@@ -2,10 +2,7 @@
 //!
 //! Written by scripts/messages from specs/DeleteSessionResponse.antt.
 
-ghost use Rattle.std.specs.Prelude.{IsOk, true};
-ghost use Rattle.gtp_v2.specs.Table.{start};
-ghost use Rattle.gtp_v2.specs.reading.Rows.{lines_at};
-ghost use Rattle.gtp_v2.specs.reading.Outcome.{GivesOrMemory};
+ghost use Rattle.std.specs.Prelude.{true};
 ghost use Rattle.gtp_v2.specs.DeleteSessionResponse.{delete_session_response, delete_session_response_fields};
 
 use crate::body::Body;

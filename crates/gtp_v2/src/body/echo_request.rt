@@ -2,10 +2,7 @@
 //!
 //! Written by scripts/messages from specs/EchoRequest.antt.
 
-ghost use Rattle.std.specs.Prelude.{IsOk, false};
-ghost use Rattle.gtp_v2.specs.Table.{start};
-ghost use Rattle.gtp_v2.specs.reading.Rows.{lines_at};
-ghost use Rattle.gtp_v2.specs.reading.Outcome.{GivesOrMemory};
+ghost use Rattle.std.specs.Prelude.{false};
 ghost use Rattle.gtp_v2.specs.EchoRequest.{echo_request, echo_request_fields};
 
 use crate::body::Body;

@@ -1,8 +1,7 @@
 //! Reading a header (TS 29.274 5.1).
 
-ghost use Rattle.std.specs.Prelude.{◌<◌, ◌^◌, length, IfOk};
+ghost use Rattle.std.specs.Prelude.{◌<◌, ◌^◌, length};
 ghost use Rattle.gtp_values.specs.Steps.{Gives};
-ghost use Rattle.gtp_v2.specs.Priority.{PriorityNeedsTeid};
 ghost use Rattle.gtp_v2.specs.reading.Headed.{headed_of, header_at, after_teid, after_no_teid};
 
 use crate::fault::V2Fault;
@@ -14,8 +13,7 @@ use gtp_values::{Below, Seq, Teid};
 #[inline(always)]
 fn with_teid(first: u8, kind: u8, octets: &[u8]) -> Result<Header<'_>, V2Fault>
     requires { length octets.now < 2 ^ 16 }
-    ensures header { Gives headed_of result (after_teid first kind octets.now) }
-    ensures priority { IfOk result (λ h. PriorityNeedsTeid h.teid h.priority) }
+    ensures { Gives headed_of result (after_teid first kind octets.now) }
 {
     let [a, b, c, d, e, f, g, last, rest @ ..] = octets else {
         return Err(V2Fault::Short {
@@ -37,8 +35,7 @@ fn with_teid(first: u8, kind: u8, octets: &[u8]) -> Result<Header<'_>, V2Fault>
 #[inline(always)]
 fn without_teid(kind: u8, octets: &[u8]) -> Result<Header<'_>, V2Fault>
     requires { length octets.now < 2 ^ 16 }
-    ensures header { Gives headed_of result (after_no_teid kind octets.now) }
-    ensures priority { IfOk result (λ h. PriorityNeedsTeid h.teid h.priority) }
+    ensures { Gives headed_of result (after_no_teid kind octets.now) }
 {
     let [a, b, c, _, rest @ ..] = octets else {
         return Err(V2Fault::Short {
@@ -59,8 +56,7 @@ fn without_teid(kind: u8, octets: &[u8]) -> Result<Header<'_>, V2Fault>
 /// would be moved twice more.
 #[inline(always)]
 pub fn read_header(octets: &[u8]) -> Result<Header<'_>, V2Fault>
-    ensures header { Gives headed_of result (header_at octets.now) }
-    ensures priority { IfOk result (λ h. PriorityNeedsTeid h.teid h.priority) }
+    ensures { Gives headed_of result (header_at octets.now) }
 {
     let [first, kind, high, low, rest @ ..] = octets else {
         return Err(V2Fault::Short { held: octets.len() });

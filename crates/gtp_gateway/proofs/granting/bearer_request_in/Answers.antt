@@ -8,6 +8,6 @@ returns c = record {
   header = search rules;
   linked = c.needed.ensures.field;
   contexts = λ first further groups.
-      let read = contexts_read c.contexts-contexts.result c.next.new.self c.in-Some.first c.needed_in.result c.is_none.result first further (c.contexts-contexts.ensures.groups _ groups) c.in-Some.ensures.steps (sym c.needed_in.ensures) (none_further c.next-2.result c.next.new.self c.next-2.new.self c.is_none.result c.is_none.ensures c.next-2.ensures.steps) in
+      let read = contexts_read c.contexts-contexts.result c.next.new.self c.in-Some.first c.needed-2.result c.is_none.result first further (c.contexts-contexts.ensures.groups _ groups) c.in-Some.ensures.steps (sym c.needed-2.ensures) (none_further c.next-2.result c.next.new.self c.next-2.new.self c.is_none.result c.is_none.ensures c.next-2.ensures.steps) in
       record { user = read.0; alone = read.1 };
 }

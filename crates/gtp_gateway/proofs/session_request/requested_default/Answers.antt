@@ -1,4 +1,5 @@
-use Rattle.std.proofs.Common.{◌≡◌, ℕ, List, [], ◌∷◌, map, Some, sym, ◌∙◌, ap}
+use Rattle.std.proofs.Common.{◌≡◌, ℕ, List, [], ◌∷◌, map, Option, Some, sym, ◌∙◌, ap}
+use Rattle.std.specs.Prelude.{is_some}
 use Rattle.gtp_ie.specs.Element.{Element}
 use Rattle.gtp_ie.specs.Value.{Value}
 use Rattle.gtp_v2.specs.CreateSessionRequest.{session_request_context_rows}
@@ -46,23 +47,23 @@ first_is m spelled of cs first rest groups steps =
     let both = first_context rows_in (requested_context a.first) a.further cs first rest groups steps in
     record { are_read = are_read a.first first both.0; further = both.1 }
 
-pub needed_in-identity-requires : goal.needed_in-identity-requires
-needed_in-identity-requires c = let m = c.args.view.now.message in (_, (first_is m c.requires.spelled c.requires.of _ c.in-Some.first c.next.new.self (c.contexts-contexts.ensures.groups _ (are m c.requires.spelled c.requires.of)) c.in-Some.ensures.steps).are_read.identity)
+pub needed-identity-requires : goal.needed-identity-requires
+needed-identity-requires c = let m = c.args.view.now.message in ap (λ (v : Option Value). is_some v) (first_is m c.requires.spelled c.requires.of _ c.in-Some.first c.next.new.self (c.contexts-contexts.ensures.groups _ (are m c.requires.spelled c.requires.of)) c.in-Some.ensures.steps).are_read.identity
 
-pub needed_in-requires : goal.needed_in-requires
-needed_in-requires c = let m = c.args.view.now.message in (_, (first_is m c.requires.spelled c.requires.of _ c.in-Some.first c.next.new.self (c.contexts-contexts.ensures.groups _ (are m c.requires.spelled c.requires.of)) c.in-Some.ensures.steps).are_read.qos)
+pub needed-requires : goal.needed-requires
+needed-requires c = let m = c.args.view.now.message in ap (λ (v : Option Value). is_some v) (first_is m c.requires.spelled c.requires.of _ c.in-Some.first c.next.new.self (c.contexts-contexts.ensures.groups _ (are m c.requires.spelled c.requires.of)) c.in-Some.ensures.steps).are_read.qos
 
-pub needed_in-requires-2 : goal.needed_in-requires-2
-needed_in-requires-2 c = let m = c.args.view.now.message in (_, (first_is m c.requires.spelled c.requires.of _ c.in-Some.first c.next.new.self (c.contexts-contexts.ensures.groups _ (are m c.requires.spelled c.requires.of)) c.in-Some.ensures.steps).are_read.user)
+pub needed-requires-2 : goal.needed-requires-2
+needed-requires-2 c = let m = c.args.view.now.message in ap (λ (v : Option Value). is_some v) (first_is m c.requires.spelled c.requires.of _ c.in-Some.first c.next.new.self (c.contexts-contexts.ensures.groups _ (are m c.requires.spelled c.requires.of)) c.in-Some.ensures.steps).are_read.user
 
 pub returns : goal.returns
 returns c =
     let m = c.args.view.now.message in
     let a = message m c.requires.spelled c.requires.of in
     let f = first_is m c.requires.spelled c.requires.of _ c.in-Some.first c.next.new.self (c.contexts-contexts.ensures.groups _ (are m c.requires.spelled c.requires.of)) c.in-Some.ensures.steps in
-    let identity = same_Some _ _ (sym f.are_read.identity ∙ c.needed_in-identity.ensures) in
-    let qos = same_Some _ _ (sym f.are_read.qos ∙ c.needed_in.ensures) in
-    let user = same_Some _ _ (sym f.are_read.user ∙ c.needed_in-2.ensures) in
+    let identity = same_Some _ _ (sym f.are_read.identity ∙ c.needed-identity.ensures) in
+    let qos = same_Some _ _ (sym f.are_read.qos ∙ c.needed.ensures) in
+    let user = same_Some _ _ (sym f.are_read.user ∙ c.needed-2.ensures) in
     let alone = none_left rows_in c.next.new.self a.further f.further in
     record {
       further = a.further;

@@ -1,7 +1,7 @@
 use Rattle.gtp_v2.specs.declared.message.Datagram.{Datagram}
 use Rattle.gtp_v2.specs.Body.{message_value}
 use Rattle.gtp_v2.specs.Message.{MessageValue}
-use Rattle.gtp_v2.proofs.Told.{answers_ok, answers_fault, answers_only, answers_first, answers_memory, answers_marked, answers_small}
+use Rattle.gtp_v2.proofs.Told.{answers_ok, answers_fault, answers_only, answers_first, answers_memory, answers_small}
 use Rattle.gtp_v2.proofs.decoding.decode.Goals as goal
 
 -- what a datagram says
@@ -19,9 +19,6 @@ returns-clause-fault c = answers_fault said c.read_datagram.result c.args.octets
 
 pub returns-clause-first : goal.returns-clause-first
 returns-clause-first c = answers_first said c.read_datagram.result c.args.octets.now c.read_datagram.ensures.message
-
-pub returns-clause-marks : goal.returns-clause-marks
-returns-clause-marks c = answers_marked said c.read_datagram.result c.args.octets.now c.read_datagram.ensures.message
 
 pub returns-clause-instance : goal.returns-clause-instance
 returns-clause-instance c = answers_small said c.read_datagram.result c.args.octets.now c.read_datagram.ensures.message

@@ -6,7 +6,7 @@ use Rattle.gtp_ie.specs.Element.{all_of}
 use Rattle.gtp_v2.specs.reading.Rows.{group_at, groups_at}
 use Rattle.gtp_v2.specs.reading.Outcome.{HasGroup}
 use Rattle.gtp_v2.proofs.Loop.{gathers_first, gathers_one, gathers_some, goes_on, is_done}
-use Rattle.gtp_v2.proofs.groups.all_contexts.Goals as goal
+use Rattle.gtp_v2.proofs.groups.contexts.Goals as goal
 
 pub loop-view-init : goal.loop-view-init
 loop-view-init g c =
@@ -33,4 +33,4 @@ returns-in_err-push g c =
     c.in-Some.ensures.steps c.requires c.loop-view.invariant)
 
 pub returns : goal.returns
-returns g c = is_done (group_at c.args.accepting g.C.Context.rows) (map g.C.Context.values c.loop-view.contexts.items) c.loop-view.view-iterator (groups_at c.args.accepting g.C.Context.rows (all_of 93 0 c.args.elements.now)) c.in-None.ensures.steps.0 c.loop-view.invariant
+returns g c = rw c.of.ensures (is_done (group_at c.args.accepting g.C.Context.rows) (map g.C.Context.values c.loop-view.contexts.items) c.loop-view.view-iterator (groups_at c.args.accepting g.C.Context.rows (all_of 93 0 c.args.elements.now)) c.in-None.ensures.steps.0 c.loop-view.invariant)

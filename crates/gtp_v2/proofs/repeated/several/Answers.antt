@@ -7,7 +7,7 @@ use Rattle.gtp_v2.specs.reading.Rows.{one_at, values_at}
 use Rattle.gtp_v2.specs.reading.Outcome.{HasValue}
 use Rattle.gtp_v2.proofs.Checks.{one_reads, one_read}
 use Rattle.gtp_v2.proofs.Loop.{gathers_first, gathers_one, gathers_some, goes_on, is_done}
-use Rattle.gtp_v2.proofs.repeated.all_values.Goals as goal
+use Rattle.gtp_v2.proofs.repeated.several.Goals as goal
 
 pub loop-view-init : goal.loop-view-init
 loop-view-init g c =
@@ -35,4 +35,4 @@ returns-in_err-push g c =
     c.in-Some.ensures.steps c.requires c.loop-view.invariant)
 
 pub returns : goal.returns
-returns g c = is_done (one_at g.T.IeValue.KIND c.args.instance) (map g.T.IeValue.value c.loop-view.values.items) c.loop-view.view-iterator (values_at g.T.IeValue.KIND c.args.instance (all_of g.T.IeValue.KIND c.args.instance c.args.elements.now)) c.in-None.ensures.steps.0 c.loop-view.invariant
+returns g c = rw c.of.ensures (is_done (one_at g.T.IeValue.KIND c.args.instance) (map g.T.IeValue.value c.loop-view.values.items) c.loop-view.view-iterator (values_at g.T.IeValue.KIND c.args.instance (all_of g.T.IeValue.KIND c.args.instance c.args.elements.now)) c.in-None.ensures.steps.0 c.loop-view.invariant)
