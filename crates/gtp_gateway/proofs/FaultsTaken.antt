@@ -6,7 +6,7 @@ use Rattle.gtp_machine.specs.Message.{Control}
 use Rattle.gtp_machine.specs.Node.{Arrival, Node}
 use Rattle.gtp_machine.specs.Answer.{IsNew, faulted, fault_number}
 use Rattle.gtp_machine.specs.Input as inputs
-use Rattle.gtp_machine.specs.Input.{RequestKind, Control_came, Effect, dropped, undecodable}
+use Rattle.gtp_machine.specs.Input.{RequestKind, Control_came, dropped, undecodable}
 use Rattle.gtp_machine.specs.Serving.{ServingFaulted}
 use Rattle.gtp_machine.specs.Packet.{PacketFaulted}
 use Rattle.gtp_machine.specs.Step.{Step as MachineStep}

@@ -1,7 +1,6 @@
 //! What goes where the peer does not know a bearer (TS 29.281 7.3.1).
 
 ghost use Rattle.std.specs.Prelude.{◌≡◌, not, filter};
-ghost use Rattle.std.specs.FinMap as map;
 ghost use Rattle.gtp_tables.specs.Index.{names};
 ghost use Rattle.gtp_machine.specs.User.{default_among, broken};
 ghost use Rattle.gtp_gateway.specs.Broken.{goes_with_remote, is_broken};

@@ -14,7 +14,7 @@ pub struct ControlStep {
 }
 
 impl ControlStep {
-    ghost use Rattle.std.specs.Prelude.{◌≡◌, None, Some, true};
+    ghost use Rattle.std.specs.Prelude.{◌≡◌, None, Some};
     ghost use Rattle.gtp_gateway.specs.Hearing.{report_heard};
     ghost use Rattle.gtp_gateway.specs.Taken.{plain_report};
 

@@ -2,10 +2,8 @@
 
 ghost use Rattle.gtp_gateway.specs.GoesOn.{GoesOn};
 ghost use Rattle.std.specs.Prelude.{◌≡◌, ◌↔◌, false, IsTrue, IfOk, OnOk, OnErr, option_map};
-ghost use Rattle.gtp_v2.specs.Viewed.{in_row, front_value};
-ghost use Rattle.gtp_ie.specs.Value.{Value, OfEbi};
 ghost use Rattle.gtp_machine.specs.Message as messages;
-ghost use Rattle.gtp_machine.specs.Node.{Arrival, written};
+ghost use Rattle.gtp_machine.specs.Node.{Arrival};
 ghost use Rattle.gtp_machine.specs.Packet.{IsLinkedTo, DeletionAsked};
 ghost use Rattle.gtp_gateway.specs.Asked.{ReadsDeletion, JudgesDeletion, TakesDeletionRequest};
 ghost use Rattle.gtp_gateway.specs.Needing.{AlwaysSendsOrOpens};

@@ -1,6 +1,6 @@
 //! TEIDs for what a gateway makes.
 
-ghost use Rattle.std.specs.Prelude.{◌≡◌, IfSome, IfNone};
+ghost use Rattle.std.specs.Prelude.{IfSome, IfNone};
 ghost use Rattle.gtp_machine.specs.Choice.{HasDraws};
 ghost use Rattle.gtp_gateway.specs.Drawing.{IsOneDrawn, AreTwoDrawn};
 ghost use Rattle.gtp_gateway.specs.Parts.{node_of};

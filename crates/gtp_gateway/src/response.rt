@@ -2,8 +2,8 @@
 
 ghost use Rattle.gtp_ie.specs.Form.{number_of};
 ghost use Rattle.gtp_ie.specs.declared.form.Form.TheVariants as forms;
-ghost use Rattle.std.specs.Prelude.{◌≡◌, ◌↔◌, ◌∷◌, [], IsTrue, Some, true, false, ℕ, List};
-ghost use Rattle.gtp_ie.specs.Value.{Value, OfCause};
+ghost use Rattle.std.specs.Prelude.{◌≡◌, ◌↔◌, ◌∷◌, [], IsTrue, Some, false};
+ghost use Rattle.gtp_ie.specs.Value.{OfCause};
 ghost use Rattle.gtp_v2.specs.Viewed.{in_row, always_has};
 ghost use Rattle.gtp_reliable.specs.Pending.{purpose_of, SameTimes};
 ghost use Rattle.gtp_machine.specs.Node.{written};

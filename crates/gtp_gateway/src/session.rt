@@ -1,7 +1,6 @@
 //! Sessions (TS 29.274 7.2.1, 7.2.2), as the serving gateway begins them.
 
 ghost use Rattle.std.specs.Prelude.{◌≡◌, ◌↔◌, IsTrue, IfOk, OnErr};
-ghost use Rattle.std.specs.FinMap as map;
 ghost use Rattle.gtp_machine.specs.Choice.{IsIdentity, HasSessionRoom};
 ghost use Rattle.gtp_machine.specs.Input.{Create_session};
 ghost use Rattle.gtp_gateway.specs.Begun.{IsDone, IsRefusedWhere, AsksNext};

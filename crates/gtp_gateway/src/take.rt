@@ -1,7 +1,7 @@
 //! Messages of the control plane that a gateway takes, by their procedures.
 
 ghost use Rattle.gtp_gateway.specs.GoesOn.{GoesOn};
-ghost use Rattle.std.specs.Prelude.{◌≡◌, true, Some, ℕ, List, IfOk, OnOk, OnErr};
+ghost use Rattle.std.specs.Prelude.{◌≡◌, true, Some, IfOk, OnOk, OnErr};
 ghost use Rattle.gtp_v2.specs.Datagram.{IsMessage};
 ghost use Rattle.gtp_v2.specs.Viewed.{Carries};
 ghost use Rattle.gtp_machine.specs.Decoded.{message_of};

@@ -1,6 +1,6 @@
 //! Ticks: requests that are sent again or given up, and answers that are forgotten (TS 29.274 7.6).
 
-ghost use Rattle.std.specs.Prelude.{◌≡◌, ◌+◌, ◌≤◌, [], map, filter, length, vec_len, vec_capacity};
+ghost use Rattle.std.specs.Prelude.{◌≡◌, ◌+◌, ◌≤◌, [], map, length, vec_len, vec_capacity};
 ghost use Rattle.std.specs.Prelude.{IsOk, IfOk, OnOk, OnErr};
 ghost use Rattle.gtp_reliable.specs.Due.{message_of};
 ghost use Rattle.gtp_gateway.specs.Parts.{node_of};

@@ -1,6 +1,6 @@
 //! What a gateway asks its peer for.
 
-ghost use Rattle.std.specs.Prelude.{◌≡◌, ◌==◌, not, true, IfOk, OnErr, option_map};
+ghost use Rattle.std.specs.Prelude.{◌≡◌, ◌==◌, not, IfOk, OnErr, option_map};
 ghost use Rattle.gtp_machine.specs.Command.{pending_dedicated};
 ghost use Rattle.gtp_machine.specs.Node.{Closing};
 ghost use Rattle.gtp_machine.specs.Reading.{control_message};

@@ -1,8 +1,8 @@
 -- An index of elements finds what a walk finds.
-use Rattle.std.proofs.Common.{rules, ◌≡◌, ℕ, zero, suc, ◌+◌, ◌-◌, ◌<◌, ◌≤◌, Bool, true, false, cond, ◌&&◌, List, [], ◌∷◌, ◌++◌, length, ◌⊎◌, inl, inr, drop, get_or, set, replicate, ◌^◌, Some, Result, Ok, Err, refl, sym, ap, subst, ◌∙◌, arith, append_assoc, eq-eqb}
+use Rattle.std.proofs.Common.{rules, ◌≡◌, ℕ, zero, suc, ◌+◌, ◌-◌, ◌<◌, ◌≤◌, Bool, true, false, cond, ◌&&◌, List, [], ◌∷◌, ◌++◌, length, drop, get_or, set, ◌^◌, Some, Result, Ok, Err, refl, sym, ap, subst, ◌∙◌, arith, append_assoc, eq-eqb}
 use Rattle.std.specs.Prelude.{◌==◌}
-use Rattle.std.proofs.lemmas.List.{drop_at, length-drop, length-append, get_or-set_same, get_or-set_other, get_or-replicate, get_or_past, length-set, length-replicate}
-use Rattle.std.proofs.lemmas.Bool.{eqb-true, eqb-false, cases_lt}
+use Rattle.std.proofs.lemmas.List.{drop_at, length-drop, length-append, get_or-set_same, get_or-set_other, length-set}
+use Rattle.std.proofs.lemmas.Bool.{eqb-true, eqb-false}
 use Rattle.gtp_ie.specs.Element.{Element, front_of, elements_of, and_then_more, list_of, is_of, first_of, all_of}
 use Rattle.gtp_ie.specs.reading.View.{stop_of}
 use Rattle.gtp_ie.specs.reading.Index.{slot, from_slot, walk_from_slot, elements_left, IsIndexed}
@@ -45,10 +45,6 @@ all_from kind instance (e ∷ es) = all_by_slot kind instance e es (all_from kin
 list_from : (s : ℕ) (r : Result (List Element) ℕ) → list_of (walk_from_slot s r) ≡ from_slot s (list_of r)
 list_from s (Ok es) = refl
 list_from s (Err at) = refl
-
-stop_from : (s : ℕ) (r : Result (List Element) ℕ) → stop_of (walk_from_slot s r) ≡ stop_of r
-stop_from s (Ok es) = refl
-stop_from s (Err at) = refl
 
 -- what is found in the octets that are left
 pub first_left : (base : ℕ) (octets lefts : List ℕ) (kind instance s : ℕ) → IsIndexed base octets lefts → s ≡ slot kind instance → s < 22
@@ -195,15 +191,6 @@ index_noted base octets lefts rest at e after found range none so_far =
     by_slot s r some left was true here =
         subst (SlotIs base octets r s) (sym (here_is s here)) (slot_found base octets e r r s (length rest) here some left (subst (SlotIs base octets (and_then_more e r) s) (subst (λ t. get_or lefts t 0 ≡ 0) (eqb-true (slot e.kind e.instance) s here) none) was))
     by_slot s r some left was false other = subst (SlotIs base octets r s) (sym (other_is s other)) (slot_passed base octets e r s (get_or lefts s 0) other was)
-
-abbrev nothing : List ℕ
-nothing = replicate 22 0
-
-nothing_known : (s : ℕ) → get_or nothing s 0 ≡ 0
-nothing_known s = by_place (cases_lt s 22) where
-  by_place : (s < 22) ⊎ (22 ≤ s) → get_or nothing s 0 ≡ 0
-  by_place (inl few) = get_or-replicate 22 s 0 0 few
-  by_place (inr past) = get_or_past nothing s 0 (omega (arith, length-replicate {A = ℕ} 22 0))
 
 -- after the last element the index is whole
 pub index_last : (base : ℕ) (octets lefts rest : List ℕ) (at : ℕ) → base + length octets < 2 ^ 64 → length rest ≡ 0 → Indexes base octets lefts rest at → IsIndexed base octets lefts

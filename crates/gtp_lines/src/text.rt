@@ -1,6 +1,6 @@
 //! Pieces of text, appended to a buffer.
 
-ghost use Rattle.std.specs.Prelude.{◌≡◌, ◌<◌, ◌++◌, All, OnOk, IfSome, decimal, map, take};
+ghost use Rattle.std.specs.Prelude.{◌≡◌, ◌<◌, ◌++◌, All, OnOk, IfSome, decimal};
 ghost use Rattle.hex.specs.Hex.{encode_lower};
 ghost use Rattle.gtp_values.specs.Imsi.{digits_text};
 ghost use Rattle.gtp_values.specs.Teid.{teid_text};

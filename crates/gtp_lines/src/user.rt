@@ -1,6 +1,6 @@
 //! The lines of datagrams of the user plane.
 
-ghost use Rattle.std.specs.Prelude.{◌≡◌, ◌++◌, [], OnOk};
+ghost use Rattle.std.specs.Prelude.{◌≡◌, ◌++◌, OnOk};
 ghost use Rattle.std.specs.List.{flat_map};
 ghost use Rattle.gtp_user.specs.Chain.{extension_of};
 ghost use Rattle.gtp_user.specs.Message.{content_of, message_value};

@@ -1,10 +1,10 @@
 //! What elements say, as text.
 
-ghost use Rattle.std.specs.Prelude.{◌≡◌, ◌++◌, OnOk, codes};
+ghost use Rattle.std.specs.Prelude.{◌≡◌, ◌++◌, OnOk};
 ghost use Rattle.gtp_values.specs.Bit.{bit as bit_of};
 ghost use Rattle.gtp_ie.specs.Value.{value_at};
 ghost use Rattle.gtp_ie.specs.Form.{number_of, name_of};
-ghost use Rattle.gtp_lines.specs.Values.{shown, body_shown, raw_shown, offending_shown, paa_shown, rates_shown, v4_shown, v6_shown, field_shown, named_shown, class_shown};
+ghost use Rattle.gtp_lines.specs.Values.{shown, body_shown, raw_shown, offending_shown, rates_shown, v4_shown, v6_shown, field_shown, named_shown, class_shown};
 
 use crate::text::{put, put_digits, put_display, put_hex, put_number, put_octets, put_teid};
 use gtp_ie::{ChargingId, EbiValue, Form, IeValue, PdnType, Pti, Rat, Recovery, Selection};

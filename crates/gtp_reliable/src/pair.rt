@@ -1,6 +1,6 @@
 //! One answer that is held for a request that comes again.
 
-ghost use Rattle.std.specs.Prelude.{◌≡◌, drop};
+ghost use Rattle.std.specs.Prelude.{◌≡◌};
 ghost use Rattle.gtp_reliable.specs.Order.{source_cmp, from_number, octets_cmp};
 
 use gtp_values::Endpoint;

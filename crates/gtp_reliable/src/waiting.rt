@@ -28,7 +28,6 @@ pub struct Waiting<P: Copy> {
 }
 
 impl<P: Copy> Model for Waiting<P> {
-    ghost use Rattle.std.specs.Prelude.{ℕ};
     ghost use Rattle.gtp_reliable.specs.Waiting.{Waiting as WaitingView};
 
     ghost Value = { WaitingView P };

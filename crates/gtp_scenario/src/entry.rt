@@ -1,6 +1,6 @@
 //! Entries of the list of events.
 
-ghost use Rattle.std.specs.Prelude.{◌≡◌, ◌≤◌, IfOk, Some, option_map, string_bytes};
+ghost use Rattle.std.specs.Prelude.{◌≤◌, IfOk, Some, option_map, string_bytes};
 ghost use Rattle.gtp_scenario.specs.Steps.{Gives};
 ghost use Rattle.gtp_scenario.specs.Entries.{entry_of, entry_within};
 ghost use Rattle.gtp_scenario.specs.Trees.{view};

@@ -1,7 +1,7 @@
 //! Both gateways of a scenario.
 
 ghost use Rattle.std.specs.Prelude.{◌≡◌, ◌≤◌, length, nat_le, if◌then◌else◌, None, IfOk, IfSome, option_map};
-ghost use Rattle.std.specs.Int.{w32, from_be_bytes};
+ghost use Rattle.std.specs.Int.{from_be_bytes};
 ghost use Rattle.gtp_scenario.specs.Steps.{Gives};
 ghost use Rattle.gtp_scenario.specs.Json.{count_of};
 ghost use Rattle.gtp_scenario.specs.Heads.{AreTimers, address_at, addresses_at, counter_at, access_point_of, access_points_in, access_points_at};

@@ -1,6 +1,6 @@
 //! Whole scenarios.
 
-ghost use Rattle.std.specs.Prelude.{◌≡◌, ◌≤◌, IfOk, map};
+ghost use Rattle.std.specs.Prelude.{◌≤◌, IfOk, map};
 ghost use Rattle.std.specs.Option.{ok_or};
 ghost use Rattle.gtp_scenario.specs.declared.fault.Refusal.TheVariants as refusals;
 ghost use Rattle.gtp_scenario.specs.Steps.{Gives, Reads};

@@ -1,6 +1,6 @@
 //! TEIDs that a gateway draws.
 
-ghost use Rattle.std.specs.Prelude.{◌≡◌, ◌↔◌, ◌+◌, ◌/◌, ◌%◌, ◌<◌, ◌≤◌, ◌^◌};
+ghost use Rattle.std.specs.Prelude.{◌≡◌, ◌↔◌, ◌+◌, ◌/◌, ◌%◌, ◌<◌, ◌^◌};
 ghost use Rattle.std.specs.Prelude.{IsOk, IfOk, IfErr, OnOk, OnErr};
 ghost use Rattle.gtp_tables.specs.Drawn.{teid_at, drawn_up_to};
 ghost use Rattle.gtp_values.specs.FiniteMap.{Among};
@@ -24,7 +24,7 @@ pub struct Draws {
 }
 
 impl Model for Draws {
-    ghost use Rattle.std.specs.Prelude.{◌<◌, ◌≤◌, ◌^◌};
+    ghost use Rattle.std.specs.Prelude.{◌<◌, ◌^◌};
     ghost use Rattle.gtp_tables.specs.Drawn.{Drawn};
 
     ghost Value = { Drawn };

@@ -1,6 +1,6 @@
 //! Own TEIDs by remote TEID.
 
-ghost use Rattle.std.specs.Prelude.{◌≡◌, ◌<◌, ◌≤◌, ◌^◌, ◌&&◌, ℕ, None, cond, true, false, nat_eq};
+ghost use Rattle.std.specs.Prelude.{◌≡◌, ◌<◌, ◌≤◌, ◌&&◌, ℕ, None, cond, true, false, nat_eq};
 ghost use Rattle.std.specs.Prelude.{IfSome, IfNone, IsOk, OnOk, OnErr};
 ghost use Rattle.std.specs.Prelude.{is_some};
 ghost use Rattle.std.specs.BTreeSet.{contains};

@@ -1,7 +1,6 @@
 //! Ticks, numbers and limits of reliable delivery, counted by hand.
 
 ghost use Rattle.std.specs.Prelude.{◌≡◌, ◌==◌, filter, not};
-ghost use Rattle.gtp_reliable.specs.Pending.{AreLimits};
 
 mod listed;
 

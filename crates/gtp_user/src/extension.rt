@@ -1,6 +1,6 @@
 //! Extension headers, and the chain of them (TS 29.281 5.2).
 
-ghost use Rattle.std.specs.Prelude.{◌≡◌, ◌+◌, ◌≤◌, ◌<◌, [], List, length, IfOk, IfErr, IsOkAnd, Err};
+ghost use Rattle.std.specs.Prelude.{◌≡◌, ◌+◌, ◌≤◌, [], List, length, IfOk, IfErr, IsOkAnd, Err};
 ghost use Rattle.std.specs.Iterator.{YieldsFirstBy, item_count};
 ghost use Rattle.gtp_user.specs.declared.fault.UserFault.{UserFault as AnyFault};
 ghost use Rattle.gtp_values.specs.Steps.{Gives};

@@ -1,11 +1,13 @@
 -- Reading elements one after the other, as a loop does.
-use Rattle.std.proofs.Common.{◌≡◌, List, [], ◌∷◌, ◌++◌, Result, Ok, Err, refl, sym, ap, subst, ◌∙◌, append_assoc}
+use Rattle.std.proofs.Common.{◌≡◌, List, [], ◌∷◌, ◌++◌, map, Result, Ok, Err, refl, sym, ap, subst, ◌∙◌, append_assoc}
 use Rattle.std.specs.Prelude.{IsOk, IsOkAnd}
-use Rattle.std.proofs.lemmas.List.{append-nil}
+use Rattle.std.specs.Result.{result_unwrap_or}
+use Rattle.std.proofs.lemmas.List.{append-nil, map_push}
 use Rattle.gtp_ie.specs.Element.{Element}
 use Rattle.gtp_values.specs.Steps.{◌>>=◌}
 use Rattle.gtp_v2.specs.declared.fault.RowFault.{RowFault}
 use Rattle.gtp_v2.specs.reading.Rows.{each_at}
+use Rattle.gtp_v2.specs.reading.Outcome.{IsAppended}
 
 -- what was read before, and what is still read
 abbrev pub with_front : {X : Type 0} → List X → Result (List X) RowFault → Result (List X) RowFault
@@ -76,3 +78,26 @@ gathers_some {X = X} Has has read items e es left total split all so_far =
     by_first (y ∷ ys) (Ok x) (Ok xs) h = has y (ys ++ x ∷ xs)
     by_first front (Ok x) (Err f) h = absurd cc
     by_first front (Err f) others h = absurd cc
+
+-- one that was appended
+pub appended : {C X E : Type 0} (view : C → X) (before : List C) (one : C) (outcome : Result X E) (after : List C) → after ≡ before ++ one ∷ [] → outcome ≡ Ok (view one) → IsAppended view before outcome after
+appended view before one outcome after items gives = rw (items, gives) (map_push (λ c. Ok (view c)) before one)
+
+-- an element whose reading was appended
+pub gathers_appended : {C X : Type 0} (view : C → X) (read : Element → Result X RowFault) (before after : List C) (e : Element) (es left : List Element) (total : Result (List X) RowFault)
+    → left ≡ e ∷ es → IsOk total → IsAppended view before (read e) after → Gathers read (map view before) left total → Gathers read (map view after) es total
+gathers_appended {C = C} {X = X} view read before after e es left total split all appended so_far =
+    by_reading (read e) refl (gathers_one read (map view before) e es left total split all so_far) appended
+  where
+    -- the values, of the readings
+    values_of : (x : X) (cs : List C) → map (λ r. result_unwrap_or r x) (map {B = Result X RowFault} (λ c. Ok (view c)) cs) ≡ map view cs
+    values_of x [] = refl
+    values_of x (c ∷ cs) = ap (λ (xs : List X). view c ∷ xs) (values_of x cs)
+
+    by_reading : (r : Result X RowFault) → read e ≡ r → IsOk r → IsAppended view before r after → Gathers read (map view after) es total
+    by_reading (Ok x) reads ok one =
+        let or : Result X RowFault → X = λ r. result_unwrap_or r x in
+        let values : map view after ≡ map view before ++ x ∷ [] =
+        sym (values_of x after) ∙ ap (map or) one ∙ map_push or (map (λ c. Ok (view c)) before) (Ok x) ∙ ap (λ (xs : List X). xs ++ x ∷ []) (values_of x before) in
+        rw values (goes_on read (map view before) e es left x total split reads so_far)
+    by_reading (Err f) reads ok one = absurd cc

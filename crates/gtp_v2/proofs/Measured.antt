@@ -1,5 +1,5 @@
 -- How long the text of rows is.
-use Rattle.std.proofs.Common.{◌≡◌, ◌+◌, ℕ, List, [], ◌∷◌, length, refl, arith}
+use Rattle.std.proofs.Common.{◌≡◌, ℕ, List, [], ◌∷◌, length, refl, arith}
 use Rattle.std.proofs.lemmas.List.{length-append}
 use Rattle.gtp_ie.specs.Text.{element_encoding}
 use Rattle.gtp_ie.specs.Value.{Value, encoding_of}

@@ -23,7 +23,7 @@ spelled_end : (body : List ℕ) (v : Value) → Spells (number_of forms.FTeid) b
 unfolding BodySays
 spelled_end body v s = s.says.1
 
-end_is : (es : List Element) (o : Option Element) → first_of 87 0 es ≡ o → EndIs es (end_in (welcome 87 o))
+end_is : (es : List Element) (o : Option Element) → first_of (number_of forms.FTeid) 0 es ≡ o → EndIs es (end_in (welcome (number_of forms.FTeid) o))
 end_is es None h = λ v s. cc
 end_is es (Some e) h = by_reading (value_at (number_of forms.FTeid) e.body) refl where
   by_reading : (r : Result Value ReadFault) → value_at (number_of forms.FTeid) e.body ≡ r → EndIs es (end_in (value_or_none r))
@@ -47,13 +47,13 @@ one_end es (Some x) (Some y) p q =
 pub sender_is : (kind : ℕ) (es : List Element) → SenderIs kind es (sender_of kind es)
 unfolding sender_of optional_at
 sender_is kind es = by_kind (kind == 32) where
-  by_kind : (b : Bool) → cond b (EndIs es (cond b (end_in (welcome 87 (first_of 87 0 es))) None)) (cond b (end_in (welcome 87 (first_of 87 0 es))) None ≡ None)
-  by_kind true = end_is es (first_of 87 0 es) refl
+  by_kind : (b : Bool) → cond b (EndIs es (cond b (end_in (welcome (number_of forms.FTeid) (first_of (number_of forms.FTeid) 0 es))) None)) (cond b (end_in (welcome (number_of forms.FTeid) (first_of (number_of forms.FTeid) 0 es))) None ≡ None)
+  by_kind true = end_is es (first_of (number_of forms.FTeid) 0 es) refl
   by_kind false = refl
 
 pub sender_only : (kind : ℕ) (es : List Element) (sender : Option TunnelEnd) → SenderIs kind es sender → sender ≡ sender_of kind es
 unfolding sender_of optional_at
 sender_only kind es sender is = by_kind (kind == 32) is where
-  by_kind : (b : Bool) → cond b (EndIs es sender) (sender ≡ None) → sender ≡ cond b (end_in (welcome 87 (first_of 87 0 es))) None
-  by_kind true h = one_end es sender (end_in (welcome 87 (first_of 87 0 es))) h (end_is es (first_of 87 0 es) refl)
+  by_kind : (b : Bool) → cond b (EndIs es sender) (sender ≡ None) → sender ≡ cond b (end_in (welcome (number_of forms.FTeid) (first_of (number_of forms.FTeid) 0 es))) None
+  by_kind true h = one_end es sender (end_in (welcome (number_of forms.FTeid) (first_of (number_of forms.FTeid) 0 es))) h (end_is es (first_of (number_of forms.FTeid) 0 es) refl)
   by_kind false h = h

@@ -16,7 +16,7 @@ use crate::fault::V2Fault;
 use crate::header::Header;
 use crate::listed::Listed;
 use crate::message::Datagram;
-use crate::typed::{Typed, build_typed};
+use crate::typed::Typed;
 use gtp_ie::Indexed;
 use std::alloc::{AllocError, Global};
 
@@ -102,11 +102,11 @@ macro_rules! name_among {
     };
 }
 
-/// The message with this header whose elements are these, or the octets after it.
+/// The datagram with this header whose elements are these, or the octets after it.
 macro_rules! build_among {
     (($alloc:expr, $header:expr, $elements:expr), $($kind:ident),+) => {
         match $header.kind {
-            $($kind::KIND => build_typed::<$kind>($alloc, $header, $elements),)+
+            $($kind::KIND => $kind::build($alloc, $header, $elements),)+
             _ => build_other($alloc, $header),
         }
     };

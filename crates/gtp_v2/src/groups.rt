@@ -12,7 +12,7 @@ ghost use Rattle.gtp_values.specs.Room.{Leaves};
 ghost use Rattle.gtp_v2.specs.Room.{TakesAtMost};
 ghost use Rattle.gtp_v2.specs.Kinds.{RowsHaveKinds};
 ghost use Rattle.gtp_v2.specs.Marks.{RowsMarked};
-ghost use Rattle.gtp_v2.specs.reading.Outcome.{GivesOrMemory, HasGroup};
+ghost use Rattle.gtp_v2.specs.reading.Outcome.{GivesOrMemory, HasGroup, IsAppended};
 
 use crate::listed::Listed;
 use gtp_ie::kinds::BEARER_CONTEXT;
@@ -28,7 +28,8 @@ pub trait Context: Copy {
     /// The values of the rows.
     ghost values: { Self → List (List Value) };
 
-    /// The context that the elements of a group spell, which have what the rows ask.
+    /// The context that the elements of a group spell, which have what the rows ask. In line, so that its parts
+    /// are put together once, and moved once to their place in a list.
     fn build(accepting: bool, elements: &Indexed) -> Self
         requires { IsOk (rows_at accepting rows elements.now) }
         ensures { rows_at accepting rows elements.now ≡ Ok (values result) };
@@ -50,16 +51,22 @@ pub trait Context: Copy {
         ensures { IsTrue result ↔ RowsMarked accepting rows (values self.now) };
 }
 
-/// The context that an element holds.
-#[tactic(auto, unfolding(crate::specs::reading::Rows::group_at))]
-fn context_in<C: Context>(accepting: bool, view: &ElementView) -> C
+/// Appends the context that an element holds.
+#[tactic(auto, unfolding(crate::specs::reading::Rows::group_at), using(crate::proofs::Loop::appended))]
+fn append_context<C: Context>(
+    contexts: &mut Vec<C>,
+    accepting: bool,
+    view: &ElementView,
+) -> Result<(), AllocError>
     requires { IsOk (group_at accepting C.rows (element_of view.now)) }
-    ensures { group_at accepting C.rows (element_of view.now) ≡ Ok (C.values result) }
+    ensures { OnOk result (IsAppended C.values contexts.old.items
+        (group_at accepting C.rows (element_of view.now)) contexts.new.items) }
 {
     let Ok(elements) = view.indexed() else {
         unreachable!()
     };
-    C::build(accepting, &elements)
+    contexts.push(C::build(accepting, &elements))?;
+    Ok(())
 }
 
 /// The bearer contexts among the elements, which have what their rows ask.
@@ -74,7 +81,7 @@ pub fn contexts<C: Context>(
 {
     let mut contexts = Vec::new(alloc);
     for view in elements.all(BEARER_CONTEXT, 0) {
-        contexts.push(context_in::<C>(accepting, &view))?;
+        append_context::<C>(&mut contexts, accepting, &view)?;
     }
     Ok(Listed::of(contexts))
 }

@@ -1,6 +1,6 @@
 //! The octets before a message's elements.
 
-ghost use Rattle.std.specs.Prelude.{◌≡◌, ◌+◌, ◌<◌, ◌^◌, length};
+ghost use Rattle.std.specs.Prelude.{◌+◌, ◌<◌, ◌^◌, length};
 ghost use Rattle.gtp_v2.specs.Priority.{PriorityNeedsTeid};
 
 use gtp_values::{Below, Seq, Teid};

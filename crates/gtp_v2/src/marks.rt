@@ -1,6 +1,6 @@
 //! What the marks of a table ask.
 
-ghost use Rattle.std.specs.Prelude.{◌≡◌, ◌↔◌, IsTrue, map, All};
+ghost use Rattle.std.specs.Prelude.{◌↔◌, IsTrue, map, All};
 ghost use Rattle.gtp_v2.specs.Grammar.{IsEnough};
 ghost use Rattle.gtp_v2.specs.Marks.{RowsMarked};
 

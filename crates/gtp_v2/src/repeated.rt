@@ -1,6 +1,6 @@
 //! Rows of which a message may have several values, of elements that have what the table asks.
 
-ghost use Rattle.std.specs.Prelude.{◌≡◌, IsOk, map};
+ghost use Rattle.std.specs.Prelude.{IsOk, map};
 ghost use Rattle.gtp_ie.specs.Element.{all_of};
 ghost use Rattle.gtp_v2.specs.reading.Rows.{values_at};
 ghost use Rattle.gtp_v2.specs.reading.Outcome.{GivesOrMemory, HasValue};

@@ -2,7 +2,7 @@
 //! they don't fit.
 
 ghost use Rattle.gtp_ie.specs.Form.{bearer_context};
-ghost use Rattle.std.specs.Prelude.{◌+◌, ◌*◌, length, map, option_map, option_to_list, [], ◌∷◌};
+ghost use Rattle.std.specs.Prelude.{◌*◌, length, map, option_map, option_to_list, [], ◌∷◌};
 ghost use Rattle.gtp_ie.specs.Text.{element_encoding};
 ghost use Rattle.gtp_v2.specs.Text.{rows_encoding, groups_encoding};
 ghost use Rattle.gtp_values.specs.Room.{Leaves};

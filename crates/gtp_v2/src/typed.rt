@@ -1,7 +1,7 @@
 //! Messages with a table.
 
-ghost use Rattle.std.specs.Prelude.{◌≡◌, ◌↔◌, ◌++◌, OnOk, IfOk, IsOk, Bool, ℕ, List, IsTrue, length, true, None};
-ghost use Rattle.gtp_v2.specs.Table.{Line, Field, start, allocates};
+ghost use Rattle.std.specs.Prelude.{◌≡◌, ◌↔◌, ◌++◌, OnOk, IfOk, IsOk, Bool, ℕ, List, IsTrue, length, None};
+ghost use Rattle.gtp_v2.specs.Table.{Line, Field, start};
 ghost use Rattle.gtp_v2.specs.reading.Rows.{lines_at};
 ghost use Rattle.gtp_v2.specs.reading.Headed.{headed_of, HasHeader};
 ghost use Rattle.gtp_v2.specs.Text.{lines_encoding};
@@ -9,19 +9,18 @@ ghost use Rattle.gtp_values.specs.Room.{Leaves};
 ghost use Rattle.gtp_v2.specs.Room.{TakesAtMost, most_of_lines};
 ghost use Rattle.gtp_v2.specs.Kinds.{LinesHaveKinds};
 ghost use Rattle.gtp_v2.specs.Marks.{LinesMarked};
-ghost use Rattle.gtp_v2.specs.reading.Outcome.{GivesOrMemory};
-ghost use Rattle.gtp_v2.specs.Message.{head_of, with_head as headed_fault, Fields, FieldsAllocate, MessageGives};
+ghost use Rattle.gtp_v2.specs.Message.{head_of, with_head as headed_fault, FieldsAllocate, MessageGives};
 ghost use Rattle.gtp_v2.specs.reading.Message.{sender_of, as_fields, fields_at};
 ghost use Rattle.gtp_v2.specs.Body.{content_of, kind_of, OctetsOnlyWithoutTable};
 ghost use Rattle.gtp_v2.specs.declared.fault.V2Fault.TheVariants.{Element};
 
-use crate::body::{Body, CreateSessionRequest};
+use crate::body::CreateSessionRequest;
 use crate::fault::{Head, RowFault, V2Fault};
 use crate::header::Header;
 use crate::message::Datagram;
 use crate::rows::optional;
 use gtp_ie::{IeFault, Indexed};
-use gtp_values::{FTeid, Memory};
+use gtp_values::FTeid;
 use std::alloc::{AllocError, Global};
 
 /// A kind of message that has a table of rows.
@@ -49,17 +48,15 @@ pub trait Typed: Drop {
     fn name() -> &'static str
         ensures { result.now ≡ named };
 
-    /// The message that the elements spell, which have what the lines ask.
-    fn build(alloc: Global, elements: &Indexed) -> Result<Self, Memory>
+    /// The datagram with this header and these elements, which have what the lines ask. A call of its own, so
+    /// that it sets up no room for messages of the other kinds.
+    fn build(alloc: Global, header: &Header, elements: &Indexed) -> Result<Datagram, V2Fault>
         requires { IsOk (lines_at start lines elements.now) }
-        ensures { GivesOrMemory (λ all. allocates lines all ≡ true) fields result
-            (lines_at start lines elements.now) };
-
-    /// What a message of this kind says.
-    fn into_body(self) -> Body
-        ensures content { content_of result ≡ Fields (fields self) }
-        ensures kind { kind_of result ≡ KIND }
-        ensures octets_only { OctetsOnlyWithoutTable result };
+        ensures content { MessageGives (FieldsAllocate lines) (λ d. content_of d.message.body) result
+            (as_fields (fields_at lines (headed_of header.now) elements.now)) }
+        ensures kind { IfOk result (λ d. kind_of d.message.body ≡ KIND) }
+        ensures header { IfOk result (λ d. HasHeader header.now d.message) }
+        ensures octets_only { IfOk result (λ d. OctetsOnlyWithoutTable d.message.body) };
 
     /// Appends the elements of the lines.
     fn write(&self, out: &mut Vec<u8>) -> Result<(), AllocError>
@@ -139,23 +136,4 @@ pub fn row_fault(header: &Header, elements: &Indexed, fault: RowFault) -> V2Faul
 {
     let head = head(header, sender(header.kind, elements));
     with_head(head, fault)
-}
-
-/// The message of this kind whose header is this one, with these elements after it. Not inlined, so that it
-/// sets up no room for messages of the other kinds.
-#[inline(never)]
-pub fn build_typed<M: Typed>(
-    alloc: Global,
-    header: &Header,
-    elements: &Indexed,
-) -> Result<Datagram, V2Fault>
-    requires { IsOk (lines_at start M.lines elements.now) }
-    ensures content { MessageGives (FieldsAllocate M.lines) (λ d. content_of d.message.body) result
-        (as_fields (fields_at M.lines (headed_of header.now) elements.now)) }
-    ensures kind { IfOk result (λ d. kind_of d.message.body ≡ M.KIND) }
-    ensures header { IfOk result (λ d. HasHeader header.now d.message) }
-    ensures octets_only { IfOk result (λ d. OctetsOnlyWithoutTable d.message.body) }
-{
-    let typed = M::build(alloc, elements)?;
-    Ok(Datagram::of(header, typed.into_body()))
 }

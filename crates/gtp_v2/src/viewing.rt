@@ -133,7 +133,7 @@ pub fn view(octets: &[u8]) -> Result<DatagramView<'_>, V2Fault>
     ensures fault { IfErr result (λ f. IsFault octets.now f) }
     // An instance that a fault names is below 16, and no fault is out of memory or too long.
     ensures instance { IfErr result InstanceIsSmall }
-    ensures octets { IfErr result IsOfOctets }
+    ensures of_octets { IfErr result IsOfOctets }
     // The message meets the marks of its table, and the condition of `encode` on its header.
     ensures marks { IfOk result (λ v. MeetsMarks v.message) }
     ensures header { IfOk result (λ v. PriorityNeedsTeid v.message.teid v.message.priority) }

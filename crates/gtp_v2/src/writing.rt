@@ -5,7 +5,6 @@ ghost use Rattle.std.specs.Prelude.{◌≡◌, ◌<◌, [], ◌∷◌, ◌++◌,
 ghost use Rattle.gtp_v2.specs.Text.{value_encoding, rows_encoding, groups_encoding, several_encoding};
 ghost use Rattle.gtp_v2.specs.Kinds.{HasKind, AtMostOneOf, RowsHaveKinds};
 ghost use Rattle.gtp_ie.specs.Text.{element_encoding};
-ghost use Rattle.gtp_ie.specs.Value.{encoding_of};
 
 use crate::groups::Context;
 use gtp_ie::kinds::BEARER_CONTEXT;

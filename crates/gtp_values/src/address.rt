@@ -1,6 +1,6 @@
 //! Addresses of gateways.
 
-ghost use Rattle.std.specs.Prelude.{◌≡◌, ◌<◌, ◌↔◌, length, Some, IsOk, IfOk, IsErrOf};
+ghost use Rattle.std.specs.Prelude.{◌<◌, Some};
 ghost use Rattle.gtp_values.specs.Address.{ReadsIp, ip_text};
 
 use crate::fault::ValueFault;

@@ -1,7 +1,5 @@
 //! Why a text or a number is no value, and out of memory.
 
-ghost use Rattle.std.specs.Prelude.{◌≡◌};
-
 use std::alloc::{AllocError, AllocFailed};
 use thiserror::Error;
 

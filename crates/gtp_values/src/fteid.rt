@@ -56,12 +56,7 @@ impl FTeid {
         if interface >= 64 || (v4.is_none() && v6.is_none()) {
             return Err(ValueFault::OutOfRange);
         }
-        Ok(FTeid {
-            interface,
-            teid,
-            v4,
-            v6,
-        })
+        Ok(FTeid::of(Below::new(interface), teid, v4, v6))
     }
 
     /// The tunnel end of these parts, of which one is an address.
@@ -87,12 +82,7 @@ impl FTeid {
             Ip::V4(octets) => (Some(octets), None),
             Ip::V6(octets) => (None, Some(octets)),
         };
-        FTeid {
-            interface: interface.number(),
-            teid,
-            v4,
-            v6,
-        }
+        FTeid::of(interface, teid, v4, v6)
     }
 
     /// The interface type, below 64.

@@ -1,6 +1,6 @@
 //! Subscribers.
 
-ghost use Rattle.std.specs.Prelude.{◌≡◌, ◌<◌, ◌≤◌, ◌↔◌, length, map, All, Some, IsOk, IfOk, IsErrOf};
+ghost use Rattle.std.specs.Prelude.{◌≡◌, ◌<◌, ◌↔◌, length, All, Some, IsOk, IfOk, IsErrOf};
 ghost use Rattle.gtp_values.specs.Imsi.{IsImsi, HasImsiLength, ReadsImsi, digits_text};
 
 use crate::fault::ValueFault;

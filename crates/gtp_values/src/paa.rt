@@ -57,7 +57,7 @@ impl OtherPdnType {
         ensures fault { IfErr result (λ f. f ≡ OutOfRange) }
     {
         match number {
-            0 | 4..=7 => Ok(OtherPdnType { number }),
+            0 | 4..=7 => Ok(OtherPdnType::of(number)),
             _ => Err(ValueFault::OutOfRange),
         }
     }

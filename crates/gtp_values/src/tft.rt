@@ -1,6 +1,6 @@
 //! Traffic flow templates.
 
-ghost use Rattle.std.specs.Prelude.{◌≡◌, ◌≤◌, ◌<◌, ◌↔◌, length, IsOk, IfOk, IfErr};
+ghost use Rattle.std.specs.Prelude.{◌≡◌, ◌≤◌, ◌↔◌, length, IsOk, IfOk, IfErr};
 ghost use Rattle.gtp_values.specs.declared.fault.ValueFault.TheVariants.{TooLong};
 
 use crate::fault::ValueFault;

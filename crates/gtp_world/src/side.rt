@@ -1,9 +1,8 @@
 //! One gateway of a world, and what is kept of it.
 
-ghost use Rattle.std.specs.Prelude.{◌≡◌, ◌↔◌, ◌⊎◌, ◌+◌, ◌<◌, ◌≤◌, ◌++◌, [], ◌∷◌, Some, None, true, length};
+ghost use Rattle.std.specs.Prelude.{◌≡◌, ◌↔◌, ◌+◌, ◌<◌, ◌≤◌, ◌++◌, Some, None, true, length};
 ghost use Rattle.std.specs.Prelude.{option_map, option_to_list, vec_len, vec_capacity};
-ghost use Rattle.std.specs.Prelude.{IsTrue, IsSome, IfOk, IfErr, IfSome, IfNone, OnOk, OnErr};
-ghost use Rattle.gtp_values.specs.FiniteMap.{Among};
+ghost use Rattle.std.specs.Prelude.{IsTrue, IsSome, IfOk, IfErr, OnOk, OnErr};
 ghost use Rattle.gtp_machine.specs.Input.{Commanded};
 ghost use Rattle.gtp_gateway.specs.Parts.{arrival_of};
 ghost use Rattle.gtp_gateway.specs.Received.{coming};

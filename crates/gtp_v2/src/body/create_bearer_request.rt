@@ -6,17 +6,19 @@ ghost use Rattle.std.specs.Prelude.{true};
 ghost use Rattle.gtp_v2.specs.CreateBearerRequest.{create_bearer_request, create_bearer_request_fields, bearer_request_context_rows, bearer_request_context_values};
 
 use crate::body::Body;
-use crate::fault::Need;
+use crate::fault::{Need, V2Fault};
 use crate::groups::{Context, contexts};
+use crate::header::Header;
 use crate::kinds::CREATE_BEARER_REQUEST;
 use crate::listed::Listed;
 use crate::marks::contexts_meet;
+use crate::message::Datagram;
 use crate::room::{after_contexts, after_option, after_row};
 use crate::rows::{conditional, mandatory, optional};
 use crate::typed::Typed;
 use crate::writing::{put_contexts, put_option, put_row};
 use gtp_ie::{ChargingId, EbiValue, Indexed, Pti};
-use gtp_values::{FTeid, Memory, Qos, Tft};
+use gtp_values::{FTeid, Qos, Tft};
 use std::alloc::{AllocError, Global};
 
 /// A request for dedicated bearers (TS 29.274 7.2.3).
@@ -49,20 +51,18 @@ impl Typed for CreateBearerRequest {
         "create-bearer-request"
     }
 
-    fn into_body(self) -> Body {
-        Body::CreateBearerRequest(self)
-    }
-
+    #[inline(never)]
     #[tactic(auto, unfolding(crate::specs::reading::Rows::lines_at, crate::specs::reading::Rows::some_groups))]
-    fn build(alloc: Global, elements: &Indexed) -> Result<CreateBearerRequest, Memory> {
+    fn build(alloc: Global, header: &Header, elements: &Indexed) -> Result<Datagram, V2Fault> {
         let pti = optional::<Pti>(elements, 0);
         let linked_ebi = mandatory::<EbiValue>(elements, 0);
         let contexts = contexts::<BearerRequestContext>(alloc, true, elements)?;
-        Ok(CreateBearerRequest {
+        let body = Body::CreateBearerRequest(CreateBearerRequest {
             pti,
             linked_ebi,
             contexts,
-        })
+        });
+        Ok(Datagram::of(header, body))
     }
 
     #[tactic(auto, using(crate::proofs::Appends::appending))]
@@ -105,6 +105,7 @@ impl Context for BearerRequestContext {
 
     ghost values = { bearer_request_context_values };
 
+    #[inline(always)]
     #[tactic(auto, unfolding(crate::specs::reading::Rows::rows_at))]
     fn build(_accepting: bool, elements: &Indexed) -> BearerRequestContext {
         let ebi = mandatory::<EbiValue>(elements, 0);

@@ -6,17 +6,19 @@ ghost use Rattle.std.specs.Prelude.{true};
 ghost use Rattle.gtp_v2.specs.CreateBearerResponse.{create_bearer_response, create_bearer_response_fields, bearer_response_context_rows, bearer_response_context_values};
 
 use crate::body::Body;
-use crate::fault::Need;
+use crate::fault::{Need, V2Fault};
 use crate::groups::{Context, contexts};
+use crate::header::Header;
 use crate::kinds::CREATE_BEARER_RESPONSE;
 use crate::listed::Listed;
 use crate::marks::contexts_meet;
+use crate::message::Datagram;
 use crate::room::{after_contexts, after_option, after_row};
 use crate::rows::{mandatory, needed_if, optional};
 use crate::typed::Typed;
 use crate::writing::{put_contexts, put_option, put_row};
 use gtp_ie::{EbiValue, Indexed, Recovery};
-use gtp_values::{Cause, FTeid, Memory};
+use gtp_values::{Cause, FTeid};
 use std::alloc::{AllocError, Global};
 
 /// The answer to a Create Bearer Request (TS 29.274 7.2.4).
@@ -49,21 +51,19 @@ impl Typed for CreateBearerResponse {
         "create-bearer-response"
     }
 
-    fn into_body(self) -> Body {
-        Body::CreateBearerResponse(self)
-    }
-
+    #[inline(never)]
     #[tactic(auto, unfolding(crate::specs::reading::Rows::lines_at, crate::specs::reading::Rows::some_groups))]
-    fn build(alloc: Global, elements: &Indexed) -> Result<CreateBearerResponse, Memory> {
+    fn build(alloc: Global, header: &Header, elements: &Indexed) -> Result<Datagram, V2Fault> {
         let cause = mandatory::<Cause>(elements, 0);
         let accepting = cause.is_accepting();
         let contexts = contexts::<BearerResponseContext>(alloc, accepting, elements)?;
         let recovery = optional::<Recovery>(elements, 0);
-        Ok(CreateBearerResponse {
+        let body = Body::CreateBearerResponse(CreateBearerResponse {
             cause,
             contexts,
             recovery,
-        })
+        });
+        Ok(Datagram::of(header, body))
     }
 
     #[tactic(auto, using(crate::proofs::Appends::appending))]
@@ -107,6 +107,7 @@ impl Context for BearerResponseContext {
 
     ghost values = { bearer_response_context_values };
 
+    #[inline(always)]
     #[tactic(auto, unfolding(crate::specs::reading::Rows::rows_at))]
     fn build(accepting: bool, elements: &Indexed) -> BearerResponseContext {
         let ebi = mandatory::<EbiValue>(elements, 0);

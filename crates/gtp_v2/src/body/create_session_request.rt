@@ -6,17 +6,19 @@ ghost use Rattle.std.specs.Prelude.{true};
 ghost use Rattle.gtp_v2.specs.CreateSessionRequest.{create_session_request, create_session_request_fields, session_request_context_rows, session_request_context_values};
 
 use crate::body::Body;
-use crate::fault::Need;
+use crate::fault::{Need, V2Fault};
 use crate::groups::{Context, contexts};
+use crate::header::Header;
 use crate::kinds::CREATE_SESSION_REQUEST;
 use crate::listed::Listed;
 use crate::marks::contexts_meet;
+use crate::message::Datagram;
 use crate::room::{after_contexts, after_option, after_row};
 use crate::rows::{conditional, mandatory, optional};
 use crate::typed::Typed;
 use crate::writing::{put_contexts, put_option, put_row};
 use gtp_ie::{EbiValue, Indexed, PdnType, Rat, Recovery, Selection};
-use gtp_values::{Ambr, Apn, FTeid, Imsi, Memory, Paa, Plmn, Qos};
+use gtp_values::{Ambr, Apn, FTeid, Imsi, Paa, Plmn, Qos};
 use std::alloc::{AllocError, Global};
 
 /// A request for a session with its default bearer (TS 29.274 7.2.1).
@@ -66,12 +68,9 @@ impl Typed for CreateSessionRequest {
         "create-session-request"
     }
 
-    fn into_body(self) -> Body {
-        Body::CreateSessionRequest(self)
-    }
-
+    #[inline(never)]
     #[tactic(auto, unfolding(crate::specs::reading::Rows::lines_at, crate::specs::reading::Rows::some_groups))]
-    fn build(alloc: Global, elements: &Indexed) -> Result<CreateSessionRequest, Memory> {
+    fn build(alloc: Global, header: &Header, elements: &Indexed) -> Result<Datagram, V2Fault> {
         let imsi = conditional::<Imsi>(elements, 0);
         let rat = mandatory::<Rat>(elements, 0);
         let serving_network = optional::<Plmn>(elements, 0);
@@ -83,7 +82,7 @@ impl Typed for CreateSessionRequest {
         let ambr = optional::<Ambr>(elements, 0);
         let contexts = contexts::<SessionRequestContext>(alloc, true, elements)?;
         let recovery = optional::<Recovery>(elements, 0);
-        Ok(CreateSessionRequest {
+        let body = Body::CreateSessionRequest(CreateSessionRequest {
             imsi,
             rat,
             serving_network,
@@ -95,7 +94,8 @@ impl Typed for CreateSessionRequest {
             ambr,
             contexts,
             recovery,
-        })
+        });
+        Ok(Datagram::of(header, body))
     }
 
     #[tactic(auto, using(crate::proofs::Appends::appending))]
@@ -150,6 +150,7 @@ impl Context for SessionRequestContext {
 
     ghost values = { session_request_context_values };
 
+    #[inline(always)]
     #[tactic(auto, unfolding(crate::specs::reading::Rows::rows_at))]
     fn build(_accepting: bool, elements: &Indexed) -> SessionRequestContext {
         let ebi = mandatory::<EbiValue>(elements, 0);

@@ -6,17 +6,19 @@ ghost use Rattle.std.specs.Prelude.{true};
 ghost use Rattle.gtp_v2.specs.CreateSessionResponse.{create_session_response, create_session_response_fields, session_response_context_rows, session_response_context_values};
 
 use crate::body::Body;
-use crate::fault::Need;
+use crate::fault::{Need, V2Fault};
 use crate::groups::{Context, contexts};
+use crate::header::Header;
 use crate::kinds::CREATE_SESSION_RESPONSE;
 use crate::listed::Listed;
 use crate::marks::contexts_meet;
+use crate::message::Datagram;
 use crate::room::{after_contexts, after_option, after_row};
 use crate::rows::{mandatory, needed_if, optional};
 use crate::typed::Typed;
 use crate::writing::{put_contexts, put_option, put_row};
 use gtp_ie::{ChargingId, EbiValue, Indexed, Recovery};
-use gtp_values::{Ambr, Cause, FTeid, Memory, Paa, Qos};
+use gtp_values::{Ambr, Cause, FTeid, Paa, Qos};
 use std::alloc::{AllocError, Global};
 
 /// The answer to a Create Session Request (TS 29.274 7.2.2).
@@ -56,12 +58,9 @@ impl Typed for CreateSessionResponse {
         "create-session-response"
     }
 
-    fn into_body(self) -> Body {
-        Body::CreateSessionResponse(self)
-    }
-
+    #[inline(never)]
     #[tactic(auto, unfolding(crate::specs::reading::Rows::lines_at, crate::specs::reading::Rows::some_groups))]
-    fn build(alloc: Global, elements: &Indexed) -> Result<CreateSessionResponse, Memory> {
+    fn build(alloc: Global, header: &Header, elements: &Indexed) -> Result<Datagram, V2Fault> {
         let cause = mandatory::<Cause>(elements, 0);
         let accepting = cause.is_accepting();
         let control = needed_if::<FTeid>(accepting, elements, 1);
@@ -69,14 +68,15 @@ impl Typed for CreateSessionResponse {
         let ambr = optional::<Ambr>(elements, 0);
         let contexts = contexts::<SessionResponseContext>(alloc, accepting, elements)?;
         let recovery = optional::<Recovery>(elements, 0);
-        Ok(CreateSessionResponse {
+        let body = Body::CreateSessionResponse(CreateSessionResponse {
             cause,
             control,
             paa,
             ambr,
             contexts,
             recovery,
-        })
+        });
+        Ok(Datagram::of(header, body))
     }
 
     #[tactic(auto, using(crate::proofs::Appends::appending))]
@@ -128,6 +128,7 @@ impl Context for SessionResponseContext {
 
     ghost values = { session_response_context_values };
 
+    #[inline(always)]
     #[tactic(auto, unfolding(crate::specs::reading::Rows::rows_at))]
     fn build(accepting: bool, elements: &Indexed) -> SessionResponseContext {
         let ebi = mandatory::<EbiValue>(elements, 0);

@@ -6,15 +6,17 @@ ghost use Rattle.std.specs.Prelude.{true};
 ghost use Rattle.gtp_v2.specs.DeleteBearerRequest.{delete_bearer_request, delete_bearer_request_fields};
 
 use crate::body::Body;
+use crate::fault::V2Fault;
+use crate::header::Header;
 use crate::kinds::DELETE_BEARER_REQUEST;
 use crate::listed::Listed;
+use crate::message::Datagram;
 use crate::repeated::several;
 use crate::room::{after_option, after_several};
 use crate::rows::optional;
 use crate::typed::Typed;
 use crate::writing::{put_option, put_several};
 use gtp_ie::{EbiValue, Indexed};
-use gtp_values::Memory;
 use std::alloc::{AllocError, Global};
 
 /// A request to end a session or some of its dedicated bearers (TS 29.274 7.2.9.2).
@@ -45,15 +47,13 @@ impl Typed for DeleteBearerRequest {
         "delete-bearer-request"
     }
 
-    fn into_body(self) -> Body {
-        Body::DeleteBearerRequest(self)
-    }
-
+    #[inline(never)]
     #[tactic(auto, unfolding(crate::specs::reading::Rows::lines_at, crate::specs::reading::Rows::several_at))]
-    fn build(alloc: Global, elements: &Indexed) -> Result<DeleteBearerRequest, Memory> {
+    fn build(alloc: Global, header: &Header, elements: &Indexed) -> Result<Datagram, V2Fault> {
         let linked_ebi = optional::<EbiValue>(elements, 0);
         let ebis = several::<EbiValue>(alloc, elements, 1)?;
-        Ok(DeleteBearerRequest { linked_ebi, ebis })
+        let body = Body::DeleteBearerRequest(DeleteBearerRequest { linked_ebi, ebis });
+        Ok(Datagram::of(header, body))
     }
 
     #[tactic(auto, using(crate::proofs::Appends::appending))]

@@ -6,17 +6,19 @@ ghost use Rattle.std.specs.Prelude.{true};
 ghost use Rattle.gtp_v2.specs.DeleteBearerResponse.{delete_bearer_response, delete_bearer_response_fields, removal_response_context_rows, removal_response_context_values};
 
 use crate::body::Body;
-use crate::fault::Need;
+use crate::fault::{Need, V2Fault};
 use crate::groups::{Context, contexts};
+use crate::header::Header;
 use crate::kinds::DELETE_BEARER_RESPONSE;
 use crate::listed::Listed;
 use crate::marks::contexts_meet;
+use crate::message::Datagram;
 use crate::room::{after_contexts, after_option, after_row};
 use crate::rows::{mandatory, optional};
 use crate::typed::Typed;
 use crate::writing::{put_contexts, put_option, put_row};
 use gtp_ie::{EbiValue, Indexed, Recovery};
-use gtp_values::{Cause, Memory};
+use gtp_values::Cause;
 use std::alloc::{AllocError, Global};
 
 /// The answer to a Delete Bearer Request (TS 29.274 7.2.10.2).
@@ -51,23 +53,21 @@ impl Typed for DeleteBearerResponse {
         "delete-bearer-response"
     }
 
-    fn into_body(self) -> Body {
-        Body::DeleteBearerResponse(self)
-    }
-
+    #[inline(never)]
     #[tactic(auto, unfolding(crate::specs::reading::Rows::lines_at, crate::specs::reading::Rows::some_groups))]
-    fn build(alloc: Global, elements: &Indexed) -> Result<DeleteBearerResponse, Memory> {
+    fn build(alloc: Global, header: &Header, elements: &Indexed) -> Result<Datagram, V2Fault> {
         let cause = mandatory::<Cause>(elements, 0);
         let accepting = cause.is_accepting();
         let linked_ebi = optional::<EbiValue>(elements, 0);
         let contexts = contexts::<RemovalResponseContext>(alloc, accepting, elements)?;
         let recovery = optional::<Recovery>(elements, 0);
-        Ok(DeleteBearerResponse {
+        let body = Body::DeleteBearerResponse(DeleteBearerResponse {
             cause,
             linked_ebi,
             contexts,
             recovery,
-        })
+        });
+        Ok(Datagram::of(header, body))
     }
 
     #[tactic(auto, using(crate::proofs::Appends::appending))]
@@ -107,6 +107,7 @@ impl Context for RemovalResponseContext {
 
     ghost values = { removal_response_context_values };
 
+    #[inline(always)]
     #[tactic(auto, unfolding(crate::specs::reading::Rows::rows_at))]
     fn build(_accepting: bool, elements: &Indexed) -> RemovalResponseContext {
         let ebi = mandatory::<EbiValue>(elements, 0);

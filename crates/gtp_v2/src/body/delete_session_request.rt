@@ -6,13 +6,15 @@ ghost use Rattle.std.specs.Prelude.{true};
 ghost use Rattle.gtp_v2.specs.DeleteSessionRequest.{delete_session_request, delete_session_request_fields};
 
 use crate::body::Body;
+use crate::fault::V2Fault;
+use crate::header::Header;
 use crate::kinds::DELETE_SESSION_REQUEST;
+use crate::message::Datagram;
 use crate::room::after_option;
 use crate::rows::optional;
 use crate::typed::Typed;
 use crate::writing::put_option;
 use gtp_ie::{EbiValue, Indexed};
-use gtp_values::Memory;
 use std::alloc::{AllocError, Global};
 
 /// A request to end a session (TS 29.274 7.2.9.1).
@@ -41,14 +43,12 @@ impl Typed for DeleteSessionRequest {
         "delete-session-request"
     }
 
-    fn into_body(self) -> Body {
-        Body::DeleteSessionRequest(self)
-    }
-
+    #[inline(never)]
     #[tactic(auto, unfolding(crate::specs::reading::Rows::lines_at))]
-    fn build(_alloc: Global, elements: &Indexed) -> Result<DeleteSessionRequest, Memory> {
+    fn build(_alloc: Global, header: &Header, elements: &Indexed) -> Result<Datagram, V2Fault> {
         let linked_ebi = optional::<EbiValue>(elements, 0);
-        Ok(DeleteSessionRequest { linked_ebi })
+        let body = Body::DeleteSessionRequest(DeleteSessionRequest { linked_ebi });
+        Ok(Datagram::of(header, body))
     }
 
     #[tactic(auto, using(crate::proofs::Appends::appending))]

@@ -6,13 +6,16 @@ ghost use Rattle.std.specs.Prelude.{true};
 ghost use Rattle.gtp_v2.specs.DeleteSessionResponse.{delete_session_response, delete_session_response_fields};
 
 use crate::body::Body;
+use crate::fault::V2Fault;
+use crate::header::Header;
 use crate::kinds::DELETE_SESSION_RESPONSE;
+use crate::message::Datagram;
 use crate::room::{after_option, after_row};
 use crate::rows::{mandatory, optional};
 use crate::typed::Typed;
 use crate::writing::{put_option, put_row};
 use gtp_ie::{Indexed, Recovery};
-use gtp_values::{Cause, Memory};
+use gtp_values::Cause;
 use std::alloc::{AllocError, Global};
 
 /// The answer to a Delete Session Request (TS 29.274 7.2.10.1).
@@ -43,15 +46,13 @@ impl Typed for DeleteSessionResponse {
         "delete-session-response"
     }
 
-    fn into_body(self) -> Body {
-        Body::DeleteSessionResponse(self)
-    }
-
+    #[inline(never)]
     #[tactic(auto, unfolding(crate::specs::reading::Rows::lines_at))]
-    fn build(_alloc: Global, elements: &Indexed) -> Result<DeleteSessionResponse, Memory> {
+    fn build(_alloc: Global, header: &Header, elements: &Indexed) -> Result<Datagram, V2Fault> {
         let cause = mandatory::<Cause>(elements, 0);
         let recovery = optional::<Recovery>(elements, 0);
-        Ok(DeleteSessionResponse { cause, recovery })
+        let body = Body::DeleteSessionResponse(DeleteSessionResponse { cause, recovery });
+        Ok(Datagram::of(header, body))
     }
 
     #[tactic(auto, using(crate::proofs::Appends::appending))]

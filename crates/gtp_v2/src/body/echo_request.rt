@@ -6,13 +6,15 @@ ghost use Rattle.std.specs.Prelude.{false};
 ghost use Rattle.gtp_v2.specs.EchoRequest.{echo_request, echo_request_fields};
 
 use crate::body::Body;
+use crate::fault::V2Fault;
+use crate::header::Header;
 use crate::kinds::ECHO_REQUEST;
+use crate::message::Datagram;
 use crate::room::after_row;
 use crate::rows::mandatory;
 use crate::typed::Typed;
 use crate::writing::put_row;
 use gtp_ie::{Indexed, Recovery};
-use gtp_values::Memory;
 use std::alloc::{AllocError, Global};
 
 /// A question whether the peer is alive (TS 29.274 7.1.1).
@@ -41,14 +43,12 @@ impl Typed for EchoRequest {
         "echo-request"
     }
 
-    fn into_body(self) -> Body {
-        Body::EchoRequest(self)
-    }
-
+    #[inline(never)]
     #[tactic(auto, unfolding(crate::specs::reading::Rows::lines_at))]
-    fn build(_alloc: Global, elements: &Indexed) -> Result<EchoRequest, Memory> {
+    fn build(_alloc: Global, header: &Header, elements: &Indexed) -> Result<Datagram, V2Fault> {
         let recovery = mandatory::<Recovery>(elements, 0);
-        Ok(EchoRequest { recovery })
+        let body = Body::EchoRequest(EchoRequest { recovery });
+        Ok(Datagram::of(header, body))
     }
 
     #[tactic(auto, using(crate::proofs::Appends::appending))]

@@ -6,13 +6,15 @@ ghost use Rattle.std.specs.Prelude.{false};
 ghost use Rattle.gtp_v2.specs.EchoResponse.{echo_response, echo_response_fields};
 
 use crate::body::Body;
+use crate::fault::V2Fault;
+use crate::header::Header;
 use crate::kinds::ECHO_RESPONSE;
+use crate::message::Datagram;
 use crate::room::after_row;
 use crate::rows::mandatory;
 use crate::typed::Typed;
 use crate::writing::put_row;
 use gtp_ie::{Indexed, Recovery};
-use gtp_values::Memory;
 use std::alloc::{AllocError, Global};
 
 /// The answer that the peer is alive (TS 29.274 7.1.2).
@@ -41,14 +43,12 @@ impl Typed for EchoResponse {
         "echo-response"
     }
 
-    fn into_body(self) -> Body {
-        Body::EchoResponse(self)
-    }
-
+    #[inline(never)]
     #[tactic(auto, unfolding(crate::specs::reading::Rows::lines_at))]
-    fn build(_alloc: Global, elements: &Indexed) -> Result<EchoResponse, Memory> {
+    fn build(_alloc: Global, header: &Header, elements: &Indexed) -> Result<Datagram, V2Fault> {
         let recovery = mandatory::<Recovery>(elements, 0);
-        Ok(EchoResponse { recovery })
+        let body = Body::EchoResponse(EchoResponse { recovery });
+        Ok(Datagram::of(header, body))
     }
 
     #[tactic(auto, using(crate::proofs::Appends::appending))]

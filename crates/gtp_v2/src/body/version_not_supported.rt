@@ -6,10 +6,12 @@ ghost use Rattle.std.specs.Prelude.{false};
 ghost use Rattle.gtp_v2.specs.VersionNotSupported.{version_not_supported, version_not_supported_fields};
 
 use crate::body::Body;
+use crate::fault::V2Fault;
+use crate::header::Header;
 use crate::kinds::VERSION_NOT_SUPPORTED;
+use crate::message::Datagram;
 use crate::typed::Typed;
 use gtp_ie::Indexed;
-use gtp_values::Memory;
 use std::alloc::{AllocError, Global};
 
 /// That the sender supports no version above 2 (TS 29.274 7.1.3).
@@ -35,13 +37,11 @@ impl Typed for VersionNotSupported {
         "version-not-supported"
     }
 
-    fn into_body(self) -> Body {
-        Body::VersionNotSupported(self)
-    }
-
+    #[inline(never)]
     #[tactic(auto, unfolding(crate::specs::reading::Rows::lines_at))]
-    fn build(_alloc: Global, _elements: &Indexed) -> Result<VersionNotSupported, Memory> {
-        Ok(VersionNotSupported {})
+    fn build(_alloc: Global, header: &Header, _elements: &Indexed) -> Result<Datagram, V2Fault> {
+        let body = Body::VersionNotSupported(VersionNotSupported {});
+        Ok(Datagram::of(header, body))
     }
 
     #[tactic(auto, using(crate::proofs::Appends::appending))]

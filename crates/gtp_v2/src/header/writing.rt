@@ -1,6 +1,6 @@
 //! Writing a header, its length still 0 (TS 29.274 5.1).
 
-ghost use Rattle.std.specs.Prelude.{◌≡◌, ◌+◌, ◌<◌, ◌^◌, [], ◌∷◌, ◌++◌, OnOk};
+ghost use Rattle.std.specs.Prelude.{◌≡◌, ◌<◌, ◌^◌, [], ◌∷◌, ◌++◌, OnOk};
 ghost use Rattle.gtp_v2.specs.Priority.{PriorityNeedsTeid};
 ghost use Rattle.gtp_v2.specs.Body.{kind_of, message_value};
 ghost use Rattle.gtp_v2.specs.Encoding.{open_header, HeaderMeets};

@@ -41,8 +41,8 @@ marked (Err f) octets h = tt
 pub returns-clause-instance : goal.returns-clause-instance
 returns-clause-instance c = small c.view_message.result c.args.octets.now (fault said c.view_message.result c.args.octets.now c.view_message.ensures.message)
 
-pub returns-clause-octets : goal.returns-clause-octets
-returns-clause-octets c = of_octets c.view_message.result c.args.octets.now (fault said c.view_message.result c.args.octets.now c.view_message.ensures.message)
+pub returns-clause-of_octets : goal.returns-clause-of_octets
+returns-clause-of_octets c = of_octets c.view_message.result c.args.octets.now (fault said c.view_message.result c.args.octets.now c.view_message.ensures.message)
 
 pub returns-clause-marks : goal.returns-clause-marks
 returns-clause-marks c = marked c.view_message.result c.args.octets.now (found said c.view_message.result c.args.octets.now c.view_message.ensures.message)
