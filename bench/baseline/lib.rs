@@ -1,5 +1,5 @@
 //! The baseline of the measurements: decoders and encoders of the same checks in plain Rust, written as a
-//! program without proofs would be, with the exports that `crates/gtp_bench` has, too.
+//! program without proofs would be, with the exports that `bench/library` has, too.
 #![crate_type = "staticlib"]
 
 mod elements;

@@ -4,7 +4,7 @@ use Rattle.std.specs.Prelude.{IsSome}
 use Rattle.gtp_values.specs.declared.address.Endpoint.{Endpoint}
 use Rattle.gtp_machine.specs.declared.role.Role.{Role}
 use Rattle.gtp_machine.specs.declared.role.Role.TheVariants.{Serving, Packet}
-use Rattle.gtp_machine.specs.Message.{Message, Echo_request, Echo_response, Create_session_request, Create_session_response, Delete_session_request, Delete_session_response, Create_bearer_request, Create_bearer_response, Delete_bearer_request, Delete_bearer_response, Other_control, Packet_data, End_marker, Error_indication, User_echo_request, User_echo_response, Supported_extensions, Other_user}
+use Rattle.gtp_machine.specs.Message.{Message, Packet_data, End_marker, Error_indication}
 use Rattle.gtp_machine.specs.Input.{UserReading, User_message, Extension_needed, User_fault, Effect}
 use Rattle.gtp_machine.specs.Node.{Node}
 use Rattle.gtp_machine.specs.Reading.{user_reading}
@@ -49,21 +49,7 @@ module _ (old : Node) where
   message role source (Packet_data target payload) e r = packet role target payload e r
   message role source (End_marker target) e r = end role target e r
   message role source (Error_indication remote address) e r = error remote e r
-  message role source (User_echo_request n) e is = by e _ is (λ _. refl)
-  message role source (User_echo_response n) e is = by e _ is (λ _. refl)
-  message role source (Supported_extensions n) e is = by e _ is (λ _. refl)
-  message role source (Other_user n) e is = by e _ is (λ _. refl)
-  message role source (Echo_request n) e is = by e _ is (λ _. refl)
-  message role source (Echo_response n) e is = by e _ is (λ _. refl)
-  message role source (Create_session_request n) e is = by e _ is (λ _. refl)
-  message role source (Create_session_response n) e is = by e _ is (λ _. refl)
-  message role source (Delete_session_request n) e is = by e _ is (λ _. refl)
-  message role source (Delete_session_response n) e is = by e _ is (λ _. refl)
-  message role source (Create_bearer_request n) e is = by e _ is (λ _. refl)
-  message role source (Create_bearer_response n) e is = by e _ is (λ _. refl)
-  message role source (Delete_bearer_request n) e is = by e _ is (λ _. refl)
-  message role source (Delete_bearer_response n) e is = by e _ is (λ _. refl)
-  message role source (Other_control n) e is = by e _ is (λ _. refl)
+  message role source _ e is = by e _ is (λ _. refl)
 
   read : (role : Role) (source : Endpoint) (reading : UserReading) (e : Effect) → UserRead role source reading old e → Leaves e
   read role source (User_message m) e r = message role source m e r

@@ -1,17 +1,21 @@
 -- Which message octets spell, by the procedure that takes it, and what either gateway does with it.
-use Rattle.std.proofs.Common.{◌≡◌, ℕ, true, List, [], ◌∷◌, Option, Some, None, option_map, refl, sym, ◌∙◌, ap}
+use Rattle.std.proofs.Common.{◌≡◌, ℕ, true, List, [], ◌∷◌, Option, Some, None, option_map, unwrap_or, refl, sym, ◌∙◌, ap}
 use Rattle.gtp_values.specs.declared.cause.Cause.{Cause}
 use Rattle.gtp_ie.specs.Value.{Value, OfCause, OfEbi}
 use Rattle.gtp_v2.specs.Table.{Field}
 use Rattle.gtp_v2.specs.Message.{Fields, MessageValue}
+use Rattle.gtp_v2.specs.DeleteSessionRequest.{delete_session_request}
+use Rattle.gtp_v2.specs.DeleteSessionResponse.{delete_session_response}
 use Rattle.gtp_v2.specs.DeleteBearerRequest.{delete_bearer_request}
+use Rattle.gtp_v2.specs.DeleteBearerResponse.{delete_bearer_response}
+use Rattle.gtp_v2.specs.Tables.{table_of}
 use Rattle.gtp_v2.specs.Datagram.{IsMessage}
-use Rattle.gtp_v2.specs.Viewed.{in_row, front_value}
+use Rattle.gtp_v2.specs.Viewed.{in_row, values_by, has_row, front_value}
 use Rattle.gtp_machine.specs.declared.role.Role.{Role}
 use Rattle.gtp_machine.specs.Message.{Message, recovery_of, Echo, CreateSessionRequest, Create_session_request, DeleteSessionRequest, Delete_session_request, DeleteSessionResponse, DeleteBearerResponse, Echo_request, Echo_response, Delete_session_response, Delete_bearer_response}
 use Rattle.gtp_machine.specs.Node.{Arrival, Node, written}
 use Rattle.gtp_machine.specs.Answer.{echoed}
-use Rattle.gtp_machine.specs.Decoded.{number_of, first_in, cause_at, content_message, message_of}
+use Rattle.gtp_machine.specs.Decoded.{contexts_in, row_in, number_of, first_in, cause_at, content_message, message_of}
 use Rattle.gtp_machine.specs.Input.{Effect}
 use Rattle.gtp_machine.specs.Packet.{SessionAsked as SessionAskedRow, DeletionAsked as DeletionAskedRow, RemovalAnswered as RemovalRow}
 use Rattle.gtp_machine.specs.Response.{EchoAnswered as EchoRow}
@@ -20,12 +24,12 @@ use Rattle.gtp_gateway.specs.declared.procedure.Procedure.{Procedure}
 use Rattle.gtp_gateway.specs.declared.procedure.Procedure.TheVariants.{EchoAsked, EchoAnswered, SessionAsked, SessionAnswered, DeletionAsked, DeletionAnswered, BearerAsked, BearerAnswered, RemovalAsked, RemovalAnswered}
 use Rattle.gtp_gateway.specs.declared.deletion.DeletionRequest.{DeletionRequest}
 use Rattle.gtp_gateway.specs.declared.hearing.Heard.{Heard}
-use Rattle.gtp_gateway.specs.Asked.{ReadsDeletion, SaysDeletion}
+use Rattle.gtp_gateway.specs.Asked.{ReadsDeletion, deletion_by}
 use Rattle.gtp_gateway.specs.Hearing.{node_heard}
 use Rattle.gtp_gateway.specs.Row.{IsWeighed}
 use Rattle.gtp_gateway.specs.Station.{Station}
 use Rattle.gtp_gateway.specs.Procedure.{procedure_at, has, TakesBy, takes_by}
-use Rattle.gtp_gateway.proofs.InPlace.{type_of, type_is, fields_of, Says, reads_so, row_so, deletion_asked, echo_asked, echo_answered, session_asked, session_answered, deletion_answered, bearer_asked, bearer_answered, removal_answered}
+use Rattle.gtp_gateway.proofs.InPlace.{type_of, type_is, says_by, Says, reads_so, row_so, its_row, echo_asked, echo_answered, session_asked, session_answered, bearer_asked, bearer_answered}
 use Rattle.gtp_gateway.proofs.Procedures as kinds
 use Rattle.gtp_gateway.proofs.Procedures.{at_both, at_packet, at_serving}
 
@@ -50,21 +54,19 @@ takes_echo_response role request a m is n e takes = at_both (λ r k. TakesBy r r
 
 -- ---- Delete Session Request
 
-pub record IsDeletionRequest (m : MessageValue) (r : DeletionRequest) : Type 0 where
-  pub request : DeleteSessionRequest
-  pub is : message_of m ≡ Delete_session_request request
-  pub says : SaysDeletion r request
-
 pub linked_is : (vs : List Value) (o : Option ℕ) → option_map (λ (e : ℕ). OfEbi e) o ≡ front_value vs → first_in number_of vs ≡ o
 linked_is [] None is = refl
 linked_is [] (Some e) is = absurd cc
 linked_is (v ∷ vs) None is = absurd cc
 linked_is (v ∷ vs) (Some e) is = let same : v ≡ OfEbi e = cc in ap number_of same
 
-pub deletion_request_is : (octets : List ℕ) (m : MessageValue) (r : DeletionRequest) → IsMessage octets m → procedure_at m.kind ≡ Some DeletionAsked → ReadsDeletion m r → IsDeletionRequest m r
+pub deletion_request_is : (octets : List ℕ) (m : MessageValue) (r : DeletionRequest) → IsMessage octets m → procedure_at m.kind ≡ Some DeletionAsked → ReadsDeletion m r → message_of m ≡ Delete_session_request (deletion_by r)
+unfolding row_in
 deletion_request_is octets m r is at reads =
-    let a = deletion_asked octets m (type_is m.kind DeletionAsked at) is in
-    record { request = _; is = reads_so 36 _ m a.says; says = record { number = sym reads.number; header = sym reads.header; linked = linked_is a.linked r.linked (reads.linked a.linked (row_so 36 73 0 _ m a.says)) } }
+    let of = type_is m.kind DeletionAsked at in
+    let a = says_by 36 delete_session_request octets m refl of is in
+    let linked = linked_is (unwrap_or (values_by 73 0 (table_of 36) (Fields a.0)) []) r.linked (reads.linked (ap (λ k. has_row k 73 0) of) ∙ ap front_value (its_row 36 73 0 a.0 m a.1)) in
+    reads_so 36 a.0 m a.1 ∙ (λ i. Delete_session_request (record { header = sym reads.header i; number = sym reads.number i; linked = linked i }))
 
 pub takes_deletion_request : (role : Role) (request : Arrival) (d : DeleteSessionRequest) (m : Message) → has role DeletionAsked ≡ true → m ≡ Delete_session_request d → (n : Node) (e : Effect) → DeletionAskedRow request d n e → TakesBy role request m n e
 takes_deletion_request role request d m has_it is n e takes = at_packet (λ r k. TakesBy r request k n e) DeletionAsked role m (Delete_session_request d) refl has_it is takes
@@ -82,8 +84,8 @@ unheard heard m s (Some counter, tells, is) none = absurd (let no : Some counter
 -- ---- Delete Session Response and Delete Bearer Response
 
 -- a cause that was read is the one that the message says
-pub cause_is : (v : Value) (c : Cause) (row : Option (List Value)) → row ≡ Some (v ∷ []) → row ≡ Some (OfCause c ∷ []) → cause_at (v ∷ []) ≡ c
-cause_is v c row is read = let same : v ≡ OfCause c = cc in ap (λ (x : Value). cause_at (x ∷ [])) same
+pub cause_is : (row : Option (List Value)) (c : Cause) → row ≡ Some (OfCause c ∷ []) → cause_at (unwrap_or row []) ≡ c
+cause_is row c read = ap (λ (o : Option (List Value)). cause_at (unwrap_or o [])) read
 
 -- a response, by what is read of it: its header, its number and its cause
 pub record IsResponse {A : Type 0} (message : A → Message) (header_of seq_of : A → ℕ) (cause_of : A → Cause) (m : MessageValue) (c : Cause) : Type 0 where
@@ -94,17 +96,19 @@ pub record IsResponse {A : Type 0} (message : A → Message) (header_of seq_of :
   pub cause : cause_of response ≡ c
 
 pub deletion_response_is : (octets : List ℕ) (m : MessageValue) (c : Cause) → IsMessage octets m → procedure_at m.kind ≡ Some DeletionAnswered → in_row 2 0 m ≡ Some (OfCause c ∷ []) → IsResponse Delete_session_response (λ d. d.header) (λ d. d.number) (λ d. d.cause) m c
+unfolding row_in
 deletion_response_is octets m c is at read =
-    let a = deletion_answered octets m (type_is m.kind DeletionAnswered at) is in
-    record { response = _; is = reads_so 37 _ m a.says; header = refl; number = refl; cause = cause_is a.cause c (in_row 2 0 m) (row_so 37 2 0 _ m a.says) read }
+    let a = says_by 37 delete_session_response octets m refl (type_is m.kind DeletionAnswered at) is in
+    record { response = _; is = reads_so 37 a.0 m a.1; header = refl; number = refl; cause = cause_is (values_by 2 0 (table_of 37) (Fields a.0)) c (sym (row_so 37 2 0 a.0 m a.1) ∙ read) }
 
 pub takes_deletion_response : (role : Role) (request : Arrival) (d : DeleteSessionResponse) (m : Message) → has role DeletionAnswered ≡ true → m ≡ Delete_session_response d → (n : Node) (e : Effect) → DeletionRow d n e → TakesBy role request m n e
 takes_deletion_response role request d m has_it is n e takes = at_serving (λ r k. TakesBy r request k n e) DeletionAnswered role m (Delete_session_response d) refl has_it is takes
 
 pub removal_response_is : (octets : List ℕ) (m : MessageValue) (c : Cause) → IsMessage octets m → procedure_at m.kind ≡ Some RemovalAnswered → in_row 2 0 m ≡ Some (OfCause c ∷ []) → IsResponse Delete_bearer_response (λ d. d.header) (λ d. d.number) (λ d. d.cause) m c
+unfolding row_in
 removal_response_is octets m c is at read =
-    let a = removal_answered octets m (type_is m.kind RemovalAnswered at) is in
-    record { response = _; is = reads_so 100 _ m a.says; header = refl; number = refl; cause = cause_is a.cause c (in_row 2 0 m) (row_so 100 2 0 _ m a.says) read }
+    let a = says_by 100 delete_bearer_response octets m refl (type_is m.kind RemovalAnswered at) is in
+    record { response = _; is = reads_so 100 a.0 m a.1; header = refl; number = refl; cause = cause_is (values_by 2 0 (table_of 100) (Fields a.0)) c (sym (row_so 100 2 0 a.0 m a.1) ∙ read) }
 
 pub takes_removal_response : (role : Role) (request : Arrival) (d : DeleteBearerResponse) (m : Message) → has role RemovalAnswered ≡ true → m ≡ Delete_bearer_response d → (n : Node) (e : Effect) → RemovalRow d n e → TakesBy role request m n e
 takes_removal_response role request d m has_it is n e takes = at_packet (λ r k. TakesBy r request k n e) RemovalAnswered role m (Delete_bearer_response d) refl has_it is takes
@@ -112,6 +116,7 @@ takes_removal_response role request d m has_it is n e takes = at_packet (λ r k.
 -- ---- a gateway takes the messages for which it has a procedure
 
 pub is_taken : (role : Role) (octets : List ℕ) (m : MessageValue) (p : Procedure) → IsMessage octets m → procedure_at m.kind ≡ Some p → has role p ≡ true → takes_by role (message_of m) ≡ true
+unfolding contexts_in
 is_taken role octets m p is at has_it = by p (type_is m.kind p at) has_it
   where
     so : (kind : ℕ) (fields : List Field) → Says kind fields m → takes_by role (content_message kind (written m.teid) m.seq (Fields fields)) ≡ true → takes_by role (message_of m) ≡ true
@@ -122,9 +127,9 @@ is_taken role octets m p is at has_it = by p (type_is m.kind p at) has_it
     by EchoAnswered of has_it = so 2 _ (echo_answered octets m of is).says (kinds.echo_answered role _ ∙ has_it)
     by SessionAsked of has_it = so 32 _ (session_asked octets m of is).says (kinds.session_asked role _ ∙ has_it)
     by SessionAnswered of has_it = so 33 _ (session_answered octets m of is).says (kinds.session_answered role _ ∙ has_it)
-    by DeletionAsked of has_it = so 36 _ (deletion_asked octets m of is).says (kinds.deletion_asked role _ ∙ has_it)
-    by DeletionAnswered of has_it = so 37 _ (deletion_answered octets m of is).says (kinds.deletion_answered role _ ∙ has_it)
+    by DeletionAsked of has_it = let a = says_by 36 delete_session_request octets m refl of is in so 36 a.0 a.1 (kinds.deletion_asked role _ ∙ has_it)
+    by DeletionAnswered of has_it = let a = says_by 37 delete_session_response octets m refl of is in so 37 a.0 a.1 (kinds.deletion_answered role _ ∙ has_it)
     by BearerAsked of has_it = so 95 _ (bearer_asked octets m of is).says (kinds.bearer_asked role _ ∙ has_it)
     by BearerAnswered of has_it = so 96 _ (bearer_answered octets m of is).says (kinds.bearer_answered role _ ∙ has_it)
-    by RemovalAsked of has_it = let f = fields_of 99 delete_bearer_request octets m refl of is in so 99 f.fields (record { of = of; content = f.content }) (kinds.removal_asked role _ ∙ has_it)
-    by RemovalAnswered of has_it = so 100 _ (removal_answered octets m of is).says (kinds.removal_answered role _ ∙ has_it)
+    by RemovalAsked of has_it = let a = says_by 99 delete_bearer_request octets m refl of is in so 99 a.0 a.1 (kinds.removal_asked role _ ∙ has_it)
+    by RemovalAnswered of has_it = let a = says_by 100 delete_bearer_response octets m refl of is in so 100 a.0 a.1 (kinds.removal_answered role _ ∙ has_it)

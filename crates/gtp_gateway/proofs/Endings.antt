@@ -26,11 +26,12 @@ use Rattle.gtp_machine.specs.Command.{NamesBearer}
 use Rattle.gtp_machine.specs.Element.{cause_of}
 use Rattle.gtp_machine.specs.Input.{Effect}
 use Rattle.gtp_machine.specs.Answer.{answered}
-use Rattle.gtp_machine.specs.Decoded.{number_of, message_of}
+use Rattle.gtp_machine.specs.Decoded.{contexts_in, row_in, list_in, first_in, number_of, removed, message_of}
 use Rattle.gtp_machine.specs.Message.{Message, RemovedBearer, DeleteBearerRequest, Delete_bearer_request, Delete_bearer_response}
 use Rattle.gtp_machine.specs.Node.{Arrival, Bearer, Node}
 use Rattle.gtp_machine.specs.declared.role.Role.{Role}
-use Rattle.gtp_machine.specs.Reading.{removed_bearer}
+use Rattle.gtp_machine.specs.Reading.{control_message, removed_bearer}
+use Rattle.gtp_machine.proofs.Octets.ByName.{removed_read}
 use Rattle.gtp_machine.specs.Serving.{RemovesEach, RemovalTaken, RemovalJudged, all_removed, any_removed, removal_cause}
 use Rattle.gtp_machine.specs.Serving.{RemovalAsked as RemovalAskedRow}
 use Rattle.gtp_machine.specs.Spelling.{removed_rows, typed, where_there}
@@ -47,7 +48,8 @@ use Rattle.gtp_gateway.specs.Own.{IsOwn}
 use Rattle.gtp_gateway.specs.Row.{IsRow}
 use Rattle.gtp_gateway.specs.Station.{Station}
 use Rattle.gtp_gateway.proofs.ByProcedure.{linked_is}
-use Rattle.gtp_gateway.proofs.InPlace.{type_is, fields_of, Says, reads_so, row_so}
+use Rattle.gtp_gateway.proofs.InPlace.{type_is, fields_of, Says, reads_so, its_row}
+use Rattle.gtp_v2.specs.Viewed.{has_row, front_value}
 use Rattle.gtp_gateway.proofs.Procedures.{at_serving}
 
 -- a row of one kind, as a row of another that holds of the same effects at this node
@@ -170,7 +172,7 @@ context_marked accepting c = (omega arith, (omega arith, tt))
 pub contexts_marked : (accepting : Bool) (cs : List RemovalResponseContext) → All (RowsMarked accepting removal_response_context_rows) (map removal_response_context_values cs)
 contexts_marked accepting cs = All-map (RowsMarked accepting removal_response_context_rows) removal_response_context_values cs (All-from_recursion _ cs (every _ (context_marked accepting) cs))
 
-pub context_values : (cs : List RemovalResponseContext) → map removal_response_context_values cs ≡ map removed_rows (map removed_bearer cs)
+pub context_values : (cs : List RemovalResponseContext) → map removal_response_context_values cs ≡ map removed_rows (map removed (map removal_response_context_values cs))
 context_values [] = refl
 context_values (c ∷ cs) = λ i. removal_response_context_values c ∷ context_values cs i
 
@@ -179,13 +181,25 @@ pub contexts_said : (ns : List NamedBearer) → map removed_bearer (map context_
 contexts_said [] = refl
 contexts_said (n ∷ ns) = λ i. removed_by n ∷ contexts_said ns i
 
-linked_values : (linked : Option EbiValue) → option_to_list (option_map (λ (x : EbiValue). OfEbi x.0) linked) ≡ where_there (λ (x : ℕ). OfEbi x) (option_map (λ (e : EbiValue). e.0) linked)
+linked_values : (linked : Option EbiValue) → option_to_list (option_map (λ (x : EbiValue). OfEbi x.0) linked) ≡ where_there (λ (x : ℕ). OfEbi x) (first_in number_of (option_to_list (option_map (λ (x : EbiValue). OfEbi x.0) linked)))
 linked_values None = refl
 linked_values (Some e) = refl
+
+linked_read : (linked : Option EbiValue) → first_in number_of (option_to_list (option_map (λ (x : EbiValue). OfEbi x.0) linked)) ≡ option_map (λ (e : EbiValue). e.0) linked
+linked_read None = refl
+linked_read (Some e) = refl
+
+-- what it says
+pub removal_said : (header : Teid) (number : ℕ) (cause : Cause) (linked : Option EbiValue) (cs : List RemovalResponseContext) (counter : Counter)
+    → control_message (record { teid = Some header; seq = number; priority = None; body = bodies.DeleteBearerResponse (record { cause = cause; linked_ebi = linked; contexts = cs; recovery = Some (record { 0 = counter }) }) })
+    ≡ Delete_bearer_response (record { header = header.0; number = number; cause = cause; linked = option_map (λ (e : EbiValue). e.0) linked; contexts = map removed_bearer cs; recovery = Some counter.0 })
+unfolding row_in contexts_in
+removal_said header number cause linked cs counter = λ i. Delete_bearer_response (record { header = header.0; number = number; cause = cause; linked = linked_read linked i; contexts = removed_read cs i; recovery = Some counter.0 })
 
 -- it is one that a gateway sends
 pub removal_own : (header : Teid) (number : ℕ) (cause : Cause) (linked : Option EbiValue) (cs : List RemovalResponseContext) (counter : Counter) → length cs ≤ 11
     → IsOwn (record { teid = Some header; seq = number; priority = None; body = bodies.DeleteBearerResponse (record { cause = cause; linked_ebi = linked; contexts = cs; recovery = Some (record { 0 = counter }) }) })
+unfolding row_in contexts_in
 removal_own header number cause linked cs counter few =
     record {
       header = search rules;
@@ -273,12 +287,13 @@ same_list : (linked identities others values : List Value) (content : Content) �
 same_list linked identities others values content is read = cc
 
 pub delete_bearer_is : (octets : List ℕ) (m : MessageValue) (r : DeletionRequest) → IsMessage octets m → procedure_at m.kind ≡ Some RemovalAsked → ReadsDeletion m r → IsDeleteBearer m r
+unfolding row_in list_in
 delete_bearer_is octets m r is at reads =
     let a = removal_asked octets m (type_is m.kind RemovalAsked at) is in
     record {
       request = _;
       is = reads_so 99 _ m a.says;
-      says = record { number = sym reads.number; header = sym reads.header; linked = linked_is a.linked r.linked (reads.linked a.linked (row_so 99 73 0 _ m a.says)) };
+      says = record { number = sym reads.number; header = sym reads.header; linked = linked_is a.linked r.linked (reads.linked (ap (λ k. has_row k 73 0) a.says.of) ∙ ap front_value (its_row 99 73 0 _ m a.says)) };
       reads = λ ids listed. ap (map (λ (v : Value). unwrap_or (number_of v) 0)) (same_list a.linked a.identities listed.0 (map (λ (i : EbiValue). OfEbi i.0) ids) m.content a.says.content listed.1) ∙ numbers_read ids;
     }
 

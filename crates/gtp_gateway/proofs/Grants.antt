@@ -11,7 +11,7 @@ use Rattle.gtp_v2.specs.Datagram.{IsMessage}
 use Rattle.gtp_v2.specs.Message.{MessageValue}
 use Rattle.gtp_machine.specs.declared.role.Role.{Role}
 use Rattle.gtp_machine.specs.Choice.{HasFreeIdentity}
-use Rattle.gtp_machine.specs.Decoded.{row, number_at, end_at, wanted, message_of}
+use Rattle.gtp_machine.specs.Decoded.{row_in, contexts_in, row, number_at, end_at, wanted, message_of}
 use Rattle.gtp_machine.specs.Input.{Effect}
 use Rattle.gtp_machine.specs.Message.{Message, CreateBearerRequest, Create_bearer_request}
 use Rattle.gtp_machine.specs.Node.{Arrival, Node}
@@ -70,6 +70,7 @@ alone_so alone [] test = (λ _. refl, λ _. test.1 refl)
 alone_so alone (g ∷ further) test = (λ yes. absurd (let some : g ∷ further ≡ [] = test.0 yes in cc), λ empty. absurd cc)
 
 pub create_bearer_is : (octets : List ℕ) (m : MessageValue) (r : BearerRequest) → IsMessage octets m → procedure_at m.kind ≡ Some BearerAsked → ReadsBearer m r → IsCreateBearer m r
+unfolding row_in contexts_in
 create_bearer_is octets m r is at reads =
     let a = bearer_asked octets m (type_is m.kind BearerAsked at) is in
     let contexts = reads.contexts a.first a.further (groups_so 95 93 0 _ m a.says) in

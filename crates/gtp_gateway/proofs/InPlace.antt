@@ -1,5 +1,5 @@
 -- What messages say, by the values of their rows, where they lie.
-use Rattle.std.proofs.Common.{◌≡◌, ℕ, ◌<◌, Bool, true, false, length, List, [], ◌∷◌, Option, Some, None, option_map, refl, sym, ◌∙◌, ap, subst, arith}
+use Rattle.std.proofs.Common.{◌≡◌, ℕ, ◌<◌, Bool, true, false, length, List, [], ◌∷◌, Option, Some, None, option_map, unwrap_or, refl, sym, ◌∙◌, ap, subst, arith}
 use Rattle.std.specs.Prelude.{◌==◌, if◌then◌else◌}
 use Rattle.std.proofs.lemmas.Bool.Decides.{nat_tests}
 use Rattle.gtp_ie.specs.Element.{Element, all_of}
@@ -11,19 +11,18 @@ use Rattle.gtp_v2.specs.Headed.{Headed}
 use Rattle.gtp_v2.specs.Message.{Content, Fields, MessageValue}
 use Rattle.gtp_v2.specs.Datagram.{IsMessage, CarriesBy}
 use Rattle.gtp_v2.specs.Tables.{table_of}
-use Rattle.gtp_v2.specs.Viewed.{in_row, values_by, front_value, in_groups, groups_by}
+use Rattle.gtp_v2.specs.Viewed.{in_row, values_by, has_row, row_of, front_value, in_groups, groups_by}
 use Rattle.gtp_v2.specs.EchoRequest.{echo_request}
 use Rattle.gtp_v2.specs.EchoResponse.{echo_response}
 use Rattle.gtp_v2.specs.CreateSessionRequest.{create_session_request, session_request_context_rows}
 use Rattle.gtp_v2.specs.CreateSessionResponse.{create_session_response}
-use Rattle.gtp_v2.specs.DeleteSessionRequest.{delete_session_request}
 use Rattle.gtp_v2.specs.DeleteSessionResponse.{delete_session_response}
 use Rattle.gtp_v2.specs.CreateBearerRequest.{create_bearer_request, bearer_request_context_rows}
 use Rattle.gtp_v2.specs.CreateBearerResponse.{create_bearer_response}
 use Rattle.gtp_v2.specs.DeleteBearerResponse.{delete_bearer_response}
 use Rattle.gtp_machine.specs.Message.{recovery_of}
 use Rattle.gtp_machine.specs.Node.{written}
-use Rattle.gtp_machine.specs.Decoded.{first_in, number_of, number_at, row, content_message, message_of}
+use Rattle.gtp_machine.specs.Decoded.{row_in, contexts_in, first_in, number_of, number_at, row, content_message, message_of}
 use Rattle.gtp_gateway.specs.declared.procedure.Procedure.{Procedure}
 use Rattle.gtp_gateway.specs.declared.procedure.Procedure.TheVariants.{EchoAsked, EchoAnswered, SessionAsked, SessionAnswered, DeletionAsked, DeletionAnswered, BearerAsked, BearerAnswered, RemovalAsked, RemovalAnswered}
 use Rattle.gtp_gateway.specs.Procedure.{procedure_at}
@@ -103,6 +102,13 @@ row_so kind element instance fields m says = λ i. values_by element instance (t
 pub groups_so : (kind element instance : ℕ) (fields : List Field) (m : MessageValue) → Says kind fields m → in_groups element instance m ≡ groups_by element instance (table_of kind) (Fields fields)
 groups_so kind element instance fields m says = λ i. groups_by element instance (table_of (says.of i)) (says.content i)
 
+-- what a message of a type carries
+pub says_by : (kind : ℕ) (table : Table) (octets : List ℕ) (m : MessageValue) → table_of kind ≡ Some table → m.kind ≡ kind → IsMessage octets m → (fields : List Field) × Says kind fields m
+says_by kind table octets m tabled of is = let f = fields_of kind table octets m tabled of is in (f.fields, record { of = of; content = f.content })
+
+pub its_row : (kind element instance : ℕ) (fields : List Field) (m : MessageValue) → Says kind fields m → row_of element instance m ≡ unwrap_or (values_by element instance (table_of kind) (Fields fields)) []
+its_row kind element instance fields m says = ap (λ (o : Option (List Value)). unwrap_or o []) (row_so kind element instance fields m says)
+
 -- an Echo Request or an Echo Response: its restart counter
 pub record IsEcho (kind : ℕ) (m : MessageValue) : Type 0 where
   pub counter : Value
@@ -123,59 +129,6 @@ echo_answered octets m of is = let f = fields_of 2 echo_response octets m refl o
     by [] es are content = absurd are
     by (f ∷ []) es are content = record { counter = are.0.1.0; says = record { of = of; content = content ∙ (λ i. Fields ((are.0.2 ∙ ap Plain are.0.1.2) i ∷ [])) } }
     by (f ∷ g ∷ fs) es are content = absurd cc
-
--- a Delete Session Request
-pub record IsDeletionRequest (m : MessageValue) : Type 0 where
-  pub linked : List Value
-  pub says : Says 36 (Plain linked ∷ []) m
-
-pub deletion_asked : (octets : List ℕ) (m : MessageValue) → m.kind ≡ 36 → IsMessage octets m → IsDeletionRequest m
-deletion_asked octets m of is = let f = fields_of 36 delete_session_request octets m refl of is in by f.fields f.elements f.are f.content
-  where
-    by : (fs : List Field) (es : List Element) → LinesAre start delete_session_request.lines es fs → m.content ≡ Fields fs → IsDeletionRequest m
-    by [] es are content = absurd are
-    by (f ∷ []) es are content = record { linked = are.0.0; says = record { of = of; content = content ∙ (λ i. Fields (are.0.2 i ∷ [])) } }
-    by (f ∷ g ∷ fs) es are content = absurd cc
-
--- a Delete Session Response
-pub record IsDeletionAnswer (m : MessageValue) : Type 0 where
-  pub cause : Value
-  pub recovery : List Value
-  pub says : Says 37 (Plain (cause ∷ []) ∷ Plain recovery ∷ []) m
-
-pub deletion_answered : (octets : List ℕ) (m : MessageValue) → m.kind ≡ 37 → IsMessage octets m → IsDeletionAnswer m
-deletion_answered octets m of is = let f = fields_of 37 delete_session_response octets m refl of is in by f.fields f.elements f.are f.content
-  where
-    by : (fs : List Field) (es : List Element) → LinesAre start delete_session_response.lines es fs → m.content ≡ Fields fs → IsDeletionAnswer m
-    by [] es are content = absurd are
-    by (a ∷ []) es are content = absurd are.1
-    by (a ∷ b ∷ []) es are content = record { cause = are.0.1.0; recovery = are.1.0.0; says = record { of = of; content = content ∙ (λ i. Fields ((are.0.2 ∙ ap Plain are.0.1.2) i ∷ are.1.0.2 i ∷ [])) } }
-    by (a ∷ b ∷ c ∷ fs) es are content = absurd cc
-
--- a Delete Bearer Response
-pub record IsRemovalAnswer (m : MessageValue) : Type 0 where
-  pub cause : Value
-  pub linked : List Value
-  pub groups : List (List (List Value))
-  pub recovery : List Value
-  pub says : Says 100 (Plain (cause ∷ []) ∷ Plain linked ∷ Groups groups ∷ Plain recovery ∷ []) m
-
-pub removal_answered : (octets : List ℕ) (m : MessageValue) → m.kind ≡ 100 → IsMessage octets m → IsRemovalAnswer m
-removal_answered octets m of is = let f = fields_of 100 delete_bearer_response octets m refl of is in by f.fields f.elements f.are f.content
-  where
-    by : (fs : List Field) (es : List Element) → LinesAre start delete_bearer_response.lines es fs → m.content ≡ Fields fs → IsRemovalAnswer m
-    by [] es are content = absurd are
-    by (a ∷ []) es are content = absurd are.1
-    by (a ∷ b ∷ []) es are content = absurd are.1.1
-    by (a ∷ b ∷ c ∷ []) es are content = absurd are.1.1.1
-    by (a ∷ b ∷ c ∷ d ∷ []) es are content = record {
-      cause = are.0.1.0;
-      linked = are.1.0.0;
-      groups = are.1.1.0.0;
-      recovery = are.1.1.1.0.0;
-      says = record { of = of; content = content ∙ (λ i. Fields ((are.0.2 ∙ ap Plain are.0.1.2) i ∷ are.1.0.2 i ∷ are.1.1.0.2 i ∷ are.1.1.1.0.2 i ∷ [])) };
-    }
-    by (a ∷ b ∷ c ∷ d ∷ e ∷ fs) es are content = absurd cc
 
 -- a Create Bearer Response
 pub record IsBearerAnswer (m : MessageValue) : Type 0 where
@@ -390,23 +343,21 @@ tells_else RemovalAnswered a b c = refl
 
 -- the counter that was read in the row of a Recovery is the one that the message tells
 pub counter_read : (octets : List ℕ) (m : MessageValue) (p : Procedure) (r : Option Recovery) → IsMessage octets m → procedure_at m.kind ≡ Some p → tells_counter p ≡ true
-    → ((vs : List Value) → in_row 3 0 m ≡ Some vs → option_map (λ (x : Recovery). OfRecovery x.0.0) r ≡ front_value vs) → option_map (λ (x : Recovery). x.0.0) r ≡ recovery_of (message_of m)
+    → (has_row m.kind 3 0 ≡ true → option_map (λ (x : Recovery). OfRecovery x.0.0) r ≡ front_value (row_of 3 0 m)) → option_map (λ (x : Recovery). x.0.0) r ≡ recovery_of (message_of m)
+unfolding row_in contexts_in
 counter_read octets m p r is at tells reads = by p (type_is m.kind p at) tells
   where
-    so : (kind : ℕ) (fields : List Field) (vs : List Value) → Says kind fields m → values_by 3 0 (table_of kind) (Fields fields) ≡ Some vs → recovery_of (content_message kind (written m.teid) m.seq (Fields fields)) ≡ first_in number_of vs → option_map (λ (x : Recovery). x.0.0) r ≡ recovery_of (message_of m)
-    so kind fields vs says row tells = if_there vs r (reads vs (row_so kind 3 0 fields m says ∙ row)) ∙ (sym tells ∙ ap recovery_of (sym (reads_so kind fields m says)))
-
-    echo : (kind : ℕ) (e : IsEcho kind m) → values_by 3 0 (table_of kind) (Fields (Plain (e.counter ∷ []) ∷ [])) ≡ Some (e.counter ∷ []) → recovery_of (content_message kind (written m.teid) m.seq (Fields (Plain (e.counter ∷ []) ∷ []))) ≡ Some (number_at (e.counter ∷ [])) → option_map (λ (x : Recovery). x.0.0) r ≡ recovery_of (message_of m)
-    echo kind e row tells = needed e.counter r (reads (e.counter ∷ []) (row_so kind 3 0 _ m e.says ∙ row)) ∙ (sym tells ∙ ap recovery_of (sym (reads_so kind _ m e.says)))
+    so : (kind : ℕ) (fields : List Field) → Says kind fields m → has_row kind 3 0 ≡ true → recovery_of (content_message kind (written m.teid) m.seq (Fields fields)) ≡ first_in number_of (unwrap_or (values_by 3 0 (table_of kind) (Fields fields)) []) → option_map (λ (x : Recovery). x.0.0) r ≡ recovery_of (message_of m)
+    so kind fields says has tells = if_there _ r (reads (ap (λ k. has_row k 3 0) says.of ∙ has) ∙ ap front_value (its_row kind 3 0 fields m says)) ∙ (sym tells ∙ ap recovery_of (sym (reads_so kind fields m says)))
 
     by : (p : Procedure) → m.kind ≡ type_of p → tells_counter p ≡ true → option_map (λ (x : Recovery). x.0.0) r ≡ recovery_of (message_of m)
-    by EchoAsked of tells = echo 1 (echo_asked octets m of is) refl refl
-    by EchoAnswered of tells = echo 2 (echo_answered octets m of is) refl refl
-    by SessionAsked of tells = let a = session_asked octets m of is in so 32 _ a.recovery a.says refl refl
-    by SessionAnswered of tells = let a = session_answered octets m of is in so 33 _ a.recovery a.says refl refl
+    by EchoAsked of tells = let a = echo_asked octets m of is in needed a.counter r (reads (ap (λ k. has_row k 3 0) of) ∙ ap front_value (its_row 1 3 0 _ m a.says)) ∙ ap recovery_of (sym (reads_so 1 _ m a.says))
+    by EchoAnswered of tells = let a = echo_answered octets m of is in needed a.counter r (reads (ap (λ k. has_row k 3 0) of) ∙ ap front_value (its_row 2 3 0 _ m a.says)) ∙ ap recovery_of (sym (reads_so 2 _ m a.says))
+    by SessionAsked of tells = so 32 _ (session_asked octets m of is).says refl refl
+    by SessionAnswered of tells = let a = says_by 33 create_session_response octets m refl of is in so 33 a.0 a.1 refl refl
     by DeletionAsked of tells = absurd cc
-    by DeletionAnswered of tells = let a = deletion_answered octets m of is in so 37 _ a.recovery a.says refl refl
+    by DeletionAnswered of tells = let a = says_by 37 delete_session_response octets m refl of is in so 37 a.0 a.1 refl refl
     by BearerAsked of tells = absurd cc
-    by BearerAnswered of tells = let a = bearer_answered octets m of is in so 96 _ a.recovery a.says refl refl
+    by BearerAnswered of tells = let a = says_by 96 create_bearer_response octets m refl of is in so 96 a.0 a.1 refl refl
     by RemovalAsked of tells = absurd cc
-    by RemovalAnswered of tells = let a = removal_answered octets m of is in so 100 _ a.recovery a.says refl refl
+    by RemovalAnswered of tells = let a = says_by 100 delete_bearer_response octets m refl of is in so 100 a.0 a.1 refl refl

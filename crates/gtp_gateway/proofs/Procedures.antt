@@ -4,10 +4,12 @@ use Rattle.std.specs.Prelude.{◌==◌, if◌then◌else◌}
 use Rattle.gtp_ie.specs.Value.{Value}
 use Rattle.gtp_v2.specs.Table.{Field}
 use Rattle.gtp_v2.specs.Message.{Content, Fields, Raw, MessageValue}
+use Rattle.gtp_v2.specs.CreateSessionRequest.{create_session_request}
+use Rattle.gtp_v2.specs.CreateBearerRequest.{create_bearer_request}
 use Rattle.gtp_machine.specs.declared.role.Role.{Role}
 use Rattle.gtp_machine.specs.declared.role.Role.TheVariants.{Serving, Packet}
 use Rattle.gtp_machine.specs.Message.{Message, Echo, CreateSessionRequest, CreateSessionResponse, DeleteSessionRequest, DeleteSessionResponse, CreateBearerRequest, CreateBearerResponse, DeleteBearerRequest, DeleteBearerResponse, Echo_request, Echo_response, Create_session_request, Create_session_response, Delete_session_request, Delete_session_response, Create_bearer_request, Create_bearer_response, Delete_bearer_request, Delete_bearer_response, Other_control}
-use Rattle.gtp_machine.specs.Decoded.{groups_at, session_request_in, bearer_request_in, message_in, content_message, message_of}
+use Rattle.gtp_machine.specs.Decoded.{contexts_in, session_request_in, bearer_request_in, message_in, content_message, message_of}
 use Rattle.gtp_gateway.specs.declared.procedure.Procedure.{Procedure}
 use Rattle.gtp_gateway.specs.declared.procedure.Procedure.TheVariants.{EchoAsked, EchoAnswered, SessionAsked, SessionAnswered, DeletionAsked, DeletionAnswered, BearerAsked, BearerAnswered, RemovalAsked, RemovalAnswered}
 use Rattle.gtp_gateway.specs.Procedure.{procedure_at, has, HasNot, takes_by}
@@ -90,11 +92,11 @@ module _ (role : Role) where
   fields kind header number f =
       chain (kind == 1) _ _ _ _ (λ no. echo_asked role _ ∙ no)
       (chain (kind == 2) _ _ _ _ (λ no. echo_answered role _ ∙ no)
-      (chain (kind == 32) _ _ _ _ (session header number f (groups_at 9 f))
+      (chain (kind == 32) _ _ _ _ (session header number f (contexts_in create_session_request f))
       (chain (kind == 33) _ _ _ _ (λ no. session_answered role _ ∙ no)
       (chain (kind == 36) _ _ _ _ (λ no. deletion_asked role _ ∙ no)
       (chain (kind == 37) _ _ _ _ (λ no. deletion_answered role _ ∙ no)
-      (chain (kind == 95) _ _ _ _ (bearer header number f (groups_at 2 f))
+      (chain (kind == 95) _ _ _ _ (bearer header number f (contexts_in create_bearer_request f))
       (chain (kind == 96) _ _ _ _ (λ no. bearer_answered role _ ∙ no)
       (chain (kind == 99) _ _ _ _ (λ no. removal_asked role _ ∙ no)
       (chain (kind == 100) _ _ _ _ (λ no. removal_answered role _ ∙ no) (λ none. other_kind role kind))))))))))

@@ -6,8 +6,10 @@ use Rattle.gtp_v2.specs.Message.{Content, Fields, Raw, MessageValue}
 use Rattle.gtp_v2.specs.reading.Message.{message_at}
 use Rattle.gtp_v2.specs.declared.fault.V2Fault.{V2Fault}
 use Rattle.gtp_ie.specs.Value.{Value}
+use Rattle.gtp_v2.specs.CreateSessionRequest.{create_session_request}
+use Rattle.gtp_v2.specs.CreateBearerRequest.{create_bearer_request}
 use Rattle.gtp_machine.specs.Message.{Message, Control, plane_of}
-use Rattle.gtp_machine.specs.Decoded.{groups_at, session_request_in, bearer_request_in, message_in, content_message, message_of}
+use Rattle.gtp_machine.specs.Decoded.{contexts_in, session_request_in, bearer_request_in, message_in, content_message, message_of}
 use Rattle.gtp_machine.specs.Input.{ControlReading, Control_message, Faulty, Control_fault}
 use Rattle.gtp_machine.specs.Reading.{control_fault, control_reading_of}
 use Rattle.gtp_machine.proofs.Octets.Faults.{IsFault, fault_is}
@@ -32,11 +34,11 @@ fields : (kind header number : ℕ) (f : List Field) → IsControl (message_in k
 fields kind header number f =
     either (kind == 1) _ _ refl
     (either (kind == 2) _ _ refl
-    (either (kind == 32) _ _ (session header number f (groups_at 9 f))
+    (either (kind == 32) _ _ (session header number f (contexts_in create_session_request f))
     (either (kind == 33) _ _ refl
     (either (kind == 36) _ _ refl
     (either (kind == 37) _ _ refl
-    (either (kind == 95) _ _ (bearer header number f (groups_at 2 f))
+    (either (kind == 95) _ _ (bearer header number f (contexts_in create_bearer_request f))
     (either (kind == 96) _ _ refl
     (either (kind == 99) _ _ refl
     (either (kind == 100) _ _ refl refl)))))))))

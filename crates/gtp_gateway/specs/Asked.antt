@@ -1,11 +1,11 @@
 -- Requests that a gateway gets.
 use Rattle.gtp_ie.specs.Form.{number_of}
 use Rattle.gtp_ie.specs.declared.form.Form.TheVariants as forms
-use Rattle.std.specs.Prelude.{◌≡◌, ℕ, List, Some, option_map}
+use Rattle.std.specs.Prelude.{◌≡◌, ℕ, List, Some, true, option_map}
 use Rattle.gtp_values.specs.declared.address.Endpoint.{Endpoint}
-use Rattle.gtp_ie.specs.Value.{Value, OfEbi}
+use Rattle.gtp_ie.specs.Value.{OfEbi}
 use Rattle.gtp_v2.specs.Message.{MessageValue}
-use Rattle.gtp_v2.specs.Viewed.{in_row, front_value}
+use Rattle.gtp_v2.specs.Viewed.{has_row, row_of, front_value}
 use Rattle.gtp_machine.specs.Answer.{answered}
 use Rattle.gtp_machine.specs.Element.{cause_of}
 use Rattle.gtp_machine.specs.Input.{Effect}
@@ -25,13 +25,11 @@ use Rattle.gtp_gateway.specs.Station.{Station}
 pub record ReadsDeletion (m : MessageValue) (r : DeletionRequest) : Type 0 where
   pub number : r.seq ≡ m.seq
   pub header : r.header.0 ≡ written m.teid
-  pub linked : (vs : List Value) → in_row (number_of forms.Ebi) 0 m ≡ Some vs → option_map (λ e. OfEbi e) r.linked ≡ front_value vs
+  pub linked : has_row m.kind (number_of forms.Ebi) 0 ≡ true → option_map (λ e. OfEbi e) r.linked ≡ front_value (row_of (number_of forms.Ebi) 0 m)
 
--- the machine's message says what was read
-pub record SaysDeletion (r : DeletionRequest) (d : messages.DeleteSessionRequest) : Type 0 where
-  pub number : d.number ≡ r.seq
-  pub header : d.header ≡ r.header.0
-  pub linked : d.linked ≡ r.linked
+-- the machine's Delete Session Request that was read
+abbrev pub deletion_by : DeletionRequest → messages.DeleteSessionRequest
+deletion_by r = record { header = r.header.0; number = r.seq; linked = r.linked }
 
 -- the effect that a verdict stands for
 abbrev pub deletion_effect : Arrival → messages.DeleteSessionRequest → DeletionVerdict → Node → Effect
@@ -39,9 +37,9 @@ deletion_effect request d v old = answered request (Delete_session_response (rec
 
 -- the verdict is the machine's, and what it changes can change
 pub record JudgesDeletion (r : DeletionRequest) (old : Node) (v : DeletionVerdict) : Type 0 where
-  pub judged : (request : Arrival) (d : messages.DeleteSessionRequest) → SaysDeletion r d → DeletionJudged request d old (deletion_effect request d v old)
+  pub judged : (request : Arrival) → DeletionJudged request (deletion_by r) old (deletion_effect request (deletion_by r) v old)
   pub can : CanChange v.change old
 
 -- a Delete Session Request was taken
 abbrev pub TakesDeletionRequest : Endpoint → List ℕ → DeletionRequest → Station → ControlStep → Station → Type 0
-TakesDeletionRequest source octets r old step new = (d : messages.DeleteSessionRequest) → SaysDeletion r d → IsRow (DeletionAsked (arrival_of source octets) d) (arrival_of source octets) old.role old.node step new
+TakesDeletionRequest source octets r old step new = IsRow (DeletionAsked (arrival_of source octets) (deletion_by r)) (arrival_of source octets) old.role old.node step new

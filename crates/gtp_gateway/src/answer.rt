@@ -101,7 +101,7 @@ impl Parts {
     }
 
     /// Gives an answer that is ready to a request for which none is held; from now on this one is.
-    /// Takes no memory.
+    /// Allocates nothing.
     #[tactic(auto, using(crate::proofs::GoingOn::tied_of, crate::proofs::GoingOn::on_goes, crate::proofs::GoingOn::same_goes, crate::proofs::GoingOn::given_goes, crate::proofs::GoingOn::then_goes))]
     pub fn give(&mut self, source: Endpoint, ready: ReadyAnswer) -> Sent
         requires ready { IsReady self.old.held }

@@ -16,6 +16,7 @@ use std::alloc::Global;
 
 /// A Create Bearer Response (TS 29.274 7.2.4) that accepts: the identity and the serving gateway's
 /// F-TEID of the bearer, and the packet gateway's as it came.
+#[tactic(auto, unfolding(gtp_machine::specs::Decoded::row_in, gtp_machine::specs::Decoded::list_in, gtp_machine::specs::Decoded::contexts_in))]
 pub fn bearer_grant(
     alloc: Global,
     header: Teid,
@@ -61,6 +62,7 @@ pub fn bearer_grant(
 
 /// A Create Bearer Response (TS 29.274 7.2.4) that refuses for want of an identity or a TEID: its
 /// context names no identity, and the packet gateway's F-TEID as it came.
+#[tactic(auto, unfolding(gtp_machine::specs::Decoded::row_in, gtp_machine::specs::Decoded::list_in, gtp_machine::specs::Decoded::contexts_in))]
 pub fn no_resources_response(
     alloc: Global,
     header: Teid,

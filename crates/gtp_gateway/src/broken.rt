@@ -53,7 +53,7 @@ fn bearer_goes(sessions: &Sessions, remote: Teid, bearer: &Bearer) -> bool
 
 impl Parts {
     /// Bearers with this remote go, each session whose default bearer is one of them with all its
-    /// bearers, and requests with what they are about. Takes no memory.
+    /// bearers, and requests with what they are about. Allocates nothing.
     pub fn end_remote(&mut self, remote: Teid)
         requires whole { IsWhole (station_of self.old) }
         ensures node { node_of self.new ≡ broken (node_of self.old) remote.0 }

@@ -1,4 +1,4 @@
-//! What a gateway is set up with.
+//! The settings of a gateway.
 
 ghost use Rattle.std.specs.Prelude.{◌≡◌, ◌↔◌, IsTrue, IsOk, IfOk, IfErr};
 ghost use Rattle.gtp_values.specs.declared.fault.ValueFault.TheVariants.{OutOfRange};
@@ -19,14 +19,14 @@ pub struct Addresses {
     pub user: Ip,
 }
 
-/// How long messages are kept, in ticks (TS 29.274 7.6).
+/// How long messages are kept, in ticks. The caller decides how long a tick is (TS 29.274 7.6).
 #[derive(Clone, Copy, Debug, PartialEq, Eq)]
 pub struct Timers {
-    /// After so many ticks without an answer a request is sent again (T3-RESPONSE): 1 to 1,000.
+    /// T3-RESPONSE: the ticks without an answer after which a request is sent again, 1 to 1,000.
     pub t3: u32,
-    /// So often it is sent again before it is given up (N3-REQUESTS): 0 to 100.
+    /// N3-REQUESTS: how often a request is sent again before it is given up, 0 to 100.
     pub n3: u32,
-    /// So long the answer to a request is held, should it come again: 1 to 100,000.
+    /// The ticks for which the answer to a request is held, in case the request comes again: 1 to 100,000.
     pub hold: u32,
 }
 
@@ -42,8 +42,8 @@ impl Default for Timers {
     }
 }
 
-/// The two ends of the path, the access points that the packet gateway serves, the addresses that it
-/// gives, and the times.
+/// The addresses of both gateways, the access points that the packet gateway serves, the pool of addresses that it
+/// gives to sessions, and the timers.
 #[derive(Debug, Drop)]
 pub struct Config {
     own: Addresses,
@@ -64,8 +64,8 @@ impl Model for Config {
 }
 
 impl Config {
-    /// The configuration of a gateway: `OutOfRange` above 16 access points, and where a time is out
-    /// of its range. Takes no memory.
+    /// The settings of a gateway: `OutOfRange` if there are more than 16 access points, or a timer is out of its range.
+    /// Allocates nothing.
     pub fn try_new(
         own: Addresses,
         peer: Addresses,
@@ -94,7 +94,7 @@ impl Config {
         })
     }
 
-    /// The same once more.
+    /// A copy of the settings. `Memory` if the allocation of the list of access points was refused.
     pub fn copy(&self, alloc: Global) -> Result<Config, Memory>
         ensures { IfOk result (λ config. config ≡ self.now) }
     {
@@ -146,7 +146,7 @@ impl Config {
         self.pool
     }
 
-    /// The times, which are in their ranges.
+    /// The timers, which are in their ranges.
     pub fn timers(&self) -> Timers
         ensures value { result ≡ self.now.timers }
         ensures range { AreSettings self.now.config.access_points result }

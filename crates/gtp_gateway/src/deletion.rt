@@ -2,10 +2,9 @@
 
 ghost use Rattle.gtp_gateway.specs.GoesOn.{GoesOn};
 ghost use Rattle.std.specs.Prelude.{◌≡◌, ◌↔◌, false, IsTrue, IfOk, OnOk, OnErr, option_map};
-ghost use Rattle.gtp_machine.specs.Message as messages;
 ghost use Rattle.gtp_machine.specs.Node.{Arrival};
 ghost use Rattle.gtp_machine.specs.Packet.{IsLinkedTo, DeletionAsked};
-ghost use Rattle.gtp_gateway.specs.Asked.{ReadsDeletion, JudgesDeletion, TakesDeletionRequest};
+ghost use Rattle.gtp_gateway.specs.Asked.{ReadsDeletion, deletion_by, JudgesDeletion, TakesDeletionRequest};
 ghost use Rattle.gtp_gateway.specs.Needing.{AlwaysSendsOrOpens};
 ghost use Rattle.gtp_gateway.specs.Parts.{node_of};
 ghost use Rattle.gtp_gateway.specs.Station.{station_of};
@@ -113,8 +112,8 @@ impl Parts {
         ensures goes { OnOk result
             (GoesOn source octets.now (station_of self.old) (station_of self.new)) }
         ensures unmade { IfOk result (λ step. step.report.made ≡ false) }
-        ensures memory { OnErr result ((arrival : Arrival) (d : messages.DeleteSessionRequest)
-            → AlwaysSendsOrOpens (DeletionAsked arrival d) (node_of self.old)) }
+        ensures memory { OnErr result ((arrival : Arrival)
+            → AlwaysSendsOrOpens (DeletionAsked arrival (deletion_by request.now)) (node_of self.old)) }
         ensures err { OnErr result (station_of self.new ≡ station_of self.old) }
     {
         if self.held.is_full() {

@@ -291,7 +291,7 @@ impl Parts {
         Ok(named)
     }
 
-    /// The bearers go, in turn, with the requests about them. Takes no memory.
+    /// The bearers go, in turn, with the requests about them. Allocates nothing.
     #[tactic(auto, using(crate::proofs::UserRows::all_wait, crate::proofs::Giving::wait_on))]
     fn end_each(&mut self, named: &[NamedBearer])
         ensures node { node_of self.new ≡ without_each named.now (node_of self.old) }
@@ -333,7 +333,7 @@ impl Parts {
         Ok(removal_response(header, seq, cause, None, contexts, counter))
     }
 
-    /// Ends the dedicated bearers with these identities. All that takes memory comes first.
+    /// Ends the dedicated bearers with these identities. All allocations come first.
     #[tactic(auto, using(crate::proofs::GoingOn::tied_of, crate::proofs::GoingOn::on_goes, crate::proofs::GoingOn::same_goes, crate::proofs::GoingOn::given_goes, crate::proofs::GoingOn::then_goes))]
     fn end_named(
         &mut self,

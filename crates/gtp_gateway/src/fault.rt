@@ -1,4 +1,4 @@
-//! Why a command is not carried out.
+//! Errors of commands.
 
 ghost use Rattle.std.specs.Prelude.{◌≡◌};
 ghost use Rattle.gtp_gateway.specs.declared.fault.CommandFault.TheVariants as faults;
@@ -7,7 +7,7 @@ use gtp_machine::Refusal;
 use std::alloc::AllocError;
 use thiserror::Error;
 
-/// Why a command is not carried out. After either the gateway is as before.
+/// Why a command was not carried out. After an error the gateway is as before.
 #[derive(Clone, Copy, Debug, PartialEq, Eq, Error)]
 pub enum CommandFault {
     /// A rule of the gateway forbids it.

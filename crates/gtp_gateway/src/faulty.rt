@@ -35,7 +35,7 @@ pub enum Request {
     DeleteBearer,
 }
 
-/// Why an element of a request can't be taken (TS 29.274 7.7.6 to 7.7.8).
+/// Why an element of a request cannot be taken (TS 29.274 7.7.6 to 7.7.8).
 #[derive(Clone, Copy)]
 pub enum Defect {
     MandatoryMissing,

@@ -1,4 +1,4 @@
-//! One gateway.
+//! One gateway: datagrams, commands and ticks go in; datagrams, packets and a report come out.
 
 ghost use Rattle.std.specs.Prelude.{◌≡◌, ◌≤◌, None, length, IsOk, IsSome, IfOk, IfErr, OnOk, OnErr};
 ghost use Rattle.std.specs.FinMap as map;
@@ -28,8 +28,8 @@ use gtp_values::{Counter, Ebi, Endpoint, Memory, Qos, Teid, Tft};
 use std::alloc::Global;
 use std::marker::Model;
 
-/// A serving gateway or a packet gateway. Contracts see which one it is, and the node of the machine
-/// that it stands for.
+/// A serving gateway or a packet gateway (TS 23.401 4.4.3), without sockets and clocks. Contracts see its role, its
+/// state as a node of the machine, its settings and its timers. After an error the gateway is as before.
 #[derive(Drop)]
 pub struct Gateway {
     parts: Parts,
@@ -54,8 +54,8 @@ impl Model for Gateway {
 }
 
 impl Gateway {
-    /// A gateway that starts with this restart counter. It knows nothing of its peer, and keeps
-    /// nothing of what it was before.
+    /// A gateway that starts with this restart counter (TS 23.007 18). It has no sessions and knows nothing of its
+    /// peer. `Memory` if an allocation was refused.
     pub fn start(
         alloc: Global,
         role: Role,
@@ -69,22 +69,21 @@ impl Gateway {
         })
     }
 
-    /// The session under this TEID of the gateway's own. Takes no memory.
+    /// The session with this control plane TEID of the gateway's own. Allocates nothing.
     pub fn session(&self, session: Teid) -> Option<Session>
         ensures { result ≡ map.get self.now.node.sessions session.0 }
     {
         self.parts.sessions.get(session)
     }
 
-    /// The bearer under this TEID of the gateway's own. Takes no memory.
+    /// The bearer with this user plane TEID of the gateway's own. Allocates nothing.
     pub fn bearer(&self, bearer: Teid) -> Option<Bearer>
         ensures { result ≡ map.get self.now.node.bearers bearer.0 }
     {
         self.parts.bearers.get(bearer)
     }
 
-    /// The requests whose answers the next tick forgets, in order of keeping. Takes no memory where
-    /// there is none.
+    /// The requests whose held answers the next tick forgets, oldest first. Allocates nothing if there is none.
     pub fn forgets(&self) -> Result<Vec<Request>, Memory>
         ensures forgets { IfOk result (λ requests.
             arrivals_of requests.items ≡ (due_in self.now.timing).forgets) }
@@ -93,7 +92,7 @@ impl Gateway {
         self.parts.held.due().map_err(|_| Memory)
     }
 
-    /// The sessions, in order of the gateway's own TEIDs. Takes no memory.
+    /// The sessions, in order of the gateway's own TEIDs. Allocates nothing.
     pub fn sessions(&self) -> SessionList<'_>
         ensures sessions { result ≡ map.entries self.now.node.sessions }
         // What holds of a gateway at all times.
@@ -102,7 +101,7 @@ impl Gateway {
         SessionList::of(&self.parts.sessions)
     }
 
-    /// The bearers, in order of the gateway's own TEIDs. Takes no memory.
+    /// The bearers, in order of the gateway's own TEIDs. Allocates nothing.
     pub fn bearers(&self) -> BearerList<'_>
         ensures { result ≡ map.entries self.now.node.bearers }
     {
@@ -111,7 +110,7 @@ impl Gateway {
 
     /// Sends an Echo Request (TS 29.274 7.1.1).
     pub fn echo(&mut self, alloc: Global) -> Result<Begun, CommandFault>
-        // It is a step of the machine, and what is sent is what that sends.
+        // It is a step of the machine, which sends exactly this.
         ensures done { IfOk result (λ begun. IsDone Send_echo self.old begun self.new) }
         ensures next { IfOk result (λ begun. AsksNext self.old begun self.new) }
         ensures refused { IsRefusedWhere Send_echo self.old result }
@@ -120,7 +119,7 @@ impl Gateway {
         self.parts.echo(alloc)
     }
 
-    /// Begins a session, at the serving gateway (TS 29.274 7.2.1).
+    /// Sends a Create Session Request for a new session (TS 29.274 7.2.1). A command of the serving gateway.
     pub fn create_session(
         &mut self,
         alloc: Global,
@@ -135,7 +134,7 @@ impl Gateway {
         self.parts.create_session(alloc, spec)
     }
 
-    /// Deletes an active session, at the serving gateway (TS 29.274 7.2.9.1).
+    /// Sends a Delete Session Request for an active session (TS 29.274 7.2.9.1). A command of the serving gateway.
     pub fn delete_session(&mut self, alloc: Global, session: Teid) -> Result<Begun, CommandFault>
         ensures done { IfOk result (λ begun.
             IsDone (Delete_session session.0) self.old begun self.new) }
@@ -146,7 +145,8 @@ impl Gateway {
         self.parts.delete_session(alloc, session)
     }
 
-    /// Begins a dedicated bearer of an active session, at the packet gateway (TS 29.274 7.2.3).
+    /// Sends a Create Bearer Request for a new dedicated bearer of an active session (TS 29.274 7.2.3). A command of
+    /// the packet gateway.
     pub fn create_bearer(
         &mut self,
         alloc: Global,
@@ -163,8 +163,8 @@ impl Gateway {
         self.parts.create_bearer(alloc, session, tft, qos)
     }
 
-    /// Ends an active dedicated bearer of an active session, at the packet gateway
-    /// (TS 29.274 7.2.9.2).
+    /// Sends a Delete Bearer Request for an active dedicated bearer of an active session (TS 29.274 7.2.9.2). A
+    /// command of the packet gateway.
     pub fn delete_bearer(
         &mut self,
         alloc: Global,
@@ -180,7 +180,8 @@ impl Gateway {
         self.parts.delete_bearer(alloc, session, identity)
     }
 
-    /// Deletes an active session, at the packet gateway (TS 29.274 7.2.9.2).
+    /// Sends a Delete Bearer Request for the default bearer of an active session, which ends the session
+    /// (TS 29.274 7.2.9.2). A command of the packet gateway.
     pub fn release_session(&mut self, alloc: Global, session: Teid) -> Result<Begun, CommandFault>
         ensures done { IfOk result (λ begun.
             IsDone (Release_session session.0) self.old begun self.new) }
@@ -191,10 +192,10 @@ impl Gateway {
         self.parts.release_session(alloc, session)
     }
 
-    /// Sends an End Marker on a bearer, at the packet gateway and once (TS 29.281 7.3.2).
+    /// Sends an End Marker on a bearer (TS 29.281 7.3.2), once for each bearer. A command of the packet gateway.
     pub fn end_marker(&mut self, alloc: Global, bearer: Teid) -> Result<Begun, CommandFault>
         ensures done { IfOk result (λ begun. IsDone (Mark_end bearer.0) self.old begun self.new) }
-        // No request was sent, so no context is told.
+        // No request was sent, so there is no TEID of a context.
         ensures untold { IfOk result (λ begun. begun.teid ≡ None) }
         ensures timing { self.new.timing ≡ self.old.timing }
         ensures refused { IsRefusedWhere (Mark_end bearer.0) self.old result }
@@ -203,7 +204,7 @@ impl Gateway {
         self.parts.end_marker(alloc, bearer)
     }
 
-    /// Sends a packet on a bearer (TS 29.281 5.1). It changes nothing.
+    /// Sends a packet of at most 65,000 octets on a bearer, as a G-PDU (TS 29.281 7.1). The gateway does not change.
     pub fn send_user(
         &self,
         alloc: Global,
@@ -212,14 +213,15 @@ impl Gateway {
     ) -> Result<Begun, CommandFault>
         ensures done { IfOk result (λ begun.
             IsDone (Send_user bearer.0 payload.now) self.now begun self.now) }
-        // No request was sent, so no context is told.
+        // No request was sent, so there is no TEID of a context.
         ensures untold { IfOk result (λ begun. begun.teid ≡ None) }
         ensures refused { IsRefusedWhere (Send_user bearer.0 payload.now) self.now result }
     {
         self.parts.send_user(alloc, bearer, payload)
     }
 
-    /// Takes a datagram of a plane from an address, whatever it holds (TS 29.274 7, TS 29.281 5, 7).
+    /// Takes a datagram, whatever its octets and wherever it comes from (TS 29.274 7, TS 29.281 7). `Memory` if an
+    /// allocation was refused: handed in again, the datagram is processed as if it had come only then.
     pub fn receive<'a>(
         &mut self,
         alloc: Global,
@@ -227,18 +229,19 @@ impl Gateway {
         plane: Plane,
         octets: &'a [u8],
     ) -> Result<Step<'a>, Memory>
-        // It is a step of the machine, and what is sent, told and accepted is what that has.
+        // It is a step of the machine, which sends, reports and accepts exactly this.
         ensures received { IfOk result (λ step.
             IsReceived plane source octets.now self.old step self.new) }
-        // What ticks go by after it.
+        // What later ticks depend on.
         ensures timing { IfOk result (λ step.
             KeepsTiming plane source octets.now step self.old self.new) }
-        // Of the addresses and identities that are free it takes the lowest.
+        // Of the free addresses and identities it takes the lowest.
         ensures choices { IfOk result (λ step.
             ChoosesLowest step.report.made self.old.role self.old.node self.new.node) }
         // A packet that is accepted changes nothing.
         ensures packet { IfOk result (λ step. IsSome step.accepted → self.new ≡ self.old) }
-        // An allocation is made only to send something, or on the control plane to open a context.
+        // Memory can run out only if something is sent, or on the control plane a context is opened: every other
+        // datagram is processed whether or not there is memory.
         ensures memory { IfErr result (λ _. NeedsMemory plane source octets.now self.old) }
         ensures err { OnErr result (self.new ≡ self.old) }
     {
@@ -256,11 +259,11 @@ impl Gateway {
         let _pending_full = self.parts.pending.is_full();
     }
 
-    /// A tick passes (TS 29.274 7.6): requests whose answer was waited for long enough are sent
-    /// again or given up, and answers that were held long enough are forgotten. A tick in which
-    /// nothing is due takes no memory.
+    /// A tick passes, the unit of `Timers` (TS 29.274 7.6): each request that has waited T3-RESPONSE is sent again, or
+    /// given up after N3-REQUESTS times, and each answer that was held long enough is forgotten. A tick in which
+    /// nothing is due allocates nothing.
     pub fn tick(&mut self, alloc: Global) -> Result<Ticked, Memory>
-        // It is the machine's tick, and what is sent and told is what that sends and tells.
+        // It is the machine's tick, which sends and reports exactly this.
         ensures ticked { IfOk result (λ ticked. IsTicked self.old ticked self.new) }
         ensures counts { OnOk result (CountsOn self.old self.new) }
         ensures few { IfOk result (λ ticked. length ticked.resent.items ≤ 256) }

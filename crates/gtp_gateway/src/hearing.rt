@@ -96,7 +96,7 @@ impl Parts {
         }
     }
 
-    /// The peer has restarted: opened sessions go, with their bearers and requests. Takes no memory.
+    /// The peer has restarted: opened sessions go, with their bearers and requests. Allocates nothing.
     fn end_opened(&mut self)
         ensures node { node_of self.new
             ≡ without (λ t. is_opened (map.get self.old.sessions.table t)) (λ t. false)

@@ -27,7 +27,7 @@ impl<'a> SessionList<'a> {
     ghost use Rattle.std.specs.Prelude.{◌≡◌};
     ghost use Rattle.std.specs.FinMap as map;
 
-    /// All of these sessions. Takes no memory.
+    /// All of these sessions. Allocates nothing.
     pub fn of(sessions: &'a Sessions) -> SessionList<'a>
         ensures { result ≡ map.entries sessions.now.table }
     {
@@ -75,7 +75,7 @@ impl<'a> BearerList<'a> {
     ghost use Rattle.std.specs.Prelude.{◌≡◌};
     ghost use Rattle.std.specs.FinMap as map;
 
-    /// All of these bearers. Takes no memory.
+    /// All of these bearers. Allocates nothing.
     pub fn of(bearers: &'a Bearers) -> BearerList<'a>
         ensures { result ≡ map.entries bearers.now }
     {

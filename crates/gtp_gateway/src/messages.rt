@@ -28,6 +28,7 @@ use gtp_values::{Below, Cause, Counter, Ebi, FTeid, Ip, Memory, Offending, Qos, 
 use std::alloc::Global;
 
 /// An Echo Request (TS 29.274 7.1.1).
+#[tactic(auto, unfolding(gtp_machine::specs::Decoded::row_in, gtp_machine::specs::Decoded::list_in, gtp_machine::specs::Decoded::contexts_in))]
 pub fn echo_request(seq: Seq, counter: Counter) -> Message
     ensures says { control_message result
         ≡ Echo_request (record { number = seq; recovery = counter.0 }) }
@@ -44,6 +45,7 @@ pub fn echo_request(seq: Seq, counter: Counter) -> Message
 }
 
 /// An Echo Response (TS 29.274 7.1.2).
+#[tactic(auto, unfolding(gtp_machine::specs::Decoded::row_in, gtp_machine::specs::Decoded::list_in, gtp_machine::specs::Decoded::contexts_in))]
 pub fn echo_response(seq: Seq, counter: Counter) -> Message
     ensures says { control_message result
         ≡ Echo_response (record { number = seq; recovery = counter.0 }) }
@@ -60,6 +62,7 @@ pub fn echo_response(seq: Seq, counter: Counter) -> Message
 }
 
 /// A Delete Session Response (TS 29.274 7.2.10.1).
+#[tactic(auto, unfolding(gtp_machine::specs::Decoded::row_in, gtp_machine::specs::Decoded::list_in, gtp_machine::specs::Decoded::contexts_in))]
 pub fn deletion_response(header: Teid, seq: Seq, cause: u8, counter: Counter) -> Message
     ensures says { control_message result ≡ Delete_session_response (record {
       header = header.0;
@@ -126,6 +129,7 @@ pub fn refusal(
 }
 
 /// A Create Session Response that refuses.
+#[tactic(auto, unfolding(gtp_machine::specs::Decoded::row_in, gtp_machine::specs::Decoded::list_in, gtp_machine::specs::Decoded::contexts_in))]
 fn session_refusal(alloc: Global, header: Teid, seq: Seq, cause: Cause, counter: Counter) -> Message
     requires { is_accepting_value cause.value ≡ false }
     ensures says { control_message result
@@ -148,6 +152,7 @@ fn session_refusal(alloc: Global, header: Teid, seq: Seq, cause: Cause, counter:
 }
 
 /// A Delete Session Response that refuses.
+#[tactic(auto, unfolding(gtp_machine::specs::Decoded::row_in, gtp_machine::specs::Decoded::list_in, gtp_machine::specs::Decoded::contexts_in))]
 fn deletion_refusal(header: Teid, seq: Seq, cause: Cause, counter: Counter) -> Message
     requires { is_accepting_value cause.value ≡ false }
     ensures says { control_message result
@@ -166,6 +171,7 @@ fn deletion_refusal(header: Teid, seq: Seq, cause: Cause, counter: Counter) -> M
 }
 
 /// A Create Bearer Response that refuses.
+#[tactic(auto, unfolding(gtp_machine::specs::Decoded::row_in, gtp_machine::specs::Decoded::list_in, gtp_machine::specs::Decoded::contexts_in))]
 fn bearer_refusal(alloc: Global, header: Teid, seq: Seq, cause: Cause, counter: Counter) -> Message
     requires { is_accepting_value cause.value ≡ false }
     ensures says { control_message result ≡ refusing Of_create_bearer header.0 seq cause counter.0 }
@@ -184,6 +190,7 @@ fn bearer_refusal(alloc: Global, header: Teid, seq: Seq, cause: Cause, counter: 
 }
 
 /// A Delete Bearer Response that refuses.
+#[tactic(auto, unfolding(gtp_machine::specs::Decoded::row_in, gtp_machine::specs::Decoded::list_in, gtp_machine::specs::Decoded::contexts_in))]
 fn removal_refusal(alloc: Global, header: Teid, seq: Seq, cause: Cause, counter: Counter) -> Message
     requires { is_accepting_value cause.value ≡ false }
     ensures says { control_message result ≡ refusing Of_delete_bearer header.0 seq cause counter.0 }
@@ -203,6 +210,7 @@ fn removal_refusal(alloc: Global, header: Teid, seq: Seq, cause: Cause, counter:
 }
 
 /// A Delete Session Request (TS 29.274 7.2.9.1), with the identity of the default bearer.
+#[tactic(auto, unfolding(gtp_machine::specs::Decoded::row_in, gtp_machine::specs::Decoded::list_in, gtp_machine::specs::Decoded::contexts_in))]
 pub fn deletion_request(header: Teid, seq: Seq, identity: Ebi) -> Message
     ensures says { control_message result ≡ Delete_session_request (record {
       header = header.0;
@@ -223,6 +231,7 @@ pub fn deletion_request(header: Teid, seq: Seq, identity: Ebi) -> Message
 
 /// A Delete Bearer Request (TS 29.274 7.2.9.2) for a whole session, with the identity of its default
 /// bearer.
+#[tactic(auto, unfolding(gtp_machine::specs::Decoded::row_in, gtp_machine::specs::Decoded::list_in, gtp_machine::specs::Decoded::contexts_in))]
 pub fn release_request(alloc: Global, header: Teid, seq: Seq, identity: Ebi) -> Message
     ensures says { control_message result ≡ Delete_bearer_request (record {
       header = header.0;
@@ -244,6 +253,7 @@ pub fn release_request(alloc: Global, header: Teid, seq: Seq, identity: Ebi) -> 
 }
 
 /// A Delete Bearer Request (TS 29.274 7.2.9.2) for one dedicated bearer.
+#[tactic(auto, unfolding(gtp_machine::specs::Decoded::row_in, gtp_machine::specs::Decoded::list_in, gtp_machine::specs::Decoded::contexts_in))]
 pub fn bearer_deletion_request(
     alloc: Global,
     header: Teid,
@@ -280,6 +290,7 @@ pub fn own_end(interface: Below<64>, teid: Teid, ip: Ip) -> FTeid
 
 /// A Create Bearer Request (TS 29.274 7.2.3) for one bearer, whose identity is to be given.
 #[allow(clippy::too_many_arguments)]
+#[tactic(auto, unfolding(gtp_machine::specs::Decoded::row_in, gtp_machine::specs::Decoded::list_in, gtp_machine::specs::Decoded::contexts_in))]
 pub fn bearer_request(
     alloc: Global,
     header: Teid,
@@ -328,6 +339,7 @@ pub fn bearer_request(
 }
 
 /// A Create Session Request (TS 29.274 7.2.1), with the serving gateway's F-TEIDs.
+#[tactic(auto, unfolding(gtp_machine::specs::Decoded::row_in, gtp_machine::specs::Decoded::list_in, gtp_machine::specs::Decoded::contexts_in))]
 pub fn session_request(
     alloc: Global,
     seq: Seq,
@@ -383,6 +395,7 @@ fn paa_of(address: u32) -> Paa
 }
 
 /// A Create Session Response (TS 29.274 7.2.2) that grants a session, with the packet gateway's F-TEIDs.
+#[tactic(auto, unfolding(gtp_machine::specs::Decoded::row_in, gtp_machine::specs::Decoded::list_in, gtp_machine::specs::Decoded::contexts_in))]
 pub fn session_response(
     alloc: Global,
     request: &SessionRequest,

@@ -16,7 +16,7 @@ use gtp_tables::{Bearer, Session, State};
 use gtp_values::{Seq, Teid};
 
 impl Parts {
-    /// A session goes, with its bearers and the requests about it. Takes no memory.
+    /// A session goes, with its bearers and the requests about it. Allocates nothing.
     pub fn remove_session(&mut self, session: Teid)
         ensures node { node_of self.new ≡ without_session (node_of self.old) session.0 }
         ensures next { self.new.pending.next ≡ self.old.pending.next }
@@ -42,7 +42,7 @@ impl Parts {
         self.sessions.remove(session);
     }
 
-    /// A bearer goes, with the requests about it. Takes no memory.
+    /// A bearer goes, with the requests about it. Allocates nothing.
     pub fn remove_bearer(&mut self, bearer: Teid)
         ensures node { node_of self.new ≡ without_bearer (node_of self.old) bearer.0 }
         ensures next { self.new.pending.next ≡ self.old.pending.next }
@@ -63,7 +63,7 @@ impl Parts {
         self.bearers.remove(bearer);
     }
 
-    /// A bearer is put in the place of one with the same remote. Takes no memory.
+    /// A bearer is put in the place of one with the same remote. Allocates nothing.
     #[tactic(auto, using(crate::proofs::UserRows::all_wait))]
     pub fn replace_bearer(&mut self, teid: Teid, bearer: Bearer)
         requires { IsAt self.old.bearers teid.0 bearer.remote }
@@ -81,7 +81,7 @@ impl Parts {
         self.bearers.replace(teid, bearer);
     }
 
-    /// A session that stands, and its bearers, are closing. Takes no memory.
+    /// A session that stands, and its bearers, are closing. Allocates nothing.
     #[tactic(auto, using(crate::proofs::UserRows::all_wait))]
     pub fn close_session(&mut self, teid: Teid, session: Session)
         requires { IsSome (map.get self.old.sessions.table teid.0) }
@@ -101,7 +101,7 @@ impl Parts {
         self.bearers.close_of_session(teid);
     }
 
-    /// The request of this number waits no longer; what it was about stays. Takes no memory.
+    /// The request of this number waits no longer; what it was about stays. Allocates nothing.
     pub fn finish_number(&mut self, seq: Seq)
         ensures node { node_of self.new ≡ record (node_of self.old) {
           pending = map.remove (node_of self.old).pending seq;

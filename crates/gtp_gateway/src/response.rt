@@ -97,7 +97,7 @@ impl Parts {
         self.pending.matched(seq).copied()
     }
 
-    /// The request of this number is finished, and what it was about goes. Takes no memory.
+    /// The request of this number is finished, and what it was about goes. Allocates nothing.
     pub fn finish(&mut self, seq: Seq, purpose: &Purpose)
         ensures node { node_of self.new ≡ finished_about (node_of self.old) seq
             (session_of purpose.now) (bearer_of purpose.now) }
@@ -118,7 +118,7 @@ impl Parts {
         }
     }
 
-    /// Takes an Echo Response (TS 29.274 7.1.2): its number and kind are enough. Takes no memory.
+    /// Takes an Echo Response (TS 29.274 7.1.2): its number and kind are enough. Allocates nothing.
     #[tactic(auto, using(crate::proofs::UserRows::all_wait, crate::proofs::Giving::wait_on))]
     pub fn take_echo_response(&mut self, seq: Seq) -> ControlStep
         ensures taken { TakesEcho seq (station_of self.old) result (station_of self.new) }
@@ -155,7 +155,7 @@ impl Parts {
     }
 
     /// Takes a Delete Bearer Response (TS 29.274 7.2.10.2): with any cause the session or the bearer
-    /// goes. Takes no memory.
+    /// goes. Allocates nothing.
     #[tactic(auto, using(crate::proofs::UserRows::all_wait, crate::proofs::Giving::wait_on))]
     pub fn take_removal_response(&mut self, response: &Response) -> ControlStep
         ensures taken { TakesRemoval response.now

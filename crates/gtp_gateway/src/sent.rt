@@ -3,7 +3,7 @@
 use gtp_machine::Plane;
 use gtp_values::{Endpoint, Teid};
 
-/// A datagram that a gateway sends.
+/// A datagram to be sent over UDP (TS 29.274 4.2, TS 29.281 4.4.2).
 #[derive(Debug, Drop)]
 pub struct Sent {
     pub plane: Plane,
@@ -15,8 +15,8 @@ pub struct Sent {
 /// A command that was carried out.
 #[derive(Debug, Drop)]
 pub struct Begun {
-    /// The session or bearer that a request was sent for, by the gateway's own TEID; none for an Echo
-    /// Request, a packet and an End Marker.
+    /// The session or bearer that the request is about, by the gateway's own TEID; none for an Echo Request, a
+    /// packet and an End Marker.
     pub teid: Option<Teid>,
     pub out: Sent,
 }

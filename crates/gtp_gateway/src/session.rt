@@ -1,4 +1,4 @@
-//! Sessions (TS 29.274 7.2.1, 7.2.2), as the serving gateway begins them.
+//! The command that begins a session (TS 29.274 7.2.1).
 
 ghost use Rattle.std.specs.Prelude.{◌≡◌, ◌↔◌, IsTrue, IfOk, OnErr};
 ghost use Rattle.gtp_machine.specs.Choice.{IsIdentity, HasSessionRoom};
@@ -17,21 +17,27 @@ use gtp_tables::Subscriber;
 use gtp_v2::{Ambr, PdnType, Plmn, Qos, Rat, Selection};
 use std::alloc::Global;
 
-/// What a session is to be made with (TS 29.274 7.2.1).
+/// The values with which a session is requested (TS 29.274 table 7.2.1-1).
 #[derive(Clone, Copy, Debug, PartialEq, Eq)]
 pub struct SessionSpec {
+    /// The subscriber, the access point and the identity of the default bearer.
     pub subscriber: Subscriber,
-    /// The serving network.
+    /// The serving network (8.18).
     pub plmn: Plmn,
+    /// The radio access technology (8.17).
     pub rat: Rat,
+    /// How the access point was selected (8.58).
     pub selection: Selection,
+    /// The type of the PDN: 1 is IPv4 (8.34).
     pub pdn: PdnType,
+    /// The aggregate maximum bit rate, in kilobits a second (8.7).
     pub ambr: Ambr,
+    /// The quality of service of the default bearer (8.15).
     pub qos: Qos,
 }
 
 impl Parts {
-    /// Whether one more session may stand.
+    /// Whether there is room for one more session: the gateway has fewer than 1,000.
     fn has_session_room(&self) -> bool
         ensures { IsTrue result ↔ HasSessionRoom (node_of self.now) }
     {

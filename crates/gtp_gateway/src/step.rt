@@ -1,4 +1,4 @@
-//! What a datagram comes to.
+//! The result of a datagram that was received.
 
 ghost use Rattle.std.specs.Prelude.{◌≡◌};
 ghost use Rattle.gtp_gateway.specs.Received.{of_control};
@@ -11,30 +11,30 @@ use gtp_values::{Counter, Teid};
 /// A packet that was accepted.
 #[derive(Clone, Copy, Debug, PartialEq, Eq)]
 pub struct Accepted<'a> {
-    /// The bearer that it came on, by the gateway's own TEID.
+    /// The bearer on which it was received, by the gateway's own TEID.
     pub bearer: Teid,
-    /// It lies in the datagram.
+    /// The packet, borrowed from the datagram.
     pub payload: &'a [u8],
 }
 
-/// What is told of a datagram that came.
+/// The report on a datagram that was received.
 #[derive(Clone, Copy, Debug, PartialEq, Eq)]
 pub struct Report {
     pub outcome: Outcome,
-    /// The restart counter that the peer told.
+    /// The restart counter in the datagram, if it has one that counts (TS 23.007 18).
     pub heard: Option<Counter>,
-    /// The same, where it is later than the one that was known.
+    /// That restart counter if it is later than the latest one received before: the peer has restarted.
     pub restart: Option<Counter>,
-    /// A context was made for a request.
+    /// Whether a session or bearer was made for a request.
     pub made: bool,
 }
 
-/// What a datagram comes to.
+/// The result of a datagram that was received: what is sent for it, the packet in it, and the report.
 #[derive(Debug, Drop)]
 pub struct Step<'a> {
-    /// What is sent for it.
+    /// The datagram to be sent for it, if there is one.
     pub out: Option<Sent>,
-    /// The packet, where one was accepted.
+    /// The packet, if one was accepted.
     pub accepted: Option<Accepted<'a>>,
     pub report: Report,
 }

@@ -19,14 +19,14 @@ use gtp_reliable::{Request, Resend};
 use gtp_values::{Memory, Seq};
 use std::alloc::Global;
 
-/// What a tick does.
+/// What a tick did.
 #[derive(Debug, Drop)]
 pub struct Ticked {
-    /// The requests that are sent again, in order of beginning.
+    /// The requests to be sent again, oldest first.
     pub resent: Vec<Sent>,
-    /// The numbers of the requests that are given up, in order of beginning.
+    /// The sequence numbers of the requests that were given up, oldest first.
     pub gave_up: Vec<Seq>,
-    /// The requests whose answers are held no more, in order of keeping.
+    /// The requests whose answers are no longer held, oldest first.
     pub forgotten: Vec<Request>,
 }
 
@@ -44,7 +44,7 @@ impl Parts {
         }
     }
 
-    /// Requests as they are sent again. Takes no memory where there is none.
+    /// Requests as they are sent again. Allocates nothing if there is none.
     fn send_again(&self, alloc: Global, resends: Vec<Resend>) -> Result<Vec<Sent>, Memory>
         ensures sent { IfOk result (λ sent. map datagram_by sent.items
             ≡ map (datagram_again self.now.config.config) (map message_of resends.items)) }
@@ -58,7 +58,7 @@ impl Parts {
     }
 
     /// The request of this number is given up, if it still waits, and what it was about goes:
-    /// whether it was. Takes no memory.
+    /// whether it was. Allocates nothing.
     fn give_up(&mut self, seq: Seq) -> bool
         ensures node { GivesUpOne (node_of self.old) seq result (node_of self.new) }
         ensures waits { WaitOn (station_of self.old) (station_of self.new) }
@@ -72,7 +72,7 @@ impl Parts {
     }
 
     /// Each of these requests in turn that still waits is given up; their numbers are put into a
-    /// list that has the room. Takes no memory.
+    /// list that has the room. Allocates nothing.
     fn give_up_each(&mut self, due: &[(Seq, Purpose)], gave_up: &mut Vec<Seq>)
         requires empty { gave_up.old.items ≡ [] }
         requires room { vec_len gave_up.old + length due.now ≤ vec_capacity gave_up.old }
@@ -89,7 +89,7 @@ impl Parts {
         }
     }
 
-    /// A tick passes. All that takes memory comes first, and what follows can't fail.
+    /// A tick passes. All allocations come first, and what follows cannot fail.
     #[tactic(auto, using(crate::proofs::GoingOn::tied_of))]
     pub fn tick(&mut self, alloc: Global) -> Result<Ticked, Memory>
         ensures ticked { IfOk result (λ ticked.

@@ -143,7 +143,7 @@ impl Parts {
         }
     }
 
-    /// Takes a datagram of the user plane, but for what is sent for it. Takes no memory.
+    /// Takes a datagram of the user plane, but for what is sent for it. Allocates nothing.
     pub fn judge_user<'a>(&mut self, source: &Endpoint, octets: &'a [u8]) -> Judged<'a>
         requires whole { IsWhole (station_of self.old) }
         ensures { IsJudgedBy (UserComes source.now octets.now (station_of self.old))

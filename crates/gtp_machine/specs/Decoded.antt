@@ -1,6 +1,6 @@
--- What a control message reads as, by its type (TS 29.274, 6.1) and the fields of its table, in the table's order. What octets spell has a value in each
+-- What a control message reads as, by its type (TS 29.274, 6.1) and the rows of its table. What octets spell has a value in each
 -- row that its table needs; in lists that no octets spell, a number that is not there is 0, and so on.
-use Rattle.std.specs.Prelude.{ℕ, zero, suc, ◌+◌, ◌*◌, ◌==◌, List, [], ◌∷◌, map, Option, Some, None, false, unwrap_or, if◌then◌else◌}
+use Rattle.std.specs.Prelude.{ℕ, zero, suc, ◌+◌, ◌*◌, ◌==◌, ◌&&◌, List, [], ◌∷◌, map, Option, Some, None, false, unwrap_or, if◌then◌else◌}
 use Rattle.gtp_values.specs.Plmn.{Network}
 use Rattle.gtp_values.specs.TunnelEnd.{TunnelEnd}
 use Rattle.gtp_values.specs.declared.cause.Cause.{Cause}
@@ -9,18 +9,23 @@ use Rattle.gtp_values.specs.declared.qos.Qos.{Qos}
 use Rattle.gtp_values.specs.declared.qos.Rates.{Rates}
 use Rattle.gtp_values.specs.declared.paa.Paa.{Paa}
 use Rattle.gtp_values.specs.declared.paa.Paa.TheVariants as paas
+use Rattle.gtp_ie.specs.Form.{number_of as number_of_form, bearer_context}
+use Rattle.gtp_ie.specs.declared.form.Form.{Form}
+use Rattle.gtp_ie.specs.declared.form.Form.TheVariants as forms
 use Rattle.gtp_ie.specs.Value.{Value, OfImsi, OfCause, OfRecovery, OfApn, OfAmbr, OfEbi, OfPaa, OfQos, OfRat, OfPlmn, OfTft, OfFTeid, OfChargingId, OfPdnType, OfPti, OfSelection}
 use Rattle.gtp_v2.specs.EchoRequest.{echo_request}
 use Rattle.gtp_v2.specs.EchoResponse.{echo_response}
-use Rattle.gtp_v2.specs.CreateSessionRequest.{create_session_request}
-use Rattle.gtp_v2.specs.CreateSessionResponse.{create_session_response}
+use Rattle.gtp_v2.specs.CreateSessionRequest.{create_session_request, session_request_context_rows}
+use Rattle.gtp_v2.specs.CreateSessionResponse.{create_session_response, session_response_context_rows}
 use Rattle.gtp_v2.specs.DeleteSessionRequest.{delete_session_request}
 use Rattle.gtp_v2.specs.DeleteSessionResponse.{delete_session_response}
-use Rattle.gtp_v2.specs.CreateBearerRequest.{create_bearer_request}
-use Rattle.gtp_v2.specs.CreateBearerResponse.{create_bearer_response}
+use Rattle.gtp_v2.specs.CreateBearerRequest.{create_bearer_request, bearer_request_context_rows}
+use Rattle.gtp_v2.specs.CreateBearerResponse.{create_bearer_response, bearer_response_context_rows}
 use Rattle.gtp_v2.specs.DeleteBearerRequest.{delete_bearer_request}
-use Rattle.gtp_v2.specs.DeleteBearerResponse.{delete_bearer_response}
-use Rattle.gtp_v2.specs.Table.{Field, Plain, Groups}
+use Rattle.gtp_v2.specs.DeleteBearerResponse.{delete_bearer_response, removal_response_context_rows}
+use Rattle.gtp_v2.specs.declared.table.Row.{Row}
+use Rattle.gtp_v2.specs.Table.{kind_of, instance_of, Field, Plain, Groups, Table}
+use Rattle.gtp_v2.specs.Viewed.{values_by, list_by, groups_by}
 use Rattle.gtp_v2.specs.Message.{Content, Fields, Raw, MessageValue}
 use Rattle.gtp_machine.specs.Element.{PdnAddress, Ipv4, Other_address, cause_of}
 use Rattle.gtp_machine.specs.Message.{RequestedBearer, CreatedBearer, WantedBearer, GivenBearer, RemovedBearer, Message, Echo_request, Echo_response, Create_session_request, Create_session_response, Delete_session_request, Delete_session_response, Create_bearer_request, Create_bearer_response, Delete_bearer_request, Delete_bearer_response, Other_control}
@@ -121,6 +126,15 @@ row n [] = []
 row zero (values ∷ rows) = values
 row (suc n) (values ∷ rows) = row n rows
 
+-- the place of the row of a type and instance in the table of a bearer context
+abbrev pub place_in : List Row → ℕ → ℕ → ℕ
+place_in [] kind instance = 0
+place_in (r ∷ rows) kind instance = if (kind_of r == kind) && (instance_of r == instance) then 0 else suc (place_in rows kind instance)
+
+-- the values in the row of a form and instance, of a bearer context with this table
+abbrev pub context_row : List Row → Form → ℕ → List (List Value) → List Value
+context_row table form instance rows = row (place_in table (number_of_form form) instance) rows
+
 -- the values of a field
 abbrev pub values_in : Field → List Value
 values_in (Plain values) = values
@@ -131,39 +145,66 @@ abbrev pub groups_in : Field → List (List (List Value))
 groups_in (Plain values) = []
 groups_in (Groups groups) = groups
 
--- the field with this place, the first being 0
-abbrev pub field : ℕ → List Field → Field
-field n [] = Plain []
-field zero (f ∷ fields) = f
-field (suc n) (f ∷ fields) = field n fields
+-- the values in the row of a form and instance, of a message with this table
+unfoldable pub row_in : Table → Form → ℕ → List Field → List Value
+row_in table form instance f = unwrap_or (values_by (number_of_form form) instance (Some table) (Fields f)) []
 
--- the values of the field with this place
-abbrev pub values_at : ℕ → List Field → List Value
-values_at n fields = values_in (field n fields)
+-- the values in the list of a form and instance
+unfoldable pub list_in : Table → Form → ℕ → List Field → List Value
+list_in table form instance f = unwrap_or (list_by (number_of_form form) instance (Some table) (Fields f)) []
 
--- the bearer contexts of the field with this place
-abbrev pub groups_at : ℕ → List Field → List (List (List Value))
-groups_at n fields = groups_in (field n fields)
+-- the bearer contexts of instance 0
+unfoldable pub contexts_in : Table → List Field → List (List (List Value))
+contexts_in table f = (unwrap_or (groups_by bearer_context 0 (Some table) (Fields f)) ([], [])).1
 
 -- a bearer context of a Create Session Request (table 7.2.1-2)
 abbrev pub requested : List (List Value) → RequestedBearer
-requested rows = record { identity = number_at (row 0 rows); qos = qos_at (row 1 rows); user = end_at (row 2 rows) }
+requested rows =
+    record {
+      identity = number_at (context_row session_request_context_rows forms.Ebi 0 rows);
+      qos = qos_at (context_row session_request_context_rows forms.Qos 0 rows);
+      user = end_at (context_row session_request_context_rows forms.FTeid 2 rows);
+    }
 
 -- a bearer context of a Create Session Response (table 7.2.2-2)
 abbrev pub created : List (List Value) → CreatedBearer
-created rows = record { identity = number_at (row 0 rows); cause = cause_at (row 1 rows); user = first_in end_in (row 2 rows); qos = first_in qos_in (row 3 rows); charging = first_in number_of (row 4 rows) }
+created rows =
+    record {
+      identity = number_at (context_row session_response_context_rows forms.Ebi 0 rows);
+      cause = cause_at (context_row session_response_context_rows forms.Cause 0 rows);
+      user = first_in end_in (context_row session_response_context_rows forms.FTeid 2 rows);
+      qos = first_in qos_in (context_row session_response_context_rows forms.Qos 0 rows);
+      charging = first_in number_of (context_row session_response_context_rows forms.ChargingId 0 rows);
+    }
 
 -- a bearer context of a Create Bearer Request (table 7.2.3-2)
 abbrev pub wanted : List (List Value) → WantedBearer
-wanted rows = record { identity = number_at (row 0 rows); tft = octets_at (row 1 rows); user = end_at (row 2 rows); qos = qos_at (row 3 rows); charging = first_in number_of (row 4 rows) }
+wanted rows =
+    record {
+      identity = number_at (context_row bearer_request_context_rows forms.Ebi 0 rows);
+      tft = octets_at (context_row bearer_request_context_rows forms.Tft 0 rows);
+      user = end_at (context_row bearer_request_context_rows forms.FTeid 1 rows);
+      qos = qos_at (context_row bearer_request_context_rows forms.Qos 0 rows);
+      charging = first_in number_of (context_row bearer_request_context_rows forms.ChargingId 0 rows);
+    }
 
 -- a bearer context of a Create Bearer Response (table 7.2.4-2)
 abbrev pub given : List (List Value) → GivenBearer
-given rows = record { identity = number_at (row 0 rows); cause = cause_at (row 1 rows); serving_user = first_in end_in (row 2 rows); packet_user = first_in end_in (row 3 rows) }
+given rows =
+    record {
+      identity = number_at (context_row bearer_response_context_rows forms.Ebi 0 rows);
+      cause = cause_at (context_row bearer_response_context_rows forms.Cause 0 rows);
+      serving_user = first_in end_in (context_row bearer_response_context_rows forms.FTeid 2 rows);
+      packet_user = first_in end_in (context_row bearer_response_context_rows forms.FTeid 3 rows);
+    }
 
 -- a bearer context of a Delete Bearer Response (table 7.2.10.2-2)
 abbrev pub removed : List (List Value) → RemovedBearer
-removed rows = record { identity = number_at (row 0 rows); cause = cause_at (row 1 rows) }
+removed rows =
+    record {
+      identity = number_at (context_row removal_response_context_rows forms.Ebi 0 rows);
+      cause = cause_at (context_row removal_response_context_rows forms.Cause 0 rows);
+    }
 
 -- a Create Session Request (7.2.1) with these bearer contexts; each that octets spell has one
 abbrev pub session_request_in : ℕ → ℕ → List Field → List (List (List Value)) → Message
@@ -172,39 +213,39 @@ session_request_in header number f (first ∷ further) =
     Create_session_request (record {
       header = header;
       number = number;
-      imsi = octets_at (values_at 0 f);
-      rat = number_at (values_at 1 f);
-      network = first_in network_in (values_at 2 f);
-      control = end_at (values_at 3 f);
-      access_point = octets_at (values_at 4 f);
-      selection = first_in number_of (values_at 5 f);
-      pdn = number_at (values_at 6 f);
-      address = first_in paa_in (values_at 7 f);
-      ambr = first_in ambr_in (values_at 8 f);
+      imsi = octets_at (row_in create_session_request forms.Imsi 0 f);
+      rat = number_at (row_in create_session_request forms.Rat 0 f);
+      network = first_in network_in (row_in create_session_request forms.Plmn 0 f);
+      control = end_at (row_in create_session_request forms.FTeid 0 f);
+      access_point = octets_at (row_in create_session_request forms.Apn 0 f);
+      selection = first_in number_of (row_in create_session_request forms.Selection 0 f);
+      pdn = number_at (row_in create_session_request forms.PdnType 0 f);
+      address = first_in paa_in (row_in create_session_request forms.Paa 0 f);
+      ambr = first_in ambr_in (row_in create_session_request forms.Ambr 0 f);
       context = requested first;
       further = map requested further;
-      recovery = first_in number_of (values_at 10 f);
+      recovery = first_in number_of (row_in create_session_request forms.Recovery 0 f);
     })
 
 -- a Create Bearer Request (7.2.3) with these bearer contexts; each that octets spell has one
 abbrev pub bearer_request_in : ℕ → ℕ → List Field → List (List (List Value)) → Message
 bearer_request_in header number f [] = Other_control create_bearer_request.kind
 bearer_request_in header number f (first ∷ further) =
-    Create_bearer_request (record { header = header; number = number; transaction = first_in number_of (values_at 0 f); linked = number_at (values_at 1 f); context = wanted first; further = map wanted further })
+    Create_bearer_request (record { header = header; number = number; transaction = first_in number_of (row_in create_bearer_request forms.Pti 0 f); linked = number_at (row_in create_bearer_request forms.Ebi 0 f); context = wanted first; further = map wanted further })
 
 -- the message of a type with these fields, under the TEID and the sequence number of its header; a type that no gateway knows says no more
 abbrev pub message_in : ℕ → ℕ → ℕ → List Field → Message
 message_in kind header number f =
-    if kind == echo_request.kind then Echo_request (record { number = number; recovery = number_at (values_at 0 f) })
-    else (if kind == echo_response.kind then Echo_response (record { number = number; recovery = number_at (values_at 0 f) })
-    else (if kind == create_session_request.kind then session_request_in header number f (groups_at 9 f)
-    else (if kind == create_session_response.kind then Create_session_response (record { header = header; number = number; cause = cause_at (values_at 0 f); control = first_in end_in (values_at 1 f); address = first_in paa_in (values_at 2 f); ambr = first_in ambr_in (values_at 3 f); contexts = map created (groups_at 4 f); recovery = first_in number_of (values_at 5 f) })
-    else (if kind == delete_session_request.kind then Delete_session_request (record { header = header; number = number; linked = first_in number_of (values_at 0 f) })
-    else (if kind == delete_session_response.kind then Delete_session_response (record { header = header; number = number; cause = cause_at (values_at 0 f); recovery = first_in number_of (values_at 1 f) })
-    else (if kind == create_bearer_request.kind then bearer_request_in header number f (groups_at 2 f)
-    else (if kind == create_bearer_response.kind then Create_bearer_response (record { header = header; number = number; cause = cause_at (values_at 0 f); contexts = map given (groups_at 1 f); recovery = first_in number_of (values_at 2 f) })
-    else (if kind == delete_bearer_request.kind then Delete_bearer_request (record { header = header; number = number; linked = first_in number_of (values_at 0 f); identities = map (λ v. unwrap_or (number_of v) 0) (values_at 1 f) })
-    else (if kind == delete_bearer_response.kind then Delete_bearer_response (record { header = header; number = number; cause = cause_at (values_at 0 f); linked = first_in number_of (values_at 1 f); contexts = map removed (groups_at 2 f); recovery = first_in number_of (values_at 3 f) })
+    if kind == echo_request.kind then Echo_request (record { number = number; recovery = number_at (row_in echo_request forms.Recovery 0 f) })
+    else (if kind == echo_response.kind then Echo_response (record { number = number; recovery = number_at (row_in echo_response forms.Recovery 0 f) })
+    else (if kind == create_session_request.kind then session_request_in header number f (contexts_in create_session_request f)
+    else (if kind == create_session_response.kind then Create_session_response (record { header = header; number = number; cause = cause_at (row_in create_session_response forms.Cause 0 f); control = first_in end_in (row_in create_session_response forms.FTeid 1 f); address = first_in paa_in (row_in create_session_response forms.Paa 0 f); ambr = first_in ambr_in (row_in create_session_response forms.Ambr 0 f); contexts = map created (contexts_in create_session_response f); recovery = first_in number_of (row_in create_session_response forms.Recovery 0 f) })
+    else (if kind == delete_session_request.kind then Delete_session_request (record { header = header; number = number; linked = first_in number_of (row_in delete_session_request forms.Ebi 0 f) })
+    else (if kind == delete_session_response.kind then Delete_session_response (record { header = header; number = number; cause = cause_at (row_in delete_session_response forms.Cause 0 f); recovery = first_in number_of (row_in delete_session_response forms.Recovery 0 f) })
+    else (if kind == create_bearer_request.kind then bearer_request_in header number f (contexts_in create_bearer_request f)
+    else (if kind == create_bearer_response.kind then Create_bearer_response (record { header = header; number = number; cause = cause_at (row_in create_bearer_response forms.Cause 0 f); contexts = map given (contexts_in create_bearer_response f); recovery = first_in number_of (row_in create_bearer_response forms.Recovery 0 f) })
+    else (if kind == delete_bearer_request.kind then Delete_bearer_request (record { header = header; number = number; linked = first_in number_of (row_in delete_bearer_request forms.Ebi 0 f); identities = map (λ v. unwrap_or (number_of v) 0) (list_in delete_bearer_request forms.Ebi 1 f) })
+    else (if kind == delete_bearer_response.kind then Delete_bearer_response (record { header = header; number = number; cause = cause_at (row_in delete_bearer_response forms.Cause 0 f); linked = first_in number_of (row_in delete_bearer_response forms.Ebi 0 f); contexts = map removed (contexts_in delete_bearer_response f); recovery = first_in number_of (row_in delete_bearer_response forms.Recovery 0 f) })
     else Other_control kind)))))))))
 
 -- the message of a type that carries this; the octets of another type are not looked at

@@ -17,7 +17,8 @@ use Rattle.gtp_machine.specs.Input.{Entry, Specification, Create_session, Send_u
 use Rattle.gtp_machine.specs.Choice.{HasDraws, HasFreeAddress, IsIdentity, HasSessionRoom, HasPendingRoom, HasHeldRoom}
 use Rattle.gtp_machine.specs.Spelling.{ReadsAs, spelled, IsSendable}
 use Rattle.gtp_machine.specs.World.{World, Event, Does, Deliver, Happens, Run, EventOutcome, Came_to, Note, HasSent, signed, other, start}
-use Rattle.gtp_machine.specs.Laws.{MutualSessions, MutualBearers, EachSendable}
+use Rattle.gtp_machine.specs.Laws.{EachSendable}
+use Rattle.gtp_machine.specs.Safety.{MutualSessions, MutualBearers}
 
 -- each gateway has the other's addresses for its peer's
 pub record IsOnePath (serving packet : Config) : Type 0 where
@@ -94,14 +95,14 @@ pub record IsMade (w : World) (spec : Specification) : Type 0 where
   pub session_there : ℕ
   pub at_serving : Session
   pub at_packet : Session
-  pub sessions : MutualSessions w session session_there at_serving at_packet
+  pub sessions : MutualSessions w.serving.node w.packet.node session session_there at_serving at_packet
   pub subscriber : at_serving.subscriber ≡ spec.subscriber
   pub subscriber_there : at_packet.subscriber ≡ spec.subscriber
   pub bearer : ℕ
   pub bearer_there : ℕ
   pub bearer_at_serving : Bearer
   pub bearer_at_packet : Bearer
-  pub bearers : MutualBearers w bearer bearer_there bearer_at_serving bearer_at_packet
+  pub bearers : MutualBearers w.serving.node w.packet.node bearer bearer_there bearer_at_serving bearer_at_packet
   pub default : bearer_at_serving.kind ≡ Default
   pub default_there : bearer_at_packet.kind ≡ Default
   pub of : bearer_at_serving.session ≡ session

@@ -11,6 +11,7 @@ use Rattle.gtp_machine.specs.Node.{Node, fresh_node, Arrival, Role, Serving, Pac
 use Rattle.gtp_machine.specs.Input.{Entry, Effect, Repeated, messages}
 use Rattle.gtp_machine.specs.Choice.{counter_of}
 use Rattle.gtp_machine.specs.Recovery.{Hears}
+use Rattle.gtp_machine.specs.Safety.{MutualSessions, MutualBearers}
 use Rattle.gtp_machine.specs.Serving.{granted_bearer, BearerAsked}
 use Rattle.gtp_machine.specs.Packet.{made_session, made_bearer, SessionAsked}
 use Rattle.gtp_machine.specs.Step.{Done, Steps}
@@ -21,68 +22,6 @@ use Rattle.gtp_machine.specs.World.{World, steps_of, Event, Deliver, Cut, Note, 
 -- P holds at the end of each run, however the gateways are configured
 abbrev pub Always : (World → Type 0) → Type 0
 Always P = (serving packet : Config) (serving_counter packet_counter : ℕ) (events : List Event) (w : World) → Run (start serving packet serving_counter packet_counter) events w → P w
-
--- a session of each gateway, both active, each under the TEID that the other has for it
-pub record MutualSessions (w : World) (c d : ℕ) (at_serving at_packet : Session) : Type 0 where
-  pub serving : get w.serving.node.sessions c ≡ Some at_serving
-  pub packet : get w.packet.node.sessions d ≡ Some at_packet
-  pub serving_active : at_serving.state ≡ Active
-  pub packet_active : at_packet.state ≡ Active
-  pub there : at_serving.remote ≡ Some d
-  pub back : at_packet.remote ≡ Some c
-
--- the same subscriber, access point, default identity and address
-pub record Agree (c d : Session) : Type 0 where
-  pub imsi : c.subscriber.imsi ≡ d.subscriber.imsi
-  pub access_point : c.subscriber.access_point ≡ d.subscriber.access_point
-  pub identity : c.subscriber.identity ≡ d.subscriber.identity
-  pub address : c.address ≡ d.address
-
--- sessions that name each other agree
-abbrev pub SessionsAgree : World → Type 0
-SessionsAgree w = (c d : ℕ) (at_serving at_packet : Session) → MutualSessions w c d at_serving at_packet → Agree at_serving at_packet
-
--- a bearer of each gateway, both active, each under the TEID that the other has for it
-pub record MutualBearers (w : World) (c d : ℕ) (at_serving at_packet : Bearer) : Type 0 where
-  pub serving : get w.serving.node.bearers c ≡ Some at_serving
-  pub packet : get w.packet.node.bearers d ≡ Some at_packet
-  pub serving_active : at_serving.state ≡ Active
-  pub packet_active : at_packet.state ≡ Active
-  pub there : at_serving.remote ≡ Some d
-  pub back : at_packet.remote ≡ Some c
-
--- the same identity, and sessions that agree
-pub record AgreeBearers (w : World) (c d : Bearer) : Type 0 where
-  pub identity : c.identity ≡ d.identity
-  pub at_serving : Session
-  pub at_packet : Session
-  pub serving : get w.serving.node.sessions c.session ≡ Some at_serving
-  pub packet : get w.packet.node.sessions d.session ≡ Some at_packet
-  pub sessions : Agree at_serving at_packet
-
--- bearers that name each other agree
-abbrev pub BearersAgree : World → Type 0
-BearersAgree w = (c d : ℕ) (at_serving at_packet : Bearer) → MutualBearers w c d at_serving at_packet → AgreeBearers w at_serving at_packet
-
--- the session has a remote whose counter is earlier than one that its gateway has heard
-pub record IsOver (side : Side) (s : Session) : Type 0 where
-  pub remote : ℕ
-  pub has : s.remote ≡ Some remote
-  pub counter : ℕ
-  pub heard : Among counter side.seen
-  pub earlier : age_of (counter_of remote) counter ≡ Later
-
--- no session outlives a restart of the peer that its gateway has heard of
-abbrev pub NoneOver : World → Type 0
-NoneOver w = (role : Role) (t : ℕ) (s : Session) → get (side_of w role).node.sessions t ≡ Some s → IsOver (side_of w role) s → ⊥
-
--- an accepted packet is owed: it was handed in at the other gateway, octet for octet, for the same target, subscriber, access point and identity
-abbrev pub IsOwed : World → Role → Entry → Type 0
-IsOwed w role entry = HasBy w.handed (other role) entry
-
--- where no delivery was late, each packet that was accepted is owed
-abbrev pub EachOwed : World → Type 0
-EachOwed w = w.late ≡ 0 → (role : Role) (entry : Entry) → HasBy w.accepted role entry → IsOwed w role entry
 
 -- each TEID stands as its sender's own in one message and its repeats
 abbrev pub OneMessage : World → Type 0
@@ -358,12 +297,12 @@ pub record GetsThrough : Type 0 where
   pub session_there : ℕ
   pub at_serving : Session
   pub at_packet : Session
-  pub sessions : MutualSessions world session session_there at_serving at_packet
+  pub sessions : MutualSessions world.serving.node world.packet.node session session_there at_serving at_packet
   pub bearer : ℕ
   pub bearer_there : ℕ
   pub bearer_at_serving : Bearer
   pub bearer_at_packet : Bearer
-  pub bearers : MutualBearers world bearer bearer_there bearer_at_serving bearer_at_packet
+  pub bearers : MutualBearers world.serving.node world.packet.node bearer bearer_there bearer_at_serving bearer_at_packet
   pub dedicated : bearer_at_serving.kind ≡ Dedicated
   pub of_session : bearer_at_serving.session ≡ session
   pub of_session_there : bearer_at_packet.session ≡ session_there

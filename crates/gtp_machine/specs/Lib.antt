@@ -21,6 +21,7 @@ pub mod Packet
 pub mod Step
 pub mod World
 pub mod Once
+pub mod Safety
 pub mod Laws
 pub mod Sound
 pub mod Determined

@@ -1,19 +1,12 @@
 -- How datagrams read: what the decoders of the two planes tell, as the machine sees it.
-use Rattle.std.specs.Prelude.{◌≡◌, ◌⊎◌, ◌↔◌, ℕ, ◌<◌, ◌==◌, nat_lt, Bool, true, false, List, [], ◌∷◌, map, length, take, Option, Some, None, option_map, unwrap_or, Result, Ok, Err, if◌then◌else◌}
+use Rattle.std.specs.Prelude.{◌≡◌, ◌⊎◌, ◌↔◌, ℕ, ◌<◌, ◌==◌, nat_lt, Bool, true, false, List, length, take, Option, Some, None, option_map, unwrap_or, Result, Ok, Err, if◌then◌else◌}
 use Rattle.gtp_values.specs.declared.identifiers.Teid.{Teid}
 use Rattle.gtp_ie.specs.declared.fault.IeFault.{IeFault}
 use Rattle.gtp_ie.specs.declared.fault.IeFault.TheVariants as elements
-use Rattle.gtp_ie.specs.declared.value.recovery.Recovery.{Recovery}
-use Rattle.gtp_ie.specs.declared.value.charging_id.ChargingId.{ChargingId}
 use Rattle.gtp_v2.specs.declared.message.Message as decoded
-use Rattle.gtp_v2.specs.declared.body.Body.{Body}
 use Rattle.gtp_v2.specs.declared.body.Body.TheVariants as bodies
 use Rattle.gtp_v2.specs.declared.body.create_session_request.CreateSessionRequest as session_requests
 use Rattle.gtp_v2.specs.declared.body.create_bearer_request.CreateBearerRequest as bearer_requests
-use Rattle.gtp_v2.specs.declared.body.create_session_request.SessionRequestContext.{SessionRequestContext}
-use Rattle.gtp_v2.specs.declared.body.create_session_response.SessionResponseContext.{SessionResponseContext}
-use Rattle.gtp_v2.specs.declared.body.create_bearer_request.BearerRequestContext.{BearerRequestContext}
-use Rattle.gtp_v2.specs.declared.body.create_bearer_response.BearerResponseContext.{BearerResponseContext}
 use Rattle.gtp_v2.specs.declared.body.delete_bearer_response.RemovalResponseContext.{RemovalResponseContext}
 use Rattle.gtp_v2.specs.Codes.{number_of, short_number, length_number, element_number}
 use Rattle.gtp_v2.specs.declared.fault.Head.{Head}
@@ -23,7 +16,7 @@ use Rattle.gtp_v2.specs.CreateSessionRequest.{create_session_request}
 use Rattle.gtp_v2.specs.DeleteSessionRequest.{delete_session_request}
 use Rattle.gtp_v2.specs.CreateBearerRequest.{create_bearer_request}
 use Rattle.gtp_v2.specs.DeleteBearerRequest.{delete_bearer_request}
-use Rattle.gtp_v2.specs.Body.{kind_of, message_value}
+use Rattle.gtp_v2.specs.Body.{message_value}
 use Rattle.gtp_v2.specs.Message.{MessageValue}
 use Rattle.gtp_v2.specs.reading.Message.{message_at}
 use Rattle.gtp_v2.specs.Datagram.{IsMessage, IsFault}
@@ -36,103 +29,23 @@ use Rattle.gtp_user.specs.declared.fault.UserFault.TheVariants as user_faults
 use Rattle.gtp_user.specs.Message as user_messages
 use Rattle.gtp_user.specs.reading.Message as user_octets
 use Rattle.gtp_user.specs.Datagram.{IsUserMessage, IsUserFault}
-use Rattle.gtp_machine.specs.Message.{CreateSessionRequest, CreateBearerRequest, RequestedBearer, CreatedBearer, WantedBearer, GivenBearer, RemovedBearer, Message, Echo_request, Echo_response, Create_session_request, Create_session_response, Delete_session_request, Delete_session_response, Create_bearer_request, Create_bearer_response, Delete_bearer_request, Delete_bearer_response, Other_control, Packet_data, End_marker, Error_indication, User_echo_request, User_echo_response, Supported_extensions, Other_user}
+use Rattle.gtp_machine.specs.Message.{CreateSessionRequest, CreateBearerRequest, RemovedBearer, Message, Create_session_request, Create_bearer_request, Packet_data, End_marker, Error_indication, User_echo_request, User_echo_response, Supported_extensions, Other_user}
 use Rattle.gtp_machine.specs.Input.{RequestKind, Of_create_session, Of_delete_session, Of_create_bearer, Of_delete_bearer, Defect, Mandatory_missing, Conditional_missing, Too_short, Out_of_range, ControlReading, Control_message, Faulty, Control_fault, UserReading, User_message, Extension_needed, User_fault}
 use Rattle.gtp_machine.specs.Node.{written}
-use Rattle.gtp_machine.specs.Decoded.{address_of, message_of}
+use Rattle.gtp_machine.specs.Decoded.{message_of}
 use Rattle.gtp_machine.specs.Answer.{fault_number}
 
 -- the TEID of a header (5.1), 0 where it has none
 abbrev pub header_in : Option Teid → ℕ
 header_in teid = written (option_map (λ t. t.0) teid)
 
--- a restart counter (Recovery, 8.5), where there is one
-abbrev pub counter_in : Option Recovery → Option ℕ
-counter_in recovery = option_map (λ r. r.0.0) recovery
-
--- a charging identifier (8.29), where there is one
-abbrev pub charging_in : Option ChargingId → Option ℕ
-charging_in charging = option_map (λ c. c.0) charging
-
--- a bearer context of a Create Session Request (7.2.1, table 7.2.1-2)
-abbrev pub requested_bearer : SessionRequestContext → RequestedBearer
-requested_bearer c = record { identity = c.ebi.0; qos = c.qos; user = c.user }
-
--- a bearer context of a Create Session Response (7.2.2, table 7.2.2-2)
-abbrev pub created_bearer : SessionResponseContext → CreatedBearer
-created_bearer c = record { identity = c.ebi.0; cause = c.cause; user = c.user; qos = c.qos; charging = charging_in c.charging_id }
-
--- a bearer context of a Create Bearer Request (7.2.3, table 7.2.3-2)
-abbrev pub wanted_bearer : BearerRequestContext → WantedBearer
-wanted_bearer c = record { identity = c.ebi.0; tft = c.tft; user = c.user; qos = c.qos; charging = charging_in c.charging_id }
-
--- a bearer context of a Create Bearer Response (7.2.4, table 7.2.4-2)
-abbrev pub given_bearer : BearerResponseContext → GivenBearer
-given_bearer c = record { identity = c.ebi.0; cause = c.cause; serving_user = c.serving_user; packet_user = c.packet_user }
-
 -- a bearer context of a Delete Bearer Response (7.2.10.2, table 7.2.10.2-2)
 abbrev pub removed_bearer : RemovalResponseContext → RemovedBearer
 removed_bearer c = record { identity = c.ebi.0; cause = c.cause }
 
--- what a Create Session Request (7.2.1) with these bearer contexts reads as
-abbrev pub session_requested : ℕ → ℕ → session_requests.CreateSessionRequest → SessionRequestContext → List SessionRequestContext → CreateSessionRequest
-session_requested header number q first further =
-    record {
-      header = header;
-      number = number;
-      imsi = q.imsi;
-      rat = q.rat.0;
-      network = q.serving_network;
-      control = q.control;
-      access_point = q.apn;
-      selection = option_map (λ s. s.0) q.selection;
-      pdn = q.pdn_type.0;
-      address = option_map address_of q.paa;
-      ambr = q.ambr;
-      context = requested_bearer first;
-      further = map requested_bearer further;
-      recovery = counter_in q.recovery;
-    }
-
--- a Create Session Request by its bearer contexts; each that is decoded has one
-abbrev pub session_request_of : ℕ → ℕ → session_requests.CreateSessionRequest → List SessionRequestContext → Message
-session_request_of header number q [] = Other_control 32
-session_request_of header number q (first ∷ further) = Create_session_request (session_requested header number q first further)
-
--- what a Create Bearer Request (7.2.3) with these bearer contexts reads as
-abbrev pub bearer_requested : ℕ → ℕ → bearer_requests.CreateBearerRequest → BearerRequestContext → List BearerRequestContext → CreateBearerRequest
-bearer_requested header number r first further =
-    record {
-      header = header;
-      number = number;
-      transaction = option_map (λ t. t.0) r.pti;
-      linked = r.linked_ebi.0;
-      context = wanted_bearer first;
-      further = map wanted_bearer further;
-    }
-
--- a Create Bearer Request by its bearer contexts; each that is decoded has one
-abbrev pub bearer_request_of : ℕ → ℕ → bearer_requests.CreateBearerRequest → List BearerRequestContext → Message
-bearer_request_of header number r [] = Other_control create_bearer_request.kind
-bearer_request_of header number r (first ∷ further) = Create_bearer_request (bearer_requested header number r first further)
-
--- what a control message says, by its type (6.1), under the TEID and the sequence number of its header; a type that no gateway knows says no more
-abbrev pub body_message : ℕ → ℕ → Body → Message
-body_message header number (bodies.EchoRequest m) = Echo_request (record { number = number; recovery = m.recovery.0.0 })
-body_message header number (bodies.EchoResponse m) = Echo_response (record { number = number; recovery = m.recovery.0.0 })
-body_message header number (bodies.CreateSessionRequest q) = session_request_of header number q q.contexts
-body_message header number (bodies.CreateSessionResponse a) = Create_session_response (record { header = header; number = number; cause = a.cause; control = a.control; address = option_map address_of a.paa; ambr = a.ambr; contexts = map created_bearer a.contexts; recovery = counter_in a.recovery })
-body_message header number (bodies.DeleteSessionRequest d) = Delete_session_request (record { header = header; number = number; linked = option_map (λ e. e.0) d.linked_ebi })
-body_message header number (bodies.DeleteSessionResponse d) = Delete_session_response (record { header = header; number = number; cause = d.cause; recovery = counter_in d.recovery })
-body_message header number (bodies.CreateBearerRequest r) = bearer_request_of header number r r.contexts
-body_message header number (bodies.CreateBearerResponse x) = Create_bearer_response (record { header = header; number = number; cause = x.cause; contexts = map given_bearer x.contexts; recovery = counter_in x.recovery })
-body_message header number (bodies.DeleteBearerRequest d) = Delete_bearer_request (record { header = header; number = number; linked = option_map (λ e. e.0) d.linked_ebi; identities = map (λ e. e.0) d.ebis })
-body_message header number (bodies.DeleteBearerResponse d) = Delete_bearer_response (record { header = header; number = number; cause = d.cause; linked = option_map (λ e. e.0) d.linked_ebi; contexts = map removed_bearer d.contexts; recovery = counter_in d.recovery })
-body_message header number other = Other_control (kind_of other)
-
--- a control message (5.1); its priority is not looked at
+-- a control message of the code (5.1), as one of the machine
 abbrev pub control_message : decoded.Message → Message
-control_message m = body_message (header_in m.teid) m.seq m.body
+control_message m = message_of (message_value m)
 
 -- the requests whose faults are answered, by their type (6.1)
 abbrev pub request_kind : ℕ → Option RequestKind
@@ -238,15 +151,11 @@ user_cut_fault count = if nat_lt count 8 then user_codes.short_number else user_
 
 -- Each Create Session Request that is decoded has a bearer context, and reads as one, with what its fields say.
 abbrev pub SessionRequestReads : Type 0
-SessionRequestReads = (octets : List ℕ) (m : decoded.Message) (q : session_requests.CreateSessionRequest) → IsMessage octets (message_value m) → m.body ≡ bodies.CreateSessionRequest q → (first : SessionRequestContext) × (further : List SessionRequestContext) × (q.contexts ≡ first ∷ further) × (control_message m ≡ Create_session_request (session_requested (header_in m.teid) m.seq q first further))
+SessionRequestReads = (octets : List ℕ) (m : decoded.Message) (q : session_requests.CreateSessionRequest) → IsMessage octets (message_value m) → m.body ≡ bodies.CreateSessionRequest q → (said : CreateSessionRequest) × (control_message m ≡ Create_session_request said)
 
 -- Each Create Bearer Request that is decoded has a bearer context, and reads as one, with what its fields say.
 abbrev pub BearerRequestReads : Type 0
-BearerRequestReads = (octets : List ℕ) (m : decoded.Message) (q : bearer_requests.CreateBearerRequest) → IsMessage octets (message_value m) → m.body ≡ bodies.CreateBearerRequest q → (first : BearerRequestContext) × (further : List BearerRequestContext) × (q.contexts ≡ first ∷ further) × (control_message m ≡ Create_bearer_request (bearer_requested (header_in m.teid) m.seq q first further))
-
--- What a decoded message of the control plane reads as is what its fields say, each by its name.
-abbrev pub ControlByName : Type 0
-ControlByName = (m : decoded.Message) → message_of (message_value m) ≡ control_message m
+BearerRequestReads = (octets : List ℕ) (m : decoded.Message) (q : bearer_requests.CreateBearerRequest) → IsMessage octets (message_value m) → m.body ≡ bodies.CreateBearerRequest q → (said : CreateBearerRequest) × (control_message m ≡ Create_bearer_request said)
 
 -- What a decoded message of the user plane reads as is what it carries.
 abbrev pub UserByName : Type 0

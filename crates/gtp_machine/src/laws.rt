@@ -3,29 +3,27 @@
 ghost use Rattle.gtp_machine.specs.Laws.{
   ARunIsPossible,
   Always,
-  BearersAgree,
   BearersOnce,
   EachActsOnce,
   EachClosesWhole,
   EachGoesBack,
   EachOpened,
-  EachOwed,
   KnownIsLatest,
   MadeOnce,
   NamesGoBack,
   NoneAhead,
-  NoneOver,
   OfEachRun,
   OneMessage,
   PlanesApart,
   ResponsesGoBack,
-  SessionsAgree,
   StepsAreKept,
 };
+ghost use Rattle.gtp_machine.specs.Node.{Role};
+ghost use Rattle.gtp_machine.specs.Safety.{BearersAgree, EachOwed, NoneOver, SessionsAgree};
+ghost use Rattle.gtp_machine.specs.World.{side_of};
 ghost use Rattle.gtp_machine.specs.Reading.{
   BearerRequestReads,
   ControlByGrammar,
-  ControlByName,
   CutsRead,
   DecodedReads,
   SessionRequestReads,
@@ -60,17 +58,18 @@ ghost use Rattle.gtp_machine.specs.Sound.{
 pub fn tunnel_safety()
     // Sessions that name each other have the same subscriber, access point, default identity and
     // address.
-    ensures sessions { Always SessionsAgree }
+    ensures sessions { Always (λ w. SessionsAgree w.serving.node w.packet.node) }
 
     // Bearers that name each other have the same identity, and their sessions agree.
-    ensures bearers { Always BearersAgree }
+    ensures bearers { Always (λ w. BearersAgree w.serving.node w.packet.node) }
 
     // Where no delivery was late, each packet that was accepted was handed in at the other gateway,
     // octet for octet, for the same subscriber, access point and bearer.
-    ensures owed { Always EachOwed }
+    ensures owed { Always (λ w. EachOwed w.late w.handed w.accepted) }
 
     // No session outlives a restart of the peer that its gateway has heard of.
-    ensures none_over { Always NoneOver }
+    ensures none_over { Always (λ w.
+        (role : Role) → NoneOver (side_of w role).node (side_of w role).seen) }
 {}
 
 /// What tunnel safety rests on.
@@ -197,9 +196,6 @@ pub fn readings()
 
     // Octets of the user plane read as the message that they spell, or as their first fault.
     ensures user_grammar { UserByGrammar }
-
-    // What a decoded message of the control plane reads as is what its fields say, each by its name.
-    ensures named { ControlByName }
 
     // What a decoded message of the user plane reads as is what it carries.
     ensures user_named { UserByName }

@@ -1,53 +1,54 @@
-//! What a command or a datagram comes to.
+//! The outcomes of commands and datagrams.
 
 use gtp_values::Plane;
 
-/// Why a command is refused. The code before each is the one that is printed.
+/// Why a command is refused. Each begins with its printed code. G6, out of memory, is no rule of a gateway:
+/// `CommandFault` has it.
 #[derive(Clone, Copy, Debug, PartialEq, Eq)]
 pub enum Refusal {
-    /// G1: no session or bearer has this TEID, or no dedicated bearer of the session this identity.
+    /// G1: no session or bearer has this TEID, or no dedicated bearer of the session has this identity.
     NoSuchContext,
     /// G2: the session or bearer is pending or closing.
     NotActive,
-    /// G3: the other gateway has this command.
+    /// G3: this is a command of the other gateway.
     WrongRole,
-    /// G4 S1: 1,000 sessions stand.
+    /// G4 S1: the gateway has 1,000 sessions.
     SessionsFull,
-    /// G4 S4: fewer TEIDs are left than are needed.
+    /// G4 S4: fewer TEIDs are left than the command needs.
     TeidsUsed,
     /// G4 B1: 256 requests are pending.
     PendingFull,
-    /// G5: an End Marker was sent on this bearer.
+    /// G5: an End Marker was sent on this bearer before (TS 29.281 7.3.2).
     BearerEnded,
     /// G7: the payload has more than 65,000 octets.
     PacketTooLong,
 }
 
-/// The name of what is wrong with a datagram: H and the number of a fault of the control plane, or U
-/// and the number of one of the user plane.
+/// The printed name of a fault of a datagram: H and a number on the control plane, U and a number on the
+/// user plane.
 #[derive(Clone, Copy, Debug, PartialEq, Eq)]
 pub struct FaultName {
     pub plane: Plane,
     pub number: u8,
 }
 
-/// Why a datagram is dropped. The code before each is the one that is printed.
+/// Why a datagram is dropped (TS 29.274 7.7, TS 29.281 7.3). Each begins with its printed code.
 #[derive(Clone, Copy, Debug, PartialEq, Eq)]
 pub enum DropReason {
-    /// X1: its octets are no message, and nothing is answered.
+    /// X1: its octets are no message, and it is not answered.
     Undecodable(FaultName),
-    /// X2: its restart counter is earlier than the one that is known.
+    /// X2: its restart counter is earlier than the latest one received (TS 23.007 18).
     OldCounter,
     /// X3: no request with its sequence number is pending.
     NoPending,
-    /// X4: it does not answer the request with its sequence number, or describes other than what
-    /// was asked for.
+    /// X4: it is no answer to the request with its sequence number, or describes another context than
+    /// the one requested.
     Mismatch,
     /// X5: the session or bearer is not in a state to take it.
     ContextNotActive,
     /// X6: no bearer has its TEID.
     UnknownContext,
-    /// X7: an End Marker came before it.
+    /// X7: an End Marker was received on its bearer before.
     AfterEnd,
     /// X8: 4,096 answers are held.
     HeldFull,
@@ -59,10 +60,11 @@ pub enum DropReason {
     NotPeer,
 }
 
-/// What a step of a gateway comes to. Each command and each datagram has one outcome.
+/// The outcome of a step of a gateway. Each command and each datagram has exactly one.
 #[derive(Clone, Copy, Debug, PartialEq, Eq)]
 pub enum Outcome {
-    /// A request was sent for a command, with the TEID of the context that it is about.
+    /// A request was sent for a command; the TEID is the gateway's own for the context that it is about, none
+    /// for an Echo Request.
     Begun(Option<u32>),
     /// A user packet or an End Marker was sent.
     GoneOut,
@@ -74,25 +76,26 @@ pub enum Outcome {
     Echoed,
     /// A request that was answered before was answered with the same octets.
     Repeated,
-    /// An answer opened the context that it was about.
+    /// An accepting response made its context active.
     Opened,
-    /// An answer removed the context that it was about.
+    /// A response removed its context.
     Closed,
-    /// The peer gave an identity that can't be taken, or the session is closing: the bearer is
-    /// removed.
+    /// A Create Bearer Response gave an EPS bearer identity that cannot be used, or its session is closing: the
+    /// bearer is removed.
     Clash,
-    /// The peer refused, with this cause value.
+    /// The peer refused the request with this cause value (TS 29.274 8.4).
     Rejected(u8),
-    /// An Echo Request was answered by the peer.
+    /// An Echo Response was received.
     Alive,
     /// A user packet was accepted.
     Accepted,
-    /// An End Marker was taken.
+    /// An End Marker was received (TS 29.281 7.3.2).
     Ended,
-    /// The peer does not know a bearer: it is removed, or its session.
+    /// An Error Indication was received (TS 29.281 7.3.1): the dedicated bearer, or the session of the default
+    /// bearer, is removed.
     Broken,
     /// The datagram was dropped.
     Dropped(DropReason),
-    /// A move of a tick, which has no outcome of its own.
+    /// A move of a tick. It is an outcome of the definitions alone: no call returns it.
     Moved,
 }

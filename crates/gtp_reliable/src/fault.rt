@@ -1,4 +1,4 @@
-//! Why a request can't be begun or an answer kept.
+//! Errors of reliable delivery.
 
 ghost use Rattle.std.specs.Prelude.{◌≡◌};
 ghost use Rattle.gtp_reliable.specs.declared.fault.ReliableFault.TheVariants.{Memory};
@@ -6,7 +6,7 @@ ghost use Rattle.gtp_reliable.specs.declared.fault.ReliableFault.TheVariants.{Me
 use std::alloc::{AllocError, AllocFailed};
 use thiserror::Error;
 
-/// Why a request can't be begun or an answer kept.
+/// Why a request cannot be begun or an answer cannot be held. After an error all is as before.
 #[derive(Clone, Copy, Debug, PartialEq, Eq, Error)]
 pub enum ReliableFault {
     /// B1: 256 requests are pending.

@@ -29,10 +29,10 @@ pub struct Request {
     pub octets: Vec<u8>,
 }
 
-/// Answers that are held for requests which come again, in order of keeping. An answer is held
-/// until the `hold`-th tick after it was kept; a look-up doesn't prolong that, and only a tick
-/// drops a pair. At most 4,096 are held, one for a request from a source. A look-up halves an index
-/// by source and octets, and a tick goes over what it gives up, not over what stays.
+/// Answers that are held in case their requests come again (TS 29.274 7.6), oldest first. An answer is held until
+/// the `hold`-th tick after it was kept; a look-up does not prolong that, and only a tick drops an answer. At most
+/// 4,096 are held, one for each request from a source. A look-up searches an index by source and octets by halving,
+/// and the cost of a tick is that of what it drops.
 #[derive(Debug, Drop)]
 pub struct Held {
     alloc: Global,
@@ -70,7 +70,7 @@ impl Model for Held {
 }
 
 impl Held {
-    /// No answers. `hold` is 1 to 100,000 ticks. Takes no memory.
+    /// No answers. `hold` is 1 to 100,000 ticks. Allocates nothing.
     pub fn new(alloc: Global, hold: u32) -> Held
         requires { IsHold hold }
         ensures empty { result.pairs ≡ [] }
@@ -97,8 +97,8 @@ impl Held {
         self.lookup_counted(source, request).0
     }
 
-    /// The same, and how many answers were looked at for it: at most 14, whatever is held. Takes no
-    /// memory.
+    /// The answer that is held for a request, as `lookup` returns it, and how many answers were compared for it: at
+    /// most 14, whatever is held. Allocates nothing.
     pub fn lookup_counted(&self, source: Endpoint, request: &[u8]) -> (Option<&[u8]>, u32)
         ensures found { IfSome result.0 (λ answer.
             HasAnswer source request.now answer.now self.now.pairs) }
@@ -117,7 +117,7 @@ impl Held {
         }
     }
 
-    /// Whether 4,096 answers are held. Takes no memory.
+    /// Whether 4,096 answers are held. Allocates nothing.
     pub fn is_full(&self) -> bool
         ensures full { IsTrue result ↔ (4096 ≤ length self.now.pairs) }
         // And what holds of the answers at all times.
@@ -165,7 +165,7 @@ impl Held {
         keep(&mut self.pairs, &mut self.index, self.first, pair);
     }
 
-    /// The requests that the next tick forgets. Takes no memory where there is none.
+    /// The requests whose answers the next tick drops. Allocates nothing if there is none.
     pub fn due(&self) -> Result<Vec<Request>, ReliableFault>
         ensures list { IfOk result (λ v. map question_of v.items ≡ forgets self.now) }
         ensures quiet { IsQuiet self.now → IsOk result }
@@ -177,7 +177,7 @@ impl Held {
         Ok(requests)
     }
 
-    /// A tick passes: what is due is given up.
+    /// A tick passes: each answer that was held for `hold` ticks is dropped.
     pub fn tick(&mut self)
         ensures pairs { self.new.pairs ≡ filter_map (after_tick self.old.hold) self.old.pairs }
         ensures hold { self.new.hold ≡ self.old.hold }

@@ -13,7 +13,7 @@ pub fn find_number<P: Copy>(index: &[(u32, P)], number: u32) -> Result<usize, us
     index.binary_search_by_key(&number, |entry| entry.0)
 }
 
-/// Puts in a number that isn't there, in the room that there is.
+/// Puts in a number that is not there, in the room that there is.
 pub fn put_in<P: Copy>(index: &mut Vec<(u32, P)>, number: u32, purpose: P)
     requires room { vec_len index.old < vec_capacity index.old }
     requires rising { AreRising index.old.items }

@@ -33,7 +33,7 @@ pub struct Resend {
     pub octets: Vec<u8>,
 }
 
-/// What the next tick does, in order of beginning.
+/// What the next tick does, oldest request first.
 #[derive(Debug, Drop)]
 pub struct Due<P: Copy> {
     /// What it sends again.
@@ -42,11 +42,10 @@ pub struct Due<P: Copy> {
     pub gave_up: Vec<(Seq, P)>,
 }
 
-/// Requests that wait for their answers, in order of beginning, each with a purpose. A request
-/// waits `t3` ticks (T3-RESPONSE); then it is sent again, at most `n3` times (N3-REQUESTS), and
-/// then given up. Numbers rise by one from 0, or from where they were told to, to 8,388,607, and
-/// then from 0 again; one that is pending is passed over. At most 256 requests are pending. A number
-/// is found by halving an index; a tick goes over all of them.
+/// Requests that wait for their answers (TS 29.274 7.6), oldest first, each with a purpose. A request waits `t3` ticks
+/// (T3-RESPONSE); then it is sent again, at most `n3` times (N3-REQUESTS), and then given up. Sequence numbers rise by
+/// one, from 0 or a number that is set, to 8,388,607, and then from 0 again; a number that is pending is skipped. At
+/// most 256 requests are pending. A number is found in an index by halving; a tick visits all requests.
 #[derive(Debug, Drop)]
 pub struct Pending<P: Copy> {
     alloc: Global,
@@ -97,7 +96,7 @@ fn following(number: u32) -> u32
     if number == LAST { 0 } else { number + 1 }
 }
 
-/// What the next tick does. Takes no memory where that is nothing.
+/// What the next tick does. Allocates nothing if that is nothing.
 fn due_of<P: Copy>(
     alloc: Global,
     waiting: &[Waiting<P>],
@@ -182,8 +181,7 @@ fn take_out_where<P: Copy, F: Fn(&P) -> bool>(purposes: &mut Vec<(u32, P)>, test
 }
 
 impl<P: Copy> Pending<P> {
-    /// No requests; numbers begin at 0. `t3` is 1 to 1,000 ticks, `n3` at most 100. Takes no
-    /// memory.
+    /// No requests; sequence numbers begin at 0. `t3` is 1 to 1,000 ticks, `n3` at most 100. Allocates nothing.
     pub fn new(alloc: Global, t3: u32, n3: u32) -> Pending<P>
         requires { AreLimits t3 n3 }
         ensures empty { result.waiting ≡ [] }
@@ -200,7 +198,7 @@ impl<P: Copy> Pending<P> {
         }
     }
 
-    /// The same with numbers that begin at `next`, at most 8,388,607.
+    /// No requests, as `new`; sequence numbers begin at `next`, at most 8,388,607.
     pub fn new_at(alloc: Global, t3: u32, n3: u32, next: Seq) -> Pending<P>
         requires limits { AreLimits t3 n3 }
         requires number { next < numbers }
@@ -218,7 +216,7 @@ impl<P: Copy> Pending<P> {
         }
     }
 
-    /// Whether 256 requests are pending. Takes no memory.
+    /// Whether 256 requests are pending. Allocates nothing.
     pub fn is_full(&self) -> bool
         ensures full { IsTrue result ↔ (256 ≤ length self.now.waiting) }
         // And what holds of the requests at all times.
@@ -308,8 +306,8 @@ impl<P: Copy> Pending<P> {
         take_out(&mut self.purposes, number);
     }
 
-    /// All requests whose purpose meets the test wait no longer. Takes no memory. `meets` is what
-    /// the test answers; the caller picks it.
+    /// All requests whose purpose passes the test are no longer pending. Allocates nothing. `meets` is the test as
+    /// contracts see it; the caller chooses it.
     pub fn finish_where<F: Fn(&P) -> bool>(&mut self, test: F)
         ghost meets: { P → Bool }
         requires callable { F.IsAlwaysCallable test }
@@ -324,7 +322,7 @@ impl<P: Copy> Pending<P> {
         take_out_where(&mut self.purposes, &test);
     }
 
-    /// What the next tick does. Takes no memory where that is nothing.
+    /// What the next tick does. Allocates nothing if that is nothing.
     pub fn due(&self) -> Result<Due<P>, ReliableFault>
         ensures resend { IfOk result (λ due. map message_of due.resend.items ≡ resends self.now) }
         ensures gave_up { IfOk result (λ due. due.gave_up.items ≡ given_ups self.now) }
@@ -337,7 +335,7 @@ impl<P: Copy> Pending<P> {
         Ok(due)
     }
 
-    /// A tick passes: what is due is sent again, by who asked, or given up.
+    /// A tick passes: each request that is due counts as sent again, which the caller does, or is given up.
     pub fn tick(&mut self)
         ensures waiting { self.new.waiting
             ≡ filter_map (after_tick self.old.t3 self.old.n3) self.old.waiting }

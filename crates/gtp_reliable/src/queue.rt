@@ -201,7 +201,7 @@ pub fn tick_all(
     }
 }
 
-/// The requests that the next tick forgets, from the front. Takes no memory where there is none.
+/// The requests that the next tick forgets, from the front. Allocates nothing if there is none.
 pub fn forgotten_by_tick(
     alloc: Global,
     pairs: &VecDeque<Pair>,

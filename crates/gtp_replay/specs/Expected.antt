@@ -4,7 +4,7 @@ use Rattle.std.specs.List.{list_all}
 use Rattle.gtp_machine.specs.World.{EventOutcome}
 use Rattle.gtp_world.specs.Kept.{Told}
 use Rattle.gtp_scenario.specs.Entries.{Entry}
-use Rattle.gtp_report.specs.Outcomes.{first_word, is_refused}
+use Rattle.gtp_replay.specs.Outcomes.{first_word, is_refused}
 
 -- the first word of an outcome is the one that is expected; where none is, it is no refusal
 abbrev pub is_met : Option (List ℕ) → EventOutcome → Bool

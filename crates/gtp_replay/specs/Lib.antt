@@ -1,3 +1,8 @@
+pub mod Outcomes
+pub mod Events
+pub mod Contexts
+pub mod Verdicts
+pub mod Report
 pub mod Counts
 pub mod Streams
 pub mod Expected

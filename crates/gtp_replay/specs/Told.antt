@@ -9,7 +9,7 @@ use Rattle.gtp_scenario.specs.declared.fault.Refusal.{Refusal}
 use Rattle.gtp_scenario.specs.declared.fault.Refusal.TheVariants as refusals
 use Rattle.gtp_scenario.specs.Entries.{events_in}
 use Rattle.gtp_scenario.specs.Scenarios.{Scenario, scenario_of}
-use Rattle.gtp_report.specs.Report.{IsReport}
+use Rattle.gtp_replay.specs.Report.{IsReport}
 use Rattle.gtp_replay.specs.declared.replaying.Form.{Form}
 use Rattle.gtp_replay.specs.declared.replaying.Form.TheVariants.{Report, Diagram}
 use Rattle.gtp_replay.specs.declared.verdict.Verdict.{Verdict}

@@ -26,7 +26,7 @@ impl<T> Counted<T> {
         Counted { inner, failures: 0 }
     }
 
-    /// How many calls failed.
+    /// The number of calls that failed.
     pub fn failures(&self) -> u64
         ensures { result ≡ failures_of self.now }
     {
@@ -63,7 +63,7 @@ impl<R: Read> Counted<R> {
 }
 
 impl<W: Write> Counted<W> {
-    /// One call of the writer. To take nothing is to fail.
+    /// One call of the writer. A call that takes no octet has failed.
     pub(crate) fn write(&mut self, buf: &[u8]) -> Result<usize, Failed>
         requires { failures_of self.old < 2 ^ 64 - 1 }
         ensures bound { IfOk result (λ n. (0 < n)) }

@@ -1,4 +1,4 @@
-//! Whether events came to what a scenario expects.
+//! Whether events had the outcomes that a scenario expects.
 
 ghost use Rattle.std.specs.Prelude.{◌≡◌, map, option_map, string_bytes};
 ghost use Rattle.std.specs.List.{list_all};
@@ -6,7 +6,7 @@ ghost use Rattle.gtp_world.specs.Kept.{outcome_of, told_by};
 ghost use Rattle.gtp_scenario.specs.Views.{entry as entry_view};
 ghost use Rattle.gtp_replay.specs.Expected.{is_met, told_is_met, all_met};
 
-use gtp_report::{first_word, is_refused};
+use crate::reporting::{first_word, is_refused};
 use gtp_scenario::Entry;
 use gtp_world::{EventOutcome, Note};
 
@@ -33,7 +33,7 @@ fn each_met(expect: &Option<String>, notes: &[Note]) -> bool
     true
 }
 
-/// Whether each event came to what its entry expects.
+/// Whether each event had the outcome that its entry expects.
 pub(crate) fn all_met(entries: &[Entry], notes: &[Note]) -> bool
     ensures { result ≡ all_met (map entry_view entries.now) (map told_by notes.now) }
 {

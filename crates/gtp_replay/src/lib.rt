@@ -1,15 +1,18 @@
-//! Replays: a scenario is read, run and reported.
+//! Replays: a scenario is read and run, and its report or its diagram is written.
 #![tactic(auto)]
 
 mod counted;
 mod expected;
 mod replaying;
+mod reporting;
 mod streams;
 mod verdict;
 
 pub use counted::{Counted, Failed};
 pub use replaying::{replay, replay_diagram};
+pub use reporting::{diagram, report};
 pub use verdict::{ReplayFault, Verdict};
 
 /// What the signatures and contracts here name of the crates below.
-pub use gtp_report::report;
+pub use gtp_values::Memory;
+pub use gtp_world::{Event, EventOutcome, World};

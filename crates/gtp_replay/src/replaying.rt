@@ -1,4 +1,4 @@
-//! From octets to octets.
+//! Replays: from the octets of a scenario to those of a report or a diagram.
 
 ghost use Rattle.std.specs.Prelude.{◌≡◌, ◌≢◌, ◌+◌, ◌-◌, ◌^◌, ◌<◌, map, IfOk, IfErr, IfSome};
 ghost use Rattle.gtp_world.specs.Events.{event_of};
@@ -11,10 +11,10 @@ ghost use Rattle.gtp_replay.specs.Told.{refusal_line, verdict_on, IsText, TellsS
 
 use crate::counted::Counted;
 use crate::expected::all_met;
+use crate::reporting::{diagram, report};
 use crate::streams::{read_octets, write_octets};
 use crate::verdict::{ReplayFault, Verdict};
 use gtp_lines::text::{put, put_number};
-use gtp_report::{diagram, report};
 use gtp_scenario::{ReadFault, Refusal, Scenario, events_of, read_scenario};
 use gtp_values::Memory;
 use gtp_world::{Event, World, WorldConfig};
@@ -125,7 +125,7 @@ fn told(alloc: Global, form: Form, scenario: &Scenario) -> Result<(Vec<u8>, Verd
     told
 }
 
-/// What is written for these octets, and how the replay goes.
+/// What is written for these octets, and the result of the replay.
 #[tactic(auto, unfolding(crate::specs::Told::Tells))]
 fn answered(alloc: Global, form: Form, octets: &[u8]) -> Result<(Vec<u8>, Verdict), ReplayFault>
     ensures told { IfOk result (λ p. Tells form octets.now p.0.items p.1) }
@@ -172,10 +172,10 @@ fn replay_as<R: Read, W: Write>(
     Ok(verdict)
 }
 
-/// Reads a scenario, runs it, and writes the report of the world that its events leave; or, where
-/// what is read is no scenario, the line of the first thing that is wrong with it. At most 16,777,217
-/// octets are read, one past the limit of a scenario. The text is whole before the first of it is
-/// written.
+/// Reads a scenario, runs it, and writes the report of the world that its events leave; or, if the octets are not a
+/// scenario, one line with the first error in them. At most 16,777,217 octets are read, one past the limit of a
+/// scenario. The text is complete before its first octet is written. `Read` or `Write` if a call of the reader or the
+/// writer failed, and `Memory` if an allocation was refused.
 pub fn replay<R: Read, W: Write>(
     alloc: Global,
     reader: &mut Counted<R>,
@@ -208,9 +208,8 @@ pub fn replay<R: Read, W: Write>(
     replay_as(alloc, Form::Report, reader, writer)
 }
 
-/// Reads a scenario, runs it, and writes the run as a sequence diagram in plain text; or, where what
-/// is read is no scenario, the line of the first thing that is wrong with it. It reads and writes as
-/// `replay` does.
+/// Reads a scenario, runs it, and writes the run as a sequence diagram in plain text; or, if the octets are not a
+/// scenario, one line with the first error in them. It reads and writes as `replay` does, with the same errors.
 pub fn replay_diagram<R: Read, W: Write>(
     alloc: Global,
     reader: &mut Counted<R>,

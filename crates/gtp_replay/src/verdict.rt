@@ -1,4 +1,4 @@
-//! How a replay goes.
+//! The result of a replay.
 
 ghost use Rattle.std.specs.Prelude.{◌≡◌};
 ghost use Rattle.gtp_replay.specs.declared.verdict.ReplayFault.TheVariants as faults;
@@ -7,18 +7,18 @@ use gtp_values::Memory as NoMemory;
 use std::alloc::{AllocError, AllocFailed};
 use thiserror::Error;
 
-/// How a replay went.
+/// The result of a replay that was written completely.
 #[derive(Clone, Copy, Debug, PartialEq, Eq)]
 pub enum Verdict {
-    /// Each event came to what the scenario expects.
+    /// Each event had the outcome that the scenario expects.
     Expected,
-    /// An event came to something else.
+    /// An event had another outcome.
     Unexpected,
-    /// What was read is no scenario.
+    /// The octets that were read are not a scenario.
     Bad,
 }
 
-/// Why nothing was replayed, or not all of it was written.
+/// Why a replay was not written completely.
 #[derive(Clone, Copy, Debug, PartialEq, Eq, Error)]
 pub enum ReplayFault {
     /// An allocation was refused.

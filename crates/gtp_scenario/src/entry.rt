@@ -17,9 +17,9 @@ use std::alloc::Global;
 #[derive(Debug, Drop)]
 pub struct Entry {
     pub event: Event,
-    /// How often it happens, 1 to 1,000; more than once only a tick.
+    /// How often the event happens: 1 to 1,000 for a tick, once for every other event.
     pub times: u32,
-    /// The first word of what it has to come to, each time, if the scenario says so.
+    /// The first word of the outcome that the event must have each time, if the scenario has one.
     pub expect: Option<String>,
 }
 

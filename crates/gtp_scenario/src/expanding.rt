@@ -14,7 +14,7 @@ use gtp_values::Memory;
 use gtp_world::Event;
 use std::alloc::Global;
 
-/// A packet that is handed in, once more.
+/// A copy of a packet that is handed in.
 fn send_copy(alloc: Global, node: Role, bearer: Teid, payload: &[u8]) -> Result<Event, Memory>
     ensures { IfOk result (λ e. event_of e ≡ Does node (Send_user bearer.0 payload.now)) }
 {
@@ -26,7 +26,7 @@ fn send_copy(alloc: Global, node: Role, bearer: Teid, payload: &[u8]) -> Result<
     })
 }
 
-/// An event once more.
+/// A copy of an event.
 fn copy_of(alloc: Global, event: &Event) -> Result<Event, Memory>
     ensures { IfOk result (λ e. event_of e ≡ event_of event.now) }
 {
@@ -60,7 +60,7 @@ fn copy_of(alloc: Global, event: &Event) -> Result<Event, Memory>
     })
 }
 
-/// An event so many times more.
+/// Appends copies of an event.
 fn push_copies(
     alloc: Global,
     events: &mut Vec<Event>,

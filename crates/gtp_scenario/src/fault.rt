@@ -1,4 +1,4 @@
-//! Why a scenario, or a part of one, cannot be read.
+//! Errors of scenarios.
 
 ghost use Rattle.std.specs.Prelude.{◌≡◌};
 ghost use Rattle.gtp_scenario.specs.declared.fault.Fault.TheVariants as fault;
@@ -12,7 +12,7 @@ use thiserror::Error;
 #[derive(Clone, Copy)]
 pub(crate) enum Fault {
     Memory,
-    /// It isn't what a scenario has there.
+    /// It is not what a scenario has there.
     Wrong,
 }
 
@@ -55,21 +55,21 @@ impl Fault {
     }
 }
 
-/// Why octets are no scenario: the first of these, in this order, that applies.
+/// Why octets are not a scenario: the first of these, in this order, that applies.
 #[derive(Clone, Copy, Debug, PartialEq, Eq, Error)]
 pub enum Refusal {
-    /// They are more than 16,777,216, or no JSON.
+    /// They are more than 16,777,216 octets, or not JSON (RFC 8259).
     #[error("bad json")]
     Json,
-    /// What stands beside the entries of `events` is no head, or `events` is no list.
+    /// A key beside `events` is missing, unknown or has a bad value, or `events` is not a list.
     #[error("bad scenario head")]
     Head,
-    /// The entry of `events` at this place, from 0, is none, or passes 100,000 events.
+    /// The entry of `events` at this place, counted from 0, is bad, or is the first one past 100,000 events.
     #[error("bad scenario event {0}")]
     Event(usize),
 }
 
-/// Why no scenario was read.
+/// Why a scenario was not read.
 #[derive(Clone, Copy, Debug, PartialEq, Eq, Error)]
 pub enum ReadFault {
     /// An allocation was refused.

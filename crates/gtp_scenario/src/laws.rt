@@ -8,8 +8,7 @@ ghost use Rattle.gtp_scenario.specs.Entries.{Entry, entry_of, events_in};
 ghost use Rattle.gtp_scenario.specs.Scenarios.{Scenario, most_octets, most_events, scenario_of};
 ghost use Rattle.gtp_scenario.specs.Spelling.{spelling, IsEvent, FitsIn64Bits};
 
-/// Each event is read again from what it is written as in JSON, with how often it happens and what
-/// it has to come to.
+/// Each event is read again from its JSON text, with the number of its repeats and its expected outcome.
 pub fn entries_are_read_again()
     ensures again { (entry : Entry) → IsEvent entry.event entry.times →
         entry_of (spelling entry) ≡ Some entry }

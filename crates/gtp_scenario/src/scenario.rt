@@ -1,4 +1,4 @@
-//! Whole scenarios.
+//! Scenarios: the settings of two gateways, and a list of events.
 
 ghost use Rattle.std.specs.Prelude.{◌≤◌, IfOk, map};
 ghost use Rattle.std.specs.Option.{ok_or};
@@ -21,14 +21,14 @@ use std::alloc::Global;
 /// The most octets of a scenario.
 const MOST_OCTETS: usize = 16_777_216;
 
-/// The most events of a scenario, each as often as it happens.
+/// The most events of a scenario; an entry counts as often as it happens.
 const MOST_EVENTS: u32 = 100_000;
 
-/// Two gateways, and what happens to them.
+/// The settings of two gateways, and the entries of a list of events.
 #[derive(Debug, Drop)]
 pub struct Scenario {
     pub config: WorldConfig,
-    /// In order, at most 100,000 events in all.
+    /// The entries, in order: at most 100,000 events in all.
     pub entries: Vec<Entry>,
 }
 
@@ -73,9 +73,10 @@ fn entries_of(alloc: Global, mut values: Items<'_, '_>) -> Result<Vec<Entry>, Re
     Ok(entries)
 }
 
-/// The scenario that the octets are. They are refused for the first of these: they are no JSON, or
-/// more than 16,777,216 octets; their head is none; an entry of `events` is none, or passes 100,000
-/// events.
+/// Reads a scenario from its octets. They are refused with the first of these errors: `Json`, they are not JSON, or
+/// more than 16,777,216 octets; `Head`, a key beside the entries of `events` is missing, unknown or has a bad value;
+/// `Event`, an entry of `events` is bad, or is the first one past 100,000 events. `Memory` if an allocation was
+/// refused.
 #[tactic(auto, unfolding(crate::specs::Scenarios::scenario_of))]
 pub fn read_scenario(alloc: Global, octets: &[u8]) -> Result<Scenario, ReadFault>
     ensures read { Reads scenario_view result (scenario_of octets.now) }

@@ -124,7 +124,7 @@ fn depth_after(depth: usize, node: &Node<'_>) -> Option<usize>
     }
 }
 
-/// The same after all of these nodes.
+/// The number of arrays and objects that are open after all of these nodes; `None` as for one node.
 fn depth_after_all(nodes: &[Node<'_>]) -> Option<usize>
     ensures { result ≡ depth_after_all 0 (map node_token nodes.now) }
 {

@@ -1,101 +1,69 @@
-//! Both gateways: each datagram that one sends is handed to the other. A test is a scene. Its rows say
-//! what is done, what it comes to and what is sent for it, and its looks what the gateways show at the
-//! end; they, and the octets where a row has them, come from outside.
+//! Both gateways, and what no scenario says: datagrams that the other gateway never sends, other ports and addresses,
+//! commands of the other gateway, limits that only many calls reach, and what is told of a datagram beside its
+//! outcome. A test is a scene. Its rows say what is done, what it comes to and what is sent for it; they, and the
+//! octets where a row has them, come from outside.
 
 mod faulty;
 mod full;
 mod hostile;
-mod restarts;
 mod sessions;
 mod user;
 
 use gtp_gateway::*;
-use gtp_ie::{PdnType, Rat, Selection};
-use gtp_tables::{Bearer, Session, State, Subscriber};
-use gtp_values::{
-    Ambr, Apn, Below, Counter, Ebi, Endpoint, Imsi, Ip, Plmn, Qos, Rate, Rates, Teid, Tft,
-};
+use gtp_values::{Below, Imsi, Rate, Rates};
 use std::alloc::Global;
 use std::process::Abort;
 use std::test::Fail;
 
 /// The requests and answers of one session with a dedicated bearer.
-pub(crate) use gtp_unit_tests::datagrams::{
+use gtp_unit_tests::datagrams::{
     BEARER_REQUEST, BEARER_RESPONSE, SESSION_REQUEST, SESSION_RESPONSE,
 };
 
 /// What is done.
 #[derive(Clone, Copy)]
-pub(crate) enum Act {
-    CreateSession,
-    DeleteSession(u32),
+enum Act {
+    CreateSession(Role),
+    DeleteSession(Role, u32),
     ReleaseSession(Role, u32),
-    CreateBearer(u32),
-    /// Commands of the other gateway.
-    CreateSessionAt(Role),
-    DeleteSessionAt(Role, u32),
-    CreateBearerAt(Role, u32),
-    DeleteBearer(u32, u8),
-    EndMarker(u32),
+    CreateBearer(Role, u32),
     Echo(Role),
-    Send(Role, u32, &'static [u8]),
-    /// A packet of so many zeros is sent.
-    SendZeros(Role, u32, usize),
     /// The datagram that was sent as this one, from 0, is handed to the other gateway.
     Deliver(usize),
     /// These octets are handed to a gateway, from its peer.
     Comes(Role, Plane, &'static str),
     /// The same on the control plane, from this port.
     ComesFrom(Role, u16, &'static str),
-    /// A request of this type and number is handed to a gateway, about a session that is not there.
-    Asks(Role, u8, u32),
     /// The same, from another address.
     Strays(Role, Plane, &'static str),
-    /// So many ticks pass, in which these requests are sent again.
-    Ticks(Role, u32, u32),
-    /// The gateway starts again with this restart counter.
-    Restarts(Role, u8),
-    /// The last datagram that came told this.
-    Told(Tells),
-    /// The last ticks ended so.
-    Ended(Ended),
-    /// So many Echo Requests are sent.
-    Echoes(Role, u32),
+    /// A request of this type and number is handed to a gateway, about a session that is not there.
+    Asks(Role, u8, u32),
     /// So many requests of this type are handed to a gateway, with the numbers from 0 on.
     AsksOften(Role, u8, u32),
     /// So many sessions are opened.
     Opens(u32),
     /// So many sessions are asked for, and each is refused before the next.
     Refuses(u32),
+    /// So many ticks pass, in which so many answers are forgotten, and nothing is sent again or given up.
+    Ticks(Role, u32, usize),
+    /// The last datagram that came told this.
+    Told(Tells),
 }
 
 /// What is told of a datagram that came, beside its outcome and what is sent for it.
 #[derive(Clone, Copy)]
-pub(crate) struct Tells {
+struct Tells {
     /// The restart counter that was heard.
-    pub heard: Option<Counter>,
+    heard: Option<Counter>,
     /// The same, where it is later than the one that was known.
-    pub restart: Option<Counter>,
+    restart: Option<Counter>,
     /// A context was made for a request.
-    pub made: bool,
-    /// The bearer of the packet that was accepted, and the packet.
-    pub bearer: Option<Teid>,
-    pub packet: &'static [u8],
-}
-
-/// What is told of ticks, beside what is sent again.
-#[derive(Clone, Copy, Debug, PartialEq, Eq)]
-pub(crate) struct Ended {
-    /// How many requests were given up, and the number of the first of them.
-    pub gave_up: usize,
-    pub first: Option<u32>,
-    /// How many answers are held no more.
-    pub forgotten: usize,
+    made: bool,
 }
 
 /// What is sent for it.
 #[derive(Clone, Copy)]
-pub(crate) enum Sends {
+enum Sends {
     Nothing,
     Octets(&'static str),
     /// Something, whose octets this row does not compare.
@@ -103,53 +71,30 @@ pub(crate) enum Sends {
 }
 
 /// What is done, what it comes to, and what is sent for it.
-pub(crate) type Row = (Act, Outcome, Sends);
+type Row = (Act, Outcome, Sends);
 
-/// What a gateway shows.
-#[derive(Clone, Copy, PartialEq, Eq)]
-pub(crate) enum Look {
-    /// So many sessions and bearers.
-    Has(usize, usize),
-    /// The TEID of the first session, and the peer's.
-    FirstSession(u32, Option<u32>),
-    /// The address of the first session.
-    Address(Option<u32>),
-    /// The state of the first session.
-    SessionState(State),
-    /// The first bearer.
-    FirstBearer {
-        teid: u32,
-        /// The peer's TEID.
-        remote: Option<u32>,
-        /// The TEID of its session.
-        session: u32,
-        state: State,
-        ended: bool,
-    },
-}
-
-/// What is done with two gateways, and what they show at the end.
+/// What is done with two gateways, and what they have at the end.
 #[derive(Clone, Copy)]
-pub(crate) struct Scene {
+struct Scene {
     /// The restart counter of the packet gateway.
-    pub counter: u8,
+    counter: u8,
     /// How many addresses it has, from 10.1.0.1 on.
-    pub addresses: u32,
+    addresses: u32,
     /// What is done, in order.
-    pub rows: &'static [&'static [Row]],
-    /// What the serving gateway shows at the end.
-    pub serving: &'static [Look],
-    /// What the packet gateway shows at the end.
-    pub packet: &'static [Look],
+    rows: &'static [&'static [Row]],
+    /// How many sessions and bearers the serving gateway has at the end, where that is compared.
+    serving: Option<(usize, usize)>,
+    /// The same of the packet gateway.
+    packet: Option<(usize, usize)>,
 }
 
 /// Two gateways with the counter 1 and ten addresses, with which nothing is done.
-pub(crate) const IDLE: Scene = Scene {
+const IDLE: Scene = Scene {
     counter: 1,
     addresses: 10,
     rows: &[],
-    serving: &[],
-    packet: &[],
+    serving: None,
+    packet: None,
 };
 
 /// Two gateways, and what they sent.
@@ -158,15 +103,10 @@ struct Path {
     serving: Gateway,
     packet: Gateway,
     sent: Vec<(Role, Sent)>,
-    pool: Pool,
     /// How many rows were played.
     at: usize,
     /// What the last datagram told.
     report: Report,
-    bearer: Option<Teid>,
-    payload: Vec<u8>,
-    /// How the last ticks ended.
-    ended: Ended,
 }
 
 /// The other gateway.
@@ -193,8 +133,9 @@ fn addresses_of(role: Role) -> Addresses {
     }
 }
 
-/// How a gateway is set up, with these addresses for sessions.
-pub(crate) fn set_up(alloc: Global, role: Role, pool: Pool) -> Result<Config, Fail> {
+/// How a gateway is set up, with so many addresses for sessions from 10.1.0.1 on.
+fn set_up(alloc: Global, role: Role, addresses: u32) -> Result<Config, Fail> {
+    let pool = Pool::try_new(0x0a01_0001, addresses)?;
     let names = Vec::from_slice(alloc, &[Apn::from_text("internet")?])?;
     let own = addresses_of(role);
     let peer = addresses_of(peer_of(role));
@@ -202,8 +143,8 @@ pub(crate) fn set_up(alloc: Global, role: Role, pool: Pool) -> Result<Config, Fa
 }
 
 /// A gateway that starts with this restart counter.
-fn started(alloc: Global, role: Role, pool: Pool, counter: u8) -> Result<Gateway, Fail> {
-    let config = set_up(alloc, role, pool)?;
+fn started(alloc: Global, role: Role, addresses: u32, counter: u8) -> Result<Gateway, Fail> {
+    let config = set_up(alloc, role, addresses)?;
     Ok(Gateway::start(alloc, role, &config, Counter(counter))?)
 }
 
@@ -215,30 +156,6 @@ const NO_REPORT: Report = Report {
     made: false,
 };
 
-/// No request was given up, and no answer.
-const NOTHING_ENDED: Ended = Ended {
-    gave_up: 0,
-    first: None,
-    forgotten: 0,
-};
-
-/// Two gateways that have just started, the packet gateway with this counter and so many addresses
-/// from 10.1.0.1 on.
-fn new_path(alloc: Global, counter: u8, addresses: u32) -> Result<Path, Fail> {
-    let pool = Pool::try_new(0x0a01_0001, addresses)?;
-    Ok(Path {
-        serving: started(alloc, Role::Serving, pool, 1)?,
-        packet: started(alloc, Role::Packet, pool, counter)?,
-        sent: Vec::new(alloc),
-        pool,
-        at: 0,
-        report: NO_REPORT,
-        bearer: None,
-        payload: Vec::new(alloc),
-        ended: NOTHING_ENDED,
-    })
-}
-
 /// No bit rate.
 fn no_rates() -> Rates {
     Rates {
@@ -248,7 +165,7 @@ fn no_rates() -> Rates {
 }
 
 /// The quality of service that is asked for.
-pub(crate) fn qos() -> Qos {
+fn qos() -> Qos {
     Qos {
         pci: false,
         pl: Below::new(8),
@@ -281,19 +198,19 @@ pub(crate) fn specification() -> Result<SessionSpec, Fail> {
 
 /// What a row comes to, with what is sent.
 #[derive(Drop)]
-struct Told {
+struct Came {
     outcome: Outcome,
     sent: Option<Sent>,
 }
 
-/// What a command comes to: one that sends a request, or one that sends a packet.
-fn told_by(act: Act, answer: Result<Begun, CommandFault>) -> Result<Told, Fail> {
+/// What a command comes to.
+fn came_of(answer: Result<Begun, CommandFault>) -> Result<Came, Fail> {
     match answer {
-        Ok(begun) => Ok(Told {
-            outcome: outcome_of(act, begun.teid),
+        Ok(begun) => Ok(Came {
+            outcome: Outcome::Begun(begun.teid.map(|teid| teid.0)),
             sent: Some(begun.out),
         }),
-        Err(CommandFault::Refused(why)) => Ok(Told {
+        Err(CommandFault::Refused(why)) => Ok(Came {
             outcome: Outcome::Refused(why),
             sent: None,
         }),
@@ -301,13 +218,42 @@ fn told_by(act: Act, answer: Result<Begun, CommandFault>) -> Result<Told, Fail> 
     }
 }
 
-/// What a command comes to that was carried out for this context.
-fn outcome_of(act: Act, context: Option<Teid>) -> Outcome {
+/// What a command is answered.
+type Answer = Result<Begun, CommandFault>;
+
+/// A session is asked for.
+fn create_session(alloc: Global, gateway: &mut Gateway) -> Result<Answer, Fail> {
+    let spec = specification()?;
+    Ok(gateway.create_session(alloc, &spec))
+}
+
+/// A dedicated bearer is asked for.
+fn create_bearer(alloc: Global, gateway: &mut Gateway, session: u32) -> Result<Answer, Fail> {
+    let tft = Tft::try_new(&[0x21])?;
+    Ok(gateway.create_bearer(alloc, Teid(session), &tft, &qos()))
+}
+
+/// The gateway that is given a command.
+fn commanded(act: Act) -> Role {
     match act {
-        Act::EndMarker(_) | Act::Send(_, _, _) | Act::SendZeros(_, _, _) if context.is_none() => {
-            Outcome::GoneOut
-        }
-        _ => Outcome::Begun(context.map(|teid| teid.0)),
+        Act::CreateSession(role)
+        | Act::DeleteSession(role, _)
+        | Act::ReleaseSession(role, _)
+        | Act::CreateBearer(role, _)
+        | Act::Echo(role) => role,
+        _ => Role::Serving,
+    }
+}
+
+/// What a gateway answers a command.
+fn answer_to(alloc: Global, gateway: &mut Gateway, act: Act) -> Result<Answer, Fail> {
+    match act {
+        Act::CreateSession(_) => create_session(alloc, gateway),
+        Act::DeleteSession(_, session) => Ok(gateway.delete_session(alloc, Teid(session))),
+        Act::ReleaseSession(_, session) => Ok(gateway.release_session(alloc, Teid(session))),
+        Act::CreateBearer(_, session) => create_bearer(alloc, gateway, session),
+        Act::Echo(_) => Ok(gateway.echo(alloc)),
+        _ => Err("no command".into()),
     }
 }
 
@@ -361,6 +307,40 @@ fn refused(
     Some(step.report.outcome)
 }
 
+/// So many sessions are asked for, and each is refused.
+fn refuses(
+    rt: &impl Abort,
+    alloc: Global,
+    serving: &mut Gateway,
+    sessions: u32,
+) -> Result<(), Fail> {
+    let spec = specification()?;
+    for number in 0..sessions {
+        let outcome = refused(alloc, serving, &spec, number);
+        assert!(rt; outcome == Some(Outcome::Rejected(73)), "session {number}");
+    }
+    Ok(())
+}
+
+/// How many answers a tick forgets, where nothing is sent again or given up.
+fn forgotten(alloc: Global, gateway: &mut Gateway) -> Result<usize, Fail> {
+    let ticked = gateway.tick(alloc)?;
+    if ticked.resent.is_empty() && ticked.gave_up.is_empty() {
+        Ok(ticked.forgotten.len())
+    } else {
+        Err("sent again, or given up".into())
+    }
+}
+
+/// The same of so many ticks.
+fn forgotten_in(alloc: Global, gateway: &mut Gateway, times: u32) -> Result<usize, Fail> {
+    let mut count = 0usize;
+    for _ in 0..times {
+        count = count.saturating_add(forgotten(alloc, gateway)?);
+    }
+    Ok(count)
+}
+
 impl Path {
     /// One of the gateways.
     fn gateway(&mut self, role: Role) -> &mut Gateway {
@@ -368,17 +348,6 @@ impl Path {
             Role::Serving => &mut self.serving,
             Role::Packet => &mut self.packet,
         }
-    }
-
-    /// What a datagram told is kept.
-    fn keep(&mut self, report: Report, accepted: Option<Accepted<'_>>) -> Result<(), Fail> {
-        self.report = report;
-        self.bearer = accepted.map(|packet| packet.bearer);
-        self.payload.clear();
-        if let Some(packet) = accepted {
-            self.payload.extend_from_slice(packet.payload)?;
-        }
-        Ok(())
     }
 
     /// Octets come to a gateway, from an address.
@@ -389,12 +358,13 @@ impl Path {
         plane: Plane,
         source: Endpoint,
         octets: &[u8],
-    ) -> Result<Told, Fail> {
+    ) -> Result<Came, Fail> {
         let step = self.gateway(to).receive(alloc, source, plane, octets)?;
-        self.keep(step.report, step.accepted)?;
-        Ok(Told {
-            outcome: step.report.outcome,
-            sent: step.out,
+        let (report, sent) = (step.report, step.out);
+        self.report = report;
+        Ok(Came {
+            outcome: report.outcome,
+            sent,
         })
     }
 
@@ -406,115 +376,24 @@ impl Path {
         plane: Plane,
         source: Endpoint,
         digits: &str,
-    ) -> Result<Told, Fail> {
+    ) -> Result<Came, Fail> {
         let octets = hex::decode(alloc, digits)?;
         self.comes(alloc, to, plane, source, octets.as_slice())
     }
 
     /// A datagram that was sent is handed to the other gateway.
-    fn deliver(&mut self, alloc: Global, number: usize) -> Result<Told, Fail> {
+    fn deliver(&mut self, alloc: Global, number: usize) -> Result<Came, Fail> {
         let (to, plane, octets) = copy_of(alloc, &self.sent, number)?;
         self.comes(alloc, to, plane, from_peer(to, PORT), octets.as_slice())
     }
 
-    /// What a tick told is kept.
-    fn keep_ended(&mut self, ticked: &Ticked) {
-        let first = ticked.gave_up.first().map(|number| number.number());
-        self.ended = Ended {
-            gave_up: self.ended.gave_up.saturating_add(ticked.gave_up.len()),
-            first: self.ended.first.or(first),
-            forgotten: self.ended.forgotten.saturating_add(ticked.forgotten.len()),
-        };
-    }
-
-    /// Ticks pass; so many requests are sent again in them.
-    fn ticks(&mut self, alloc: Global, role: Role, times: u32) -> Result<u32, Fail> {
-        let mut resent = 0u32;
-        self.ended = NOTHING_ENDED;
-        for _ in 0..times {
-            let ticked = self.gateway(role).tick(alloc)?;
-            self.keep_ended(&ticked);
-            resent = resent.saturating_add(ticked.resent.len() as u32);
-        }
-        Ok(resent)
-    }
-
-    /// A packet of zeros is sent.
-    fn send_zeros(
-        &mut self,
-        alloc: Global,
-        role: Role,
-        bearer: u32,
-        count: usize,
-    ) -> Result<Result<Begun, CommandFault>, Fail> {
-        let packet = vec![in alloc; 0u8; count]?;
-        Ok(
-            self.gateway(role)
-                .send_user(alloc, Teid(bearer), packet.as_slice()),
-        )
-    }
-
-    /// A dedicated bearer is asked for.
-    fn create_bearer(
-        &mut self,
-        alloc: Global,
-        role: Role,
-        session: u32,
-    ) -> Result<Result<Begun, CommandFault>, Fail> {
-        let tft = Tft::try_new(&[0x21])?;
-        Ok(
-            self.gateway(role)
-                .create_bearer(alloc, Teid(session), &tft, &qos()),
-        )
-    }
-
-    /// A session is asked for.
-    fn create_session(
-        &mut self,
-        alloc: Global,
-        role: Role,
-    ) -> Result<Result<Begun, CommandFault>, Fail> {
-        let spec = specification()?;
-        Ok(self.gateway(role).create_session(alloc, &spec))
-    }
-
-    /// A command about a session or a bearer, or an Echo Request.
-    fn command(&mut self, alloc: Global, act: Act) -> Result<Result<Begun, CommandFault>, Fail> {
-        Ok(match act {
-            Act::DeleteSession(session) => self.serving.delete_session(alloc, Teid(session)),
-            Act::DeleteSessionAt(role, session) => {
-                self.gateway(role).delete_session(alloc, Teid(session))
-            }
-            Act::ReleaseSession(role, session) => {
-                self.gateway(role).release_session(alloc, Teid(session))
-            }
-            Act::DeleteBearer(session, identity) => {
-                let identity = Ebi::try_new(identity)?;
-                self.packet.delete_bearer(alloc, Teid(session), identity)
-            }
-            Act::EndMarker(bearer) => self.packet.end_marker(alloc, Teid(bearer)),
-            Act::Echo(role) => self.gateway(role).echo(alloc),
-            Act::Send(role, bearer, payload) => {
-                self.gateway(role).send_user(alloc, Teid(bearer), payload)
-            }
-            _ => return Err("no command".into()),
-        })
-    }
-
-    /// What a command is answered.
-    fn answer(&mut self, alloc: Global, act: Act) -> Result<Result<Begun, CommandFault>, Fail> {
-        match act {
-            Act::CreateSession => self.create_session(alloc, Role::Serving),
-            Act::CreateSessionAt(role) => self.create_session(alloc, role),
-            Act::CreateBearer(session) => self.create_bearer(alloc, Role::Packet, session),
-            Act::CreateBearerAt(role, session) => self.create_bearer(alloc, role, session),
-            Act::SendZeros(role, bearer, count) => self.send_zeros(alloc, role, bearer, count),
-            _ => self.command(alloc, act),
-        }
+    /// A gateway is given a command.
+    fn command(&mut self, alloc: Global, act: Act) -> Result<Came, Fail> {
+        came_of(answer_to(alloc, self.gateway(commanded(act)), act)?)
     }
 
     /// What is done comes to this.
-    fn act(&mut self, alloc: Global, act: Act) -> Result<Told, Fail> {
+    fn act(&mut self, alloc: Global, act: Act) -> Result<Came, Fail> {
         match act {
             Act::Deliver(number) => self.deliver(alloc, number),
             Act::Comes(role, plane, digits) => {
@@ -528,18 +407,8 @@ impl Path {
                 self.comes(alloc, role, Plane::Control, from_peer(role, PORT), &request)
             }
             Act::Strays(role, plane, digits) => self.comes_as(alloc, role, plane, STRANGER, digits),
-            _ => told_by(act, self.answer(alloc, act)?),
+            _ => self.command(alloc, act),
         }
-    }
-
-    /// So many sessions are asked for, and each is refused.
-    fn refuses(&mut self, rt: &impl Abort, alloc: Global, sessions: u32) -> Result<(), Fail> {
-        let spec = specification()?;
-        for number in 0..sessions {
-            let outcome = refused(alloc, &mut self.serving, &spec, number);
-            assert!(rt; outcome == Some(Outcome::Rejected(73)), "session {number}");
-        }
-        Ok(())
     }
 
     /// The last datagram told this.
@@ -550,28 +419,20 @@ impl Path {
             is_heard && report.made == tells.made,
             "row {at}: {report:?}"
         );
-        let is_taken = self.bearer == tells.bearer && self.payload.as_slice() == tells.packet;
-        assert!(rt; is_taken, "packet before row {at}");
     }
 
-    /// Ticks, starts and what was told: what has no outcome.
+    /// Ticks, sessions that are refused, and what was told: what has no outcome.
     fn passes(&mut self, rt: &impl Abort, alloc: Global, act: Act) -> Result<bool, Fail> {
         match act {
-            Act::Ticks(role, times, resent) => {
+            Act::Ticks(role, times, count) => {
                 assert!(rt;
-                    self.ticks(alloc, role, times)? == resent,
-                    "resent in row {}",
+                    forgotten_in(alloc, self.gateway(role), times)? == count,
+                    "forgotten in row {}",
                     self.at
                 );
             }
-            Act::Restarts(role, counter) => {
-                *self.gateway(role) = started(alloc, role, self.pool, counter)?;
-            }
-            Act::Refuses(sessions) => self.refuses(rt, alloc, sessions)?,
+            Act::Refuses(sessions) => refuses(rt, alloc, &mut self.serving, sessions)?,
             Act::Told(tells) => self.tells(rt, &tells),
-            Act::Ended(ended) => {
-                assert!(rt; self.ended == ended, "row {}: {:?}", self.at, self.ended);
-            }
             _ => return Ok(false),
         }
         Ok(true)
@@ -584,10 +445,10 @@ impl Path {
         if self.passes(rt, alloc, row.0)? {
             return Ok(());
         }
-        let told = self.act(alloc, row.0)?;
-        assert!(rt; told.outcome == row.1, "row {at}: {:?}", told.outcome);
-        is_sent(rt, alloc, at, row, &told.sent)?;
-        if let Some(sent) = told.sent {
+        let came = self.act(alloc, row.0)?;
+        assert!(rt; came.outcome == row.1, "row {at}: {:?}", came.outcome);
+        is_sent(rt, alloc, at, row, &came.sent)?;
+        if let Some(sent) = came.sent {
             self.sent.push((sender_of(&sent), sent))?;
         }
         Ok(())
@@ -609,13 +470,13 @@ impl Path {
         Ok(())
     }
 
-    /// The rows of a scene, and then what the gateways show.
+    /// The rows of a scene, and then what the gateways have.
     fn play(&mut self, rt: &impl Abort, alloc: Global, scene: &Scene) -> Result<(), Fail> {
         for rows in scene.rows {
             self.rows(rt, alloc, rows)?;
         }
-        shows(rt, &self.serving, scene.serving);
-        shows(rt, &self.packet, scene.packet);
+        has(rt, &self.serving, scene.serving);
+        has(rt, &self.packet, scene.packet);
         Ok(())
     }
 }
@@ -645,7 +506,7 @@ fn copy_of(
 /// How often a row is done.
 fn times(act: Act) -> u32 {
     match act {
-        Act::Echoes(_, times) | Act::AsksOften(_, _, times) => times,
+        Act::AsksOften(_, _, times) => times,
         Act::Opens(sessions) => sessions.saturating_mul(3),
         _ => 1,
     }
@@ -654,7 +515,6 @@ fn times(act: Act) -> u32 {
 /// What is done the next time, from 0.
 fn nth(row: &Row, at: u32) -> Row {
     match row.0 {
-        Act::Echoes(role, _) => (Act::Echo(role), row.1, row.2),
         Act::AsksOften(role, kind, _) => (Act::Asks(role, kind, at), row.1, row.2),
         Act::Opens(_) => opening(at / 3, at % 3),
         _ => *row,
@@ -666,7 +526,11 @@ fn opening(before: u32, step: u32) -> Row {
     let teid = 0x0100_0001u32.wrapping_add(before).wrapping_add(before);
     let number = (before as usize).saturating_add(before as usize);
     match step {
-        0 => (Act::CreateSession, Outcome::Begun(Some(teid)), Sends::Shown),
+        0 => (
+            Act::CreateSession(Role::Serving),
+            Outcome::Begun(Some(teid)),
+            Sends::Shown,
+        ),
         1 => (Act::Deliver(number), Outcome::Answered(16), Sends::Shown),
         _ => (
             Act::Deliver(number.saturating_add(1)),
@@ -755,20 +619,6 @@ fn finds_bearer(gateway: &Gateway, at: &(Teid, Bearer)) -> bool {
     gateway.bearer(at.0) == Some(at.1)
 }
 
-/// The first session of a gateway, which is also found by its TEID.
-fn session_of(rt: &impl Abort, gateway: &Gateway) -> (Teid, Session) {
-    let first = first_session(gateway).expect(rt, "a session");
-    assert!(rt; finds_session(gateway, &first));
-    first
-}
-
-/// The first bearer of a gateway, which is also found by its TEID.
-fn bearer_of(rt: &impl Abort, gateway: &Gateway) -> (Teid, Bearer) {
-    let first = first_bearer(gateway).expect(rt, "a bearer");
-    assert!(rt; finds_bearer(gateway, &first));
-    first
-}
-
 /// How many sessions a gateway has.
 pub(crate) fn session_count(gateway: &Gateway) -> usize {
     gateway
@@ -783,98 +633,94 @@ pub(crate) fn bearer_count(gateway: &Gateway) -> usize {
         .fold(0usize, |count, _| count.saturating_add(1))
 }
 
-/// What a gateway shows where a look is at the same.
-fn seen(rt: &impl Abort, gateway: &Gateway, look: &Look) -> Look {
-    match look {
-        Look::Has(_, _) => Look::Has(session_count(gateway), bearer_count(gateway)),
-        Look::FirstSession(_, _) => {
-            let (teid, session) = session_of(rt, gateway);
-            Look::FirstSession(teid.0, session.remote)
-        }
-        Look::Address(_) => Look::Address(session_of(rt, gateway).1.address),
-        Look::SessionState(_) => Look::SessionState(session_of(rt, gateway).1.state),
-        Look::FirstBearer { .. } => {
-            let (teid, bearer) = bearer_of(rt, gateway);
-            Look::FirstBearer {
-                teid: teid.0,
-                remote: bearer.remote,
-                session: bearer.session,
-                state: bearer.state,
-                ended: bearer.ended,
-            }
-        }
-    }
+/// How many sessions and bearers a gateway has.
+fn counted(gateway: &Gateway) -> (usize, usize) {
+    (session_count(gateway), bearer_count(gateway))
 }
 
-/// A gateway shows all this.
-fn shows(rt: &impl Abort, gateway: &Gateway, looks: &[Look]) {
-    for (at, look) in looks.iter().enumerate() {
-        assert!(rt; seen(rt, gateway, look) == *look, "look {at}");
+/// A gateway has so many sessions and bearers, where that is compared, and finds the first of each.
+fn has(rt: &impl Abort, gateway: &Gateway, wanted: Option<(usize, usize)>) {
+    if let Some(counts) = wanted {
+        assert!(rt; counted(gateway) == counts, "not {counts:?}");
+    }
+    if let Some(first) = first_session(gateway) {
+        assert!(rt; finds_session(gateway, &first));
+    }
+    if let Some(first) = first_bearer(gateway) {
+        assert!(rt; finds_bearer(gateway, &first));
     }
 }
 
 /// A scene is played.
-pub(crate) fn plays(rt: &impl Abort, alloc: Global, scene: &Scene) -> Result<(), Fail> {
-    let mut path = new_path(alloc, scene.counter, scene.addresses)?;
-    path.play(rt, alloc, scene)
+fn plays(rt: &impl Abort, alloc: Global, scene: &Scene) -> Result<(), Fail> {
+    let serving = started(alloc, Role::Serving, scene.addresses, 1)?;
+    let packet = started(alloc, Role::Packet, scene.addresses, scene.counter)?;
+    let mut path = Path {
+        serving,
+        packet,
+        sent: Vec::new(alloc),
+        at: 0,
+        report: NO_REPORT,
+    };
+    let played = path.play(rt, alloc, scene);
+    drop(path);
+    played
 }
 
 /// A session is asked for.
-pub(crate) const SESSION_ASKED: Row = (
-    Act::CreateSession,
+const SESSION_ASKED: Row = (
+    Act::CreateSession(Role::Serving),
     Outcome::Begun(Some(0x0100_0001)),
     Sends::Octets(SESSION_REQUEST),
 );
 
 /// The request for it is answered.
-pub(crate) const SESSION_ANSWERED: Row = (
+const SESSION_ANSWERED: Row = (
     Act::Deliver(0),
     Outcome::Answered(16),
     Sends::Octets(SESSION_RESPONSE),
 );
 
 /// A session is opened.
-pub(crate) const OPENED: [Row; 3] = [
+const OPENED: [Row; 3] = [
     SESSION_ASKED,
     SESSION_ANSWERED,
     (Act::Deliver(1), Outcome::Opened, Sends::Nothing),
 ];
 
 /// A dedicated bearer of it is asked for.
-pub(crate) const BEARER_ASKED: Row = (
-    Act::CreateBearer(0x0100_0001),
+const BEARER_ASKED: Row = (
+    Act::CreateBearer(Role::Packet, 0x0100_0001),
     Outcome::Begun(Some(0x0100_0003)),
     Sends::Octets(BEARER_REQUEST),
 );
 
 /// The request for the bearer is answered.
-pub(crate) const BEARER_ANSWERED: Row = (
+const BEARER_ANSWERED: Row = (
     Act::Deliver(2),
     Outcome::Answered(16),
     Sends::Octets(BEARER_RESPONSE),
 );
 
 /// A dedicated bearer of the session is opened.
-pub(crate) const DEDICATED: [Row; 3] = [
+const DEDICATED: [Row; 3] = [
     BEARER_ASKED,
     BEARER_ANSWERED,
     (Act::Deliver(3), Outcome::Opened, Sends::Nothing),
 ];
 
 /// Nothing more is told of a datagram.
-pub(crate) const PLAIN: Tells = Tells {
+const PLAIN: Tells = Tells {
     heard: None,
     restart: None,
     made: false,
-    bearer: None,
-    packet: b"",
 };
 
 /// The last datagram told nothing more.
-pub(crate) const UNTOLD: Row = (Act::Told(PLAIN), Outcome::Moved, Sends::Nothing);
+const UNTOLD: Row = (Act::Told(PLAIN), Outcome::Moved, Sends::Nothing);
 
 /// It told the restart counter 1, which is no later one.
-pub(crate) const HEARD: Row = (
+const HEARD: Row = (
     Act::Told(Tells {
         heard: Some(Counter(1)),
         ..PLAIN
@@ -884,19 +730,9 @@ pub(crate) const HEARD: Row = (
 );
 
 /// The same, and a context was made.
-pub(crate) const MADE: Row = (
+const MADE: Row = (
     Act::Told(Tells {
         heard: Some(Counter(1)),
-        made: true,
-        ..PLAIN
-    }),
-    Outcome::Moved,
-    Sends::Nothing,
-);
-
-/// A context was made for a request that told no restart counter.
-pub(crate) const MADE_UNHEARD: Row = (
-    Act::Told(Tells {
         made: true,
         ..PLAIN
     }),

@@ -1,242 +1,233 @@
-//! Replays over memory: a scenario comes in, and its report goes out. A session is rows of data, each an
-//! entry of a scenario and what its events come to; they come from outside.
+//! Replays over readers and writers that do little in a call, or fail in one.
 
-mod diagrams;
-mod judged;
-mod sessions;
-mod streams;
-
-use gtp_replay::{Counted, ReplayFault, Verdict, replay};
+use crate::scenarios::scenario_of;
+use gtp_replay::{Counted, ReplayFault, Verdict, replay, replay_diagram};
 use std::alloc::Global;
+use std::io;
+use std::io::{Read, Write};
 use std::process::Abort;
 use std::test::Fail;
 
-/// A line below that of an event.
-#[derive(Clone, Copy)]
-pub(crate) enum Line {
-    /// A datagram that is sent, by its plane.
-    Control(&'static str),
-    User(&'static str),
-    GaveUp(u32),
-    Forgot(&'static str),
+/// How the call with this number fails: of two kinds, in turn. One that was interrupted has failed like any
+/// other, and is not made again.
+fn failure(call: u64) -> io::Error {
+    let kind = if call % 2 == 0 {
+        io::ErrorKind::Interrupted
+    } else {
+        io::ErrorKind::BrokenPipe
+    };
+    io::Error::from(kind)
 }
 
-/// What events come to.
+/// Gives one octet a call, and fails in the call with this number, from 1.
 #[derive(Clone, Copy)]
-pub(crate) enum Told {
-    /// What one is and comes to, and the lines below that.
-    Event(&'static str, &'static [Line]),
-    /// So many ticks in which nothing is done.
-    Ticks(u32),
+struct Slow<'a> {
+    text: &'a [u8],
+    calls: u64,
+    fails_at: u64,
 }
 
-/// A part of a scenario, and what comes of it.
-#[derive(Clone, Copy)]
-pub(crate) enum Row {
-    /// An entry and its events.
-    Entry(&'static str, &'static [Told]),
-    /// A restart of the packet gateway for each of these counters.
-    Restarts { first: u32, last: u32 },
+impl<'a> Read for Slow<'a> {
+    fn read(&mut self, buf: &mut [u8]) -> io::Result<usize> {
+        self.calls = self.calls.saturating_add(1);
+        if self.calls == self.fails_at {
+            return Err(failure(self.calls));
+        }
+        match (self.text.split_first(), buf.first_mut()) {
+            (Some((octet, rest)), Some(place)) => {
+                *place = *octet;
+                self.text = rest;
+                Ok(1)
+            }
+            _ => Ok(0),
+        }
+    }
 }
 
-/// A scenario and its report.
-#[derive(Clone, Copy)]
-pub(crate) struct Session<'a> {
-    /// The restart counter of the packet gateway. That of the serving gateway is 1.
-    pub counter: u32,
-    /// How many addresses the packet gateway has, from 10.1.0.1 on.
-    pub addresses: u32,
-    pub rows: &'a [&'a [Row]],
-    /// The lines after those of the events.
-    pub ending: &'a [&'a [&'a str]],
+/// Takes so many octets a call, and fails in the call with this number, from 1.
+#[derive(Drop)]
+struct Narrow {
+    taken: Vec<u8>,
+    width: usize,
+    calls: u64,
+    fails_at: u64,
 }
 
-/// What is written for these octets, and how it goes.
-pub(crate) fn replayed(alloc: Global, octets: &[u8]) -> (Vec<u8>, Result<Verdict, ReplayFault>) {
-    let mut reader = Counted::new(octets);
+impl Write for Narrow {
+    fn write(&mut self, buf: &[u8]) -> io::Result<usize> {
+        self.calls = self.calls.saturating_add(1);
+        if self.calls == self.fails_at {
+            return Err(failure(self.calls));
+        }
+        let (front, _) = buf.split_at(self.width.min(buf.len()));
+        self.taken.extend_from_slice(front)?;
+        Ok(front.len())
+    }
+
+    fn flush(&mut self) -> io::Result<()> {
+        Ok(())
+    }
+}
+
+/// A scenario of one event, whose report is short.
+fn scenario(alloc: Global) -> Result<String, Fail> {
+    scenario_of(
+        alloc,
+        10,
+        r#"[{"do":"deliver","datagram":0,"expect":"N1"}]"#,
+    )
+}
+
+/// Its report.
+const REPORT: &[u8] = b"event 0 deliver N1\nlate 0\n";
+
+/// What a replay of the scenario comes to, how many calls failed, and what is written.
+type Done = (Result<Verdict, ReplayFault>, u64, Vec<u8>);
+
+/// Over a reader that fails in this call, or in none for 0.
+fn read_so(alloc: Global, text: &[u8], fails_at: u64) -> Done {
+    let mut reader = Counted::new(Slow {
+        text,
+        calls: 0,
+        fails_at,
+    });
     let mut writer = Counted::new(Vec::new(alloc));
     let result = replay(alloc, &mut reader, &mut writer);
-    (writer.into_inner(), result)
+    (result, reader.failures(), writer.into_inner())
 }
 
-/// This is written for these octets, and it goes so.
-pub(crate) fn is_replayed(
-    rt: &impl Abort,
-    alloc: Global,
-    octets: &[u8],
-    text: &str,
-    verdict: Verdict,
-) {
-    let (written, result) = replayed(alloc, octets);
-    assert!(rt; result == Ok(verdict), "{result:?} for {text}");
+/// Over a writer of this width that fails in this call, or in none for 0.
+fn written_so(alloc: Global, text: &[u8], width: usize, fails_at: u64) -> Done {
+    let mut reader = Counted::new(text);
+    let mut writer = Counted::new(Narrow {
+        taken: Vec::new(alloc),
+        width,
+        calls: 0,
+        fails_at,
+    });
+    let result = replay(alloc, &mut reader, &mut writer);
+    (result, writer.failures(), writer.into_inner().taken)
+}
+
+/// No call fails, and all is written.
+fn is_whole(rt: &impl Abort, done: Done) {
+    let (result, failures, written) = done;
     assert!(rt;
-        written.as_slice() == text.as_bytes(),
-        "{written:?} for {text}"
+        result == Ok(Verdict::Expected) && failures == 0,
+        "{result:?}, {failures}"
+    );
+    assert!(rt; written.as_slice() == REPORT, "{written:?}");
+}
+
+/// One call fails, so this is answered, and so many octets of the report are written.
+fn is_cut(rt: &impl Abort, done: Done, fault: ReplayFault, count: usize) {
+    let (result, failures, written) = done;
+    assert!(rt;
+        result == Err(fault) && failures == 1,
+        "{result:?}, {failures}"
+    );
+    assert!(rt;
+        written.len() == count && REPORT.starts_with(written.as_slice()),
+        "{written:?}"
     );
 }
 
-/// A scenario and its report, as far as they are written. Events and datagrams are numbered as they come.
-#[derive(Drop)]
-struct Pages {
-    scenario: String,
-    report: String,
-    events: u32,
-    datagrams: u32,
+#[test]
+fn a_reader_that_gives_an_octet_a_call(rt: HostRuntime) -> Result<(), Fail> {
+    let text = scenario(rt.alloc())?;
+    is_whole(&rt, read_so(rt.alloc(), text.as_bytes(), 0));
+    Ok(())
 }
 
-impl Pages {
-    /// The head of a scenario.
-    fn new(alloc: Global, counter: u32, addresses: u32) -> Result<Pages, Fail> {
-        let scenario = format!(in alloc;
-            r#"{{"serving":{{"control":"10.0.0.1","user":"10.0.0.1","counter":1}},"packet":{{"control":"10.0.0.2","user":"10.0.0.2","counter":{counter},"apns":["internet"],"pool":"10.1.0.1","count":{addresses}}},"events":["#
-        )?;
-        Ok(Pages {
-            scenario,
-            report: String::new(alloc),
-            events: 0,
-            datagrams: 0,
-        })
+/// Whichever call fails, and be it the one that would tell of the end.
+#[test]
+fn a_reader_that_fails(rt: HostRuntime) -> Result<(), Fail> {
+    let text = scenario(rt.alloc())?;
+    for call in 0..=text.len() {
+        let done = read_so(rt.alloc(), text.as_bytes(), (call as u64).saturating_add(1));
+        is_cut(&rt, done, ReplayFault::Read, 0);
     }
-
-    /// One entry more.
-    fn entry(&mut self, entry: &str) -> Result<(), Fail> {
-        if self.events > 0 {
-            self.scenario.push_str(",")?;
-        }
-        self.scenario.push_str(entry)?;
-        Ok(())
-    }
-
-    /// The line of the next event.
-    fn event(&mut self, alloc: Global, what: &str) -> Result<(), Fail> {
-        let number = self.events;
-        self.events = number.saturating_add(1);
-        let line = format!(in alloc; "event {number} {what}\n")?;
-        self.report.push_str(line.as_str())?;
-        Ok(())
-    }
-
-    /// The line of the next datagram.
-    fn sent(&mut self, alloc: Global, plane: &str, octets: &str) -> Result<(), Fail> {
-        let number = self.datagrams;
-        self.datagrams = number.saturating_add(1);
-        let line = format!(in alloc; "  sent {number} {plane} {octets}\n")?;
-        self.report.push_str(line.as_str())?;
-        Ok(())
-    }
-
-    /// Another line below that of an event.
-    fn other(&mut self, alloc: Global, line: Line) -> Result<(), Fail> {
-        let line = match line {
-            Line::GaveUp(number) => format!(in alloc; "  gave-up {number}\n")?,
-            Line::Forgot(octets) => format!(in alloc; "  forgot {octets}\n")?,
-            Line::Control(_) | Line::User(_) => return Ok(()),
-        };
-        self.report.push_str(line.as_str())?;
-        Ok(())
-    }
-
-    /// A line below that of an event.
-    fn line(&mut self, alloc: Global, line: Line) -> Result<(), Fail> {
-        match line {
-            Line::Control(octets) => self.sent(alloc, "control", octets),
-            Line::User(octets) => self.sent(alloc, "user", octets),
-            Line::GaveUp(_) | Line::Forgot(_) => self.other(alloc, line),
-        }
-    }
-
-    /// The lines of an event.
-    fn lines(&mut self, alloc: Global, what: &str, lines: &[Line]) -> Result<(), Fail> {
-        self.event(alloc, what)?;
-        for line in lines {
-            self.line(alloc, *line)?;
-        }
-        Ok(())
-    }
-
-    /// What events come to.
-    fn told(&mut self, alloc: Global, told: Told) -> Result<(), Fail> {
-        match told {
-            Told::Event(what, lines) => self.lines(alloc, what, lines),
-            Told::Ticks(count) => {
-                for _ in 0..count {
-                    self.event(alloc, "tick ticked")?;
-                }
-                Ok(())
-            }
-        }
-    }
-
-    /// One restart more of the packet gateway, which gives it this counter.
-    fn restart(&mut self, alloc: Global, counter: u32) -> Result<(), Fail> {
-        self.entry(r#"{"do":"restart","node":"packet"}"#)?;
-        let what = format!(in alloc; "restart restarted {counter}")?;
-        self.event(alloc, what.as_str())
-    }
-
-    /// An entry and its events.
-    fn happens(&mut self, alloc: Global, entry: &str, events: &[Told]) -> Result<(), Fail> {
-        self.entry(entry)?;
-        for told in events {
-            self.told(alloc, *told)?;
-        }
-        Ok(())
-    }
-
-    /// A part of a scenario, and what comes of it.
-    fn row(&mut self, alloc: Global, row: Row) -> Result<(), Fail> {
-        match row {
-            Row::Entry(entry, events) => self.happens(alloc, entry, events),
-            Row::Restarts { first, last } => {
-                for counter in first..=last {
-                    self.restart(alloc, counter)?;
-                }
-                Ok(())
-            }
-        }
-    }
-
-    /// Rows, one after the other.
-    fn rows(&mut self, alloc: Global, rows: &[Row]) -> Result<(), Fail> {
-        for row in rows {
-            self.row(alloc, *row)?;
-        }
-        Ok(())
-    }
-
-    /// Lines after those of the events.
-    fn ending(&mut self, lines: &[&str]) -> Result<(), Fail> {
-        for line in lines {
-            self.report.push_str(line)?;
-            self.report.push_str("\n")?;
-        }
-        Ok(())
-    }
-
-    /// The whole of both.
-    fn fill(&mut self, alloc: Global, session: &Session<'_>) -> Result<(), Fail> {
-        for rows in session.rows {
-            self.rows(alloc, rows)?;
-        }
-        self.scenario.push_str("]}")?;
-        for lines in session.ending {
-            self.ending(lines)?;
-        }
-        Ok(())
-    }
+    Ok(())
 }
 
-/// The report of a scenario is as its rows say, and each event comes to what is expected.
-pub(crate) fn reports(rt: &impl Abort, alloc: Global, session: &Session<'_>) -> Result<(), Fail> {
-    let mut pages = Pages::new(alloc, session.counter, session.addresses)?;
-    pages.fill(alloc, session)?;
-    let scenario = pages.scenario.as_bytes();
-    is_replayed(
-        rt,
-        alloc,
-        scenario,
-        pages.report.as_str(),
-        Verdict::Expected,
+#[test]
+fn a_reader_that_never_ends(rt: HostRuntime) {
+    let mut reader = Counted::new(io::repeat(b' '));
+    let mut writer = Counted::new(Vec::new(rt.alloc()));
+    let result = replay(rt.alloc(), &mut reader, &mut writer);
+    let written = writer.into_inner();
+    assert!(rt; result == Ok(Verdict::Bad), "{result:?}");
+    assert!(rt;
+        written.as_slice() == b"bad json\n".as_slice(),
+        "{written:?}"
+    );
+}
+
+#[test]
+fn a_writer_that_takes_an_octet_a_call(rt: HostRuntime) -> Result<(), Fail> {
+    let text = scenario(rt.alloc())?;
+    is_whole(&rt, written_so(rt.alloc(), text.as_bytes(), 1, 0));
+    Ok(())
+}
+
+/// To take nothing is to fail.
+#[test]
+fn a_writer_that_takes_none(rt: HostRuntime) -> Result<(), Fail> {
+    let text = scenario(rt.alloc())?;
+    let done = written_so(rt.alloc(), text.as_bytes(), 0, 0);
+    is_cut(&rt, done, ReplayFault::Write, 0);
+    Ok(())
+}
+
+/// Whichever call fails. What it took before is there.
+#[test]
+fn a_writer_that_fails(rt: HostRuntime) -> Result<(), Fail> {
+    let text = scenario(rt.alloc())?;
+    for call in 0..REPORT.len() {
+        let done = written_so(
+            rt.alloc(),
+            text.as_bytes(),
+            1,
+            (call as u64).saturating_add(1),
+        );
+        is_cut(&rt, done, ReplayFault::Write, call);
+    }
+    Ok(())
+}
+
+/// A session is opened, the packet gateway waits, a packet is lost. The diagram is tests/scenarios/session-drawn.
+const DRAWN: &str = concat!(
+    r#"[{"do":"create_session","imsi":"001010123456789","apn":"internet","ebi":5},"#,
+    r#"{"do":"deliver","datagram":0},"#,
+    r#"{"do":"deliver","datagram":1},"#,
+    r#"{"do":"tick","node":"packet","times":2},"#,
+    r#"{"do":"send","node":"serving","teid":"01000002","payload":"616263"},"#,
+    r#"{"do":"restart","node":"packet"}]"#
+);
+
+/// The diagram of that run over a writer that fails in this call, or in none for 0.
+fn drawn(alloc: Global, fails_at: u64) -> Result<(Result<Verdict, ReplayFault>, Vec<u8>), Fail> {
+    let text = scenario_of(alloc, 10, DRAWN)?;
+    let mut reader = Counted::new(text.as_bytes());
+    let mut writer = Counted::new(Narrow {
+        taken: Vec::new(alloc),
+        width: 100,
+        calls: 0,
+        fails_at,
+    });
+    let result = replay_diagram(alloc, &mut reader, &mut writer);
+    Ok((result, writer.into_inner().taken))
+}
+
+#[test]
+fn a_diagram_that_is_cut_off(rt: HostRuntime) -> Result<(), Fail> {
+    let (whole, all) = drawn(rt.alloc(), 0)?;
+    assert!(rt; whole == Ok(Verdict::Expected), "{whole:?}");
+    let (result, text) = drawn(rt.alloc(), 3)?;
+    assert!(rt; result == Err(ReplayFault::Write), "{result:?}");
+    assert!(rt;
+        text.len() == 200 && all.starts_with(text.as_slice()),
+        "{text:?}"
     );
     Ok(())
 }

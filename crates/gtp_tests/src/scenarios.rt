@@ -1,168 +1,120 @@
-//! Scenarios, read from JSON. The rows are texts, each with the first thing that is wrong with it, or with
-//! the events that it has; they come from outside.
+//! Scenarios, read from JSON: what no report shows. All other rows are data, in tests/scenarios.
 
-mod events;
-mod heads;
-
-use gtp_scenario::{ReadFault, Refusal, read_scenario};
+use gtp_gateway::Timers;
+use gtp_scenario::{Entry, ReadFault, Refusal, WorldConfig, read_scenario};
 use std::alloc::Global;
 use std::process::Abort;
 use std::test::Fail;
 
-/// Two gateways to which nothing happens.
-pub(crate) const QUIET: &str = concat!(
+/// What stands before the number of addresses.
+const HEAD: &str = concat!(
     r#"{"serving":{"control":"10.0.0.1","user":"10.0.0.1","counter":1},"#,
     r#""packet":{"control":"10.0.0.2","user":"10.0.0.2","counter":1,"#,
-    r#""apns":["internet"],"pool":"10.1.0.1","count":10},"events":[]}"#
+    r#""apns":["internet"],"pool":"10.1.0.1","count":"#
 );
 
-/// Why these octets are no scenario.
-fn fault_of(alloc: Global, octets: &[u8]) -> Option<ReadFault> {
-    read_scenario(alloc, octets).err()
+/// A scenario with these events, whose packet gateway has so many addresses, from 10.1.0.1 on.
+pub(crate) fn scenario_of(alloc: Global, addresses: u32, events: &str) -> Result<String, Fail> {
+    Ok(format!(in alloc; "{HEAD}{addresses}}},\"events\":{events}}}")?)
 }
 
-/// A text is refused for this, or is a scenario.
-fn is_read(rt: &impl Abort, alloc: Global, text: &str, refusal: Option<Refusal>) {
-    let fault = fault_of(alloc, text.as_bytes());
-    assert!(rt;
-        fault == refusal.map(ReadFault::Refused),
-        "{fault:?} for {text}"
-    );
+/// The entries of a scenario.
+fn entries_in(alloc: Global, text: &str) -> Result<Vec<Entry>, ReadFault> {
+    Ok(read_scenario(alloc, text.as_bytes())?.entries)
 }
 
-/// The quiet scenario with this text in place of that one.
-pub(crate) fn edited(alloc: Global, old: &str, new: &str) -> Result<String, Fail> {
-    match QUIET.split_once(old) {
-        Some((before, after)) => Ok(format!(in alloc; "{before}{new}{after}")?),
-        None => Err("no such text".into()),
-    }
+/// How the gateways of a scenario are set up.
+pub(crate) fn set_up_in(alloc: Global, text: &str) -> Result<WorldConfig, ReadFault> {
+    Ok(read_scenario(alloc, text.as_bytes())?.config)
 }
 
-/// The same is refused for this, or is a scenario.
-pub(crate) fn edit_is(
-    rt: &impl Abort,
-    alloc: Global,
-    edit: (&str, &str),
-    refusal: Option<Refusal>,
-) -> Result<(), Fail> {
-    let text = edited(alloc, edit.0, edit.1)?;
-    is_read(rt, alloc, text.as_str(), refusal);
-    Ok(())
-}
-
-/// No JSON.
-const NO_JSON: [&[u8]; 26] = [
-    b"",
-    b" ",
-    b"{",
-    b"{}x",
-    b"{} {}",
-    b"\xef\xbb\xbf{}", // a byte order mark
-    b"\"\xff\"",
-    b"\"\xc0\x80\"",
-    b"\"\xed\xa0\x80\"",
-    b"\x0b{}",
-    b"\xc2\xa0{}",
-    b"{\"a\" 1}",
-    b"{\"a\":1,}",
-    b"{a:1}",
-    b"[1,]",
-    b"'a'",
-    b"01",
-    b"+1",
-    b".5",
-    b"1.",
-    b"NaN",
-    b"1e400",
-    b"\"\x1f\"",
-    b"\"\\x\"",
-    b"\"\\ud83d\"",
-    b"\"\\ude00\"",
+/// Lists of one event, and what is read: numbers up to their ends, and texts whose digits are of either case.
+const EVENTS: [(&str, &str); 10] = [
+    (
+        r#"[{"do":"delete_session","teid":"0100000a","expect":"begun"}]"#,
+        r#"[Entry { event: DeleteSession(Teid(16777226)), times: 1, expect: Some("begun") }]"#,
+    ),
+    (
+        r#"[{"do":"release_session","teid":"0100000B"}]"#,
+        "[Entry { event: ReleaseSession(Teid(16777227)), times: 1, expect: None }]",
+    ),
+    (
+        r#"[{"do":"end_marker","teid":"ffffffff","expect":"G1"}]"#,
+        r#"[Entry { event: EndMarker(Teid(4294967295)), times: 1, expect: Some("G1") }]"#,
+    ),
+    (
+        r#"[{"do":"delete_bearer","teid":"01000001","ebi":15}]"#,
+        "[Entry { event: DeleteBearer { session: Teid(16777217), ebi: Ebi { number: 15 } }, times: 1, expect: None }]",
+    ),
+    (
+        r#"[{"do":"echo","node":"packet","expect":"any words"}]"#,
+        r#"[Entry { event: Echo(Packet), times: 1, expect: Some("any words") }]"#,
+    ),
+    (
+        r#"[{"do":"restart","node":"serving"}]"#,
+        "[Entry { event: Restart(Serving), times: 1, expect: None }]",
+    ),
+    (
+        r#"[{"do":"tick","node":"serving","times":1000,"expect":""}]"#,
+        r#"[Entry { event: Tick(Serving), times: 1000, expect: Some("") }]"#,
+    ),
+    (
+        r#"[{"do":"send","node":"packet","teid":"00000000","payload":"aBcD00"}]"#,
+        "[Entry { event: SendUser { node: Packet, bearer: Teid(0), payload: [171, 205, 0] }, times: 1, expect: None }]",
+    ),
+    (
+        r#"[{"do":"deliver","datagram":18446744073709551615}]"#,
+        "[Entry { event: Deliver(18446744073709551615), times: 1, expect: None }]",
+    ),
+    (
+        r#"[{"do":"cut","datagram":7,"length":18446744073709551615}]"#,
+        "[Entry { event: Cut { datagram: 7, length: 18446744073709551615 }, times: 1, expect: None }]",
+    ),
 ];
 
-/// JSON, but no head.
-const NO_HEAD: [&[u8]; 14] = [
-    b"{}",
-    b" \t\r\n{}\n",
-    b"[]",
-    b"null",
-    b"true",
-    b"\"\"",
-    b"\"\x7f\"",
-    b"\"\\ud83d\\ude00\"",
-    b"1",
-    b"-0",
-    b"0e999",
-    b"1e-400",
-    b"18446744073709551616",
-    b"{\"events\":[{\"do\":\"tock\"}]}",
-];
-
-/// These octets are refused for this.
-fn are_refused(rt: &impl Abort, alloc: Global, rows: &[&[u8]], refusal: Refusal) {
-    for octets in rows {
-        let fault = fault_of(alloc, octets);
-        assert!(rt;
-            fault == Some(ReadFault::Refused(refusal)),
-            "{fault:?} for {octets:?}"
-        );
-    }
-}
-
-#[test]
-fn octets_that_are_no_scenario(rt: HostRuntime) {
-    are_refused(&rt, rt.alloc(), &NO_JSON, Refusal::Json);
-    are_refused(&rt, rt.alloc(), &NO_HEAD, Refusal::Head);
-}
-
-/// Nested lists, so many.
-fn nested(alloc: Global, depth: u32) -> Result<String, Fail> {
-    let mut text = String::new(alloc);
-    for _ in 0..depth {
-        text.push_str("[")?;
-    }
-    for _ in 0..depth {
-        text.push_str("]")?;
-    }
-    Ok(text)
-}
-
-/// Nested lists are refused for this, and so is an unknown key that is one list fewer.
-fn nesting_is(rt: &impl Abort, alloc: Global, depth: u32, refusal: Refusal) -> Result<(), Fail> {
-    let text = nested(alloc, depth)?;
-    is_read(rt, alloc, text.as_str(), Some(refusal));
-    let inner = nested(alloc, depth.saturating_sub(1))?;
-    let member = format!(in alloc; "[],\"x\":{inner}")?;
-    edit_is(rt, alloc, ("[]", member.as_str()), Some(refusal))
-}
-
-#[test]
-fn json_is_at_most_127_deep(rt: HostRuntime) -> Result<(), Fail> {
-    nesting_is(&rt, rt.alloc(), 127, Refusal::Head)?;
-    nesting_is(&rt, rt.alloc(), 128, Refusal::Json)
-}
-
-/// A scenario with blanks up to so many octets is refused for this, or is one.
-fn length_is(
-    rt: &impl Abort,
-    alloc: Global,
-    length: usize,
-    refusal: Option<Refusal>,
-) -> Result<(), Fail> {
-    let mut octets = Vec::from_slice(alloc, QUIET.as_bytes())?;
-    octets.resize(length, b' ')?;
-    let fault = fault_of(alloc, octets.as_slice());
-    assert!(rt;
-        fault == refusal.map(ReadFault::Refused),
-        "{fault:?} at {length}"
-    );
+/// The entries of a list are shown so.
+fn are_shown(rt: &impl Abort, alloc: Global, events: &str, shown: &str) -> Result<(), Fail> {
+    let text = scenario_of(alloc, 10, events)?;
+    let entries = entries_in(alloc, text.as_str())?;
+    let read = format!(in alloc; "{entries:?}")?;
+    assert!(rt; read.as_str() == shown, "{read}");
     Ok(())
 }
 
 #[test]
-fn the_longest_scenario(rt: HostRuntime) -> Result<(), Fail> {
-    length_is(&rt, rt.alloc(), 16_777_216, None)?;
-    length_is(&rt, rt.alloc(), 16_777_217, Some(Refusal::Json))
+fn events_that_are_read(rt: HostRuntime) -> Result<(), Fail> {
+    for (events, shown) in EVENTS {
+        are_shown(&rt, rt.alloc(), events, shown)?;
+    }
+    Ok(())
+}
+
+/// Two gateways that are not set up as usual.
+const UNUSUAL: &str = concat!(
+    r#"{"hold":100000,"t3":5,"n3":0,"events":[],"#,
+    r#""packet":{"control":"10.0.0.2","user":"10.0.0.4","counter":255,"#,
+    r#""apns":["internet","ims"],"pool":"10.1.0.1","count":10},"#,
+    r#""serving":{"control":"10.0.0.1","user":"10.0.0.3","counter":3}}"#
+);
+
+/// Both have the times that are stated, and the serving gateway has no access points and no addresses.
+fn are_unusual(rt: &impl Abort, config: &WorldConfig) {
+    let timers = Timers {
+        t3: 5,
+        n3: 0,
+        hold: 100_000,
+    };
+    assert!(rt; config.serving().timers() == timers && config.packet().timers() == timers);
+    assert!(rt; config.serving().access_points().is_empty());
+    let pool = config.serving().pool();
+    assert!(rt; pool.start() == 0 && pool.count() == 0, "{pool:?}");
+}
+
+#[test]
+fn how_gateways_are_set_up(rt: HostRuntime) -> Result<(), Fail> {
+    let config = set_up_in(rt.alloc(), UNUSUAL)?;
+    are_unusual(&rt, &config);
+    Ok(())
 }
 
 /// What is said of each refusal.

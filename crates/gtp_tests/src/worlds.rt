@@ -1,182 +1,150 @@
-//! Two gateways in a world. A test is a story: its rows say what happens, what it comes to and what is
-//! sent for it; they, and the octets where a row has them, come from outside.
+//! Two gateways in a world: what no report shows. A run is read as a scenario, whose report is data in
+//! tests/scenarios or examples/scenarios.
 
-mod stories;
-
-use crate::gateways::{Sends, bearer_count, qos, session_count, set_up, specification};
-use gtp_gateway::*;
-use gtp_values::{Counter, Ebi, Memory, Teid, Tft};
-use gtp_world::{Datagram, Event, EventOutcome, Mutual, Note, World, WorldConfig};
+use crate::gateways::{bearer_count, session_count, specification};
+use crate::scenarios::{scenario_of, set_up_in};
+use gtp_gateway::{Outcome, Refusal, Role, SessionSpec};
+use gtp_scenario::{Scenario, events_of, read_scenario};
+use gtp_world::{Event, EventOutcome, Memory, Mutual, Teid, World};
 use std::alloc::Global;
 use std::process::Abort;
 use std::test::Fail;
 
-/// What happens.
-#[derive(Clone, Copy)]
-pub(crate) enum Happens {
-    CreateSession,
-    DeleteSession(u32),
-    ReleaseSession(u32),
-    CreateBearer(u32),
-    DeleteBearer(u32, u8),
-    EndMarker(u32),
-    Echo(Role),
-    Send(Role, u32, &'static [u8]),
-    /// So many ticks pass.
-    Ticks(Role, u32),
-    Deliver(u64),
-    /// The datagram that was sent last comes.
-    DeliverLast,
-    Cut(u64, u64),
-    Restart(Role),
-    /// So many restarts. The row has the counter of the first.
-    Restarts(Role, u32),
-    /// So many sessions are made, each in one call. The first has this TEID at the serving gateway, and
-    /// the row has the last outcome of each.
-    Exchanges(u32, u32),
-}
-
-/// What happens, what it comes to, and what is sent for it: by each of several ticks.
-pub(crate) type Row = (Happens, EventOutcome, Sends);
-
-/// What is told of an event but its outcome, by the event's number from 0.
-#[derive(Clone, Copy)]
-pub(crate) struct Told {
-    pub event: usize,
-    /// The later restart counter that was learned.
-    pub restart: Option<Counter>,
-    /// The number of the request that was given up.
-    pub gave_up: Option<u32>,
-    /// How many answers were forgotten.
-    pub forgotten: usize,
-}
-
-/// How it ends.
-#[derive(Clone, Copy, Debug, PartialEq, Eq)]
-pub(crate) struct Ending {
-    /// How many sessions and bearers the serving gateway has.
-    pub serving: (usize, usize),
-    /// The same of the packet gateway.
-    pub packet: (usize, usize),
-    /// How many contexts name each other.
-    pub mutual: usize,
-    /// How many packets were handed in.
-    pub handed_in: usize,
-    /// How many were accepted, and how many of these are owed.
-    pub accepted: (usize, usize),
-    /// How many deliveries were late.
-    pub late: usize,
-}
-
-/// Nothing is there.
-pub(crate) const EMPTY: Ending = Ending {
-    serving: (0, 0),
-    packet: (0, 0),
-    mutual: 0,
-    handed_in: 0,
-    accepted: (0, 0),
-    late: 0,
-};
-
-/// What happens to two gateways, and how it ends.
-#[derive(Clone, Copy)]
-pub(crate) struct Story<'a> {
-    /// The restart counters, of the serving gateway first.
-    pub counters: [Counter; 2],
-    /// How many addresses the packet gateway has, from 10.1.0.1 on.
-    pub addresses: u32,
-    pub rows: &'a [&'a [Row]],
-    /// How often these happen after that.
-    pub times: u32,
-    pub again: &'a [Row],
-    pub told: &'a [Told],
-    pub ending: Ending,
-    /// The first contexts that name each other at the end. They agree.
-    pub mutual: &'a [Mutual],
+/// Events of two gateways with one address for sessions, and what is seen afterwards.
+struct Run {
+    events: &'static str,
     /// How many contexts were made for datagrams, by their numbers.
-    pub made: &'a [(u64, usize)],
+    made: &'static [(u64, usize)],
+    /// How many packets were handed in.
+    handed_in: usize,
 }
 
-/// Two gateways with the counter 1 and ten addresses, to which nothing happens.
-pub(crate) const QUIET: Story<'static> = Story {
-    counters: [Counter(1), Counter(1)],
-    addresses: 10,
-    rows: &[],
-    times: 0,
-    again: &[],
-    told: &[],
-    ending: EMPTY,
-    mutual: &[],
-    made: &[],
-};
+/// A request that comes three times, one that is late, and one that is given up; an address that is given again after
+/// a restart, and one after an end, for which a request before found none.
+const RUNS: [Run; 5] = [
+    Run {
+        events: concat!(
+            r#"[{"do":"create_session","imsi":"001010123456789","apn":"internet","ebi":5},"#,
+            r#"{"do":"deliver","datagram":0},{"do":"deliver","datagram":0},{"do":"deliver","datagram":0},"#,
+            r#"{"do":"deliver","datagram":1},{"do":"deliver","datagram":2},"#,
+            r#"{"do":"send","node":"serving","teid":"01000002","payload":"616263"},"#,
+            r#"{"do":"send","node":"packet","teid":"01000002","payload":"646566"},"#,
+            r#"{"do":"create_bearer","teid":"01000001","tft":"21"},{"do":"deliver","datagram":6}]"#
+        ),
+        made: &[(0, 1), (1, 0), (6, 1)],
+        handed_in: 2,
+    },
+    Run {
+        events: concat!(
+            r#"[{"do":"create_session","imsi":"001010123456789","apn":"internet","ebi":5},"#,
+            r#"{"do":"deliver","datagram":0},{"do":"deliver","datagram":1},"#,
+            r#"{"do":"create_bearer","teid":"01000001","tft":"21"},"#,
+            r#"{"do":"deliver","datagram":2},{"do":"deliver","datagram":3},"#,
+            r#"{"do":"tick","node":"serving","times":59},{"do":"deliver","datagram":2},"#,
+            r#"{"do":"tick","node":"serving"},{"do":"deliver","datagram":2},{"do":"deliver","datagram":2},"#,
+            r#"{"do":"cut","datagram":2,"length":11},{"do":"deliver","datagram":0},"#,
+            r#"{"do":"send","node":"serving","teid":"01000004","payload":"78"}]"#
+        ),
+        made: &[(0, 1), (2, 2)],
+        handed_in: 1,
+    },
+    Run {
+        events: concat!(
+            r#"[{"do":"create_session","imsi":"001010123456789","apn":"internet","ebi":5},"#,
+            r#"{"do":"deliver","datagram":0},{"do":"tick","node":"serving","times":12},"#,
+            r#"{"do":"deliver","datagram":1}]"#
+        ),
+        made: &[(0, 1)],
+        handed_in: 0,
+    },
+    Run {
+        events: concat!(
+            r#"[{"do":"create_session","imsi":"001010123456789","apn":"internet","ebi":5},"#,
+            r#"{"do":"deliver","datagram":0},{"do":"restart","node":"packet"},{"do":"deliver","datagram":0},"#,
+            r#"{"do":"deliver","datagram":1},{"do":"deliver","datagram":2},{"do":"deliver","datagram":1}]"#
+        ),
+        made: &[(0, 1)],
+        handed_in: 0,
+    },
+    Run {
+        events: concat!(
+            r#"[{"do":"create_session","imsi":"001010123456789","apn":"internet","ebi":5},"#,
+            r#"{"do":"deliver","datagram":0},{"do":"deliver","datagram":1},"#,
+            r#"{"do":"create_session","imsi":"001010123456789","apn":"internet","ebi":5},"#,
+            r#"{"do":"deliver","datagram":2},{"do":"deliver","datagram":3},"#,
+            r#"{"do":"delete_session","teid":"01000001"},{"do":"deliver","datagram":4},"#,
+            r#"{"do":"deliver","datagram":5},"#,
+            r#"{"do":"create_session","imsi":"001010123456789","apn":"internet","ebi":5},"#,
+            r#"{"do":"deliver","datagram":6},{"do":"deliver","datagram":7}]"#
+        ),
+        made: &[(0, 1), (2, 0), (6, 1)],
+        handed_in: 0,
+    },
+];
 
-/// How both are set up.
-fn both_set_up(alloc: Global, story: &Story<'_>) -> Result<WorldConfig, Fail> {
-    let pool = Pool::try_new(0x0a01_0001, story.addresses)?;
-    let serving = set_up(alloc, Role::Serving, pool)?;
-    let packet = set_up(alloc, Role::Packet, pool)?;
-    Ok(WorldConfig::try_new(serving, packet, story.counters)?)
+/// What the events of a scenario leave, where there is memory.
+fn left_by(alloc: Global, scenario: &Scenario, events: &[Event]) -> Option<World> {
+    World::run(alloc, &scenario.config, events).ok()
 }
 
-/// A command as an event.
-fn command(alloc: Global, happens: Happens) -> Result<Event, Fail> {
-    Ok(match happens {
-        Happens::CreateSession => Event::CreateSession(specification()?),
-        Happens::DeleteSession(session) => Event::DeleteSession(Teid(session)),
-        Happens::ReleaseSession(session) => Event::ReleaseSession(Teid(session)),
-        Happens::CreateBearer(session) => Event::CreateBearer {
-            session: Teid(session),
-            tft: Tft::try_new(&[0x21])?,
-            qos: qos(),
-        },
-        Happens::DeleteBearer(session, identity) => Event::DeleteBearer {
-            session: Teid(session),
-            ebi: Ebi::try_new(identity)?,
-        },
-        Happens::EndMarker(bearer) => Event::EndMarker(Teid(bearer)),
-        Happens::Send(node, bearer, payload) => Event::SendUser {
-            node,
-            bearer: Teid(bearer),
-            payload: Vec::from_slice(alloc, payload)?,
-        },
-        _ => return Err("no command".into()),
-    })
+/// How many contexts name each other.
+fn mutual_count(world: &World) -> usize {
+    world
+        .mutual()
+        .fold(0usize, |count, _| count.saturating_add(1))
 }
 
-/// What happens, as an event.
-pub(crate) fn event(alloc: Global, happens: Happens) -> Result<Event, Fail> {
-    match happens {
-        Happens::Echo(node) => Ok(Event::Echo(node)),
-        Happens::Ticks(node, _) => Ok(Event::Tick(node)),
-        Happens::Deliver(number) => Ok(Event::Deliver(number)),
-        Happens::Cut(datagram, length) => Ok(Event::Cut { datagram, length }),
-        Happens::Restart(node) | Happens::Restarts(node, _) => Ok(Event::Restart(node)),
-        _ => command(alloc, happens),
+/// Past their ends the views have nothing.
+fn nothing_is_past(rt: &impl Abort, world: &World) {
+    assert!(rt; world.agree(mutual_count(world)).is_none());
+    assert!(rt; world.owed(world.accepted().len()).is_none());
+    assert!(rt; world.made(world.datagrams().len() as u64).is_none());
+}
+
+/// A world has what a run is to leave.
+fn has(rt: &impl Abort, world: &World, run: &Run) {
+    for (number, count) in run.made {
+        assert!(rt;
+            world.made(*number) == Some(*count),
+            "made for {number} of {}",
+            run.events
+        );
     }
+    assert!(rt;
+        world.handed_in().len() == run.handed_in,
+        "handed in by {}",
+        run.events
+    );
+    nothing_is_past(rt, world);
 }
 
-/// What was sent for this event is what its row says.
-fn is_sent(
+/// A scenario leaves what a run is to leave.
+fn scenario_leaves(
     rt: &impl Abort,
     alloc: Global,
-    event: usize,
-    sends: Sends,
-    sent: &[Datagram],
+    scenario: &Scenario,
+    run: &Run,
 ) -> Result<(), Fail> {
-    match (sends, sent) {
-        (Sends::Nothing, []) | (Sends::Shown, [_]) => Ok(()),
-        (Sends::Octets(digits), [datagram]) => {
-            let text = hex::encode(alloc, datagram.sent.octets.as_slice())?;
-            assert!(rt; text.as_str() == digits, "sent for event {event}: {text}");
-            Ok(())
-        }
-        _ => Err("sent, or not sent".into()),
-    }
+    let events = events_of(alloc, scenario.entries.as_slice())?;
+    let world = left_by(alloc, scenario, events.as_slice()).expect(rt, "no memory");
+    has(rt, &world, run);
+    drop(world);
+    Ok(())
 }
 
-/// An event happens.
-fn step(alloc: Global, world: &mut World, event: &Event) -> Result<EventOutcome, Memory> {
-    world.step(alloc, event)
+/// A run leaves what it is to leave.
+fn leaves(rt: &impl Abort, alloc: Global, run: &Run) -> Result<(), Fail> {
+    let text = scenario_of(alloc, 1, run.events)?;
+    let scenario = read_scenario(alloc, text.as_bytes())?;
+    scenario_leaves(rt, alloc, &scenario, run)
+}
+
+#[test]
+fn what_runs_leave(rt: HostRuntime) -> Result<(), Fail> {
+    for run in &RUNS {
+        leaves(&rt, rt.alloc(), run)?;
+    }
+    Ok(())
 }
 
 /// A session is made in one call.
@@ -188,82 +156,6 @@ fn exchange(
     world.exchange(alloc, spec)
 }
 
-/// All that was sent.
-fn sent(world: &World) -> &[Datagram] {
-    world.datagrams()
-}
-
-/// What happens, where the datagram that was sent last is named by its number.
-fn numbered(happens: Happens, count: usize) -> Happens {
-    match happens {
-        Happens::DeliverLast => Happens::Deliver((count as u64).saturating_sub(1)),
-        _ => happens,
-    }
-}
-
-/// This happens.
-fn happen(alloc: Global, world: &mut World, happens: Happens) -> Result<EventOutcome, Fail> {
-    let event = event(alloc, happens)?;
-    Ok(step(alloc, world, &event)?)
-}
-
-/// What a row comes to when it happens once more, from 0.
-fn outcome_at(outcome: EventOutcome, at: u32) -> EventOutcome {
-    match outcome {
-        EventOutcome::Restarted(first) => {
-            let [_, _, _, later] = at.to_be_bytes();
-            EventOutcome::Restarted(Counter(first.0.wrapping_add(later)))
-        }
-        _ => outcome,
-    }
-}
-
-/// A row happens once, for so many times before.
-fn once(rt: &impl Abort, alloc: Global, world: &mut World, row: &Row, at: u32) -> Result<(), Fail> {
-    let event = notes(world).len();
-    let before = sent(world).len();
-    let outcome = happen(alloc, world, numbered(row.0, before))?;
-    assert!(rt;
-        outcome == outcome_at(row.1, at),
-        "event {event}: {outcome:?}"
-    );
-    let sent = sent(world).get(before..).unwrap_or(&[]);
-    is_sent(rt, alloc, event, row.2, sent)
-}
-
-/// How often it happens.
-fn times(happens: Happens) -> u32 {
-    match happens {
-        Happens::Ticks(_, times) | Happens::Restarts(_, times) => times,
-        _ => 1,
-    }
-}
-
-/// A row, as often as it happens.
-fn often(rt: &impl Abort, alloc: Global, world: &mut World, row: &Row) -> Result<(), Fail> {
-    for at in 0..times(row.0) {
-        once(rt, alloc, world, row, at)?;
-    }
-    Ok(())
-}
-
-/// Sessions are made, each in one call.
-fn exchanges(
-    rt: &impl Abort,
-    alloc: Global,
-    world: &mut World,
-    first: u32,
-    times: u32,
-) -> Result<(), Fail> {
-    let spec = specification()?;
-    for at in 0..times {
-        let teid = first.wrapping_add(at).wrapping_add(at);
-        let outcomes = exchange(alloc, world, &spec)?;
-        assert!(rt; outcomes == made_under(teid), "{outcomes:?}");
-    }
-    Ok(())
-}
-
 /// What the events come to that make a session.
 fn made_under(teid: u32) -> [EventOutcome; 3] {
     [
@@ -273,154 +165,81 @@ fn made_under(teid: u32) -> [EventOutcome; 3] {
     ]
 }
 
-/// A row.
-fn row(rt: &impl Abort, alloc: Global, world: &mut World, row: &Row) -> Result<(), Fail> {
-    match row.0 {
-        Happens::Exchanges(first, times) => exchanges(rt, alloc, world, first, times),
-        _ => often(rt, alloc, world, row),
-    }
-}
-
-/// Rows, in order.
-fn rows(rt: &impl Abort, alloc: Global, world: &mut World, rows: &[Row]) -> Result<(), Fail> {
-    for one in rows {
-        row(rt, alloc, world, one)?;
-    }
-    Ok(())
-}
-
-/// All rows of a story.
-fn all_rows(
+/// Sessions are made, each in one call: those of these places, from 0.
+fn exchanges(
     rt: &impl Abort,
     alloc: Global,
     world: &mut World,
-    story: &Story<'_>,
+    first: u32,
+    end: u32,
 ) -> Result<(), Fail> {
-    for some in story.rows {
-        rows(rt, alloc, world, some)?;
-    }
-    for _ in 0..story.times {
-        rows(rt, alloc, world, story.again)?;
+    let spec = specification()?;
+    for at in first..end {
+        let teid = 0x0100_0001u32.wrapping_add(at).wrapping_add(at);
+        let outcomes = exchange(alloc, world, &spec)?;
+        assert!(rt; outcomes == made_under(teid), "{outcomes:?}");
     }
     Ok(())
 }
 
-/// Of an event, this request alone was given up, or none was.
-fn is_given_up(note: &Note, number: Option<u32>) -> bool {
-    let given_up = note.gave_up.as_slice();
-    given_up.len() <= 1 && given_up.first().map(|one| one.number()) == number
-}
+/// A session and its default bearer at both gateways.
+const MUTUAL: [Mutual; 2] = [
+    Mutual::Session {
+        serving: Teid(0x0100_0001),
+        packet: Teid(0x0100_0001),
+    },
+    Mutual::Bearer {
+        serving: Teid(0x0100_0002),
+        packet: Teid(0x0100_0002),
+    },
+];
 
-/// What is told of an event is this.
-fn is_told(note: &Note, told: &Told) -> bool {
-    note.restart == told.restart
-        && note.forgotten.len() == told.forgotten
-        && is_given_up(note, told.gave_up)
-}
-
-/// What came of each event.
-fn notes(world: &World) -> &[Note] {
-    world.outcomes()
-}
-
-/// What is told of these events is this.
-fn are_told(rt: &impl Abort, notes: &[Note], told: &[Told]) {
-    for one in told {
-        let is_so = notes.get(one.event).is_some_and(|note| is_told(note, one));
-        assert!(rt; is_so, "told of {}", one.event);
-    }
-}
-
-/// How many sessions and bearers a gateway has.
-fn counted(world: &World, role: Role) -> (usize, usize) {
-    let gateway = world.gateway(role);
-    (session_count(gateway), bearer_count(gateway))
-}
-
-/// How many packets were accepted, and how many of these are owed.
-fn owed(world: &World) -> (usize, usize) {
-    let mut owed = 0usize;
-    let count = world.accepted().len();
-    for at in 0..count {
-        if world.owed(at) == Some(true) {
-            owed = owed.saturating_add(1);
-        }
-    }
-    (count, owed)
-}
-
-/// How many contexts name each other.
-fn mutual_count(world: &World) -> usize {
-    world
-        .mutual()
-        .fold(0usize, |count, _| count.saturating_add(1))
-}
-
-/// How a world ends.
-fn end_of(world: &World) -> Ending {
-    Ending {
-        serving: counted(world, Role::Serving),
-        packet: counted(world, Role::Packet),
-        mutual: mutual_count(world),
-        handed_in: world.handed_in().len(),
-        accepted: owed(world),
-        late: world.late(),
-    }
-}
-
-/// These contexts name each other, in this order, and agree.
-fn are_mutual(rt: &impl Abort, world: &World, mutual: &[Mutual]) {
+/// The one session stands at both gateways, which agree.
+fn has_one(rt: &impl Abort, world: &World) {
     let mut listed = world.mutual();
-    for (at, pair) in mutual.iter().enumerate() {
+    for (at, pair) in MUTUAL.iter().enumerate() {
         assert!(rt; listed.next() == Some(*pair), "mutual at {at}");
         assert!(rt; world.agree(at) == Some(true), "agree at {at}");
     }
+    nothing_is_past(rt, world);
 }
 
-/// So many contexts were made for these datagrams.
-fn are_made(rt: &impl Abort, world: &World, made: &[(u64, usize)]) {
-    for (number, count) in made {
-        assert!(rt; world.made(*number) == Some(*count), "made for {number}");
-    }
+/// A gateway has a thousand sessions, each with its bearer.
+fn is_full(rt: &impl Abort, world: &World, role: Role) {
+    let gateway = world.gateway(role);
+    assert!(rt; session_count(gateway) == 1000 && bearer_count(gateway) == 1000);
 }
 
-/// Past their ends the views have nothing.
-fn nothing_is_past(rt: &impl Abort, world: &World, ending: &Ending) {
-    assert!(rt; world.agree(ending.mutual).is_none());
-    assert!(rt; world.owed(ending.accepted.0).is_none());
-    assert!(rt; world.made(sent(world).len() as u64).is_none());
-}
-
-/// It ends so.
-fn ends(rt: &impl Abort, world: &World, story: &Story<'_>) {
-    let ending = end_of(world);
-    assert!(rt; ending == story.ending, "{ending:?}");
-    are_told(rt, notes(world), story.told);
-    are_mutual(rt, world, story.mutual);
-    are_made(rt, world, story.made);
-    nothing_is_past(rt, world, &ending);
-}
-
-/// The story, from its start to its end.
-fn told_in(
-    rt: &impl Abort,
-    alloc: Global,
-    world: &mut World,
-    story: &Story<'_>,
-) -> Result<(), Fail> {
-    all_rows(rt, alloc, world, story)?;
-    ends(rt, world, story);
+/// No more than a thousand sessions are made.
+fn has_no_room(rt: &impl Abort, alloc: Global, world: &mut World) -> Result<(), Fail> {
+    let outcome = world.step(alloc, &Event::CreateSession(specification()?))?;
+    let refused = EventOutcome::CameTo(Outcome::Refused(Refusal::SessionsFull));
+    assert!(rt; outcome == refused, "{outcome:?}");
+    is_full(rt, world, Role::Serving);
+    is_full(rt, world, Role::Packet);
+    assert!(rt; mutual_count(world) == 2000);
     Ok(())
 }
 
-/// A world in which nothing has happened.
-fn started(alloc: Global, story: &Story<'_>) -> Result<World, Fail> {
-    let config = both_set_up(alloc, story)?;
+/// One session is made, and then 999 more.
+fn makes_thousand(rt: &impl Abort, alloc: Global, world: &mut World) -> Result<(), Fail> {
+    exchanges(rt, alloc, world, 0, 1)?;
+    has_one(rt, world);
+    exchanges(rt, alloc, world, 1, 1000)?;
+    has_no_room(rt, alloc, world)
+}
+
+/// A world with 1,001 addresses for sessions, in which nothing has happened.
+fn started(alloc: Global) -> Result<World, Fail> {
+    let text = scenario_of(alloc, 1001, "[]")?;
+    let config = set_up_in(alloc, text.as_str())?;
     Ok(World::start(alloc, &config)?)
 }
 
-/// The story happens so.
-pub(crate) fn happens_so(rt: &impl Abort, alloc: Global, story: &Story<'_>) -> Result<(), Fail> {
-    let mut world = started(alloc, story)?;
-    told_in(rt, alloc, &mut world, story)
+#[test]
+fn sessions_are_made_in_one_call_each(rt: HostRuntime) -> Result<(), Fail> {
+    let mut world = started(rt.alloc())?;
+    let made = makes_thousand(&rt, rt.alloc(), &mut world);
+    drop(world);
+    made
 }

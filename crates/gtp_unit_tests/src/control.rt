@@ -44,6 +44,24 @@ fn written_again(alloc: Global, octets: &[u8]) -> Result<Vec<u8>, Fail> {
     }
 }
 
+/// Removals with a priority: the request names a bearer twice, and in the answer the cause names an element.
+const REMOVAL_REQUEST_BY_PRIORITY: &str = "4c6300170000000700000930490001000649000101064900010106";
+
+const REMOVAL_RESPONSE_BY_PRIORITY: &str = concat!(
+    "4c64002f000000070000093002000600460549000001",
+    "4900010006",
+    "5d000f00490001000602000600460549000001",
+    "03000100c8"
+);
+
+/// The end of a session with a priority.
+const END_REQUEST_BY_PRIORITY: &str = "4c2400080000000700000930";
+
+const END_RESPONSE_BY_PRIORITY: &str = "4c250012000000070000093002000600460549000001";
+
+/// Cause 73, with nothing but the counter.
+const SESSION_REFUSAL_BY_PRIORITY: &str = "4c21001300000007000009300200020049000300010001";
+
 /// Messages whose octets come from outside. The first is examples/datagrams/control/echo-request; those of
 /// types 36 and 37 are delete-session-request and delete-session-response there.
 const VECTORS: &[&str] = &[
@@ -61,6 +79,11 @@ const VECTORS: &[&str] = &[
     REMOVAL_RESPONSE,
     "482200080100000100000700",
     "4022000b0000070061626364656667",
+    REMOVAL_REQUEST_BY_PRIORITY,
+    REMOVAL_RESPONSE_BY_PRIORITY,
+    END_REQUEST_BY_PRIORITY,
+    END_RESPONSE_BY_PRIORITY,
+    SESSION_REFUSAL_BY_PRIORITY,
 ];
 
 #[test]
@@ -75,13 +98,6 @@ fn vectors_stand(rt: HostRuntime) -> Result<(), Fail> {
     Ok(())
 }
 
-/// A message is written as these octets.
-fn is_written(rt: &impl Abort, alloc: Global, message: &Message, digits: &str) -> Result<(), Fail> {
-    let octets = octets_of(alloc, digits)?;
-    assert!(rt; written(alloc, message)? == octets, "octets of {digits}");
-    Ok(())
-}
-
 /// These octets are read as a message.
 fn is_read(rt: &impl Abort, alloc: Global, digits: &str, message: &Message) -> Result<(), Fail> {
     let octets = octets_of(alloc, digits)?;
@@ -89,44 +105,35 @@ fn is_read(rt: &impl Abort, alloc: Global, digits: &str, message: &Message) -> R
     Ok(())
 }
 
-/// A message that was made by hand is written as these octets, which are read as that message.
-fn is_spelled(rt: &impl Abort, alloc: Global, message: &Message, digits: &str) -> Result<(), Fail> {
-    is_written(rt, alloc, message, digits)?;
-    is_read(rt, alloc, digits, message)
-}
+/// The TEID, the number and the priority of a message.
+type Header = (Option<Teid>, Seq, Option<Below<16>>);
 
-/// The same of a body with a TEID of 7, a sequence number of 9 and a priority of 3.
-fn is_spelled_with_priority(
+/// Octets of `VECTORS` are read as a message that was made by hand.
+fn spell(
     rt: &impl Abort,
     alloc: Global,
-    body: Body,
     digits: &str,
-) -> Result<(), Fail> {
-    let message = Message {
-        teid: Some(Teid(7)),
-        seq: Seq::new(9),
-        priority: Some(Below::new(3)),
-        body,
-    };
-    is_spelled(rt, alloc, &message, digits)
-}
-
-/// The same of a body with this TEID and sequence number.
-fn is_spelled_with(
-    rt: &impl Abort,
-    alloc: Global,
-    teid: Option<u32>,
-    seq: Seq,
+    header: Header,
     body: Body,
-    digits: &str,
 ) -> Result<(), Fail> {
+    let (teid, seq, priority) = header;
     let message = Message {
-        teid: teid.map(Teid),
+        teid,
         seq,
-        priority: None,
+        priority,
         body,
     };
-    is_spelled(rt, alloc, &message, digits)
+    is_read(rt, alloc, digits, &message)
+}
+
+/// The TEID 7, the sequence number 9 and the priority 3.
+fn by_priority() -> Header {
+    (Some(Teid(7)), Seq::new(9), Some(Below::new(3)))
+}
+
+/// A message of this TEID and number, without a priority.
+fn plain(teid: Option<u32>, seq: Seq) -> Header {
+    (teid.map(Teid), seq, None)
 }
 
 fn bearer(number: u8) -> Result<EbiValue, Fail> {
@@ -183,29 +190,39 @@ fn removal_response(alloc: Global) -> Result<Body, Fail> {
 fn removals_made_by_hand(rt: HostRuntime) -> Result<(), Fail> {
     let alloc = rt.alloc();
     let request = removal_request(alloc)?;
-    let digits = "4c6300170000000700000930490001000649000101064900010106";
-    is_spelled_with_priority(&rt, alloc, request, digits)?;
+    spell(
+        &rt,
+        alloc,
+        REMOVAL_REQUEST_BY_PRIORITY,
+        by_priority(),
+        request,
+    )?;
     let response = removal_response(alloc)?;
-    let digits = concat!(
-        "4c64002f000000070000093002000600460549000001",
-        "4900010006",
-        "5d000f00490001000602000600460549000001",
-        "03000100c8"
-    );
-    is_spelled_with_priority(&rt, alloc, response, digits)
+    spell(
+        &rt,
+        alloc,
+        REMOVAL_RESPONSE_BY_PRIORITY,
+        by_priority(),
+        response,
+    )
 }
 
 #[test]
 fn ends_of_sessions_made_by_hand(rt: HostRuntime) -> Result<(), Fail> {
     let alloc = rt.alloc();
     let request = Body::DeleteSessionRequest(DeleteSessionRequest { linked_ebi: None });
-    is_spelled_with_priority(&rt, alloc, request, "4c2400080000000700000930")?;
+    spell(&rt, alloc, END_REQUEST_BY_PRIORITY, by_priority(), request)?;
     let response = Body::DeleteSessionResponse(DeleteSessionResponse {
         cause: cause_with_element(),
         recovery: None,
     });
-    let digits = "4c250012000000070000093002000600460549000001";
-    is_spelled_with_priority(&rt, alloc, response, digits)
+    spell(
+        &rt,
+        alloc,
+        END_RESPONSE_BY_PRIORITY,
+        by_priority(),
+        response,
+    )
 }
 
 /// The request is examples/datagrams/control/echo-request.
@@ -213,27 +230,31 @@ fn ends_of_sessions_made_by_hand(rt: HostRuntime) -> Result<(), Fail> {
 fn echoes_made_by_hand(rt: HostRuntime) -> Result<(), Fail> {
     let alloc = rt.alloc();
     let recovery = Recovery(Counter(7));
-    let body = Body::EchoRequest(EchoRequest { recovery });
-    is_spelled_with(
+    let request = Body::EchoRequest(EchoRequest { recovery });
+    spell(
         &rt,
         alloc,
-        None,
-        Seq::new(1),
-        body,
         "40010009000001000300010007",
+        plain(None, Seq::new(1)),
+        request,
     )?;
     let recovery = Recovery(Counter(255));
-    let body = Body::EchoResponse(EchoResponse { recovery });
-    is_spelled_with(
+    let response = Body::EchoResponse(EchoResponse { recovery });
+    spell(
         &rt,
         alloc,
-        None,
-        Seq::new(2),
-        body,
         "400200090000020003000100ff",
+        plain(None, Seq::new(2)),
+        response,
     )?;
-    let body = Body::VersionNotSupported(VersionNotSupported {});
-    is_spelled_with(&rt, alloc, None, Seq::new(1), body, "4003000400000100")
+    let other = Body::VersionNotSupported(VersionNotSupported {});
+    spell(
+        &rt,
+        alloc,
+        "4003000400000100",
+        plain(None, Seq::new(1)),
+        other,
+    )
 }
 
 fn no_rates() -> Rates {
@@ -320,25 +341,30 @@ fn session_refusal(alloc: Global) -> Body {
 #[test]
 fn sessions_made_by_hand(rt: HostRuntime) -> Result<(), Fail> {
     let alloc = rt.alloc();
-    is_spelled_with(
+    let request = session_request(alloc)?;
+    spell(
         &rt,
         alloc,
-        Some(0),
-        Seq::new(0),
-        session_request(alloc)?,
         SESSION_REQUEST,
+        plain(Some(0), Seq::new(0)),
+        request,
     )?;
     let response = session_response(alloc)?;
-    is_spelled_with(
+    spell(
         &rt,
         alloc,
-        Some(0x01000001),
-        Seq::new(0),
-        response,
         SESSION_RESPONSE,
+        plain(Some(0x01000001), Seq::new(0)),
+        response,
     )?;
-    let digits = "4c21001300000007000009300200020049000300010001";
-    is_spelled_with_priority(&rt, alloc, session_refusal(alloc), digits)
+    let refusal = session_refusal(alloc);
+    spell(
+        &rt,
+        alloc,
+        SESSION_REFUSAL_BY_PRIORITY,
+        by_priority(),
+        refusal,
+    )
 }
 
 fn bearer_request(alloc: Global) -> Result<Body, Fail> {
@@ -374,22 +400,20 @@ fn bearer_response(alloc: Global) -> Result<Body, Fail> {
 fn bearers_made_by_hand(rt: HostRuntime) -> Result<(), Fail> {
     let alloc = rt.alloc();
     let request = bearer_request(alloc)?;
-    is_spelled_with(
+    spell(
         &rt,
         alloc,
-        Some(0x01000001),
-        Seq::new(0),
-        request,
         BEARER_REQUEST,
+        plain(Some(0x01000001), Seq::new(0)),
+        request,
     )?;
     let response = bearer_response(alloc)?;
-    is_spelled_with(
+    spell(
         &rt,
         alloc,
-        Some(0x01000001),
-        Seq::new(0),
-        response,
         BEARER_RESPONSE,
+        plain(Some(0x01000001), Seq::new(0)),
+        response,
     )
 }
 
@@ -505,31 +529,37 @@ fn echo_request(alloc: Global, header: &str, digits: &str, times: usize) -> Resu
     Ok(octets)
 }
 
-/// The restart counter that an Echo Request tells.
-fn counter_of_echo(alloc: Global, octets: &[u8]) -> Result<u8, Fail> {
-    match read(alloc, octets)?.body {
-        Body::EchoRequest(request) => Ok(request.recovery.0.0),
-        _ => Err("of another kind".into()),
-    }
-}
-
 const LONG_LISTS: &[(&str, &str, usize, usize)] = &[
     ("4001ffff00000100c8fff200", "00", 0xfff2, 65_539),
     ("4001fffd00000100", "c8000000", 16_381, 65_537),
 ];
 
+/// An Echo Request with so many pieces is so long, and is written again without them.
+fn is_echo_request(
+    rt: &impl Abort,
+    alloc: Global,
+    header: &str,
+    digits: &str,
+    times: usize,
+    length: usize,
+) -> Result<(), Fail> {
+    let octets = echo_request(alloc, header, digits, times)?;
+    assert!(rt; octets.len() == length, "{times} times {digits}");
+    let again = written_again(alloc, &octets)?;
+    assert!(rt;
+        again == octets_of(alloc, VECTORS[0])?,
+        "{times} times {digits}"
+    );
+    Ok(())
+}
+
 /// Echo Requests, the one with the longest list that a header can state, whose 65,535 octets are four of the
 /// header's own and 65,531 of elements; the other with as many elements as there can be, 16,381 empty ones
-/// before the one that counts.
+/// before the one that counts. Both are the first of `VECTORS` but for these.
 #[test]
 fn lists_of_any_length(rt: HostRuntime) -> Result<(), Fail> {
     for (header, digits, times, length) in LONG_LISTS {
-        let octets = echo_request(rt.alloc(), header, digits, *times)?;
-        assert!(rt; octets.len() == *length, "{times} times {digits}");
-        assert!(rt;
-            counter_of_echo(rt.alloc(), &octets)? == 7,
-            "{times} times {digits}"
-        );
+        is_echo_request(&rt, rt.alloc(), header, digits, *times, *length)?;
     }
     Ok(())
 }
@@ -589,55 +619,46 @@ fn removals(alloc: Global, header: &str, short: usize, long: usize) -> Result<Ve
     Ok(octets)
 }
 
-/// The contexts of a Delete Bearer Response.
-fn contexts_of(alloc: Global, octets: &[u8]) -> Result<Vec<RemovalResponseContext>, Fail> {
-    match read(alloc, octets)?.body {
-        Body::DeleteBearerResponse(response) => Ok(response.contexts.into_vec()),
-        _ => Err("of another kind".into()),
-    }
+/// Three hundred identities in a Delete Bearer Request.
+fn removed(alloc: Global) -> Result<Vec<u8>, Fail> {
+    let mut octets = octets_of(alloc, "486305e40100000100000700")?;
+    append(alloc, &mut octets, "4900010109", 300)?;
+    Ok(octets)
 }
 
-/// No memory runs out above some size: three hundred contexts.
-#[test]
-fn many_contexts(rt: HostRuntime) -> Result<(), Fail> {
-    let octets = removals(rt.alloc(), "486411a2", 300, 0)?;
-    assert!(rt; written_again(rt.alloc(), &octets)? == octets);
-    let contexts = contexts_of(rt.alloc(), &octets)?;
-    assert!(rt; contexts.len() == 300);
-    for context in &contexts {
-        assert!(rt; context.ebi == EbiValue(Below::new(5)) && context.cause.value == 16);
-    }
+/// A message is written again as it is.
+fn stands(rt: &impl Abort, alloc: Global, octets: &[u8]) -> Result<(), Fail> {
+    assert!(rt; written_again(alloc, octets)?.as_slice() == octets);
     Ok(())
 }
 
-/// The bearers of a Delete Bearer Request, and the one that it is linked to.
-fn bearers_of(alloc: Global, octets: &[u8]) -> Result<(Vec<EbiValue>, Option<EbiValue>), Fail> {
-    match read(alloc, octets)?.body {
-        Body::DeleteBearerRequest(request) => Ok((request.ebis.into_vec(), request.linked_ebi)),
-        _ => Err("of another kind".into()),
-    }
-}
-
-/// Three hundred identities.
+/// No memory runs out above some size: three hundred contexts, and three hundred identities. What is read of both is
+/// in tests/command-line.
 #[test]
-fn many_bearers(rt: HostRuntime) -> Result<(), Fail> {
-    let mut octets = octets_of(rt.alloc(), "486305e40100000100000700")?;
-    append(rt.alloc(), &mut octets, "4900010109", 300)?;
-    assert!(rt; written_again(rt.alloc(), &octets)? == octets);
-    let (bearers, linked) = bearers_of(rt.alloc(), &octets)?;
-    assert!(rt; bearers.len() == 300 && linked.is_none());
-    for ebi in &bearers {
-        assert!(rt; *ebi == EbiValue(Below::new(9)));
-    }
-    Ok(())
+fn many_contexts_and_bearers(rt: HostRuntime) -> Result<(), Fail> {
+    let contexts = removals(rt.alloc(), "486411a2", 300, 0)?;
+    stands(&rt, rt.alloc(), &contexts)?;
+    let bearers = removed(rt.alloc())?;
+    stands(&rt, rt.alloc(), &bearers)
 }
 
-/// The length of the Delete Bearer Response with these contexts and a counter, or nothing where it is too
-/// long.
-fn length_with_counter(
-    alloc: Global,
-    contexts: Vec<RemovalResponseContext>,
-) -> Result<Option<usize>, Fail> {
+/// 4,363 contexts whose cause has two octets, and four whose cause names an element and has six.
+fn most_contexts(alloc: Global) -> Result<Vec<RemovalResponseContext>, Fail> {
+    let short = RemovalResponseContext {
+        ebi: bearer(5)?,
+        cause: cause(16),
+    };
+    let long = RemovalResponseContext {
+        ebi: bearer(5)?,
+        cause: cause_with_element(),
+    };
+    let mut contexts = vec![in alloc; short; 4_363]?;
+    contexts.resize(4_367, long)?;
+    Ok(contexts)
+}
+
+/// The length of a Delete Bearer Response with these contexts and this counter, or nothing where it is too long.
+fn length_of_removals(alloc: Global, counter: Option<Recovery>) -> Result<Option<usize>, Fail> {
     let message = Message {
         teid: Some(Teid(0x01000001)),
         seq: Seq::new(7),
@@ -645,8 +666,8 @@ fn length_with_counter(
         body: Body::DeleteBearerResponse(DeleteBearerResponse {
             cause: cause(16),
             linked_ebi: None,
-            contexts: Listed::of(contexts),
-            recovery: recovery(7),
+            contexts: Listed::of(most_contexts(alloc)?),
+            recovery: counter,
         }),
     };
     length_of(alloc, &message)
@@ -658,11 +679,20 @@ fn length_with_counter(
 fn the_longest_message(rt: HostRuntime) -> Result<(), Fail> {
     let octets = removals(rt.alloc(), "4864ffff", 4_363, 4)?;
     assert!(rt; octets.len() == 65_539);
-    assert!(rt; written_again(rt.alloc(), &octets)? == octets);
-    let contexts = contexts_of(rt.alloc(), &octets)?;
-    assert!(rt; contexts.len() == 4_367);
-    assert!(rt; length_with_counter(rt.alloc(), contexts)?.is_none());
+    stands(&rt, rt.alloc(), &octets)?;
+    assert!(rt; length_of_removals(rt.alloc(), None)? == Some(65_539));
+    assert!(rt; length_of_removals(rt.alloc(), recovery(7))?.is_none());
     Ok(())
+}
+
+fn plain_head() -> Head {
+    Head {
+        kind: 32,
+        teid: None,
+        seq: Seq::new(1),
+        priority: None,
+        sender: None,
+    }
 }
 
 #[test]
@@ -679,6 +709,22 @@ fn faults_in_words(rt: HostRuntime) -> Result<(), Fail> {
             V2Fault::FlagT { kind: 1 },
             "type 1 has the wrong form of header",
         ),
+        (
+            V2Fault::Missing {
+                kind: 71,
+                instance: 0,
+                conditional: false,
+                head: plain_head(),
+            },
+            "the element 71/0 is missing",
+        ),
+        (
+            V2Fault::Element {
+                fault: IeFault::Truncated { at: 128 },
+                head: plain_head(),
+            },
+            "the element at 128 is not whole",
+        ),
         (V2Fault::Memory, "no memory"),
         (V2Fault::TooLong, "the length is above 65535"),
     ] {
@@ -687,124 +733,109 @@ fn faults_in_words(rt: HostRuntime) -> Result<(), Fail> {
     Ok(())
 }
 
-fn plain_head() -> Head {
-    Head {
-        kind: 32,
-        teid: None,
-        seq: Seq::new(1),
-        priority: None,
-        sender: None,
-    }
-}
-
-fn missing_name() -> V2Fault {
-    V2Fault::Missing {
-        kind: 71,
-        instance: 0,
-        conditional: false,
-        head: plain_head(),
-    }
-}
-
-fn element_that_is_cut() -> V2Fault {
-    V2Fault::Element {
-        fault: IeFault::Truncated { at: 128 },
-        head: plain_head(),
-    }
-}
-
-#[test]
-fn faults_of_elements_in_words(rt: HostRuntime) -> Result<(), Fail> {
-    is_told(
-        &rt,
-        rt.alloc(),
-        &missing_name(),
-        "the element 71/0 is missing",
-    )?;
-    is_told(
-        &rt,
-        rt.alloc(),
-        &element_that_is_cut(),
-        "the element at 128 is not whole",
-    )
-}
-
 /// The message of a view of octets.
 fn viewed(alloc: Global, octets: &[u8]) -> Result<Message, Fail> {
     Ok(view(octets)?.to_message(alloc)?)
 }
 
 /// What a view of a datagram gives is what decoding it gives, without memory.
-#[test]
-fn messages_in_place(rt: HostRuntime) -> Result<(), Fail> {
-    let octets = octets_of(rt.alloc(), SESSION_REQUEST)?;
-    let message = viewed(rt.alloc(), &octets)?;
-    is_read(&rt, rt.alloc(), SESSION_REQUEST, &message)
-}
-
-#[test]
-fn headers_in_place(rt: HostRuntime) -> Result<(), Fail> {
-    let octets = octets_of(rt.alloc(), SESSION_REQUEST)?;
-    let seen = view(&octets)?;
-    assert!(rt; seen.kind() == 32 && seen.teid() == Some(Teid(0)) && seen.seq() == Seq::new(0));
-    assert!(rt; seen.priority().is_none() && seen.raw().is_none());
-    assert!(rt; seen.octets() == &octets[12..]);
+fn is_viewed(rt: &impl Abort, alloc: Global, octets: &[u8]) -> Result<(), Fail> {
+    let message = viewed(alloc, octets)?;
+    assert!(rt; read(alloc, octets)? == message);
     Ok(())
 }
 
 #[test]
-fn values_in_place(rt: HostRuntime) -> Result<(), Fail> {
-    let sender = end(6, 0x01000001, 1)?;
+fn messages_in_place(rt: HostRuntime) -> Result<(), Fail> {
     let octets = octets_of(rt.alloc(), SESSION_REQUEST)?;
-    let seen = view(&octets)?;
+    is_viewed(&rt, rt.alloc(), &octets)
+}
+
+/// The header of the request for a session, and what stands after it.
+fn has_header(rt: &impl Abort, octets: &[u8]) -> Result<(), Fail> {
+    let seen = view(octets)?;
+    assert!(rt; seen.kind() == 32 && seen.teid() == Some(Teid(0)) && seen.seq() == Seq::new(0));
+    assert!(rt; seen.priority().is_none() && seen.raw().is_none());
+    assert!(rt; Some(seen.octets()) == octets.get(12..));
+    Ok(())
+}
+
+/// Its restart counter and its sender.
+fn has_values(rt: &impl Abort, octets: &[u8]) -> Result<(), Fail> {
+    let sender = end(6, 0x01000001, 1)?;
+    let seen = view(octets)?;
     assert!(rt; seen.value::<Recovery>(0) == Some(Recovery(Counter(1))));
     assert!(rt; seen.value::<FTeid>(0) == Some(sender));
     assert!(rt; seen.value::<FTeid>(1).is_none());
     Ok(())
 }
 
-#[test]
-fn contexts_in_place(rt: HostRuntime) -> Result<(), Fail> {
-    let octets = octets_of(rt.alloc(), SESSION_REQUEST)?;
-    let mut contexts = view(&octets)?.contexts();
+/// Its one bearer context.
+fn has_context(rt: &impl Abort, octets: &[u8]) -> Result<(), Fail> {
+    let mut contexts = view(octets)?.contexts();
     let context = contexts.next().ok_or("a context")?;
     assert!(rt; context.value::<EbiValue>(0) == Some(EbiValue(Below::new(5))));
     assert!(rt; contexts.next().is_none());
     Ok(())
 }
 
+/// The request for a session has all this.
+fn is_session_request(rt: &impl Abort, octets: &[u8]) -> Result<(), Fail> {
+    has_header(rt, octets)?;
+    has_values(rt, octets)?;
+    has_context(rt, octets)
+}
+
 #[test]
-fn listed_values_in_place(rt: HostRuntime) -> Result<(), Fail> {
-    // A Delete Bearer Request for the bearers 6 and 8.
-    let octets = octets_of(rt.alloc(), "48630012010000010000010049000101064900010108")?;
-    let mut values = view(&octets)?.values::<EbiValue>(1);
-    assert!(rt; values.next() == Some(EbiValue(Below::new(6))));
-    assert!(rt; values.next() == Some(EbiValue(Below::new(8))));
-    assert!(rt; values.next().is_none());
+fn a_session_request_in_place(rt: HostRuntime) -> Result<(), Fail> {
+    let octets = octets_of(rt.alloc(), SESSION_REQUEST)?;
+    is_session_request(&rt, &octets)
+}
+
+/// A Delete Bearer Request for the bearers 6 and 8, and an Echo Request in which an identity without an octet stands
+/// before the identity 6: each with the instance of the identities, and these.
+const LISTED: &[(&str, u8, &[u8])] = &[
+    ("48630012010000010000010049000101064900010108", 1, &[6, 8]),
+    ("40010012000001000300010007490000004900010006", 0, &[6]),
+];
+
+/// The identities of this instance are these.
+fn are_listed(
+    rt: &impl Abort,
+    alloc: Global,
+    digits: &str,
+    instance: u8,
+    numbers: &[u8],
+) -> Result<(), Fail> {
+    let octets = octets_of(alloc, digits)?;
+    let mut values = view(&octets)?.values::<EbiValue>(instance);
+    for number in numbers {
+        assert!(rt;
+            values.next() == Some(bearer(*number)?),
+            "{number} of {digits}"
+        );
+    }
+    assert!(rt; values.next().is_none(), "{digits}");
     Ok(())
 }
 
 #[test]
-fn values_that_do_not_read(rt: HostRuntime) -> Result<(), Fail> {
-    // An Echo Request in which an identity without an octet stands before the identity 6.
-    let octets = octets_of(rt.alloc(), "40010012000001000300010007490000004900010006")?;
-    let mut values = view(&octets)?.values::<EbiValue>(0);
-    assert!(rt; values.next() == Some(EbiValue(Below::new(6))));
-    assert!(rt; values.next().is_none());
+fn listed_values_in_place(rt: HostRuntime) -> Result<(), Fail> {
+    for (digits, instance, numbers) in LISTED {
+        are_listed(&rt, rt.alloc(), digits, *instance, numbers)?;
+    }
+    Ok(())
+}
+
+/// A message without a table has octets, here none, and no bearer contexts.
+fn is_raw(rt: &impl Abort, octets: &[u8]) -> Result<(), Fail> {
+    let seen = view(octets)?;
+    assert!(rt; seen.raw() == Some([].as_slice()) && seen.contexts().next().is_none());
     Ok(())
 }
 
 #[test]
 fn octets_in_place(rt: HostRuntime) -> Result<(), Fail> {
     let octets = octets_of(rt.alloc(), "482200080100000100000700")?;
-    let seen = view(&octets)?;
-    assert!(rt; seen.raw() == Some([].as_slice()) && seen.contexts().next().is_none());
-    Ok(())
-}
-
-#[test]
-fn views_of_cut_datagrams(rt: HostRuntime) -> Result<(), Fail> {
-    let cut = octets_of(rt.alloc(), "482200080100000100")?;
-    assert!(rt; matches!(view(&cut), Err(V2Fault::Length { stated: 8, held: 5 })));
-    Ok(())
+    is_raw(&rt, &octets)
 }

@@ -10,6 +10,14 @@ fn octets_of(alloc: Global, digits: &str) -> Result<Vec<u8>, Fail> {
     Ok(hex::decode(alloc, digits)?)
 }
 
+/// What is written of the value of a body.
+fn written<T: IeValue>(alloc: Global, body: &[u8]) -> Result<Vec<u8>, Fail> {
+    let value = T::read(body)?;
+    let mut out = Vec::new(alloc);
+    value.write(&mut out)?;
+    Ok(out)
+}
+
 /// A body is read as a value, which is written so.
 fn is_read<T: IeValue>(
     rt: &impl Abort,
@@ -17,10 +25,10 @@ fn is_read<T: IeValue>(
     digits: &str,
     again: &str,
 ) -> Result<(), Fail> {
-    let value = T::read(&octets_of(alloc, digits)?)?;
-    let mut out = Vec::new(alloc);
-    value.write(&mut out)?;
-    assert!(rt; out == octets_of(alloc, again)?, "{digits} is {again}");
+    let body = octets_of(alloc, digits)?;
+    let out = written::<T>(alloc, &body)?;
+    let text = hex::encode(alloc, &out)?;
+    assert!(rt; text.as_str() == again, "{digits} is {text}");
     Ok(())
 }
 
@@ -308,25 +316,41 @@ fn places_of(alloc: Global, octets: &[u8], kind: u8, instance: u8) -> Result<Vec
     Ok(places)
 }
 
-#[test]
-fn lists_of_elements(rt: HostRuntime) -> Result<(), Fail> {
-    let octets = octets_of(rt.alloc(), LIST)?;
-    let heads = heads_of(rt.alloc(), &octets)?;
+/// The elements of the list have these heads.
+fn has_heads(rt: &impl Abort, alloc: Global, octets: &[u8]) -> Result<(), Fail> {
+    let heads = heads_of(alloc, octets)?;
     let wanted = [(3, 0, 1, 0), (200, 15, 0, 5), (3, 0, 0, 12), (3, 15, 0, 17)];
     assert!(rt; heads.as_slice() == wanted.as_slice());
-    let places = places_of(rt.alloc(), &octets, 3, 0)?;
+    Ok(())
+}
+
+/// Those of Recovery of instance 0 have these places.
+fn has_places(rt: &impl Abort, alloc: Global, octets: &[u8]) -> Result<(), Fail> {
+    let places = places_of(alloc, octets, 3, 0)?;
     assert!(rt; places.as_slice() == [12, 17].as_slice());
     Ok(())
 }
 
-#[test]
-fn first_elements(rt: HostRuntime) -> Result<(), Fail> {
-    let octets = octets_of(rt.alloc(), LIST)?;
-    let found = all_elements(&octets)?;
+/// The first of these, and none of an instance that is not there.
+fn has_first(rt: &impl Abort, octets: &[u8]) -> Result<(), Fail> {
+    let found = all_elements(octets)?;
     let first = found.first(3, 0).ok_or("an element")?;
     assert!(rt; first.at == 12 && first.body == [8].as_slice());
     assert!(rt; found.first(3, 2).is_none());
     Ok(())
+}
+
+/// The list has all this.
+fn is_list(rt: &impl Abort, alloc: Global, octets: &[u8]) -> Result<(), Fail> {
+    has_heads(rt, alloc, octets)?;
+    has_places(rt, alloc, octets)?;
+    has_first(rt, octets)
+}
+
+#[test]
+fn lists_of_elements(rt: HostRuntime) -> Result<(), Fail> {
+    let octets = octets_of(rt.alloc(), LIST)?;
+    is_list(&rt, rt.alloc(), &octets)
 }
 
 /// Of a list that is cut, the place of the element that isn't whole.

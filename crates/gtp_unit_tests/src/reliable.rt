@@ -34,19 +34,28 @@ fn begin_all(alloc: Global, pending: &mut Pending<u8>, purposes: &[u8]) -> Resul
     Ok(())
 }
 
-/// The next tick, where one request is pending: whether it is sent again, and whether it is given up.
-fn tick_of_one(rt: &impl Abort, pending: &mut Pending<u8>, seq: Seq) -> Result<(bool, bool), Fail> {
+/// Whether a request that is sent again is this one.
+fn is_again(resend: &Resend, seq: Seq) -> bool {
+    resend.seq == seq && resend.to == place(2123) && resend.octets.as_slice() == [7].as_slice()
+}
+
+/// Whether the one request is sent again, and whether it is given up; nothing where it is neither one request nor
+/// none.
+fn of_one(resends: &[Resend], gave_up: &[(Seq, u8)], seq: Seq) -> Option<(bool, bool)> {
+    match (resends, gave_up) {
+        ([], []) => Some((false, false)),
+        ([resend], []) if is_again(resend, seq) => Some((true, false)),
+        ([], [(number, purpose)]) if *number == seq && *purpose == 7 => Some((false, true)),
+        _ => None,
+    }
+}
+
+/// The same of the next tick, where one request is pending.
+fn tick_of_one(pending: &mut Pending<u8>, seq: Seq) -> Result<(bool, bool), Fail> {
     let due = pending.due()?;
     pending.tick();
-    assert!(rt; due.resend.len() + due.gave_up.len() <= 1);
-    for again in &due.resend {
-        assert!(rt; again.seq == seq && again.to == place(2123));
-        assert!(rt; again.octets.as_slice() == [7].as_slice());
-    }
-    for (number, purpose) in &due.gave_up {
-        assert!(rt; *number == seq && *purpose == 7);
-    }
-    Ok((!due.resend.is_empty(), !due.gave_up.is_empty()))
+    let told = of_one(due.resend.as_slice(), due.gave_up.as_slice(), seq);
+    Ok(told.ok_or("another request")?)
 }
 
 /// In which ticks, of twenty, a request is sent again, and in which it is given up.
@@ -59,7 +68,7 @@ fn is_resent_in(
 ) -> Result<(), Fail> {
     let seq = begin(alloc, pending, 7)?;
     for tick in 1..=20u32 {
-        let (resent, gave_up) = tick_of_one(rt, pending, seq)?;
+        let (resent, gave_up) = tick_of_one(pending, seq)?;
         assert!(rt; resent == ticks.contains(&tick), "tick {tick}");
         assert!(rt; gave_up == (tick == last), "tick {tick}");
         assert!(rt;
@@ -88,24 +97,24 @@ fn resends_in_each_tick(rt: HostRuntime) -> Result<(), Fail> {
     is_resent_in(&rt, rt.alloc(), &mut pending, &[1, 2], 3)
 }
 
-/// The numbers of the requests that the next tick sends again.
-fn resent(alloc: Global, pending: &Pending<u8>) -> Result<Vec<u32>, Fail> {
+/// The next tick sends the requests of these numbers again.
+fn are_resent(rt: &impl Abort, pending: &Pending<u8>, numbers: &[u32]) -> Result<(), Fail> {
     let due = pending.due()?;
-    let mut numbers = Vec::new(alloc);
-    for again in &due.resend {
-        numbers.push(again.seq.number())?;
+    assert!(rt; due.resend.len() == numbers.len());
+    for (again, number) in due.resend.iter().zip(numbers) {
+        assert!(rt; again.seq.number() == *number, "{number}");
     }
-    Ok(numbers)
+    Ok(())
 }
 
-/// The numbers of the requests that the next tick gives up, with what they are for.
-fn given_up(alloc: Global, pending: &Pending<u8>) -> Result<Vec<(u32, u8)>, Fail> {
+/// The next tick gives up the requests of these numbers, which are for this.
+fn are_given_up(rt: &impl Abort, pending: &Pending<u8>, numbers: &[(u32, u8)]) -> Result<(), Fail> {
     let due = pending.due()?;
-    let mut numbers = Vec::new(alloc);
-    for (seq, purpose) in &due.gave_up {
-        numbers.push((seq.number(), *purpose))?;
+    assert!(rt; due.gave_up.len() == numbers.len());
+    for ((seq, purpose), wanted) in due.gave_up.iter().zip(numbers) {
+        assert!(rt; (seq.number(), *purpose) == *wanted, "{wanted:?}");
     }
-    Ok(numbers)
+    Ok(())
 }
 
 /// Three requests, the second of which is finished, are sent again in order of beginning.
@@ -117,10 +126,9 @@ fn three_in_order(rt: &impl Abort, alloc: Global, pending: &mut Pending<u8>) -> 
     assert!(rt; pending.matched(second) == Some(&2));
     pending.finish(second);
     assert!(rt; pending.matched(second).is_none());
-    assert!(rt; resent(alloc, pending)?.as_slice() == [first.number()].as_slice());
+    are_resent(rt, pending, &[first.number()])?;
     pending.tick();
-    assert!(rt; resent(alloc, pending)?.as_slice() == [third.number()].as_slice());
-    Ok(())
+    are_resent(rt, pending, &[third.number()])
 }
 
 #[test]
@@ -129,16 +137,27 @@ fn order_of_beginning(rt: HostRuntime) -> Result<(), Fail> {
     three_in_order(&rt, rt.alloc(), &mut pending)
 }
 
-/// A request that is sent again is the same as its clone.
+/// The one request that is sent again is the same as its clone.
+fn is_cloned(rt: &impl Abort, resends: &[Resend]) -> Result<(), Fail> {
+    let [resend] = resends else {
+        return Err("not one request".into());
+    };
+    let again = resend.clone()?;
+    assert!(rt; again == *resend);
+    Ok(())
+}
+
+/// A request is begun, and the next tick sends it again.
+fn one_is_cloned(rt: &impl Abort, alloc: Global, pending: &mut Pending<u8>) -> Result<(), Fail> {
+    begin(alloc, pending, 1)?;
+    let due = pending.due()?;
+    is_cloned(rt, due.resend.as_slice())
+}
+
 #[test]
 fn clones_of_resends(rt: HostRuntime) -> Result<(), Fail> {
     let mut pending = Pending::new(rt.alloc(), 1, 1);
-    begin(rt.alloc(), &mut pending, 1)?;
-    let due = pending.due()?;
-    assert!(rt; due.resend.len() == 1);
-    let again = due.resend[0].clone()?;
-    assert!(rt; again == due.resend[0]);
-    Ok(())
+    one_is_cloned(&rt, rt.alloc(), &mut pending)
 }
 
 /// Of requests with the numbers 8,388,606, 8,388,607, 0 and 1 the second is finished; the others are sent
@@ -146,12 +165,11 @@ fn clones_of_resends(rt: HostRuntime) -> Result<(), Fail> {
 fn three_at_once(rt: &impl Abort, alloc: Global, pending: &mut Pending<u8>) -> Result<(), Fail> {
     begin_all(alloc, pending, &[1, 2, 3, 4])?;
     pending.finish(Seq::new(8_388_607));
-    assert!(rt; given_up(alloc, pending)?.is_empty());
-    assert!(rt; resent(alloc, pending)?.as_slice() == [8_388_606, 0, 1].as_slice());
+    are_given_up(rt, pending, &[])?;
+    are_resent(rt, pending, &[8_388_606, 0, 1])?;
     pending.tick();
-    assert!(rt; resent(alloc, pending)?.is_empty());
-    let wanted = [(8_388_606, 1), (0, 3), (1, 4)];
-    assert!(rt; given_up(alloc, pending)?.as_slice() == wanted.as_slice());
+    are_resent(rt, pending, &[])?;
+    are_given_up(rt, pending, &[(8_388_606, 1), (0, 3), (1, 4)])?;
     pending.tick();
     assert!(rt; pending.matched(Seq::new(8_388_606)).is_none());
     assert!(rt; pending.matched(Seq::new(1)).is_none());
@@ -175,8 +193,8 @@ fn finish_all(pending: &mut Pending<u8>, purpose: u8)
 fn two_of_four(rt: &impl Abort, alloc: Global, pending: &mut Pending<u8>) -> Result<(), Fail> {
     begin_all(alloc, pending, &[1, 2, 1, 3])?;
     finish_all(pending, 1);
-    assert!(rt; resent(alloc, pending)?.is_empty());
-    assert!(rt; given_up(alloc, pending)?.as_slice() == [(1, 2), (3, 3)].as_slice());
+    are_resent(rt, pending, &[])?;
+    are_given_up(rt, pending, &[(1, 2), (3, 3)])?;
     assert!(rt; begin(alloc, pending, 1)?.number() == 4);
     Ok(())
 }
@@ -251,14 +269,21 @@ fn keep(
     Ok(())
 }
 
-/// The one request that the next tick forgets, which is the same as its clone.
+/// The one request is this, and the same as its clone.
+fn is_request(rt: &impl Abort, requests: &[Request], octets: &[u8]) -> Result<(), Fail> {
+    let [request] = requests else {
+        return Err("not one request".into());
+    };
+    assert!(rt; request.source == place(1) && request.octets.as_slice() == octets);
+    let same = request.clone()?;
+    assert!(rt; same == *request);
+    Ok(())
+}
+
+/// The one request that the next tick forgets is this.
 fn is_forgotten(rt: &impl Abort, held: &Held, octets: &[u8]) -> Result<(), Fail> {
     let due = held.due()?;
-    assert!(rt; due.len() == 1);
-    assert!(rt; due[0].source == place(1) && due[0].octets.as_slice() == octets);
-    let same = due[0].clone()?;
-    assert!(rt; same == due[0]);
-    Ok(())
+    is_request(rt, due.as_slice(), octets)
 }
 
 /// An answer is held for so many ticks and forgotten in the last of them.
@@ -281,12 +306,8 @@ fn held_ticks(rt: HostRuntime) -> Result<(), Fail> {
     is_held_for(&rt, rt.alloc(), &mut held, 60)
 }
 
-/// Three answers to requests that differ in their source or their octets.
-fn keep_three(alloc: Global, held: &mut Held) -> Result<(), Fail> {
-    keep(alloc, held, place(1), b"ask", 9)?;
-    keep(alloc, held, place(2), b"ask", 8)?;
-    keep(alloc, held, place(1), b"asks", 7)
-}
+/// Answers to requests that differ in their source or their octets.
+const KEPT: [(u16, &[u8], u8); 3] = [(1, b"ask", 9), (2, b"ask", 8), (1, b"asks", 7)];
 
 const ASKED: &[(u16, &[u8], Option<u8>)] = &[
     (1, b"ask", Some(9)),
@@ -298,29 +319,54 @@ const ASKED: &[(u16, &[u8], Option<u8>)] = &[
     (3, b"ask", None),
 ];
 
+/// The answers are found by the whole of their requests, until they are forgotten.
+fn are_found(rt: &impl Abort, alloc: Global, held: &mut Held) -> Result<(), Fail> {
+    for (port, request, answer) in KEPT {
+        keep(alloc, held, place(port), request, answer)?;
+    }
+    for (port, request, answer) in ASKED {
+        assert!(rt; answer_to(held, place(*port), request) == *answer);
+    }
+    held.tick();
+    assert!(rt; answer_to(held, place(1), b"ask").is_none());
+    Ok(())
+}
+
 #[test]
 fn whole_requests(rt: HostRuntime) -> Result<(), Fail> {
     let mut held = Held::new(rt.alloc(), 1);
-    keep_three(rt.alloc(), &mut held)?;
-    for (port, request, answer) in ASKED {
-        assert!(rt; answer_to(&held, place(*port), request) == *answer);
+    are_found(&rt, rt.alloc(), &mut held)
+}
+
+/// The request of this number: its source, of three, and its octets.
+fn numbered(number: u16, factor: u16) -> (Endpoint, [u8; 2]) {
+    let octets = number.wrapping_mul(factor).to_be_bytes();
+    (place(number % 3), octets)
+}
+
+/// 4,096 answers of one octet are held.
+fn fill_held(alloc: Global, held: &mut Held, factor: u16) -> Result<(), Fail> {
+    for number in 0u16..4096 {
+        let (source, octets) = numbered(number, factor);
+        keep(alloc, held, source, &octets, 1)?;
     }
-    held.tick();
-    assert!(rt; answer_to(&held, place(1), b"ask").is_none());
+    Ok(())
+}
+
+/// There is room for 4,096 answers.
+fn is_filled(rt: &impl Abort, alloc: Global, held: &mut Held) -> Result<(), Fail> {
+    fill_held(alloc, held, 1)?;
+    assert!(rt; held.is_full());
+    assert!(rt; held.prepare().err() == Some(ReliableFault::HeldFull));
+    assert!(rt; answer_to(held, place(0), &[15, 255]) == Some(1));
+    assert!(rt; answer_to(held, place(0), &[16, 0]).is_none());
     Ok(())
 }
 
 #[test]
 fn held_full(rt: HostRuntime) -> Result<(), Fail> {
     let mut held = Held::new(rt.alloc(), 60);
-    for number in 0u16..4096 {
-        keep(rt.alloc(), &mut held, place(1), &number.to_be_bytes(), 1)?;
-    }
-    assert!(rt; held.is_full());
-    assert!(rt; held.prepare().err() == Some(ReliableFault::HeldFull));
-    assert!(rt; held.lookup(place(1), &[15, 255]).is_some());
-    assert!(rt; held.lookup(place(1), &[16, 0]).is_none());
-    Ok(())
+    is_filled(&rt, rt.alloc(), &mut held)
 }
 
 const FAULTS: &[(ReliableFault, &str)] = &[
@@ -337,22 +383,27 @@ fn faults_in_words(rt: HostRuntime) -> Result<(), Fail> {
     Ok(())
 }
 
-/// Each of 4,096 answers is found by few comparisons.
+/// Whether the answer to a request is found, by few comparisons, and none to the same from elsewhere.
+fn is_found_soon(held: &Held, source: Endpoint, octets: &[u8]) -> bool {
+    let (answer, compared) = held.lookup_counted(source, octets);
+    let elsewhere = held.lookup_counted(place(4), octets).0;
+    answer == Some([1].as_slice()) && compared <= 14 && elsewhere.is_none()
+}
+
+/// Each of 4,096 answers is found so.
+fn are_found_soon(rt: &impl Abort, alloc: Global, held: &mut Held) -> Result<(), Fail> {
+    fill_held(alloc, held, 40_503)?;
+    for number in 0u16..4096 {
+        let (source, octets) = numbered(number, 40_503);
+        assert!(rt; is_found_soon(held, source, &octets), "answer {number}");
+    }
+    Ok(())
+}
+
 #[test]
 fn found_in_few_comparisons(rt: HostRuntime) -> Result<(), Fail> {
     let mut held = Held::new(rt.alloc(), 60);
-    for number in 0u16..4096 {
-        let octets = number.wrapping_mul(40_503).to_be_bytes();
-        keep(rt.alloc(), &mut held, place(number % 3), &octets, 1)?;
-    }
-    for number in 0u16..4096 {
-        let octets = number.wrapping_mul(40_503).to_be_bytes();
-        let (answer, compared) = held.lookup_counted(place(number % 3), &octets);
-        assert!(rt; answer == Some([1].as_slice()));
-        assert!(rt; compared <= 14, "{compared} compared");
-        assert!(rt; held.lookup_counted(place(4), &octets).0.is_none());
-    }
-    Ok(())
+    are_found_soon(&rt, rt.alloc(), &mut held)
 }
 
 /// How often the calls in the tests below met what they are to meet.

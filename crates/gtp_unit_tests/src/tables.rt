@@ -130,19 +130,22 @@ fn two_of_one_remote(
     assert!(rt; bearers.first_of_remote(Teid(9)).is_none());
 }
 
-#[test]
-fn bearers_of_one_remote_and_of_one_session(rt: HostRuntime) -> Result<(), Fail> {
+/// A bearer of one session and one of another, both of the remote 9.
+fn two_bearers(rt: &impl Abort, bearers: &mut Bearers) -> Result<(), Fail> {
     let mut draws = Draws::new(Counter(7));
     let (one, two) = (Teid(0x0700_0101), Teid(0x0700_0102));
-    let of_one = bearer(one, Some(9), 5)?;
-    let of_two = bearer(two, Some(9), 5)?;
-    let mut bearers = Bearers::new(rt.alloc());
-    let first = add(&rt, &mut draws, &mut bearers, &of_one)?;
-    let second = add(&rt, &mut draws, &mut bearers, &of_two)?;
+    let first = add(rt, &mut draws, bearers, &bearer(one, Some(9), 5)?)?;
+    let second = add(rt, &mut draws, bearers, &bearer(two, Some(9), 5)?)?;
     let identity = Ebi::try_new(5)?;
-    closes(&rt, &mut bearers, one, identity, first)?;
-    two_of_one_remote(&rt, &mut bearers, first, second, one, identity);
+    closes(rt, bearers, one, identity, first)?;
+    two_of_one_remote(rt, bearers, first, second, one, identity);
     Ok(())
+}
+
+#[test]
+fn bearers_of_one_remote_and_of_one_session(rt: HostRuntime) -> Result<(), Fail> {
+    let mut bearers = Bearers::new(rt.alloc());
+    two_bearers(&rt, &mut bearers)
 }
 
 /// The lowest identity that is free for a session.

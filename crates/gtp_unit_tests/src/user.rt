@@ -1,6 +1,6 @@
-//! Datagrams whose octets and readings come from outside. Of them these stand with their clauses in
-//! examples/datagrams/user: end-marker, error-indication, g-pdu, g-pdu-empty, g-pdu-extension-headers,
-//! g-pdu-extension-not-understood, g-pdu-extension-of-length-0, supported-extensions.
+//! Datagrams of the user plane, written again, and as long as they may be. What is read of them, and their faults, is
+//! data, in tests/lines/user. Of them these stand with their clauses in examples/datagrams/user: end-marker,
+//! error-indication, g-pdu, g-pdu-empty, g-pdu-extension-headers, supported-extensions.
 
 use crate::values::is_told;
 use gtp_user::*;
@@ -23,25 +23,6 @@ fn written(alloc: Global, message: &UserMessage) -> Result<Vec<u8>, Fail> {
     Ok(encode(alloc, message)?)
 }
 
-/// The message that the octets spell has this body and these numbers, and so many extension headers.
-fn reads(
-    rt: &impl Abort,
-    octets: &[u8],
-    seq: Option<u16>,
-    npdu: Option<u8>,
-    headers: usize,
-    body: UserBody,
-) -> Result<(), Fail> {
-    let message = decode(octets)?;
-    assert!(rt;
-        message.seq == seq && message.npdu == npdu,
-        "numbers of {octets:?}"
-    );
-    assert!(rt; count(&message.ext) == headers, "headers of {octets:?}");
-    assert!(rt; message.body == body, "body of {octets:?}");
-    Ok(())
-}
-
 /// The message that the octets spell is written as the same octets.
 fn is_written_again(rt: &impl Abort, alloc: Global, octets: &[u8]) -> Result<(), Fail> {
     let again = written(alloc, &decode(octets)?)?;
@@ -49,293 +30,24 @@ fn is_written_again(rt: &impl Abort, alloc: Global, octets: &[u8]) -> Result<(),
     Ok(())
 }
 
-/// The TEID in the headers of tunnels.
-const TEID: Teid = Teid(0x0100_0002);
-
-const NUMBERED: &[(&[u8], u16, UserBody<'static>)] = &[
-    (
-        b"\x32\x02\x00\x06\x00\x00\x00\x00\x00\x05\x00\x00\x0e\x00",
-        5,
-        UserBody::EchoResponse,
-    ),
-    (
-        b"\x32\x01\x00\x04\x00\x00\x00\x00\x00\x05\x00\x00",
-        5,
-        UserBody::EchoRequest,
-    ),
-    (
-        b"\x32\x1f\x00\x07\x00\x00\x00\x00\x00\x00\x00\x00\x8d\x01\x40",
-        0,
-        UserBody::Notification { types: b"\x40" },
-    ),
-    (
-        b"\x32\x1a\x00\x10\x00\x00\x00\x00\x00\x00\x00\x00\x10\x01\x00\x00\x02\x85\x00\x04\x0a\x00\x00\x02",
-        0,
-        UserBody::ErrorIndication {
-            teid: TEID,
-            peer: Ip::V4([10, 0, 0, 2]),
-        },
-    ),
-    (
-        b"\x32\x1a\x00\x1c\x00\x00\x00\x00\x00\x00\x00\x00\x10\x01\x00\x00\x02\x85\x00\x10\x20\x01\x0d\xb8\x00\x00\x00\x00\x00\x00\x00\x00\x00\x00\x00\x01",
-        0,
-        UserBody::ErrorIndication {
-            teid: TEID,
-            peer: Ip::V6([0x20, 1, 0x0d, 0xb8, 0, 0, 0, 0, 0, 0, 0, 0, 0, 0, 0, 1]),
-        },
-    ),
+/// Messages of the path and of a tunnel, the last with two extension headers.
+const VECTORS: [&[u8]; 10] = [
+    b"\x32\x02\x00\x06\x00\x00\x00\x00\x00\x05\x00\x00\x0e\x00",
+    b"\x32\x01\x00\x04\x00\x00\x00\x00\x00\x05\x00\x00",
+    b"\x32\x1f\x00\x07\x00\x00\x00\x00\x00\x00\x00\x00\x8d\x01\x40",
+    b"\x32\x1a\x00\x10\x00\x00\x00\x00\x00\x00\x00\x00\x10\x01\x00\x00\x02\x85\x00\x04\x0a\x00\x00\x02",
+    b"\x32\x1a\x00\x1c\x00\x00\x00\x00\x00\x00\x00\x00\x10\x01\x00\x00\x02\x85\x00\x10\x20\x01\x0d\xb8\x00\x00\x00\x00\x00\x00\x00\x00\x00\x00\x00\x01",
+    b"\x30\xfe\x00\x00\x01\x00\x00\x02",
+    b"\x30\xff\x00\x03\x01\x00\x00\x02abc",
+    b"\x30\xff\x00\x00\x01\x00\x00\x02",
+    b"\x33\x03\x00\x06\x01\x00\x00\x02\x00\x07\x09\x00xy",
+    b"\x34\xff\x00\x0f\x01\x00\x00\x02\x00\x00\x00\x20\x01\xaa\xbb\x40\x01\x08\x68\x00abc",
 ];
 
-/// Messages of the path: each has a sequence number.
 #[test]
-fn numbered_messages(rt: HostRuntime) -> Result<(), Fail> {
-    for (octets, seq, body) in NUMBERED {
-        reads(&rt, octets, Some(*seq), None, 0, *body)?;
+fn vectors_stand(rt: HostRuntime) -> Result<(), Fail> {
+    for octets in VECTORS {
         is_written_again(&rt, rt.alloc(), octets)?;
-    }
-    Ok(())
-}
-
-/// Two headers and three octets of payload.
-const CHAINED: &[u8] =
-    b"\x34\xff\x00\x0f\x01\x00\x00\x02\x00\x00\x00\x20\x01\xaa\xbb\x40\x01\x08\x68\x00abc";
-
-/// A packet of three octets.
-const ABC: UserBody<'static> = UserBody::Packet {
-    teid: TEID,
-    payload: b"abc",
-};
-
-const TUNNELS: &[(&[u8], Option<u16>, Option<u8>, usize, UserBody<'static>)] = &[
-    (
-        b"\x30\xfe\x00\x00\x01\x00\x00\x02",
-        None,
-        None,
-        0,
-        UserBody::EndMarker { teid: TEID },
-    ),
-    (b"\x30\xff\x00\x03\x01\x00\x00\x02abc", None, None, 0, ABC),
-    (
-        b"\x30\xff\x00\x00\x01\x00\x00\x02",
-        None,
-        None,
-        0,
-        UserBody::Packet {
-            teid: TEID,
-            payload: b"",
-        },
-    ),
-    (
-        b"\x33\x03\x00\x06\x01\x00\x00\x02\x00\x07\x09\x00xy",
-        Some(7),
-        Some(9),
-        0,
-        UserBody::Other {
-            kind: 3,
-            teid: TEID,
-            octets: b"xy",
-        },
-    ),
-    (CHAINED, None, None, 2, ABC),
-];
-
-/// Messages of a tunnel.
-#[test]
-fn tunnels(rt: HostRuntime) -> Result<(), Fail> {
-    for (octets, seq, npdu, headers, body) in TUNNELS {
-        reads(&rt, octets, *seq, *npdu, *headers, *body)?;
-        is_written_again(&rt, rt.alloc(), octets)?;
-    }
-    Ok(())
-}
-
-#[test]
-fn headers_in_order(rt: HostRuntime) -> Result<(), Fail> {
-    let mut headers = decode(CHAINED)?.ext.into_iter();
-    for (kind, content) in [(0x20, b"\xaa\xbb"), (0x40, b"\x08\x68")] {
-        let header = headers.next().ok_or("a header")?;
-        assert!(rt; header.kind == kind && header.content == content.as_slice());
-    }
-    assert!(rt; headers.next().is_none());
-    Ok(())
-}
-
-/// The first fault of the octets is this one.
-fn fails(rt: &impl Abort, octets: &[u8], fault: UserFault) {
-    assert!(rt; decode(octets).err() == Some(fault), "{octets:?}");
-}
-
-const FAULTS_OF_HEADERS: &[(&[u8], UserFault)] = &[
-    (b"", UserFault::Short { held: 0 }),
-    (
-        b"\x30\xff\x00\x00\x01\x00\x00",
-        UserFault::Short { held: 7 },
-    ),
-    (
-        b"\x50\xff\x00\x00\x01\x00\x00\x02",
-        UserFault::Version { version: 2 },
-    ),
-    (b"\x20\xff\x00\x00\x01\x00\x00\x02", UserFault::Protocol),
-    (
-        b"\x30\xff\x00\x04\x01\x00\x00\x02abc",
-        UserFault::Length { stated: 4, held: 3 },
-    ),
-    (
-        b"\x30\xff\x00\x02\x01\x00\x00\x02abc",
-        UserFault::Length { stated: 2, held: 3 },
-    ),
-    (
-        b"\x32\xff\x00\x03\x01\x00\x00\x02\x00\x00\x00",
-        UserFault::Short { held: 11 },
-    ),
-];
-
-#[test]
-fn faults_of_headers(rt: HostRuntime) {
-    for (octets, fault) in FAULTS_OF_HEADERS {
-        fails(&rt, octets, *fault);
-    }
-}
-
-const FAULTS_OF_CHAINS: &[(&[u8], UserFault)] = &[
-    (
-        b"\x34\xff\x00\x0b\x01\x00\x00\x02\x00\x00\x00\x20\x00\xaa\xbb\x00abc",
-        UserFault::ExtensionZero { at: 12 },
-    ),
-    (
-        b"\x34\xff\x00\x09\x01\x00\x00\x02\x00\x00\x00\x20\x01\xaa\xbb\x28\x00",
-        UserFault::ExtensionZero { at: 16 },
-    ),
-    (
-        b"\x34\xff\x00\x04\x01\x00\x00\x02\x00\x00\x00\x20",
-        UserFault::ExtensionPast { at: 12 },
-    ),
-    (
-        b"\x34\xff\x00\x07\x01\x00\x00\x02\x00\x00\x00\xc0\x01\xaa\xbb",
-        UserFault::ExtensionPast { at: 12 },
-    ),
-    (
-        b"\x34\xff\x00\x08\x01\x00\x00\x02\x00\x00\x00\x20\x01\xaa\xbb\x28",
-        UserFault::ExtensionPast { at: 16 },
-    ),
-    (
-        b"\x34\xff\x00\x0b\x01\x00\x00\x02\x00\x00\x00\xc0\x01\xaa\xbb\x00abc",
-        UserFault::ExtensionNeeded { kind: 0xc0 },
-    ),
-    (
-        b"\x34\xff\x00\x0b\x01\x00\x00\x02\x00\x00\x00\x80\x01\xaa\xbb\x00abc",
-        UserFault::ExtensionNeeded { kind: 0x80 },
-    ),
-];
-
-#[test]
-fn faults_of_chains(rt: HostRuntime) {
-    for (octets, fault) in FAULTS_OF_CHAINS {
-        fails(&rt, octets, *fault);
-    }
-}
-
-const FAULTS_OF_ELEMENTS: &[(&[u8], UserFault)] = &[
-    (
-        b"\x32\x02\x00\x04\x00\x00\x00\x00\x00\x05\x00\x00",
-        UserFault::Missing { kind: 14 },
-    ),
-    (
-        b"\x32\x1a\x00\x0b\x00\x00\x00\x00\x00\x00\x00\x00\x85\x00\x04\x0a\x00\x00\x02",
-        UserFault::Missing { kind: 16 },
-    ),
-    (
-        b"\x32\x1a\x00\x09\x00\x00\x00\x00\x00\x00\x00\x00\x10\x01\x00\x00\x02",
-        UserFault::Missing { kind: 133 },
-    ),
-    (
-        b"\x32\x1f\x00\x06\x00\x00\x00\x00\x00\x00\x00\x00\x0e\x00",
-        UserFault::Missing { kind: 141 },
-    ),
-    (
-        b"\x32\x02\x00\x06\x00\x00\x00\x00\x00\x05\x00\x00\x0d\x00",
-        UserFault::Element { at: 12 },
-    ),
-    (
-        b"\x32\x02\x00\x05\x00\x00\x00\x00\x00\x05\x00\x00\x0e",
-        UserFault::Element { at: 12 },
-    ),
-    (
-        b"\x32\x02\x00\x0a\x00\x00\x00\x00\x00\x05\x00\x00\x0e\x00\x85\x00\x01\x0a",
-        UserFault::Element { at: 14 },
-    ),
-    (
-        b"\x32\x1f\x00\x07\x00\x00\x00\x00\x00\x00\x00\x00\x8d\x02\x40",
-        UserFault::Element { at: 12 },
-    ),
-];
-
-#[test]
-fn faults_of_elements(rt: HostRuntime) {
-    for (octets, fault) in FAULTS_OF_ELEMENTS {
-        fails(&rt, octets, *fault);
-    }
-}
-
-const FLAGS: &[(u8, Option<u16>, Option<u8>)] = &[
-    (0x31, None, Some(9)),
-    (0x32, Some(7), None),
-    (0x33, Some(7), Some(9)),
-    (0x34, None, None),
-    (0x35, None, Some(9)),
-    (0x36, Some(7), None),
-    (0x37, Some(7), Some(9)),
-    (0x3c, None, None),
-];
-
-#[test]
-fn flags(rt: HostRuntime) -> Result<(), Fail> {
-    let teid = Teid(0x0100_0002);
-    let payload = b"ab".as_slice();
-    for (flags, seq, npdu) in FLAGS {
-        let octets = [*flags, 255, 0, 6, 1, 0, 0, 2, 0, 7, 9, 0, 97, 98];
-        reads(
-            &rt,
-            &octets,
-            *seq,
-            *npdu,
-            0,
-            UserBody::Packet { teid, payload },
-        )?;
-    }
-    Ok(())
-}
-
-/// The message that the octets spell has this body.
-fn has_body(rt: &impl Abort, octets: &[u8], body: UserBody) -> Result<(), Fail> {
-    assert!(rt; decode(octets)?.body == body, "body of {octets:?}");
-    Ok(())
-}
-
-/// An Echo Request without a sequence number.
-const NUMBERLESS: &[u8] = b"\x30\x01\x00\x03\x00\x00\x00\x09\x0d\x0d\x0d";
-
-const NOT_WALKED: &[(&[u8], UserBody<'static>)] = &[
-    (NUMBERLESS, UserBody::EchoRequest),
-    (
-        b"\x30\xfe\x00\x01\x01\x00\x00\x02\x0d",
-        UserBody::EndMarker { teid: TEID },
-    ),
-    (
-        b"\x32\x1f\x00\x0a\x00\x00\x00\x00\x00\x00\x00\x00\x8d\x01\x40\x8d\x01\x41",
-        UserBody::Notification { types: b"\x40" },
-    ),
-    (
-        b"\x32\x02\x00\x0b\x00\x00\x00\x00\x00\x05\x00\x00\xff\x00\x02\x01\x02\x0e\x00",
-        UserBody::EchoResponse,
-    ),
-];
-
-#[test]
-fn octets_that_are_not_walked(rt: HostRuntime) -> Result<(), Fail> {
-    assert!(rt; decode(NUMBERLESS)?.seq == Some(0));
-    for (octets, body) in NOT_WALKED {
-        has_body(&rt, octets, *body)?;
     }
     Ok(())
 }

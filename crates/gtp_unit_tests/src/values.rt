@@ -2,18 +2,15 @@
 
 use gtp_values::*;
 use std::alloc::Global;
-use std::fmt::{Debug, Display};
+use std::fmt::Display;
 use std::process::Abort;
 use std::str::FromStr;
 use std::test::Fail;
 
 /// What a counter that was heard is to the one that is known.
 fn has_age(rt: &impl Abort, known: u8, heard: u8, age: Age) {
-    assert_eq!(rt;
-        Counter(known).age(Counter(heard)),
-        age,
-        "{heard} after {known}"
-    );
+    let told = Counter(known).age(Counter(heard));
+    assert!(rt; told == age, "{heard} after {known}");
 }
 
 const AGES: &[(u8, u8, Age)] = &[
@@ -37,51 +34,59 @@ fn ages_of_counters(rt: HostRuntime) {
 /// A text is read as this value, and the value is written as that text.
 fn is_text_of<T>(rt: &impl Abort, alloc: Global, text: &str, value: T) -> Result<(), Fail>
 where
-    T: FromStr<Err = ValueFault> + Display + PartialEq + Debug + Copy,
+    T: FromStr<Err = ValueFault> + Display + PartialEq + Copy,
 {
     let read: T = text.parse()?;
-    assert_eq!(rt; read, value);
-    assert_eq!(rt; value.to_string(alloc)?.as_str(), text);
+    assert!(rt; read == value, "{text}");
+    let written = value.to_string(alloc)?;
+    assert!(rt; written.as_str() == text, "{written}");
     Ok(())
 }
 
-/// A text was refused for this fault.
-fn is_refused<T>(rt: &impl Abort, text: &str, read: Result<T, ValueFault>, fault: ValueFault)
-where
-    T: PartialEq + Debug + Copy,
-{
-    assert_eq!(rt; read, Err(fault), "of {text}");
-}
+/// Digits of a subscriber, and why they are none.
+const DIGITS: [(&[u8], Option<ValueFault>); 6] = [
+    (&[0, 0, 1, 0, 1], Some(ValueFault::TooShort)),
+    (&[0, 0, 1, 0, 1, 0], None),
+    (&[0, 0, 1, 0, 1, 0, 1, 2, 3, 4, 5, 6, 7, 8, 9], None),
+    (
+        &[0, 0, 1, 0, 1, 0, 1, 2, 3, 4, 5, 6, 7, 8, 9, 0],
+        Some(ValueFault::TooLong),
+    ),
+    (&[1, 2, 3, 10, 5, 6], Some(ValueFault::BadDigit)),
+    (&[10], Some(ValueFault::TooShort)),
+];
 
 #[test]
 fn subscribers(rt: HostRuntime) {
-    let digits = [0, 0, 1, 0, 1, 0, 1, 2, 3, 4, 5, 6, 7, 8, 9, 0];
-    is_refused(
-        &rt,
-        "5 digits",
-        Imsi::try_new(&digits[..5]),
-        ValueFault::TooShort,
-    );
-    assert!(rt; Imsi::try_new(&digits[..6]).is_ok());
-    assert!(rt; Imsi::try_new(&digits[..15]).is_ok());
-    is_refused(
-        &rt,
-        "16 digits",
-        Imsi::try_new(&digits),
-        ValueFault::TooLong,
-    );
-    is_refused(
-        &rt,
-        "a 10",
-        Imsi::try_new(&[1, 2, 3, 10, 5, 6]),
-        ValueFault::BadDigit,
-    );
-    is_refused(
-        &rt,
-        "a 10 alone",
-        Imsi::try_new(&[10]),
-        ValueFault::TooShort,
-    );
+    for (digits, fault) in DIGITS {
+        assert!(rt; Imsi::try_new(digits).err() == fault, "{digits:?}");
+    }
+}
+
+/// What a text may be of.
+#[derive(Clone, Copy)]
+enum Kind {
+    Subscriber,
+    AccessPoint,
+    Address,
+    Identifier,
+}
+
+/// Why a text is none of this kind.
+fn fault_of(kind: Kind, text: &str) -> Option<ValueFault> {
+    match kind {
+        Kind::Subscriber => Imsi::from_text(text).err(),
+        Kind::AccessPoint => Apn::from_text(text).err(),
+        Kind::Address => Ip::from_text(text).err(),
+        Kind::Identifier => Teid::from_text(text).err(),
+    }
+}
+
+/// These texts are none of this kind.
+fn are_none(rt: &impl Abort, kind: Kind, texts: &[(&str, ValueFault)]) {
+    for (text, fault) in texts {
+        assert!(rt; fault_of(kind, text) == Some(*fault), "{text}");
+    }
 }
 
 #[test]
@@ -103,13 +108,6 @@ const NO_SUBSCRIBERS: &[(&str, ValueFault)] = &[
     ("00101:9", ValueFault::BadDigit),
     ("a", ValueFault::TooShort),
 ];
-
-#[test]
-fn texts_of_no_subscriber(rt: HostRuntime) {
-    for (text, fault) in NO_SUBSCRIBERS {
-        is_refused(&rt, text, Imsi::from_text(text), *fault);
-    }
-}
 
 const ACCESS_POINTS: &[(&str, &[u8])] = &[
     ("internet", b"\x08internet"),
@@ -142,7 +140,7 @@ fn the_longest_access_point(rt: HostRuntime) -> Result<(), Fail> {
     assert!(rt; LONG_LABEL.len() == 63 && LONG_NAME.len() == 99);
     assert!(rt; Apn::from_text(LONG_NAME)?.octets().len() == 100);
     let longer = format!(in rt.alloc(); "{LONG_NAME}x")?;
-    is_refused(&rt, &longer, Apn::from_text(&longer), ValueFault::TooLong);
+    assert!(rt; Apn::from_text(&longer) == Err(ValueFault::TooLong));
     Ok(())
 }
 
@@ -154,17 +152,11 @@ const NO_ACCESS_POINTS: &[(&str, ValueFault)] = &[
     ("ims..org", ValueFault::BadLabel),
     ("inter net", ValueFault::BadLabel),
     ("caf\u{e9}", ValueFault::BadLabel),
+    (
+        "abcdefghijklmnopqrstuvwxyzabcdefghijklmnopqrstuvwxyzabcdefghijkl.org", // a label of 64
+        ValueFault::BadLabel,
+    ),
 ];
-
-#[test]
-fn texts_of_no_access_point(rt: HostRuntime) -> Result<(), Fail> {
-    let labels = format!(in rt.alloc(); "{LONG_LABEL}l.org")?;
-    is_refused(&rt, &labels, Apn::from_text(&labels), ValueFault::BadLabel);
-    for (text, fault) in NO_ACCESS_POINTS {
-        is_refused(&rt, text, Apn::from_text(text), *fault);
-    }
-    Ok(())
-}
 
 /// 2001:db8::1.
 const DOCUMENTATION: Ip = Ip::V6([0x20, 1, 0xd, 0xb8, 0, 0, 0, 0, 0, 0, 0, 0, 0, 0, 0, 1]);
@@ -198,13 +190,6 @@ const NO_ADDRESSES: &[(&str, ValueFault)] = &[
     ("10.0.0.1 ", ValueFault::BadDigit),
 ];
 
-#[test]
-fn texts_of_no_address(rt: HostRuntime) {
-    for (text, fault) in NO_ADDRESSES {
-        is_refused(&rt, text, Ip::from_text(text), *fault);
-    }
-}
-
 const IDENTIFIERS: &[(&str, Teid)] = &[
     ("00000000", Teid(0)),
     ("01000002", Teid(16_777_218)),
@@ -230,10 +215,11 @@ const NO_IDENTIFIERS: &[(&str, ValueFault)] = &[
 ];
 
 #[test]
-fn texts_of_no_identifier(rt: HostRuntime) {
-    for (text, fault) in NO_IDENTIFIERS {
-        is_refused(&rt, text, Teid::from_text(text), *fault);
-    }
+fn texts_of_none(rt: HostRuntime) {
+    are_none(&rt, Kind::Subscriber, NO_SUBSCRIBERS);
+    are_none(&rt, Kind::AccessPoint, NO_ACCESS_POINTS);
+    are_none(&rt, Kind::Address, NO_ADDRESSES);
+    are_none(&rt, Kind::Identifier, NO_IDENTIFIERS);
 }
 
 #[test]
@@ -265,7 +251,8 @@ pub(crate) fn is_told(
     fault: &impl Display,
     words: &str,
 ) -> Result<(), Fail> {
-    assert_eq!(rt; fault.to_string(alloc)?.as_str(), words);
+    let told = fault.to_string(alloc)?;
+    assert!(rt; told.as_str() == words, "{told}");
     Ok(())
 }
 

@@ -21,6 +21,7 @@ pub struct Front<'a> {
 }
 
 /// The header of this type at the start of the last octets of a datagram of `end` octets.
+#[inline(always)]
 fn read_front(kind: u8, octets: &[u8], end: usize) -> Result<Front<'_>, UserFault>
     requires { length octets.now ≤ end }
     ensures { Gives front_of result (front_at end kind octets.now) }
@@ -77,6 +78,7 @@ impl<'a> Model for Extensions<'a> {
 
 /// The chain at the start of the last octets of a datagram of `end` octets, its first header of
 /// this type, and the octets after it.
+#[inline(always)]
 pub fn read_chain(
     first: u8,
     octets: &[u8],

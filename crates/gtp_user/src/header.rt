@@ -31,6 +31,7 @@ fn field_flags(first: u8) -> u8
 }
 
 /// The header after its first eight octets, where a flag is set.
+#[inline(always)]
 fn with_flags(flags: u8, kind: u8, teid: Teid, octets: &[u8]) -> Result<Header<'_>, UserFault>
     ensures header { Gives headed_of result (after_flags flags kind teid.0 octets.now) }
     ensures within { IfOk result (λ h. length h.rest.now ≤ length octets.now) }
@@ -52,6 +53,7 @@ fn with_flags(flags: u8, kind: u8, teid: Teid, octets: &[u8]) -> Result<Header<'
 }
 
 /// The header of a datagram, which it fills exactly.
+#[inline(always)]
 pub fn read_header(octets: &[u8]) -> Result<Header<'_>, UserFault>
     ensures header { Gives headed_of result (header_at octets.now) }
     ensures within { IfOk result (λ h. length h.rest.now ≤ length octets.now) }

@@ -1,6 +1,6 @@
 -- What a view is told, and what it tells.
 use Rattle.std.proofs.Common.{rules, ◌≡◌, ℕ, Bool, true, false, cond, ◌&&◌, List, [], ◌∷◌, Option, Some, None, Result, Ok, Err, refl, sym, ap, subst, ◌∙◌}
-use Rattle.std.specs.Prelude.{option_map, IfOk, IfErr, IsOkAnd, ◌==◌, option_to_list, is_some}
+use Rattle.std.specs.Prelude.{option_map, IfOk, IfErr, IsOkAnd, ◌==◌, option_to_list, unwrap_or, is_some}
 use Rattle.std.specs.Bool.{beq}
 use Rattle.std.proofs.lemmas.Option.{same_Some}
 use Rattle.gtp_values.specs.Steps.{◌>>=◌, Gives}
@@ -16,7 +16,7 @@ use Rattle.gtp_v2.specs.declared.fault.V2Fault.{V2Fault}
 use Rattle.gtp_v2.specs.declared.fault.V2Fault.TheVariants as faults
 use Rattle.gtp_v2.specs.Table.{Row, Mandatory, Conditional, Accepted, Optional, Line, Single, Grouped, Several, Field, Plain, State, start, after, Table, kind_of, instance_of}
 use Rattle.gtp_v2.specs.reading.Rows.{row_at, needed, needed_at, needed_if_at, one_at, named, line_at, lines_at, whole}
-use Rattle.gtp_v2.specs.Viewed.{optional_at, welcome, value_or_none, Viewed, found_among, found_by, plain_of, is_row, is_needed, needs_among, needs_by, always_has, in_row, front_value}
+use Rattle.gtp_v2.specs.Viewed.{optional_at, welcome, value_or_none, Viewed, found_among, found_by, plain_of, is_row, is_needed, needs_among, needs_by, always_has, in_row, has_among, has_by, has_row, row_of, front_value}
 use Rattle.gtp_v2.specs.reading.Checked.{forgotten}
 use Rattle.gtp_v2.specs.Headed.{Headed}
 use Rattle.gtp_v2.specs.Message.{Content, Fields, MessageValue, head_of}
@@ -204,6 +204,30 @@ field_is kind instance v read values is =
     let q = made_of (λ (p : Line × Field). plain_of p.1) (found_by (is_row kind instance) (table_of v.message.kind) v.message.content) values is in
     let f = found_is (is_row kind instance) v read q.0 q.1 in
     row_found kind instance v.elements q.0.0 q.0.1 f.0 f.1 f.2 ∙ ap front_value q.2
+
+-- where the table has the line, the message has its field
+there_among : (asked : Line → Bool) (state : State) (lines : List Line) (es : List Element) (fields : List Field) → lines_at state lines es ≡ Ok fields → has_among asked lines ≡ true → (p : Line × Field) × (found_among asked lines fields ≡ Some p)
+unfolding lines_at
+there_among asked state [] es fields h has = absurd cc
+there_among asked state (line ∷ lines) es fields h has =
+    let b = bind_ok (line_at state line es) (λ field. lines_at (after state field) lines es >>= λ others. done RowFault (field ∷ others)) fields h in
+    let d = bind_ok (lines_at (after state b.0) lines es) (λ others. done RowFault (b.0 ∷ others)) fields b.2 in
+    subst (λ (fs : List Field). (p : Line × Field) × (found_among asked (line ∷ lines) fs ≡ Some p)) (ok_same RowFault (b.0 ∷ d.0) fields d.2) (by_test (asked line) b.0 d.0 has (λ later. there_among asked (after state b.0) lines es d.0 d.1 later))
+  where
+    by_test : (b : Bool) (field : Field) (others : List Field) → cond b true (has_among asked lines) ≡ true → (has_among asked lines ≡ true → (p : Line × Field) × (found_among asked lines others ≡ Some p)) → (p : Line × Field) × (cond b (Some (line, field)) (found_among asked lines others) ≡ Some p)
+    by_test true field others has later = ((line, field), refl)
+    by_test false field others has later = later has
+
+there_by : (asked : Line → Bool) (table : Option Table) (content : Content) (es : List Element) → ReadBy table content es → has_by asked table ≡ true → (p : Line × Field) × (found_by asked table content ≡ Some p)
+there_by asked None content es read has = absurd cc
+there_by asked (Some table) content es read has = subst (λ (c : Content). (p : Line × Field) × (found_by asked (Some table) c ≡ Some p)) (sym read.1) (there_among asked start table.lines es read.0 read.2 has)
+
+-- the value of a row is what its message has in it
+pub there_is : (kind instance : ℕ) (v : Viewed) → IsRead v → has_row v.message.kind kind instance ≡ true → optional_at kind instance v.elements ≡ front_value (row_of kind instance v.message)
+there_is kind instance v read has =
+    let t = there_by (is_row kind instance) (table_of v.message.kind) v.message.content v.elements read has in
+    let row : in_row kind instance v.message ≡ Some (plain_of t.0.1) = ap (option_map (λ (p : Line × Field). plain_of p.1)) t.1 in
+    field_is kind instance v read (plain_of t.0.1) row ∙ sym (ap (λ (o : Option (List Value)). front_value (unwrap_or o [])) row)
 
 -- ---- rows that always have a value
 

@@ -1,5 +1,5 @@
 -- What a view of a datagram stands for.
-use Rattle.std.specs.Prelude.{◌≡◌, ℕ, ◌+◌, ◌==◌, ◌&&◌, Bool, true, false, List, [], ◌∷◌, ◌++◌, Option, Some, None, if◌then◌else◌, drop, option_map, option_to_list, Result, Ok, Err}
+use Rattle.std.specs.Prelude.{◌≡◌, ℕ, ◌+◌, ◌==◌, ◌&&◌, Bool, true, false, List, [], ◌∷◌, ◌++◌, Option, Some, None, if◌then◌else◌, drop, option_map, option_to_list, unwrap_or, Result, Ok, Err}
 use Rattle.gtp_ie.specs.Element.{Element, elements_of, list_of, first_of}
 use Rattle.gtp_ie.specs.Octets.{AreElements}
 use Rattle.gtp_ie.specs.Value.{Value, value_at}
@@ -61,6 +61,23 @@ values_by kind instance table content = option_map (λ (p : Line × Field). plai
 -- the value in the row of a type and instance, in a list of at most one; None where the table of the message has no such row
 abbrev pub in_row : ℕ → ℕ → MessageValue → Option (List Value)
 in_row kind instance m = values_by kind instance (table_of m.kind) m.content
+
+-- the first line that is asked for, if there is one
+abbrev pub has_among : (Line → Bool) → List Line → Bool
+has_among asked [] = false
+has_among asked (line ∷ lines) = if asked line then true else has_among asked lines
+
+abbrev pub has_by : (Line → Bool) → Option Table → Bool
+has_by asked None = false
+has_by asked (Some table) = has_among asked table.lines
+
+-- messages of this type have a row of a type and instance
+abbrev pub has_row : ℕ → ℕ → ℕ → Bool
+has_row message kind instance = has_by (is_row kind instance) (table_of message)
+
+-- what a message has in the row of a type and instance; none where its table has no such row
+abbrev pub row_of : ℕ → ℕ → MessageValue → List Value
+row_of kind instance m = unwrap_or (in_row kind instance m) []
 
 -- a row that always has a value
 abbrev pub is_needed : Line → Bool

@@ -9,7 +9,7 @@ ghost use Rattle.gtp_v2.specs.reading.Lines.{line_of};
 ghost use Rattle.gtp_v2.specs.Table.{Row};
 ghost use Rattle.gtp_v2.specs.reading.Headed.{headed_of, HasHeader};
 ghost use Rattle.gtp_v2.specs.reading.Checked.{forgotten};
-ghost use Rattle.gtp_v2.specs.Viewed.{optional_at, Viewed, Carries, Follows, in_row, always_has, front_value, in_groups, inner_of, values_in, in_list, values_of};
+ghost use Rattle.gtp_v2.specs.Viewed.{optional_at, Viewed, Carries, Follows, in_row, has_row, row_of, always_has, front_value, in_groups, inner_of, values_in, in_list, values_of};
 ghost use Rattle.gtp_v2.specs.Message.{MessageValue, raw_of, MessageGives, MessageAllocates, ContentAllocates};
 ghost use Rattle.gtp_v2.specs.reading.Message.{typed_at, content_at, message_at};
 ghost use Rattle.gtp_v2.specs.Body.{content_of, kind_of, message_value, OctetsOnlyWithoutTable};
@@ -228,6 +228,9 @@ impl<'a> DatagramView<'a> {
         ensures field { (values : List Value) →
             in_row T.KIND instance self.now.message ≡ Some values →
             option_map T.value result ≡ front_value values }
+        // And it is what stands in that row of a message whose type has one.
+        ensures row { IsTrue (has_row self.now.message.kind T.KIND instance)
+            → option_map T.value result ≡ front_value (row_of T.KIND instance self.now.message) }
     {
         match &self.elements {
             Some(elements) => optional::<T>(elements, instance),

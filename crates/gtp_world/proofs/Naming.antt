@@ -181,4 +181,4 @@ pub agreeing : (v : Kept) → IsReached v → (pair : Pair) → NameEachOther v 
 agreeing v r (Sessions c d) (s, p, m) = record { at_serving = s; at_packet = p; here = m.serving; there = m.packet; agree = (run_safe r.setup r.events v r.run).sessions c d s p m }
 agreeing v r (Bearers c d) (s, p, m) =
     let a = (run_safe r.setup r.events v r.run).bearers c d s p m in
-    record { at_serving = s; at_packet = p; here = m.serving; there = m.packet; identity = a.identity; sessions = record { at_serving = a.at_serving; at_packet = a.at_packet; here = a.serving; there = a.packet; agree = a.sessions } }
+    record { at_serving = s; at_packet = p; here = m.serving; there = m.packet; identity = a.identity; sessions = record { at_serving = a.at_serving; at_packet = a.at_packet; here = a.here; there = a.there; agree = a.sessions } }

@@ -5,9 +5,8 @@ use Rattle.std.specs.List.{filter_map}
 use Rattle.gtp_values.specs.FiniteMap.{FiniteMap}
 use Rattle.gtp_tables.specs.declared.context.State.{State}
 use Rattle.gtp_machine.specs.Node.{Node, Session, Bearer, Active}
-use Rattle.gtp_machine.specs.Laws.{MutualSessions, MutualBearers, Agree}
+use Rattle.gtp_machine.specs.Safety.{MutualSessions, MutualBearers, Agree}
 use Rattle.gtp_world.specs.Kept.{Kept}
-use Rattle.gtp_world.specs.Runs.{pictured}
 use Rattle.gtp_world.specs.declared.mutual.Mutual.{Mutual}
 use Rattle.gtp_world.specs.declared.mutual.Mutual.TheVariants as kinds
 
@@ -56,8 +55,8 @@ mutual_pairs v = session_pairs v.packet.station.node.sessions (entries v.serving
 
 -- the contexts are there, active, and name each other
 abbrev pub NameEachOther : Kept → Pair → Type 0
-NameEachOther v (Sessions c d) = (s p : Session) × MutualSessions (pictured v) c d s p
-NameEachOther v (Bearers c d) = (s p : Bearer) × MutualBearers (pictured v) c d s p
+NameEachOther v (Sessions c d) = (s p : Session) × MutualSessions v.serving.station.node v.packet.station.node c d s p
+NameEachOther v (Bearers c d) = (s p : Bearer) × MutualBearers v.serving.station.node v.packet.station.node c d s p
 
 -- a session of each gateway, with the same subscriber, access point, default identity and address
 pub record AgreeingSessions (serving packet : Node) (c d : ℕ) : Type 0 where

@@ -7,8 +7,8 @@ use Rattle.gtp_machine.specs.declared.role.Role.TheVariants.{Serving, Packet}
 use Rattle.gtp_machine.specs.Spelling.{Datagram, spelled}
 use Rattle.gtp_machine.specs.World as machine
 use Rattle.gtp_machine.specs.World.{By, Sent, Side, World, Event, Run, start}
-use Rattle.gtp_machine.specs.Laws.{SessionsAgree, BearersAgree, EachOwed, NoneOver}
-use Rattle.gtp_world.specs.Kept.{oldest_first, Half, Told, Kept}
+use Rattle.gtp_machine.specs.Safety.{SessionsAgree, BearersAgree, EachOwed, NoneOver}
+use Rattle.gtp_world.specs.Kept.{oldest_first, Half, Told, Kept, half_in}
 use Rattle.gtp_gateway.specs.Sent.{ReadsBack}
 use Rattle.gtp_gateway.specs.Settings.{Settings}
 use Rattle.gtp_world.specs.Recorded.{empty_log}
@@ -88,22 +88,14 @@ pub record IsReached (v : Kept) : Type 0 where
   pub events : List Event
   pub run : IsRunOf setup events v
 
--- a gateway of the machine's world, by what is kept of it
-abbrev pub side_by : Half → Side
-side_by h = record { node = h.station.node; first = h.first; restarts = h.restarts; seen = h.seen; forgotten = h.forgotten; came_late = []; made = h.made }
-
--- a world of the machine, by what is kept of both gateways and of their packets alone
-abbrev pub pictured : Kept → World
-pictured v = record { serving = side_by v.serving; packet = side_by v.packet; history = []; handed = v.log.handed; accepted = v.log.accepted; late = v.log.late; notes = []; serving_steps = []; packet_steps = [] }
-
 -- Tunnel safety. Contexts that name each other agree on subscriber, access point, bearer identity and address; where no delivery was late, each packet that
 -- was accepted was handed in at the other gateway, octet for octet, for that subscriber, access point and bearer; and no session outlives a restart of the
 -- peer that its gateway has heard of.
 pub record IsSafe (v : Kept) : Type 0 where
-  pub sessions : SessionsAgree (pictured v)
-  pub bearers : BearersAgree (pictured v)
-  pub owed : EachOwed (pictured v)
-  pub none_over : NoneOver (pictured v)
+  pub sessions : SessionsAgree v.serving.station.node v.packet.station.node
+  pub bearers : BearersAgree v.serving.station.node v.packet.station.node
+  pub owed : EachOwed v.log.late v.log.handed v.log.accepted
+  pub none_over : (role : Role) → NoneOver (half_in v role).station.node (half_in v role).seen
 
 -- A run that was left at the one is left at the other after these events more.
 abbrev pub RunsOn : Kept → List Event → Kept → Type 0

@@ -1,4 +1,4 @@
-//! What both gateways of a world are set up with.
+//! The settings of a world.
 
 ghost use Rattle.std.specs.Prelude.{◌≡◌, ◌↔◌, [], ◌∷◌, map, IsTrue, IsOk, IfOk, IfErr};
 ghost use Rattle.gtp_values.specs.declared.fault.ValueFault.TheVariants.{OutOfRange};
@@ -7,7 +7,7 @@ ghost use Rattle.gtp_world.specs.Runs.{AreFacing};
 use gtp_gateway::{Config, Counter, ValueFault};
 use std::marker::Model;
 
-/// Both gateways as they are set up, and the restart counters with which they begin.
+/// The settings of both gateways, and their first restart counters.
 #[derive(Debug, Drop)]
 pub struct WorldConfig {
     serving: Config,
@@ -33,7 +33,7 @@ impl Model for WorldConfig {
         (c.serving_counter.0 < 256) × (c.packet_counter.0 < 256) × AreFacing c.serving c.packet };
 }
 
-/// Whether each gateway has the other's addresses for its peer.
+/// Whether the peer addresses of each gateway are the own addresses of the other.
 fn are_facing(serving: &Config, packet: &Config) -> bool
     ensures { IsTrue result ↔ AreFacing serving.now packet.now }
 {
@@ -41,8 +41,8 @@ fn are_facing(serving: &Config, packet: &Config) -> bool
 }
 
 impl WorldConfig {
-    /// Both gateways, the serving one first: `OutOfRange` unless the own addresses of each are the
-    /// peer addresses of the other.
+    /// The settings of the serving and of the packet gateway, and their restart counters in this order: `OutOfRange`
+    /// unless the peer addresses of each gateway are the own addresses of the other.
     pub fn try_new(
         serving: Config,
         packet: Config,
@@ -67,30 +67,30 @@ impl WorldConfig {
         })
     }
 
-    /// How the serving gateway is set up.
+    /// The settings of the serving gateway.
     pub fn serving(&self) -> &Config
         ensures config { result.now ≡ self.now.serving }
-        // At all times each gateway has the other's addresses for its peer.
+        // The peer addresses of each gateway are the own addresses of the other.
         ensures always { AreFacing self.now.serving self.now.packet }
     {
         &self.serving
     }
 
-    /// How the packet gateway is set up.
+    /// The settings of the packet gateway.
     pub fn packet(&self) -> &Config
         ensures { result.now ≡ self.now.packet }
     {
         &self.packet
     }
 
-    /// The counter with which the serving gateway begins.
+    /// The first restart counter of the serving gateway.
     pub fn serving_counter(&self) -> Counter
         ensures value { result.0 ≡ self.now.serving_counter }
     {
         self.serving_counter
     }
 
-    /// The counter with which the packet gateway begins.
+    /// The first restart counter of the packet gateway.
     pub fn packet_counter(&self) -> Counter
         ensures value { result.0 ≡ self.now.packet_counter }
     {

@@ -1,33 +1,33 @@
-//! What may happen in a world, and what it comes to.
+//! Events of a world, and their outcomes.
 
 use gtp_gateway::{Counter, Ebi, Outcome, Qos, Role, SessionSpec, Teid, Tft};
 
-/// What may happen next. A session is named by its own control plane TEID at the gateway that is
-/// told, a bearer by its own user plane TEID, and a datagram by its number, from 0.
+/// An event of a world. A session is named by its control plane TEID at the gateway of the command, a bearer by its
+/// user plane TEID there, and a datagram by its number in the order of sending, from 0.
 #[derive(Debug, Drop)]
 pub enum Event {
-    /// The serving gateway begins a session.
+    /// Command: the serving gateway requests a session.
     CreateSession(SessionSpec),
-    /// The serving gateway deletes a session.
+    /// Command: the serving gateway deletes a session.
     DeleteSession(Teid),
-    /// The packet gateway begins a dedicated bearer.
+    /// Command: the packet gateway requests a dedicated bearer of a session.
     CreateBearer {
         session: Teid,
         tft: Tft,
         qos: Qos,
     },
-    /// The packet gateway ends a dedicated bearer.
+    /// Command: the packet gateway deletes the dedicated bearer of a session with this identity.
     DeleteBearer {
         session: Teid,
         ebi: Ebi,
     },
-    /// The packet gateway deletes a session.
+    /// Command: the packet gateway deletes a session.
     ReleaseSession(Teid),
-    /// The packet gateway sends an End Marker on a bearer.
+    /// Command: the packet gateway sends an End Marker on a bearer.
     EndMarker(Teid),
-    /// A gateway sends an Echo Request.
+    /// Command: a gateway sends an Echo Request.
     Echo(Role),
-    /// A packet is handed in at a gateway, for a bearer.
+    /// Command: a gateway sends a user packet on a bearer.
     SendUser {
         node: Role,
         bearer: Teid,
@@ -35,31 +35,30 @@ pub enum Event {
     },
     /// A tick passes at a gateway.
     Tick(Role),
-    /// The datagram of this number comes to the gateway that did not send it. It stays where it is,
-    /// so it may come again.
+    /// The datagram with this number is delivered to the gateway that did not send it. It can be delivered again.
     Deliver(u64),
-    /// The first octets of the datagram of this number come, so many.
+    /// The first `length` octets of the datagram with this number are delivered.
     Cut {
         datagram: u64,
         length: u64,
     },
-    /// A gateway starts afresh, with the next restart counter.
+    /// A gateway restarts: it loses all contexts, and its restart counter is one higher, modulo 256.
     Restart(Role),
 }
 
-/// What an event comes to.
+/// The outcome of an event.
 #[derive(Clone, Copy, Debug, PartialEq, Eq)]
 pub enum EventOutcome {
-    /// A command, or a datagram that came.
+    /// The outcome of a command or of a delivered datagram.
     CameTo(Outcome),
     /// A tick passed.
     Ticked,
-    /// A gateway was started afresh with this counter.
+    /// A gateway was restarted, with this restart counter.
     Restarted(Counter),
     /// N1: no datagram has this number.
     NoSuchDatagram,
-    /// N2: the gateway was restarted 127 times.
+    /// N2: the gateway was restarted 127 times before.
     RestartsUsed,
-    /// N3: the datagram has no more octets than that.
+    /// N3: the datagram is not longer than the cut.
     CutTooLong,
 }

@@ -97,7 +97,7 @@ impl Model for Handed {
 }
 
 impl Handed {
-    /// No packets. Takes no memory.
+    /// No packets. Allocates nothing.
     pub fn new(alloc: Global) -> Handed
         ensures { result ≡ record { list = []; room = 0 } }
     {
@@ -121,7 +121,7 @@ impl Handed {
         Ok(())
     }
 
-    /// It, if there is one, in the room that was made. Takes no memory.
+    /// It, if there is one, in the room that was made. Allocates nothing.
     pub fn keep_any(&mut self, packet: Option<HandedIn>)
         requires { 0 < self.old.room }
         ensures { self.new.list ≡ self.old.list ++ option_to_list packet }
@@ -142,14 +142,14 @@ impl Handed {
         self.room -= 1;
     }
 
-    /// Each of them, in order. Takes no memory.
+    /// Each of them, in order. Allocates nothing.
     pub fn as_slice(&self) -> &[Entry]
         ensures { map entry_by result.now ≡ self.now.list }
     {
         self.entries.as_slice()
     }
 
-    /// Whether an accepted packet was handed in at the other gateway. Takes no memory.
+    /// Whether an accepted packet was handed in at the other gateway. Allocates nothing.
     pub fn owes(&self, accepted: &Entry) -> bool
         ensures { IsTrue result ↔ Among (owed_by accepted.now) self.now.list }
     {

@@ -1,4 +1,4 @@
-//! Both gateways of the S5/S8 interface, and every datagram that they have ever sent.
+//! A simulated network of both gateways of the S5/S8 interface: commands, ticks, deliveries, losses and restarts.
 #![tactic(auto)]
 
 mod asked;

@@ -1,4 +1,4 @@
-//! What is kept of a world.
+//! The log of a world.
 
 use crate::event::EventOutcome;
 use gtp_gateway::{Apn, Counter, Ebi, Request, Role, Sent, Seq, Teid};
@@ -20,29 +20,29 @@ pub struct Entry {
     /// The TEID that the packet names.
     pub teid: Teid,
     pub payload: Vec<u8>,
-    /// Of the bearer's session.
+    /// The subscriber of the bearer's session.
     #[derive_where(skip(Hash))]
     pub imsi: Imsi,
-    /// Of the bearer's session.
+    /// The access point of the bearer's session.
     #[derive_where(skip(Hash))]
     pub apn: Apn,
-    /// Of the bearer.
+    /// The identity of the bearer, if it has one.
     #[derive_where(skip(Hash))]
     pub ebi: Option<Ebi>,
 }
 
-/// What came of an event.
+/// The record of one event.
 #[derive(Debug, Drop)]
 pub struct Note {
     pub outcome: EventOutcome,
-    /// The restart counter of the peer, where a later one was learned.
+    /// The restart counter of the peer, if a later one was received.
     pub restart: Option<Counter>,
-    /// How many datagrams were sent.
+    /// The number of datagrams that were sent.
     pub sent: usize,
-    /// The numbers of the requests that were given up.
+    /// The sequence numbers of the requests that were given up.
     pub gave_up: Vec<Seq>,
-    /// The requests whose answers are held no more.
+    /// The requests whose answers are no longer held.
     pub forgotten: Vec<Request>,
-    /// A request was delivered whose answer had been given up.
+    /// Whether a request was delivered whose answer its receiver had forgotten.
     pub(crate) late: bool,
 }

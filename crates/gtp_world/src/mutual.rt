@@ -2,7 +2,7 @@
 
 ghost use Rattle.std.specs.Prelude.{◌≡◌, ◌↔◌, option_map, IsTrue};
 ghost use Rattle.std.specs.Iterator.{YieldsFirstBy, item_count};
-ghost use Rattle.gtp_machine.specs.Laws.{Agree};
+ghost use Rattle.gtp_machine.specs.Safety.{Agree};
 ghost use Rattle.gtp_world.specs.Naming.{pair_of, leads_to, session_leads, bearer_leads, partner, AgreeingSessions, AgreeingBearers, AgreeAt};
 
 use gtp_gateway::{Bearer, BearerList, Gateway, Session, SessionList, State, Teid};
@@ -139,7 +139,7 @@ impl<'a> Mutuals<'a> {
     ghost use Rattle.std.specs.FinMap as map;
     ghost use Rattle.gtp_world.specs.Naming.{session_pairs, bearer_pairs};
 
-    /// All of both gateways. Takes no memory.
+    /// All of both gateways. Allocates nothing.
     pub fn of(serving: &'a Gateway, packet: &'a Gateway) -> Mutuals<'a>
         ensures { result
             ≡ session_pairs packet.now.node.sessions (map.entries serving.now.node.sessions)

@@ -41,7 +41,7 @@ impl Model for Remembered {
 }
 
 impl Remembered {
-    /// No requests. Takes no memory.
+    /// No requests. Allocates nothing.
     pub fn new(alloc: Global) -> Remembered
         ensures { result ≡ record { list = []; room = 0 } }
     {
@@ -98,7 +98,7 @@ impl Remembered {
         self.make_room(more.requests.len())
     }
 
-    /// All of these, in the room that was made. Takes no memory.
+    /// All of these, in the room that was made. Allocates nothing.
     pub fn append(&mut self, more: Remembered)
         requires { length more.list ≤ self.old.room }
         ensures { self.new.list ≡ self.old.list ++ more.list }

@@ -2,11 +2,11 @@
 
 use crate::world::World;
 
-/// Why a run ended before its end: no memory could be had.
+/// Why a run ended early: an allocation was refused.
 #[derive(Drop)]
 pub enum RunFault {
-    /// For both gateways.
+    /// Before the first event: the gateways could not be made.
     Start,
-    /// For the event at this place, from 0: the world is as after those before it.
+    /// At the event with this place, counted from 0. The world is the one after the events before it.
     At { at: usize, world: World },
 }

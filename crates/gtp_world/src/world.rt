@@ -1,11 +1,12 @@
-//! Both gateways, and every datagram that they have ever sent.
+//! A simulated network of both gateways, with every datagram that they have sent.
 
 ghost use Rattle.std.specs.Prelude.{◌≡◌, ◌↔◌, ◌≤◌, ◌++◌, [], ◌∷◌, Some, map, length, slice_get};
 ghost use Rattle.std.specs.Prelude.{IsTrue, IfOk, IfErr, IfSome, IfNone, OnOk, OnErr};
 ghost use Rattle.gtp_values.specs.FiniteMap.{Among};
 ghost use Rattle.gtp_machine.specs.Input.{Entry as Packet};
 ghost use Rattle.gtp_machine.specs.Exchange.{CanExchange};
-ghost use Rattle.gtp_machine.specs.World.{By, HasBy, other};
+ghost use Rattle.gtp_machine.specs.Safety.{IsOwed};
+ghost use Rattle.gtp_machine.specs.World.{By};
 ghost use Rattle.gtp_gateway.specs.Specified.{specification};
 ghost use Rattle.gtp_world.specs.Kept.{half_in, outcome_of, outcomes_in, sent_by, entry_by, told_by};
 ghost use Rattle.gtp_world.specs.Events.{event_of};
@@ -26,8 +27,8 @@ use gtp_gateway::{Gateway, Memory, Role, SessionSpec};
 use std::alloc::Global;
 use std::marker::Model;
 
-/// Two gateways, every datagram that they have ever sent, and what came of each event: at all times
-/// what some run leaves.
+/// Two gateways, every datagram that they have sent, and the record of each event. It is always what some run of the
+/// machine leaves, so what its views promise needs no premise on how it came about.
 #[derive(Drop)]
 pub struct World {
     sides: Sides,
@@ -51,7 +52,7 @@ impl Model for World {
 }
 
 impl World {
-    /// Both gateways, just started, which have sent nothing.
+    /// Both gateways, just started; nothing was sent. `Memory` if an allocation was refused.
     pub fn start(alloc: Global, config: &WorldConfig) -> Result<World, Memory>
         ensures begun { IfOk result (λ world. world ≡ begun config.now) }
         ensures run { IfOk result (λ world. IsRunOf config.now [] world) }
@@ -61,21 +62,20 @@ impl World {
         })
     }
 
-    /// All of these events happen, one after the other, to both gateways as they have just started.
+    /// Starts both gateways and lets all of these events happen, in order.
     pub fn run(alloc: Global, config: &WorldConfig, events: &[Event]) -> Result<World, RunFault>
-        // Each event comes to what it comes to, one after the other, gateway by gateway and octet by
-        // octet.
+        // Exactly: each event leaves what the definitions say, gateway by gateway and octet by octet.
         ensures comes { IfOk result (λ world.
             Follows (begun config.now) (map event_of events.now) world) }
-        // It is a run of the machine: each event is a step of the gateway that it concerns, or moves of
-        // its tick, and all that was sent is what those send, octet for octet.
+        // Faithfully: it is a run of the machine. Each event is a step or a tick of its gateway, and the datagrams
+        // are those that these steps send, octet for octet.
         ensures run { IfOk result (λ world.
             IsRunOf config.now (map event_of events.now) world) }
-        // Tunnel safety: contexts that name each other agree; where no delivery was late, each packet
-        // that was accepted was handed in at the other gateway; and no session outlives a restart of
-        // its peer that was heard of.
+        // Tunnel safety: contexts that name each other agree; if no delivery was late, each accepted packet
+        // was handed in at the other gateway; no session outlives a restart of the peer of which its gateway has
+        // received the counter.
         ensures safe { IfOk result (λ world. IsSafe world) }
-        // Where memory ran out all of this is so of the events before.
+        // If an allocation was refused, all of this holds for the events before.
         ensures fault { IfErr result (λ fault.
             IsCutShort config.now (map event_of events.now) fault) }
     {
@@ -90,41 +90,41 @@ impl World {
         Ok(world)
     }
 
-    /// An event happens. Each datagram that it sends is kept under the next number. A datagram that
-    /// is not there, a cut that is too long, a restart beyond 127 and a refused command change
-    /// nothing but what is told of the events.
+    /// Lets an event happen. Each datagram that it sends gets the next number. A datagram that does not exist, a cut
+    /// that is too long, a restart beyond the 127th and a refused command change nothing but the record of events.
+    /// `Memory` if an allocation was refused; the world is then as before.
     pub fn step(&mut self, alloc: Global, event: &Event) -> Result<EventOutcome, Memory>
-        // What comes of it, gateway by gateway and octet by octet.
+        // It leaves what the definitions say, gateway by gateway and octet by octet.
         ensures comes { OnOk result (Comes self.old (event_of event.now) self.new) }
-        // Its outcome is the last that is told.
+        // Its outcome is the last one recorded.
         ensures outcome { IfOk result (λ outcome. outcomes_in self.new.log
             ≡ outcomes_in self.old.log ++ outcome_of outcome ∷ []) }
-        // A run of the machine goes on by it.
+        // It continues each run of the machine that leaves the world before.
         ensures run { OnOk result (RunsOn self.old (event_of event.now ∷ []) self.new) }
         ensures err { OnErr result (self.new ≡ self.old) }
     {
         self.sides.step(alloc, event)
     }
 
-    /// The exchange of TS 29.274 7.2.1 and 7.2.2 on a path that brings each datagram at once: the
-    /// serving gateway begins a session, its request comes, and then the answer. Where memory runs
-    /// out, the world is as after the events before.
+    /// A session is requested, and its request and then the response are delivered (TS 29.274 7.2.1, 7.2.2): three
+    /// events, with their outcomes. `Memory` if an allocation was refused; the world is then as after the events
+    /// before that.
     pub fn exchange(
         &mut self,
         alloc: Global,
         spec: &SessionSpec,
     ) -> Result<[EventOutcome; 3], Memory>
-        // The three events come to what they come to.
+        // The three events leave what the definitions say.
         ensures comes { OnOk result (Follows self.old
             (exchange_events (specification spec.now) (length self.old.log.datagrams)) self.new) }
-        // A run of the machine goes on by them.
+        // They continue each run of the machine that leaves the world before.
         ensures run { OnOk result (RunsOn self.old
             (exchange_events (specification spec.now) (length self.old.log.datagrams)) self.new) }
-        // Their outcomes are the last that are told.
+        // Their outcomes are the last ones recorded.
         ensures outcomes { IfOk result (λ outcomes. outcomes_in self.new.log
             ≡ outcomes_in self.old.log ++ map outcome_of outcomes) }
-        // After a run, where nothing stands in the way, they make a new session at both gateways,
-        // which carries packets.
+        // After a run, if nothing prevents it, they make a new session at both gateways, which carries packets in
+        // both directions.
         ensures fair { (reached : IsReached self.old)
             → CanExchange reached.run.world (specification spec.now)
             → IfOk result (λ outcomes. IsExchanged (specification spec.now) self.old reached
@@ -139,61 +139,59 @@ impl World {
         Ok([begun, answered, opened])
     }
 
-    /// Each datagram that was ever sent, in order, and which gateway sent it. Takes no memory.
+    /// The datagrams that were sent, in order, each with its sender. Allocates nothing.
     pub fn datagrams(&self) -> &[Datagram]
         ensures { map sent_by result.now ≡ self.now.log.datagrams }
     {
         self.sides.records.datagrams.as_slice()
     }
 
-    /// Each packet that was handed in, in order, at which gateway, and the context that it is for.
-    /// Takes no memory.
+    /// The user packets that were handed in, in order, each with its gateway and context. Allocates nothing.
     pub fn handed_in(&self) -> &[Entry]
         ensures { map entry_by result.now ≡ self.now.log.handed }
     {
         self.sides.records.handed.as_slice()
     }
 
-    /// Each packet that was accepted, in order, at which gateway, and the context that it was for.
-    /// Takes no memory.
+    /// The user packets that were accepted, in order, each with its gateway and context. Allocates nothing.
     pub fn accepted(&self) -> &[Entry]
         ensures { map entry_by result.now ≡ self.now.log.accepted }
     {
         self.sides.records.accepted.as_slice()
     }
 
-    /// What came of each event, in order. Takes no memory.
+    /// The record of each event, in order. Allocates nothing.
     pub fn outcomes(&self) -> &[Note]
         ensures { map told_by result.now ≡ self.now.log.notes }
     {
         self.sides.records.notes.as_slice()
     }
 
-    /// One of the gateways. Takes no memory.
+    /// The gateway with this role. Allocates nothing.
     pub fn gateway(&self, role: Role) -> &Gateway
         ensures { result.now ≡ (half_in self.now role).station }
     {
         &self.sides.side(role).gateway
     }
 
-    /// How many contexts the gateway that did not send the datagram of this number has made, since it
-    /// started, on deliveries of a create request with the same octets: a session with its default
-    /// bearer is one. `None` where there is no such datagram. Takes no memory.
+    /// The number of contexts that the receiver of the datagram with this number has made, since it last started, on
+    /// deliveries of a create request with the same octets. A session with its default bearer is one context. `None` if
+    /// there is no such datagram. Allocates nothing.
     pub fn made(&self, number: u64) -> Option<usize>
         ensures some { IfSome result (λ count. IsMade self.now number count) }
         ensures none { IfNone result (length self.now.log.datagrams ≤ number) }
-        // At the end of a run in which no delivery of the datagram was late it is at most 1, and so it
-        // is where no delivery at all was late.
+        // It is at most 1 at the end of a run in which no delivery of the request to its receiver was late since
+        // the receiver started, and if no delivery at all was late.
         ensures once { IfSome result (λ count. IsMadeOnce self.now number count) }
         ensures timely { self.now.log.late ≡ 0 → IfSome result (λ count. count ≤ 1) }
-        // And all that was then sent in answer to it, since its receiver started, is the same octets.
+        // All that was then sent in answer to it since its receiver started has the same octets.
         ensures answers { IsAnsweredAlike self.now number }
     {
         self.sides.made(number)
     }
 
-    /// The contexts that name each other: sessions before bearers, each in order of the serving
-    /// gateway's TEIDs. Takes no memory.
+    /// The contexts that name each other: sessions before bearers, each in order of the serving gateway's TEIDs.
+    /// Allocates nothing.
     pub fn mutual(&self) -> Mutuals<'_>
         ensures pairs { result ≡ mutual_pairs self.now }
         // Exactly those that name each other.
@@ -203,8 +201,8 @@ impl World {
         Mutuals::of(self.gateway(Role::Serving), self.gateway(Role::Packet))
     }
 
-    /// Whether two contexts agree: sessions on subscriber, access point, default identity and
-    /// address; bearers on their identity, where their sessions agree. Takes no memory.
+    /// Whether two contexts agree: sessions on subscriber, access point, default bearer identity and address; bearers
+    /// on their identity, if also their sessions agree. Allocates nothing.
     pub fn agrees(&self, pair: Mutual) -> bool
         ensures { IsTrue result ↔ DoAgree self.now (pair_of pair) }
     {
@@ -215,14 +213,13 @@ impl World {
         )
     }
 
-    /// Whether the contexts agree that stand at this place, from 0, of those that name each other;
-    /// `None` past their end. Takes no memory.
+    /// Whether the pair at this place of `mutual`, counted from 0, agrees; `None` past the end. Allocates nothing.
     pub fn agree(&self, index: usize) -> Option<bool>
         ensures some { IfSome result (λ agree. (pair : Pair)
             × (slice_get (mutual_pairs self.now) index ≡ Some pair)
             × (IsTrue agree ↔ DoAgree self.now pair)) }
         ensures none { IfNone result (length (mutual_pairs self.now) ≤ index) }
-        // They do.
+        // It does.
         ensures safe { IfSome result (λ agree. IsTrue agree) }
     {
         let serving = &self.sides.serving.gateway;
@@ -231,23 +228,22 @@ impl World {
         Some(do_agree(serving, packet, pair))
     }
 
-    /// Whether the packet that stands at this place, from 0, of those that were accepted was handed
-    /// in at the other gateway: octet for octet, for the same TEID, subscriber, access point and
-    /// bearer. `None` past their end. Takes no memory.
+    /// Whether the packet at this place of `accepted`, counted from 0, was handed in at the other gateway: octet for
+    /// octet, for the same TEID, subscriber, access point and bearer. `None` past the end. Allocates nothing.
     pub fn owed(&self, index: usize) -> Option<bool>
         ensures some { IfSome result (λ owed. (entry : By Packet)
             × (slice_get self.now.log.accepted index ≡ Some entry)
-            × (IsTrue owed ↔ HasBy self.now.log.handed (other entry.role) entry.what)) }
+            × (IsTrue owed ↔ IsOwed self.now.log.handed entry.role entry.what)) }
         ensures none { IfNone result (length self.now.log.accepted ≤ index) }
-        // Where no delivery was late it was.
+        // If no delivery was late, it was.
         ensures safe { self.now.log.late ≡ 0 → IfSome result (λ owed. IsTrue owed) }
     {
         let accepted = self.accepted().get(index)?;
         Some(self.sides.records.is_owed(accepted))
     }
 
-    /// How many deliveries were late: of a request whose answer the receiver had given up since it
-    /// started. Takes no memory.
+    /// The number of late deliveries: of a request whose answer its receiver had forgotten since it last started.
+    /// Allocates nothing.
     pub fn late(&self) -> usize
         ensures { result ≡ self.now.log.late }
     {

@@ -34,9 +34,9 @@ A scenario:
     {\"do\": \"deliver\", \"datagram\": 0},
     {\"do\": \"deliver\", \"datagram\": 1, \"expect\": \"opened\"}]}
 
-docs/PROTOCOL.md of the repository lists all events, and explains the report";
+docs/FORMATS.md of the repository lists all events, and explains the report";
 
-/// The words that the program takes.
+/// The arguments of the program.
 pub fn command<'a>(alloc: Global) -> Result<Command<'a>, AllocError>
     ensures { IfOk result (λ command. app_of command ≡ program_words) }
 {
@@ -73,7 +73,7 @@ pub fn command<'a>(alloc: Global) -> Result<Command<'a>, AllocError>
         .subcommand(replay)
 }
 
-/// Why nothing could be shown or replayed.
+/// Why nothing was shown or replayed.
 #[derive(Clone, Copy, Debug, PartialEq, Eq)]
 pub enum Failure {
     BadHex,
@@ -83,7 +83,7 @@ pub enum Failure {
 }
 
 impl Failure {
-    /// The exit status: 2 for bad hexadecimal, and else 3.
+    /// The exit status: 2 for bad hexadecimal digits, 3 for every other error.
     pub fn status(self) -> u8
         ensures { result ≡ status_of self }
     {

@@ -1,4 +1,4 @@
-//! gtpshow shows GTP datagrams, and replays scenarios of two gateways.
+//! The program gtpshow: it decodes GTP datagrams, and replays scenarios of two gateways.
 #![tactic(auto)]
 
 mod command;
@@ -20,7 +20,7 @@ use std::process::ExitCode;
 use std::rt::{Env, Files};
 use std::{env, io};
 
-/// Shows the datagram that the words name, and answers the exit status.
+/// Prints the datagram of the arguments, and returns the exit status.
 fn decode<R: Print>(rt: &R, alloc: Global, asked: &ArgMatches) -> Result<u8, Failure>
     ensures { IfOk result (λ status. status ≤ 2) }
 {
@@ -33,7 +33,7 @@ fn decode<R: Print>(rt: &R, alloc: Global, asked: &ArgMatches) -> Result<u8, Fai
     show(alloc, &mut Watched::new(io::writer(rt)), plane, digits)
 }
 
-/// Replays the scenario that the words name, and answers the exit status.
+/// Replays the scenario of the arguments, and returns the exit status.
 fn replay_asked<R: Print + Input + Files>(
     rt: &R,
     alloc: Global,
@@ -49,7 +49,7 @@ fn replay_asked<R: Print + Input + Files>(
     replay_file(rt, alloc, form, asked.get_str("file").unwrap_or("-"))
 }
 
-/// Does what the words ask for, and answers the exit status.
+/// Carries out the command line, and returns the exit status.
 fn run<R: Print + Eprint + Input + Env + Files + AllocGlobal>(rt: &R) -> Result<u8, Failure>
     ensures { IfOk result (λ status. status ≤ 2) }
 {

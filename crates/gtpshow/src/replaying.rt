@@ -30,7 +30,7 @@ pub enum Form {
     Diagram,
 }
 
-/// Replays the scenario of a reader, and answers the exit status.
+/// Replays the scenario of a reader, and returns the exit status.
 fn replay_from<I: Read, W: Write>(
     alloc: Global,
     form: Form,
@@ -54,7 +54,7 @@ fn replay_from<I: Read, W: Write>(
     }
 }
 
-/// Why a file cannot be opened.
+/// The error for a file that cannot be opened.
 fn unopened(error: io::Error) -> Failure {
     match error.kind() {
         io::ErrorKind::OutOfMemory => Failure::Memory,
@@ -62,7 +62,7 @@ fn unopened(error: io::Error) -> Failure {
     }
 }
 
-/// Replays the scenario of this file, or of standard input for `-`, and answers the exit status.
+/// Replays the scenario of this file, or of standard input for `-`, and returns the exit status.
 pub fn replay_file<R: Print + Input + Files>(
     rt: &R,
     alloc: Global,

@@ -11,8 +11,8 @@ use hex::FromHexError;
 use std::alloc::Global;
 use std::io::Write;
 
-/// Writes the lines of the datagram of these hexadecimal digits, and answers the exit status: 1 for
-/// a fault.
+/// Writes the lines of the datagram of these hexadecimal digits, and returns the exit status: 0, or 1 for a datagram
+/// with a fault. `BadHex` if the digits are bad, `Memory` if an allocation was refused, and `Write` if the write failed.
 pub fn show<W: Write>(
     alloc: Global,
     out: &mut Watched<W>,

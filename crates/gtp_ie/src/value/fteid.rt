@@ -101,6 +101,13 @@ impl IeValue for FTeid {
         let flags = 128 * u8::from(v4.is_some()) + 64 * u8::from(v6.is_some()) + self.interface();
         let mut teid = [0u8; 4];
         BigEndian::write_u32(&mut teid, self.teid().0);
+        // Most ends have an address of version 4 alone. All octets are appended at once, since each
+        // append of a part checks for room.
+        if let (Some(v4), None) = (v4, v6) {
+            return out.extend_from_slice(&[
+                flags, teid[0], teid[1], teid[2], teid[3], v4[0], v4[1], v4[2], v4[3],
+            ]);
+        }
         append(out, &[&[flags], &teid, octets_of(&v4), octets_of(&v6)])
     }
 

@@ -52,7 +52,7 @@ impl IeValue for Paa {
     #[tactic(auto, unfolding(crate::specs::Value::encoding_of), using(crate::proofs::AgainAddresses::v4_again, crate::proofs::AgainAddresses::v6_again, crate::proofs::AgainAddresses::v4v6_again, crate::proofs::AgainAddresses::other_again, crate::proofs::FreeKinds::encoding_free))]
     fn write(&self, out: &mut Vec<u8>) -> Result<(), AllocError> {
         match self {
-            Paa::V4(v4) => append(out, &[&[1], v4]),
+            Paa::V4(v4) => out.extend_from_slice(&[1, v4[0], v4[1], v4[2], v4[3]]),
             Paa::V6 { prefix, address } => append(out, &[&[2, *prefix], address]),
             Paa::V4V6 { prefix, v6, v4 } => append(out, &[&[3, *prefix], v6, v4]),
             Paa::Other(other) => append(out, &[&[other.number()]]),

@@ -10,7 +10,6 @@ ghost use Rattle.gtp_ie.specs.Value.{OfQos, AreRates, rates_encoding};
 use crate::fault::ReadFault;
 use crate::kinds::QOS;
 use crate::value::{IeValue, long_enough};
-use crate::writing::append;
 use byteorder::{BigEndian, ByteOrder};
 use gtp_values::{Below, Qos, Rate, Rates};
 use std::alloc::AllocError;
@@ -76,14 +75,13 @@ impl IeValue for Qos {
     #[tactic(auto, unfolding(crate::specs::Value::encoding_of), using(crate::proofs::Again::qos_again, crate::proofs::FreeKinds::encoding_free))]
     fn write(&self, out: &mut Vec<u8>) -> Result<(), AllocError> {
         let flags = 64 * u8::from(self.pci) + 4 * self.pl.number() + u8::from(self.pvi);
-        append(
-            out,
-            &[
-                &[flags, self.qci],
-                &octets_of(&self.mbr),
-                &octets_of(&self.gbr),
-            ],
-        )
+        let mbr = octets_of(&self.mbr);
+        let gbr = octets_of(&self.gbr);
+        out.extend_from_slice(&[
+            flags, self.qci, mbr[0], mbr[1], mbr[2], mbr[3], mbr[4], mbr[5], mbr[6], mbr[7],
+            mbr[8], mbr[9], gbr[0], gbr[1], gbr[2], gbr[3], gbr[4], gbr[5], gbr[6], gbr[7], gbr[8],
+            gbr[9],
+        ])
     }
 
     #[tactic(auto, unfolding(crate::specs::Value::encoding_of))]

@@ -8,7 +8,6 @@ ghost use Rattle.gtp_ie.specs.Value.{OfTft};
 use crate::fault::ReadFault;
 use crate::kinds::TFT;
 use crate::value::IeValue;
-use crate::writing::append;
 use gtp_values::Tft;
 use std::alloc::AllocError;
 
@@ -36,7 +35,7 @@ impl IeValue for Tft {
 
     #[tactic(auto, unfolding(crate::specs::Value::encoding_of), using(crate::proofs::AgainNames::tft_again, crate::proofs::FreeKinds::encoding_free))]
     fn write(&self, out: &mut Vec<u8>) -> Result<(), AllocError> {
-        append(out, &[self.octets()])
+        out.extend_from_slice(self.octets())
     }
 
     #[tactic(auto, unfolding(crate::specs::Value::encoding_of))]

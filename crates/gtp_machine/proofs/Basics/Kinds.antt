@@ -1,6 +1,6 @@
 -- A message by what a gateway does with it: it is of one of the six kinds that the gateway takes, or it is dropped.
 use Rattle.std.proofs.Common.{◌≡◌, Bool, true, false, ap}
-use Rattle.gtp_machine.specs.Message.{Echo, CreateSessionRequest, CreateSessionResponse, DeleteSessionRequest, DeleteSessionResponse, CreateBearerRequest, CreateBearerResponse, DeleteBearerRequest, DeleteBearerResponse, Message, Echo_request, Echo_response, Create_session_request, Create_session_response, Delete_session_request, Delete_session_response, Create_bearer_request, Create_bearer_response, Delete_bearer_request, Delete_bearer_response, Other_control, Packet_data, End_marker, Error_indication, User_echo_request, User_echo_response, Supported_extensions, Other_user}
+use Rattle.gtp_machine.specs.Message.{Echo, CreateSessionRequest, CreateSessionResponse, DeleteSessionRequest, DeleteSessionResponse, CreateBearerRequest, CreateBearerResponse, DeleteBearerRequest, DeleteBearerResponse, Message, Echo_request, Echo_response, Create_session_request, Create_session_response, Delete_session_request, Delete_session_response, Create_bearer_request, Create_bearer_response, Delete_bearer_request, Delete_bearer_response}
 use Rattle.gtp_machine.specs.Node.{Role, Serving, Packet, Arrival, Node}
 use Rattle.gtp_machine.specs.Input.{FaultyRequest, RequestKind, Of_create_session, Of_delete_session, Of_create_bearer, Of_delete_bearer, Effect, dropped, Unexpected}
 use Rattle.gtp_machine.specs.Serving.{ServingTakes, ServingFaulted}
@@ -44,40 +44,18 @@ module _ (P : Message → Type 0) where
   pub by_serving : ((q : Echo) → P (Echo_request q)) → ((a : Echo) → P (Echo_response a)) → ((a : CreateSessionResponse) → P (Create_session_response a)) → ((d : DeleteSessionResponse) → P (Delete_session_response d)) → ((q : CreateBearerRequest) → P (Create_bearer_request q)) → ((d : DeleteBearerRequest) → P (Delete_bearer_request d)) → ((m : Message) → IsDropped ServingTakes m → P m) → (m : Message) → P m
   by_serving echo alive opens ends grants removes rest (Echo_request q) = echo q
   by_serving echo alive opens ends grants removes rest (Echo_response a) = alive a
-  by_serving echo alive opens ends grants removes rest (Create_session_request q) = rest (Create_session_request q) (record { only = λ request old e r. r; so = λ request old e r. r })
   by_serving echo alive opens ends grants removes rest (Create_session_response a) = opens a
-  by_serving echo alive opens ends grants removes rest (Delete_session_request d) = rest (Delete_session_request d) (record { only = λ request old e r. r; so = λ request old e r. r })
   by_serving echo alive opens ends grants removes rest (Delete_session_response d) = ends d
   by_serving echo alive opens ends grants removes rest (Create_bearer_request q) = grants q
-  by_serving echo alive opens ends grants removes rest (Create_bearer_response x) = rest (Create_bearer_response x) (record { only = λ request old e r. r; so = λ request old e r. r })
   by_serving echo alive opens ends grants removes rest (Delete_bearer_request d) = removes d
-  by_serving echo alive opens ends grants removes rest (Delete_bearer_response d) = rest (Delete_bearer_response d) (record { only = λ request old e r. r; so = λ request old e r. r })
-  by_serving echo alive opens ends grants removes rest (Other_control q) = rest (Other_control q) (record { only = λ request old e r. r; so = λ request old e r. r })
-  by_serving echo alive opens ends grants removes rest (Packet_data t p) = rest (Packet_data t p) (record { only = λ request old e r. r; so = λ request old e r. r })
-  by_serving echo alive opens ends grants removes rest (End_marker t) = rest (End_marker t) (record { only = λ request old e r. r; so = λ request old e r. r })
-  by_serving echo alive opens ends grants removes rest (Error_indication t p) = rest (Error_indication t p) (record { only = λ request old e r. r; so = λ request old e r. r })
-  by_serving echo alive opens ends grants removes rest (User_echo_request t) = rest (User_echo_request t) (record { only = λ request old e r. r; so = λ request old e r. r })
-  by_serving echo alive opens ends grants removes rest (User_echo_response t) = rest (User_echo_response t) (record { only = λ request old e r. r; so = λ request old e r. r })
-  by_serving echo alive opens ends grants removes rest (Supported_extensions t) = rest (Supported_extensions t) (record { only = λ request old e r. r; so = λ request old e r. r })
-  by_serving echo alive opens ends grants removes rest (Other_user t) = rest (Other_user t) (record { only = λ request old e r. r; so = λ request old e r. r })
+  by_serving echo alive opens ends grants removes rest m = rest m (record { only = λ request old e r. r; so = λ request old e r. r })
 
   -- at the packet gateway
   pub by_packet : ((q : Echo) → P (Echo_request q)) → ((a : Echo) → P (Echo_response a)) → ((q : CreateSessionRequest) → P (Create_session_request q)) → ((d : DeleteSessionRequest) → P (Delete_session_request d)) → ((x : CreateBearerResponse) → P (Create_bearer_response x)) → ((d : DeleteBearerResponse) → P (Delete_bearer_response d)) → ((m : Message) → IsDropped PacketTakes m → P m) → (m : Message) → P m
   by_packet echo alive opens ends grants removes rest (Echo_request q) = echo q
   by_packet echo alive opens ends grants removes rest (Echo_response a) = alive a
   by_packet echo alive opens ends grants removes rest (Create_session_request q) = opens q
-  by_packet echo alive opens ends grants removes rest (Create_session_response a) = rest (Create_session_response a) (record { only = λ request old e r. r; so = λ request old e r. r })
   by_packet echo alive opens ends grants removes rest (Delete_session_request d) = ends d
-  by_packet echo alive opens ends grants removes rest (Delete_session_response d) = rest (Delete_session_response d) (record { only = λ request old e r. r; so = λ request old e r. r })
-  by_packet echo alive opens ends grants removes rest (Create_bearer_request q) = rest (Create_bearer_request q) (record { only = λ request old e r. r; so = λ request old e r. r })
   by_packet echo alive opens ends grants removes rest (Create_bearer_response x) = grants x
-  by_packet echo alive opens ends grants removes rest (Delete_bearer_request d) = rest (Delete_bearer_request d) (record { only = λ request old e r. r; so = λ request old e r. r })
   by_packet echo alive opens ends grants removes rest (Delete_bearer_response d) = removes d
-  by_packet echo alive opens ends grants removes rest (Other_control q) = rest (Other_control q) (record { only = λ request old e r. r; so = λ request old e r. r })
-  by_packet echo alive opens ends grants removes rest (Packet_data t p) = rest (Packet_data t p) (record { only = λ request old e r. r; so = λ request old e r. r })
-  by_packet echo alive opens ends grants removes rest (End_marker t) = rest (End_marker t) (record { only = λ request old e r. r; so = λ request old e r. r })
-  by_packet echo alive opens ends grants removes rest (Error_indication t p) = rest (Error_indication t p) (record { only = λ request old e r. r; so = λ request old e r. r })
-  by_packet echo alive opens ends grants removes rest (User_echo_request t) = rest (User_echo_request t) (record { only = λ request old e r. r; so = λ request old e r. r })
-  by_packet echo alive opens ends grants removes rest (User_echo_response t) = rest (User_echo_response t) (record { only = λ request old e r. r; so = λ request old e r. r })
-  by_packet echo alive opens ends grants removes rest (Supported_extensions t) = rest (Supported_extensions t) (record { only = λ request old e r. r; so = λ request old e r. r })
-  by_packet echo alive opens ends grants removes rest (Other_user t) = rest (Other_user t) (record { only = λ request old e r. r; so = λ request old e r. r })
+  by_packet echo alive opens ends grants removes rest m = rest m (record { only = λ request old e r. r; so = λ request old e r. r })

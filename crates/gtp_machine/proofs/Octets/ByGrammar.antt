@@ -14,9 +14,9 @@ use Rattle.gtp_user.specs.Message as user_messages
 use Rattle.gtp_user.specs.reading.Message as user_octets
 use Rattle.gtp_user.proofs.Messages as user
 use Rattle.gtp_user.proofs.Prefixes.{few_fail, fewer_fail}
-use Rattle.gtp_machine.specs.Input.{Control_fault, User_fault, Control_message, User_message}
+use Rattle.gtp_machine.specs.Input.{Control_fault, User_fault, User_message}
 use Rattle.gtp_machine.specs.Reading.{control_fault, control_reading_of, control_reading, cut_fault, user_reading_of, user_reading, IsReadOf, IsUserReadOf, ControlByGrammar, UserByGrammar, CutsRead, UserCutsRead, DecodedReads, UserDecodedReads}
-use Rattle.gtp_machine.proofs.Octets.ByName.{control_by_name, user_by_name}
+use Rattle.gtp_machine.proofs.Octets.ByName.{user_by_name}
 use Rattle.gtp_v2.specs.Body.{message_value}
 
 pub control_by_grammar : ControlByGrammar
@@ -42,7 +42,7 @@ user_by_grammar octets reading = (by_outcome (user_octets.message_at octets) ref
     spelled (inr (f, fails, as_f)) = as_f ∙ sym (ap user_reading_of ((user.message_decided octets).fails f fails))
 
 pub decoded_reads : DecodedReads
-decoded_reads octets m is = ap (λ k. Control_message k) (sym (control_by_name m)) ∙ sym (ap control_reading_of ((control.message_decided octets).is (message_value m) is))
+decoded_reads octets m is = sym (ap control_reading_of ((control.message_decided octets).is (message_value m) is))
 
 pub user_decoded_reads : UserDecodedReads
 user_decoded_reads octets m is = ap (λ k. User_message k) (sym (user_by_name m)) ∙ sym (ap user_reading_of ((user.message_decided octets).is (user_messages.message_value m) is))

@@ -1,129 +1,17 @@
 -- What a decoded message reads as, by the names of its fields.
-use Rattle.std.proofs.Common.{◌≡◌, ℕ, List, [], ◌∷◌, map, Option, Some, None, option_map, option_to_list, unwrap_or, refl, sym}
-use Rattle.gtp_values.specs.TunnelEnd.{TunnelEnd}
-use Rattle.gtp_ie.specs.declared.value.recovery.Recovery.{Recovery}
-use Rattle.gtp_ie.specs.declared.value.ebi.EbiValue.{EbiValue}
-use Rattle.gtp_ie.specs.Value.{Value, OfRecovery, OfAmbr, OfEbi, OfPaa, OfQos, OfPlmn, OfFTeid, OfChargingId, OfPti, OfSelection}
-use Rattle.gtp_v2.specs.declared.body.Body.{Body}
-use Rattle.gtp_v2.specs.declared.body.Body.TheVariants as bodies
-use Rattle.gtp_v2.specs.declared.body.create_session_request.CreateSessionRequest as session_requests
-use Rattle.gtp_v2.specs.declared.body.create_bearer_request.CreateBearerRequest as bearer_requests
-use Rattle.gtp_v2.specs.declared.body.create_session_request.SessionRequestContext.{SessionRequestContext}
-use Rattle.gtp_v2.specs.declared.body.create_session_response.SessionResponseContext.{SessionResponseContext}
-use Rattle.gtp_v2.specs.declared.body.create_bearer_request.BearerRequestContext.{BearerRequestContext}
-use Rattle.gtp_v2.specs.declared.body.create_bearer_response.BearerResponseContext.{BearerResponseContext}
-use Rattle.gtp_v2.specs.CreateSessionRequest.{create_session_request_fields, session_request_context_values}
-use Rattle.gtp_v2.specs.CreateSessionResponse.{session_response_context_values}
-use Rattle.gtp_v2.specs.CreateBearerRequest.{create_bearer_request_fields, bearer_request_context_values}
-use Rattle.gtp_v2.specs.CreateBearerResponse.{bearer_response_context_values}
+use Rattle.std.proofs.Common.{◌≡◌, ℕ, List, [], ◌∷◌, map, Option, refl, sym}
+use Rattle.gtp_v2.specs.declared.body.delete_bearer_response.RemovalResponseContext.{RemovalResponseContext}
 use Rattle.gtp_v2.specs.DeleteBearerResponse.{removal_response_context_values}
-use Rattle.gtp_v2.specs.Body.{kind_of, content_of}
 use Rattle.gtp_user.specs.declared.message.UserBody.{UserBody}
 use Rattle.gtp_user.specs.declared.message.UserBody.TheVariants as user_bodies
 use Rattle.gtp_user.specs.Message as user_messages
-use Rattle.gtp_machine.specs.Message.{Create_session_request, Create_session_response, Delete_session_request, Delete_session_response, Create_bearer_request, Create_bearer_response, Delete_bearer_request, Delete_bearer_response}
-use Rattle.gtp_machine.specs.Decoded.{address_of, number_of, end_in, qos_in, ambr_in, network_in, paa_in, first_in, requested, created, wanted, given, removed, session_request_in, bearer_request_in, content_message}
-use Rattle.gtp_machine.specs.Reading.{header_in, requested_bearer, created_bearer, wanted_bearer, given_bearer, removed_bearer, session_request_of, bearer_request_of, body_message, user_body_message, user_content_message, ControlByName, UserByName}
+use Rattle.gtp_machine.specs.Decoded.{removed}
+use Rattle.gtp_machine.specs.Reading.{removed_bearer, user_body_message, user_content_message, UserByName}
 
--- what is written of an optional row is what it has
-optional : {A X : Type 0} (of : A → Value) (out : Value → Option X) (f : A → X) → ((a : A) → out (of a) ≡ Some (f a)) → (o : Option A) → option_map f o ≡ first_in out (option_to_list (option_map of o))
-optional of out f each None = refl
-optional of out f each (Some a) = sym (each a)
-
--- the same, where the value is kept as it is
-kept : {X : Type 0} (of : X → Value) (out : Value → Option X) → ((x : X) → out (of x) ≡ Some x) → (o : Option X) → o ≡ first_in out (option_to_list (option_map of o))
-kept of out each None = refl
-kept of out each (Some x) = sym (each x)
-
--- what each of some things reads as
-each_read : {X Y V : Type 0} (values : X → V) (read : V → Y) (f : X → Y) → ((x : X) → f x ≡ read (values x)) → (xs : List X) → map f xs ≡ map read (map values xs)
-each_read values read f each [] = refl
-each_read values read f each (x ∷ xs) = λ i. each x i ∷ each_read values read f each xs i
-
-ends : (o : Option TunnelEnd) → o ≡ first_in end_in (option_to_list (option_map OfFTeid o))
-ends o = kept OfFTeid end_in (λ e. refl) o
-
-created_read : (c : SessionResponseContext) → created_bearer c ≡ created (session_response_context_values c)
-created_read c =
-    λ i. record {
-      identity = c.ebi.0;
-      cause = c.cause;
-      user = ends c.user i;
-      qos = kept OfQos qos_in (λ q. refl) c.qos i;
-      charging = optional (λ id. OfChargingId id.0) number_of (λ id. id.0) (λ id. refl) c.charging_id i;
-    }
-
-wanted_read : (c : BearerRequestContext) → wanted_bearer c ≡ wanted (bearer_request_context_values c)
-wanted_read c = λ i. record { identity = c.ebi.0; tft = c.tft; user = c.user; qos = c.qos; charging = optional (λ id. OfChargingId id.0) number_of (λ id. id.0) (λ id. refl) c.charging_id i }
-
-given_read : (c : BearerResponseContext) → given_bearer c ≡ given (bearer_response_context_values c)
-given_read c = λ i. record { identity = c.ebi.0; cause = c.cause; serving_user = ends c.serving_user i; packet_user = ends c.packet_user i }
-
-session_request_read : (header number : ℕ) (q : session_requests.CreateSessionRequest) (contexts : List SessionRequestContext) → session_request_of header number q contexts ≡ session_request_in header number (create_session_request_fields q) (map session_request_context_values contexts)
-session_request_read header number q [] = refl
-session_request_read header number q (first ∷ further) =
-    λ i. Create_session_request (record {
-      header = header;
-      number = number;
-      imsi = q.imsi;
-      rat = q.rat.0;
-      network = kept OfPlmn network_in (λ n. refl) q.serving_network i;
-      control = q.control;
-      access_point = q.apn;
-      selection = optional (λ s. OfSelection s.0) number_of (λ s. s.0) (λ s. refl) q.selection i;
-      pdn = q.pdn_type.0;
-      address = optional OfPaa paa_in address_of (λ p. refl) q.paa i;
-      ambr = kept OfAmbr ambr_in (λ a. refl) q.ambr i;
-      context = requested_bearer first;
-      further = each_read session_request_context_values requested requested_bearer (λ c. refl) further i;
-      recovery = optional (λ r. OfRecovery r.0.0) number_of (λ r. r.0.0) (λ r. refl) q.recovery i;
-    })
-
-bearer_request_read : (header number : ℕ) (r : bearer_requests.CreateBearerRequest) (contexts : List BearerRequestContext) → bearer_request_of header number r contexts ≡ bearer_request_in header number (create_bearer_request_fields r) (map bearer_request_context_values contexts)
-bearer_request_read header number r [] = refl
-bearer_request_read header number r (first ∷ further) =
-    λ i. Create_bearer_request (record {
-      header = header;
-      number = number;
-      transaction = optional (λ t. OfPti t.0) number_of (λ t. t.0) (λ t. refl) r.pti i;
-      linked = r.linked_ebi.0;
-      context = wanted_read first i;
-      further = each_read bearer_request_context_values wanted wanted_bearer wanted_read further i;
-    })
-
-recovered : (o : Option Recovery) → option_map (λ r. r.0.0) o ≡ first_in number_of (option_to_list (option_map (λ r. OfRecovery r.0.0) o))
-recovered o = optional (λ r. OfRecovery r.0.0) number_of (λ r. r.0.0) (λ r. refl) o
-
-linked_read : (o : Option EbiValue) → option_map (λ e. e.0) o ≡ first_in number_of (option_to_list (option_map (λ e. OfEbi e.0) o))
-linked_read o = optional (λ e. OfEbi e.0) number_of (λ e. e.0) (λ e. refl) o
-
--- what a body reads as goes by its type and what it carries
-body_read : (header number : ℕ) (body : Body) → body_message header number body ≡ content_message (kind_of body) header number (content_of body)
-body_read header number (bodies.EchoRequest m) = refl
-body_read header number (bodies.EchoResponse m) = refl
-body_read header number (bodies.CreateSessionRequest q) = session_request_read header number q q.contexts
-body_read header number (bodies.CreateSessionResponse a) =
-    λ i. Create_session_response (record {
-      header = header;
-      number = number;
-      cause = a.cause;
-      control = ends a.control i;
-      address = optional OfPaa paa_in address_of (λ p. refl) a.paa i;
-      ambr = kept OfAmbr ambr_in (λ x. refl) a.ambr i;
-      contexts = each_read session_response_context_values created created_bearer created_read a.contexts i;
-      recovery = recovered a.recovery i;
-    })
-body_read header number (bodies.DeleteSessionRequest d) = λ i. Delete_session_request (record { header = header; number = number; linked = linked_read d.linked_ebi i })
-body_read header number (bodies.DeleteSessionResponse d) = λ i. Delete_session_response (record { header = header; number = number; cause = d.cause; recovery = recovered d.recovery i })
-body_read header number (bodies.CreateBearerRequest r) = bearer_request_read header number r r.contexts
-body_read header number (bodies.CreateBearerResponse x) = λ i. Create_bearer_response (record { header = header; number = number; cause = x.cause; contexts = each_read bearer_response_context_values given given_bearer given_read x.contexts i; recovery = recovered x.recovery i })
-body_read header number (bodies.DeleteBearerRequest d) = λ i. Delete_bearer_request (record { header = header; number = number; linked = linked_read d.linked_ebi i; identities = each_read (λ e. OfEbi e.0) (λ v. unwrap_or (number_of v) 0) (λ e. e.0) (λ e. refl) d.ebis i })
-body_read header number (bodies.DeleteBearerResponse d) =
-    λ i. Delete_bearer_response (record { header = header; number = number; cause = d.cause; linked = linked_read d.linked_ebi i; contexts = each_read removal_response_context_values removed removed_bearer (λ c. refl) d.contexts i; recovery = recovered d.recovery i })
-body_read header number other = refl
-
-pub control_by_name : ControlByName
-control_by_name m = sym (body_read (header_in m.teid) m.seq m.body)
+-- what the contexts of a Delete Bearer Response read as
+pub removed_read : (cs : List RemovalResponseContext) → map removed (map removal_response_context_values cs) ≡ map removed_bearer cs
+removed_read [] = refl
+removed_read (c ∷ cs) = λ i. removed_bearer c ∷ removed_read cs i
 
 user_body_read : (number : Option ℕ) (body : UserBody) → user_body_message number body ≡ user_content_message number (user_messages.content_of body)
 user_body_read number user_bodies.EchoRequest = refl

@@ -11,8 +11,8 @@ use Rattle.gtp_v2.specs.Headed.{Headed}
 use Rattle.gtp_v2.specs.Message.{Content, Fields, Raw, MessageValue}
 use Rattle.gtp_v2.specs.Body.{kind_of, content_of, message_value}
 use Rattle.gtp_v2.specs.Datagram.{IsMessage, CarriesBy}
-use Rattle.gtp_machine.specs.Decoded.{groups_in}
-use Rattle.gtp_machine.specs.Reading.{body_message, session_request_of, bearer_request_of, header_in, SessionRequestReads, BearerRequestReads}
+use Rattle.gtp_machine.specs.Decoded.{contexts_in, groups_in, session_request_in, bearer_request_in, content_message}
+use Rattle.gtp_machine.specs.Reading.{header_in, SessionRequestReads, BearerRequestReads}
 
 abbrev fields_in : Content → List Field
 fields_in (Fields fields) = fields
@@ -33,15 +33,17 @@ typed_lines kind table octets m fields has of says is =
     (carries.2.0, subst (λ f. LinesAre start table.lines carries.2.0 f) (sym same) carries.2.2)
 
 pub session_request_reads : SessionRequestReads
+unfolding contexts_in
 session_request_reads octets m q is of =
     let lines = typed_lines 32 create_session_request octets (message_value m) (create_session_request_fields q) (λ h content kind c. subst (λ k. CarriesBy (table_of k) h content) kind c) (ap kind_of of) (ap content_of of) is in
     let line = lines.1.1.1.1.1.1.1.1.1.1.0 in
     let some = some_context session_request_context_values q.contexts line.0 line.2 line.1.1 in
-    (some.0, some.1, some.2, ap (λ b. body_message (header_in m.teid) m.seq b) of ∙ ap (λ contexts. session_request_of (header_in m.teid) m.seq q contexts) some.2)
+    (_, (λ i. content_message (kind_of (of i)) (header_in m.teid) m.seq (content_of (of i))) ∙ ap (λ contexts. session_request_in (header_in m.teid) m.seq (create_session_request_fields q) (map session_request_context_values contexts)) some.2)
 
 pub bearer_request_reads : BearerRequestReads
+unfolding contexts_in
 bearer_request_reads octets m q is of =
     let lines = typed_lines 95 create_bearer_request octets (message_value m) (create_bearer_request_fields q) (λ h content kind c. subst (λ k. CarriesBy (table_of k) h content) kind c) (ap kind_of of) (ap content_of of) is in
     let line = lines.1.1.1.0 in
     let some = some_context bearer_request_context_values q.contexts line.0 line.2 line.1.1 in
-    (some.0, some.1, some.2, ap (λ b. body_message (header_in m.teid) m.seq b) of ∙ ap (λ contexts. bearer_request_of (header_in m.teid) m.seq q contexts) some.2)
+    (_, (λ i. content_message (kind_of (of i)) (header_in m.teid) m.seq (content_of (of i))) ∙ ap (λ contexts. bearer_request_in (header_in m.teid) m.seq (create_bearer_request_fields q) (map bearer_request_context_values contexts)) some.2)

@@ -20,7 +20,7 @@ use Rattle.gtp_user.proofs.Messages as user
 use Rattle.gtp_machine.specs.Element.{PdnAddress, Ipv4, Other_address}
 use Rattle.gtp_machine.specs.Message.{CreatedBearer, WantedBearer, GivenBearer, Message, Echo_request, Echo_response, Create_session_request, Create_session_response, Delete_session_request, Delete_session_response, Create_bearer_request, Create_bearer_response, Delete_bearer_request, Delete_bearer_response, Other_control, Packet_data, End_marker, Error_indication, User_echo_request, User_echo_response, Supported_extensions, Other_user, Plane, Control, User, plane_of}
 use Rattle.gtp_machine.specs.Input.{ControlReading, Control_message, UserReading, User_message}
-use Rattle.gtp_machine.specs.Decoded.{number_from, number_of, end_in, qos_in, ambr_in, network_in, paa_in, first_in, requested, created, wanted, given, removed, message_of}
+use Rattle.gtp_machine.specs.Decoded.{row_in, list_in, contexts_in, number_from, number_of, end_in, qos_in, ambr_in, network_in, paa_in, first_in, requested, created, wanted, given, removed, message_of}
 use Rattle.gtp_machine.specs.Reading.{control_reading_of, user_message_of, user_reading_of}
 use Rattle.gtp_machine.specs.Spelling.{paa_of, where_there, requested_rows, created_rows, wanted_rows, given_rows, removed_rows, control_value, user_value, spelled_on, spelled, IsAddress, IsOfOwnKind, MeetsOn, IsSendable, ReadsAs, SpelledReads, SpelledApart}
 
@@ -62,6 +62,7 @@ linked_back o = back OfEbi number_of (λ n. refl) o
 
 -- what a message says is that message again
 control_back : (m : Message) → plane_of m ≡ Control → IsOfOwnKind m → message_of (control_value m) ≡ m
+unfolding row_in list_in contexts_in
 control_back (Echo_request e) plane own = refl
 control_back (Echo_response e) plane own = refl
 control_back (Create_session_request q) plane own =
@@ -101,13 +102,7 @@ control_back (Delete_bearer_request d) plane own = λ i. Delete_bearer_request (
 control_back (Delete_bearer_response d) plane own =
     λ i. Delete_bearer_response (record { header = d.header; number = d.number; cause = d.cause; linked = linked_back d.linked i; contexts = each_back removed_rows removed (λ c. refl) d.contexts i; recovery = recovery_back d.recovery i })
 control_back (Other_control kind) plane own = absurd own
-control_back (Packet_data target payload) plane own = absurd (cc plane)
-control_back (End_marker target) plane own = absurd (cc plane)
-control_back (Error_indication target address) plane own = absurd (cc plane)
-control_back (User_echo_request number) plane own = absurd (cc plane)
-control_back (User_echo_response number) plane own = absurd (cc plane)
-control_back (Supported_extensions types) plane own = absurd (cc plane)
-control_back (Other_user kind) plane own = absurd (cc plane)
+control_back _ plane own = absurd (cc plane)
 
 user_back : (m : Message) → plane_of m ≡ User → IsOfOwnKind m → user_message_of (user_value m) ≡ m
 user_back (Packet_data target payload) plane own = refl
@@ -117,17 +112,7 @@ user_back (User_echo_request number) plane own = refl
 user_back (User_echo_response number) plane own = refl
 user_back (Supported_extensions types) plane own = refl
 user_back (Other_user kind) plane own = absurd own
-user_back (Echo_request e) plane own = absurd (cc plane)
-user_back (Echo_response e) plane own = absurd (cc plane)
-user_back (Create_session_request q) plane own = absurd (cc plane)
-user_back (Create_session_response a) plane own = absurd (cc plane)
-user_back (Delete_session_request d) plane own = absurd (cc plane)
-user_back (Delete_session_response d) plane own = absurd (cc plane)
-user_back (Create_bearer_request r) plane own = absurd (cc plane)
-user_back (Create_bearer_response x) plane own = absurd (cc plane)
-user_back (Delete_bearer_request d) plane own = absurd (cc plane)
-user_back (Delete_bearer_response d) plane own = absurd (cc plane)
-user_back (Other_control kind) plane own = absurd (cc plane)
+user_back _ plane own = absurd (cc plane)
 
 -- the octets of a message of this plane read as it
 reads_on : (p : Plane) (m : Message) → plane_of m ≡ p → IsOfOwnKind m → MeetsOn p m → ReadsAs p (spelled_on p m) m

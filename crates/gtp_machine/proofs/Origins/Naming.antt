@@ -7,7 +7,7 @@ use Rattle.gtp_values.specs.declared.counter.Age.TheVariants.{Same, Later, Earli
 use Rattle.gtp_values.specs.declared.qos.Qos.{Qos}
 use Rattle.gtp_values.specs.FiniteMap.{Each, Among}
 use Rattle.gtp_machine.specs.Step.{Step}
-use Rattle.gtp_machine.specs.Message.{Message, CreateSessionRequest, CreateBearerRequest, DeleteBearerRequest, DeleteSessionRequest, Echo_request, Echo_response, Create_session_request, Create_session_response, Delete_session_request, Delete_session_response, Create_bearer_request, Create_bearer_response, Delete_bearer_request, Delete_bearer_response, Other_control, Packet_data, End_marker, Error_indication, User_echo_request, User_echo_response, Supported_extensions, Other_user, recovery_of, Plane, Control, User}
+use Rattle.gtp_machine.specs.Message.{Message, CreateSessionRequest, CreateBearerRequest, DeleteBearerRequest, DeleteSessionRequest, Create_session_request, Create_session_response, Create_bearer_request, Create_bearer_response, Packet_data, End_marker, Error_indication, User_echo_request, recovery_of, Plane, Control, User}
 use Rattle.gtp_machine.specs.Node.{Role, Serving, Packet, Session, Bearer, PendingRequest, Arrival, Held, Node, written}
 use Rattle.gtp_machine.specs.Input.{Specification, Command, Create_session, Delete_session, Create_bearer, Delete_bearer, Release_session, Mark_end, Send_echo, Send_user, ControlReading, Control_message, Faulty, Control_fault, FaultyRequest, RequestKind, UserReading, User_message, Extension_needed, User_fault, Move, Resend, Give_up, Forget, Input, Commanded, Control_came, User_came, Moves_on, Effect, messages}
 use Rattle.gtp_machine.specs.Recovery.{Judges, Weighs, Hears, peer_restarted}
@@ -167,20 +167,7 @@ module _ (history : List Sent) (role : Role) where
     user_taken by source (End_marker target) e named r = end_came by target e r
     user_taken by source (Error_indication remote address) e named r = error_came remote e r
     user_taken by source (User_echo_request number) e named r = at e _ r (one _ none_named)
-    user_taken by source (User_echo_response number) e named r = at e _ r silent
-    user_taken by source (Supported_extensions types) e named r = at e _ r silent
-    user_taken by source (Other_user kind) e named r = at e _ r silent
-    user_taken by source (Other_control kind) e named r = at e _ r silent
-    user_taken by source (Echo_request q) e named r = at e _ r silent
-    user_taken by source (Echo_response q) e named r = at e _ r silent
-    user_taken by source (Create_session_request q) e named r = at e _ r silent
-    user_taken by source (Create_session_response q) e named r = at e _ r silent
-    user_taken by source (Delete_session_request q) e named r = at e _ r silent
-    user_taken by source (Delete_session_response q) e named r = at e _ r silent
-    user_taken by source (Create_bearer_request q) e named r = at e _ r silent
-    user_taken by source (Create_bearer_response q) e named r = at e _ r silent
-    user_taken by source (Delete_bearer_request q) e named r = at e _ r silent
-    user_taken by source (Delete_bearer_response q) e named r = at e _ r silent
+    user_taken by source _ e named r = at e _ r silent
 
     user_read : (by : Role) (source : Endpoint) (reading : UserReading) (e : Effect) → ((m : Message) → reading ≡ User_message m → NamesBack history (other role) m) → UserRead by source reading old e → Told history role e
     user_read by source (User_message m) e named r = user_taken by source m e (named m refl) r

@@ -7,7 +7,7 @@ use Rattle.gtp_values.specs.declared.counter.Age.TheVariants.{Same, Later, Earli
 use Rattle.gtp_values.specs.FiniteMap.{Among}
 use Rattle.gtp_machine.specs.Step.{Step, Done, Steps}
 use Rattle.gtp_machine.specs.Config.{Config}
-use Rattle.gtp_machine.specs.Message.{CreateSessionRequest, CreateBearerRequest, Message, Echo_request, Echo_response, Create_session_request, Create_session_response, Delete_session_request, Delete_session_response, Create_bearer_request, Create_bearer_response, Delete_bearer_request, Delete_bearer_response, Other_control, Packet_data, End_marker, Error_indication, User_echo_request, User_echo_response, Supported_extensions, Other_user}
+use Rattle.gtp_machine.specs.Message.{CreateSessionRequest, CreateBearerRequest, Message, Create_session_request, Create_bearer_request}
 use Rattle.gtp_machine.specs.Node.{Role, Serving, Packet, Bearer, Arrival, Held, Node, fresh_node}
 use Rattle.gtp_machine.specs.Input.{Input, Commanded, Control_came, User_came, Moves_on, Control_message, Resend, Give_up, Forget, DropReason, Effect, dropped, messages}
 use Rattle.gtp_machine.specs.Recovery.{Judges, Weighs, Hears, peer_restarted}
@@ -175,40 +175,8 @@ control Reads request old e responds (inr (peer, inr r)) = responds r.1
 on_request : (role : Role) (request : Arrival) (m : Message) → Makes role m → (old : Node) (e : Effect) → Step role old (Control_came request (Control_message m)) e → Responds request old e
 on_request Serving request (Create_bearer_request q) makes old e r = control (ServingReads (Control_message (Create_bearer_request q))) request old e (λ rows. ⊎_elim (λ f. quiet request old e _ f.1) (λ t. heard request (ServingTakes request (Create_bearer_request q)) (bearer_asked request q) old None e t.1) rows) r
 on_request Packet request (Create_session_request q) makes old e r = control (PacketReads (Control_message (Create_session_request q))) request old e (λ rows. ⊎_elim (λ f. quiet request old e _ f.1) (λ t. heard request (PacketTakes request (Create_session_request q)) (session_asked request q) old q.recovery e t.1) rows) r
-on_request Serving request (Echo_request q) makes old e r = absurd makes
-on_request Serving request (Echo_response q) makes old e r = absurd makes
-on_request Serving request (Create_session_request q) makes old e r = absurd makes
-on_request Serving request (Create_session_response q) makes old e r = absurd makes
-on_request Serving request (Delete_session_request q) makes old e r = absurd makes
-on_request Serving request (Delete_session_response q) makes old e r = absurd makes
-on_request Serving request (Create_bearer_response q) makes old e r = absurd makes
-on_request Serving request (Delete_bearer_request q) makes old e r = absurd makes
-on_request Serving request (Delete_bearer_response q) makes old e r = absurd makes
-on_request Serving request (Other_control q) makes old e r = absurd makes
-on_request Serving request (Packet_data t p) makes old e r = absurd makes
-on_request Serving request (End_marker t) makes old e r = absurd makes
-on_request Serving request (Error_indication t p) makes old e r = absurd makes
-on_request Serving request (User_echo_request t) makes old e r = absurd makes
-on_request Serving request (User_echo_response t) makes old e r = absurd makes
-on_request Serving request (Supported_extensions t) makes old e r = absurd makes
-on_request Serving request (Other_user t) makes old e r = absurd makes
-on_request Packet request (Echo_request q) makes old e r = absurd makes
-on_request Packet request (Echo_response q) makes old e r = absurd makes
-on_request Packet request (Create_session_response q) makes old e r = absurd makes
-on_request Packet request (Delete_session_request q) makes old e r = absurd makes
-on_request Packet request (Delete_session_response q) makes old e r = absurd makes
-on_request Packet request (Create_bearer_request q) makes old e r = absurd makes
-on_request Packet request (Create_bearer_response q) makes old e r = absurd makes
-on_request Packet request (Delete_bearer_request q) makes old e r = absurd makes
-on_request Packet request (Delete_bearer_response q) makes old e r = absurd makes
-on_request Packet request (Other_control q) makes old e r = absurd makes
-on_request Packet request (Packet_data t p) makes old e r = absurd makes
-on_request Packet request (End_marker t) makes old e r = absurd makes
-on_request Packet request (Error_indication t p) makes old e r = absurd makes
-on_request Packet request (User_echo_request t) makes old e r = absurd makes
-on_request Packet request (User_echo_response t) makes old e r = absurd makes
-on_request Packet request (Supported_extensions t) makes old e r = absurd makes
-on_request Packet request (Other_user t) makes old e r = absurd makes
+on_request Serving request _ makes old e r = absurd makes
+on_request Packet request _ makes old e r = absurd makes
 
 only : (a b : Message) (sent : List Message) → sent ≡ b ∷ [] → Among a sent → a ≡ b
 only a b sent is among = one (subst (Among a) is among)

@@ -6,7 +6,7 @@ use Rattle.gtp_values.specs.declared.counter.Age.{Age}
 use Rattle.gtp_values.specs.declared.counter.Age.TheVariants.{Same, Later, Earlier}
 use Rattle.gtp_values.specs.declared.qos.Qos.{Qos}
 use Rattle.gtp_machine.specs.Element.{cause_of}
-use Rattle.gtp_machine.specs.Message.{Message, DeleteBearerRequest, Echo_request, Echo_response, Create_session_request, Create_session_response, Delete_session_request, Delete_session_response, Create_bearer_request, Create_bearer_response, Delete_bearer_request, Delete_bearer_response, Other_control, Packet_data, End_marker, Error_indication, User_echo_request, User_echo_response, Supported_extensions, Other_user, recovery_of}
+use Rattle.gtp_machine.specs.Message.{Message, DeleteBearerRequest, Delete_bearer_response, Packet_data, End_marker, Error_indication, recovery_of}
 use Rattle.gtp_machine.specs.Node.{Role, Serving, Packet, Session, PendingRequest, Arrival, Held, Node, written}
 use Rattle.gtp_machine.specs.Input.{Command, Create_session, Delete_session, Create_bearer, Delete_bearer, Release_session, Mark_end, Send_echo, Send_user, RequestKind, FaultyRequest, ControlReading, Control_message, Faulty, Control_fault, Control_came, UserReading, User_message, Extension_needed, User_fault, Outcome, Effect, messages}
 use Rattle.gtp_machine.specs.Recovery.{Judges, Weighs, Hears}
@@ -129,21 +129,7 @@ user_taken_calm : (role : Role) (source : Endpoint) (m : Message) (old : Node) (
 user_taken_calm role source (Packet_data target payload) old e r = packet_came_calm role target payload old e r
 user_taken_calm role source (End_marker target) old e r = end_came_calm role target old e r
 user_taken_calm role source (Error_indication remote address) old e r = error_came_calm remote old e r
-user_taken_calm role source (User_echo_request number) old e r = ap seen_in r
-user_taken_calm role source (User_echo_response number) old e r = ap seen_in r
-user_taken_calm role source (Supported_extensions types) old e r = ap seen_in r
-user_taken_calm role source (Other_user kind) old e r = ap seen_in r
-user_taken_calm role source (Other_control kind) old e r = ap seen_in r
-user_taken_calm role source (Echo_request q) old e r = ap seen_in r
-user_taken_calm role source (Echo_response q) old e r = ap seen_in r
-user_taken_calm role source (Create_session_request q) old e r = ap seen_in r
-user_taken_calm role source (Create_session_response q) old e r = ap seen_in r
-user_taken_calm role source (Delete_session_request q) old e r = ap seen_in r
-user_taken_calm role source (Delete_session_response q) old e r = ap seen_in r
-user_taken_calm role source (Create_bearer_request q) old e r = ap seen_in r
-user_taken_calm role source (Create_bearer_response q) old e r = ap seen_in r
-user_taken_calm role source (Delete_bearer_request q) old e r = ap seen_in r
-user_taken_calm role source (Delete_bearer_response q) old e r = ap seen_in r
+user_taken_calm role source _ old e r = ap seen_in r
 
 user_read_calm : (role : Role) (source : Endpoint) (reading : UserReading) (old : Node) (e : Effect) → UserRead role source reading old e → Calm old e
 user_read_calm role source (User_message m) old e r = user_taken_calm role source m old e r

@@ -8,7 +8,7 @@ use Rattle.gtp_values.specs.declared.address.Endpoint.{Endpoint}
 use Rattle.gtp_values.specs.FiniteMap.{Among}
 use Rattle.gtp_tables.specs.Index.{names}
 use Rattle.gtp_machine.specs.Config.{control_end, user_end}
-use Rattle.gtp_machine.specs.Message.{CreateSessionRequest, DeleteSessionRequest, CreateBearerRequest, DeleteBearerRequest, CreateBearerResponse, Message, Echo_request, Echo_response, Create_session_request, Create_session_response, Delete_session_request, Delete_session_response, Create_bearer_request, Create_bearer_response, Delete_bearer_request, Delete_bearer_response, Other_control, Packet_data, End_marker, Error_indication, User_echo_request, User_echo_response, Supported_extensions, Other_user, Owns, recovery_of, first_given}
+use Rattle.gtp_machine.specs.Message.{CreateSessionRequest, DeleteSessionRequest, CreateBearerRequest, DeleteBearerRequest, CreateBearerResponse, Message, Create_session_request, Delete_session_request, Create_bearer_request, Create_bearer_response, Delete_bearer_request, Packet_data, End_marker, Error_indication, User_echo_request, User_echo_response, Supported_extensions, Owns, recovery_of, first_given}
 use Rattle.gtp_machine.specs.Node.{Role, Serving, Packet, Active, Closing, Session, Bearer, PendingRequest, Arrival, Node, written}
 use Rattle.gtp_machine.specs.Input.{UserReading, User_message, Extension_needed, User_fault, Move, Resend, Give_up, Forget, Entry, entry_for, Outcome, Moved, GoneOut, Dropped, UnknownContext, UnknownExtension, Echoed, Repeated, Effect, nothing, says, messages}
 use Rattle.gtp_machine.specs.Removal.{finished}
@@ -212,20 +212,7 @@ module _ (role : Role) (history : List Sent) (taken : Arrival → Message → Ty
   user_taken by source (End_marker target) e came r = end_came by target e r
   user_taken by source (Error_indication remote address) e came r = error_came remote e r
   user_taken by source (User_echo_request number) e came r = at_result (After role history taken old) e _ r (tells_plain source (User_echo_response number) Echoed old (Shrunk-itself old) tt (λ t none. none) (λ c e. absurd (cc e)) tt)
-  user_taken by source (User_echo_response number) e came r = unchanged _ e r
-  user_taken by source (Supported_extensions types) e came r = unchanged _ e r
-  user_taken by source (Other_user kind) e came r = unchanged _ e r
-  user_taken by source (Other_control kind) e came r = unchanged _ e r
-  user_taken by source (Echo_request q) e came r = unchanged _ e r
-  user_taken by source (Echo_response q) e came r = unchanged _ e r
-  user_taken by source (Create_session_request q) e came r = unchanged _ e r
-  user_taken by source (Create_session_response q) e came r = unchanged _ e r
-  user_taken by source (Delete_session_request q) e came r = unchanged _ e r
-  user_taken by source (Delete_session_response q) e came r = unchanged _ e r
-  user_taken by source (Create_bearer_request q) e came r = unchanged _ e r
-  user_taken by source (Create_bearer_response q) e came r = unchanged _ e r
-  user_taken by source (Delete_bearer_request q) e came r = unchanged _ e r
-  user_taken by source (Delete_bearer_response q) e came r = unchanged _ e r
+  user_taken by source _ e came r = unchanged _ e r
 
   user_read : (by : Role) (source : Endpoint) (reading : UserReading) (e : Effect) → UserCarried role history reading → UserRead by source reading old e → After role history taken old e
   user_read by source (User_message m) e came r = user_taken by source m e came r

@@ -28,7 +28,7 @@ use Rattle.gtp_machine.specs.Element.{IsAccepting, cause_of, teid_in}
 use Rattle.gtp_machine.specs.Message.{CreatedBearer, GivenBearer, Message}
 use Rattle.gtp_machine.specs.Node.{Arrival, written}
 use Rattle.gtp_machine.specs.Input.{Control_came, RequestKind, Defect, Too_short, Out_of_range}
-use Rattle.gtp_machine.specs.Decoded.{end_in, first_in, cause_at, row, values_in, groups_in, created, given, session_request_in, bearer_request_in, message_in, message_of}
+use Rattle.gtp_machine.specs.Decoded.{row_in, contexts_in, end_in, first_in, cause_at, row, values_in, groups_in, created, given, session_request_in, bearer_request_in, message_in, message_of}
 use Rattle.gtp_machine.specs.Reading.{control_fault, control_reading_of, element_fault, defect_in, request_kind, missing_in}
 use Rattle.gtp_machine.specs.Sound.{IsWhole, IsWellFormed, ReadsWhole}
 use Rattle.gtp_machine.proofs.Octets.Readings.{typed_lines}
@@ -112,6 +112,7 @@ context_end others b es (ebi ∷ cause ∷ user ∷ rows) is are a =
 
 -- a Create Session Response
 session_whole : (header number : ℕ) (es : List Element) (f : List Field) → LinesAre start create_session_response.lines es f → IsWhole (message_in 33 header number f)
+unfolding row_in contexts_in
 session_whole header number es [] lines a = absurd lines
 session_whole header number es (cause ∷ []) lines a = absurd lines.1
 session_whole header number es (cause ∷ control ∷ []) lines a = absurd lines.1.1
@@ -158,6 +159,7 @@ session_whole header number es (Plain cause ∷ Plain control ∷ Plain paa ∷ 
 
 -- a Create Bearer Response
 bearer_whole : (header number : ℕ) (es : List Element) (f : List Field) → LinesAre start create_bearer_response.lines es f → IsWhole (message_in 96 header number f)
+unfolding row_in contexts_in
 bearer_whole header number es [] lines a = absurd lines
 bearer_whole header number es (cause ∷ []) lines a = absurd lines.1
 bearer_whole header number es (Groups g ∷ contexts ∷ rest) lines a = absurd (none_accepts a)

@@ -11,7 +11,7 @@ use Rattle.gtp_values.specs.Number.{is_number}
 use Rattle.gtp_tables.specs.Index.{names}
 use Rattle.gtp_machine.specs.Step.{Done, Steps}
 use Rattle.gtp_machine.specs.Element.{IsAccepting}
-use Rattle.gtp_machine.specs.Message.{Echo, CreateSessionRequest, CreateSessionResponse, DeleteSessionRequest, DeleteSessionResponse, CreateBearerRequest, CreateBearerResponse, DeleteBearerRequest, RemovedBearer, DeleteBearerResponse, Message, Echo_request, Echo_response, Create_session_request, Create_session_response, Delete_session_request, Delete_session_response, Create_bearer_request, Create_bearer_response, Delete_bearer_request, Delete_bearer_response, Other_control, Packet_data, End_marker, Error_indication, User_echo_request, User_echo_response, Supported_extensions, Other_user, recovery_of, first_created, first_given, first_identity}
+use Rattle.gtp_machine.specs.Message.{Echo, CreateSessionRequest, CreateSessionResponse, DeleteSessionRequest, DeleteSessionResponse, CreateBearerRequest, CreateBearerResponse, DeleteBearerRequest, RemovedBearer, DeleteBearerResponse, Message, Create_session_response, Create_bearer_response, Packet_data, End_marker, Error_indication, recovery_of, first_created, first_given, first_identity}
 use Rattle.gtp_machine.specs.Node.{Role, Serving, Packet, Pending, Active, Closing, Default, Dedicated, Session, Bearer, Arrival, Held, Node, holding, fresh_node}
 use Rattle.gtp_machine.specs.Input.{Specification, ControlReading, Control_message, Faulty, Control_fault, RequestKind, FaultyRequest, UserReading, User_message, Extension_needed, User_fault, Command, Create_session, Delete_session, Create_bearer, Delete_bearer, Release_session, Mark_end, Send_echo, Send_user, Move, Resend, Give_up, Forget, Commanded, Control_came, User_came, Moves_on, Effect}
 use Rattle.gtp_machine.specs.Choice.{IsFreeNumber, HasPending, IsIdentity}
@@ -161,21 +161,7 @@ module _ (old : Node) where
   user_taken Serving sound source (End_marker t) e (inr (at, inr (active, gives))) = by_row Serving e _ gives (ends_bearer Serving sound t at.bearer at.stands active)
   user_taken role sound source (Error_indication t address) e (inl f) = by_row role e _ f.1 sound
   user_taken role sound source (Error_indication t address) e (inr (named, gives)) = by_row role e _ gives (broken_sound role sound t (λ s. default_among t s old.bearers))
-  user_taken role sound source (User_echo_request n) e r = by_row role e _ r sound
-  user_taken role sound source (User_echo_response n) e r = by_row role e _ r sound
-  user_taken role sound source (Supported_extensions n) e r = by_row role e _ r sound
-  user_taken role sound source (Other_user n) e r = by_row role e _ r sound
-  user_taken role sound source (Echo_request n) e r = by_row role e _ r sound
-  user_taken role sound source (Echo_response n) e r = by_row role e _ r sound
-  user_taken role sound source (Create_session_request n) e r = by_row role e _ r sound
-  user_taken role sound source (Create_session_response n) e r = by_row role e _ r sound
-  user_taken role sound source (Delete_session_request n) e r = by_row role e _ r sound
-  user_taken role sound source (Delete_session_response n) e r = by_row role e _ r sound
-  user_taken role sound source (Create_bearer_request n) e r = by_row role e _ r sound
-  user_taken role sound source (Create_bearer_response n) e r = by_row role e _ r sound
-  user_taken role sound source (Delete_bearer_request n) e r = by_row role e _ r sound
-  user_taken role sound source (Delete_bearer_response n) e r = by_row role e _ r sound
-  user_taken role sound source (Other_control n) e r = by_row role e _ r sound
+  user_taken role sound source _ e r = by_row role e _ r sound
 
   user_step : (role : Role) → IsSound role old → (source : Endpoint) (reading : UserReading) (e : Effect) → UserStep role source reading old e → IsSound role e.node
   user_step role sound source reading e (inl f) = by_row role e _ f.1 sound

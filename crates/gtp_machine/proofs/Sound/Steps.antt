@@ -6,7 +6,7 @@ use Rattle.gtp_values.specs.declared.counter.Age.{Age}
 use Rattle.gtp_values.specs.declared.counter.Age.TheVariants.{Same, Later, Earlier}
 use Rattle.gtp_values.specs.declared.address.Endpoint.{Endpoint}
 use Rattle.gtp_machine.specs.Ordered.{Unless}
-use Rattle.gtp_machine.specs.Message.{Echo, CreateSessionRequest, CreateSessionResponse, CreateBearerRequest, CreateBearerResponse, DeleteBearerRequest, RemovedBearer, Message, Echo_request, Echo_response, Create_session_request, Create_session_response, Delete_session_request, Delete_session_response, Create_bearer_request, Create_bearer_response, Delete_bearer_request, Delete_bearer_response, Other_control, Packet_data, End_marker, Error_indication, User_echo_request, User_echo_response, Supported_extensions, Other_user, recovery_of}
+use Rattle.gtp_machine.specs.Message.{Echo, CreateSessionRequest, CreateSessionResponse, CreateBearerRequest, CreateBearerResponse, DeleteBearerRequest, RemovedBearer, Message, Packet_data, End_marker, Error_indication, recovery_of}
 use Rattle.gtp_machine.specs.Node.{Role, Serving, Packet, Session, Arrival, Held, Node}
 use Rattle.gtp_machine.specs.Input.{ControlReading, Control_message, Faulty, Control_fault, FaultyRequest, RequestKind, Of_create_session, Of_delete_session, Of_create_bearer, Of_delete_bearer, UserReading, User_message, Extension_needed, User_fault, Command, Create_session, Delete_session, Create_bearer, Delete_bearer, Release_session, Mark_end, Send_echo, Send_user, Move, Resend, Give_up, Forget, Commanded, Control_came, User_came, Moves_on, Effect}
 use Rattle.gtp_machine.specs.Choice.{IsFree, IsFreeNumber, HasBearer}
@@ -94,21 +94,7 @@ module _ (old : Node) where
   user_taken Packet sound source (End_marker t) = gives _
   user_taken Serving sound source (End_marker t) = tries _ _ _ (gives _) (λ at. tries _ _ _ (gives _) (λ active. gives _))
   user_taken role sound source (Error_indication t address) = tries _ _ _ (gives _) (λ named. gives _)
-  user_taken role sound source (User_echo_request n) = gives _
-  user_taken role sound source (User_echo_response n) = gives _
-  user_taken role sound source (Supported_extensions n) = gives _
-  user_taken role sound source (Other_user n) = gives _
-  user_taken role sound source (Echo_request n) = gives _
-  user_taken role sound source (Echo_response n) = gives _
-  user_taken role sound source (Create_session_request n) = gives _
-  user_taken role sound source (Create_session_response n) = gives _
-  user_taken role sound source (Delete_session_request n) = gives _
-  user_taken role sound source (Delete_session_response n) = gives _
-  user_taken role sound source (Create_bearer_request n) = gives _
-  user_taken role sound source (Create_bearer_response n) = gives _
-  user_taken role sound source (Delete_bearer_request n) = gives _
-  user_taken role sound source (Delete_bearer_response n) = gives _
-  user_taken role sound source (Other_control n) = gives _
+  user_taken role sound source _ = gives _
 
   user_read : (role : Role) → IsSound role old → (source : Endpoint) (reading : UserReading) → IsNotEmpty (λ e. UserRead role source reading old e)
   user_read role sound source (User_message m) = user_taken role sound source m

@@ -9,7 +9,8 @@ use Rattle.gtp_machine.specs.Input.{Move, Input, Commanded, Control_came, Moves_
 use Rattle.gtp_machine.specs.Answer.{IsNew}
 use Rattle.gtp_machine.specs.World.{with_steps, steps_of, logged, World, other, Side, By, HasBy, Sent, HasSent, signed, side_of, with_side, stepped, moved, Note, noted, Moves, Event, Does, Tick, Deliver, Cut, Restart, Happens, Delivers, arrival, late_once, delivered_on, cut_on, IsLateOn, restarted, Run, begun, start}
 use Rattle.gtp_machine.specs.Tick.{TickStep, ticked}
-use Rattle.gtp_machine.specs.Laws.{EachOwed, EachNamesBack}
+use Rattle.gtp_machine.specs.Laws.{EachNamesBack}
+use Rattle.gtp_machine.specs.Safety.{EachOwed}
 use Rattle.gtp_machine.proofs.Basics.FiniteMaps.{Each-empty, found-empty, among_at}
 use Rattle.gtp_machine.proofs.Origins.Drawing.{Drawing, Drawing-step, Drawing-elsewhere, Drawing-restart, Drawing-marked, Extends-signed, by_before, by_cases, by_other, unowned}
 use Rattle.gtp_machine.proofs.Origins.Entries.{Once, AnsweredOnce, same_entry}
@@ -40,7 +41,7 @@ pub record Invariant (own : Addresses) (w : World) : Type 0 where
   pub remembers : Remembers w.history (arrival own) w.serving
   pub once : w.late ≡ 0 → AnsweredOnce w.history
   pub packets : (role : Role) → Packets w.history w.handed role
-  pub owed : EachOwed w
+  pub owed : EachOwed w.late w.handed w.accepted
   pub named : EachNamesBack w.history
 
 -- what a step of one gateway leaves of it

@@ -7,7 +7,8 @@ use Rattle.gtp_machine.specs.Node.{Role, Serving, Packet, Pending, Active, Sessi
 use Rattle.gtp_machine.specs.Config.{Addresses}
 use Rattle.gtp_machine.specs.Choice.{counter_of}
 use Rattle.gtp_machine.specs.World.{World, Side, Sent, HasSent, side_of}
-use Rattle.gtp_machine.specs.Laws.{Always, Agree, SessionsAgree, MutualBearers, AgreeBearers, BearersAgree, IsOver, NoneOver, EachOwed, OneMessage, OwnsOn, PlanesApart, GoesBack, EachGoesBack, NamesGoBack, IsOfStart, NoneAhead, IsLatestHeard, KnownIsLatest, BearersOnce, EachOpened, EachClosesWhole, MadeOnce}
+use Rattle.gtp_machine.specs.Safety.{Agree, SessionsAgree, MutualBearers, AgreeBearers, BearersAgree, IsOver, NoneOver, EachOwed}
+use Rattle.gtp_machine.specs.Laws.{Always, OneMessage, OwnsOn, PlanesApart, GoesBack, EachGoesBack, NamesGoBack, IsOfStart, NoneAhead, IsLatestHeard, KnownIsLatest, BearersOnce, EachOpened, EachClosesWhole, MadeOnce}
 use Rattle.gtp_machine.proofs.Origins.Drawing.{Drawing}
 use Rattle.gtp_machine.proofs.Origins.Contexts.{IsAskedWith, IsGranted, IsMadeWith, IsWanted}
 use Rattle.gtp_machine.proofs.Origins.Entries.{Once, same_request, same_user_request, same_answer, same_user_answer, same_bearer_answer, answer_not_request}
@@ -37,12 +38,12 @@ module _ (own : Addresses) (w : World) (inv : Invariant own w) where
       let requests = same_request w.history so asked.request made.request asked.sent made.asked (asked.control ∙ sym opened.header ∙ ap (λ (a : CreateSessionResponse). a.header) answers ∙ made.header) in
       same_subscriber s n asked.request made.request asked.subscriber made.subscriber requests (opened.address ∙ ap (λ (a : CreateSessionResponse). ipv4_of a.address) answers ∙ sym made.address)
 
-  sessions_agree : SessionsAgree w
+  sessions_agree : SessionsAgree w.serving.node w.packet.node
   sessions_agree c d s n m = linked c d s n m.serving m.packet m.there
 
   -- Bearers that name each other agree, and so do their sessions.
-  module _ (c d : ℕ) (b e : Bearer) (m : MutualBearers w c d b e) where
-    both_default : (s n : Session) → get w.serving.node.sessions b.session ≡ Some s → get w.packet.node.sessions e.session ≡ Some n → IsAskedWith w.history c b s → IsMadeWith w.history d e → AgreeBearers w b e
+  module _ (c d : ℕ) (b e : Bearer) (m : MutualBearers w.serving.node w.packet.node c d b e) where
+    both_default : (s n : Session) → get w.serving.node.sessions b.session ≡ Some s → get w.packet.node.sessions e.session ≡ Some n → IsAskedWith w.history c b s → IsMadeWith w.history d e → AgreeBearers w.serving.node w.packet.node b e
     both_default s n s_stands n_stands o p =
         let opened = o.opened d m.there in
         let answers = same_user_answer w.history po opened.answer p.answer opened.sent p.answered d (sym opened.user ∙ m.there) p.user in
@@ -51,12 +52,12 @@ module _ (own : Addresses) (w : World) (inv : Invariant own w) where
           identity = o.identity ∙ ap (λ (q : CreateSessionRequest). Some q.context.identity) requests ∙ sym p.identity;
           at_serving = s;
           at_packet = n;
-          serving = s_stands;
-          packet = n_stands;
+          here = s_stands;
+          there = n_stands;
           sessions = linked b.session e.session s n s_stands n_stands (opened.control ∙ ap (λ (a : CreateSessionResponse). teid_in a.control) answers ∙ p.control);
         }
 
-    both_dedicated : (s n : Session) → get w.serving.node.sessions b.session ≡ Some s → get w.packet.node.sessions e.session ≡ Some n → IsGranted w.history c b s → IsWanted w.history d e → AgreeBearers w b e
+    both_dedicated : (s n : Session) → get w.serving.node.sessions b.session ≡ Some s → get w.packet.node.sessions e.session ≡ Some n → IsGranted w.history c b s → IsWanted w.history d e → AgreeBearers w.serving.node w.packet.node b e
     both_dedicated s n s_stands n_stands g p =
         let given = p.opened c m.back in
         let answers = same_bearer_answer w.history so g.answer given.answer g.answered given.sent c g.user (sym given.remote ∙ m.back) in
@@ -64,12 +65,12 @@ module _ (own : Addresses) (w : World) (inv : Invariant own w) where
           identity = g.identity ∙ ap (λ (x : CreateBearerResponse). first_identity x.contexts) answers ∙ sym given.identity;
           at_serving = s;
           at_packet = n;
-          serving = s_stands;
-          packet = n_stands;
+          here = s_stands;
+          there = n_stands;
           sessions = linked b.session e.session s n s_stands n_stands (g.header ∙ ap (λ (x : CreateBearerResponse). Some x.header) answers ∙ ap (λ k. Some k) given.header);
         }
 
-    bearers_agree : AgreeBearers w b e
+    bearers_agree : AgreeBearers w.serving.node w.packet.node b e
     bearers_agree =
         let at = inv.serving.knows.contexts.bearers_asked c b m.serving in
         let there = inv.packet.knows.contexts.bearers_made d e m.packet in
@@ -124,10 +125,10 @@ module _ (own : Addresses) (w : World) (inv : Invariant own w) where
       (inv.packet.knows.contexts.bearers_made t b stands).origin
 
 -- no session of a gateway is over
-none_over : (history : List Sent) (role : Role) (side peer : Side) → SideInvariant history role side peer → peer.restarts ≤ 127 → (t : ℕ) (s : Session) → get side.node.sessions t ≡ Some s → IsOver side s → ⊥
+none_over : (history : List Sent) (role : Role) (side peer : Side) → SideInvariant history role side peer → peer.restarts ≤ 127 → (t : ℕ) (s : Session) → get side.node.sessions t ≡ Some s → IsOver side.seen s → ⊥
 none_over history role side peer inv few t s stands over =
     let k = counter_of over.remote in
-    none_later peer few side.seen k over.counter (inv.hearing.latest k ((inv.knows.standing t s stands).current over.remote over.has)) over.heard over.earlier
+    none_later peer few side.seen k over.counter (inv.hearing.latest k ((inv.knows.standing t s stands).current over.remote over.has)) over.was_heard over.is_later
 
 drawn_of_start : (side : Side) (role : Role) (history : List Sent) → Drawing side role history → (m : Message) (t : ℕ) → HasSent history role m → Owns m t → IsOfStart side (counter_of t)
 drawn_of_start side role history drawing m t has owns = ⊎_elim
@@ -142,17 +143,17 @@ latest_heard peer known seen few h = record {
   latest = λ k c e among later. none_later peer few seen k c (h.latest k e) among later;
 }
 
-pub always_sessions : Always SessionsAgree
+pub always_sessions : Always (λ w. SessionsAgree w.serving.node w.packet.node)
 always_sessions serving packet sc pc events w r = sessions_agree packet.own w (always serving packet sc pc events w r)
 
-pub always_bearers : Always BearersAgree
+pub always_bearers : Always (λ w. BearersAgree w.serving.node w.packet.node)
 always_bearers serving packet sc pc events w r c d b e m = bearers_agree packet.own w (always serving packet sc pc events w r) c d b e m
 
-pub always_none_over : Always NoneOver
+pub always_none_over : Always (λ w. (role : Role) → NoneOver (side_of w role).node (side_of w role).seen)
 always_none_over serving packet sc pc events w r Serving t s = let inv = always serving packet sc pc events w r in none_over w.history Serving w.serving w.packet inv.serving inv.packet.draws.few t s
 always_none_over serving packet sc pc events w r Packet t s = let inv = always serving packet sc pc events w r in none_over w.history Packet w.packet w.serving inv.packet inv.serving.draws.few t s
 
-pub always_owed : Always EachOwed
+pub always_owed : Always (λ w. EachOwed w.late w.handed w.accepted)
 always_owed serving packet sc pc events w r = (always serving packet sc pc events w r).owed
 
 pub always_one_message : Always OneMessage

@@ -1,17 +1,20 @@
 //! Faulty requests, and where their answers go.
 
 use super::{
-    Act, BEARER_REQUEST, HEARD, IDLE, Look, MADE, Row, SESSION_REQUEST, SESSION_RESPONSE, Scene,
-    Sends, UNTOLD, plays,
+    Act, BEARER_REQUEST, HEARD, IDLE, MADE, Row, SESSION_REQUEST, SESSION_RESPONSE, Scene, Sends,
+    UNTOLD, plays,
 };
 use Act::*;
-use Look::Has;
 use Sends::{Nothing, Octets, Shown};
 use gtp_gateway::*;
 use std::test::Fail;
 
 /// A session is asked for.
-const ASKED: Row = (CreateSession, Outcome::Begun(Some(0x0100_0001)), Shown);
+const ASKED: Row = (
+    CreateSession(Role::Serving),
+    Outcome::Begun(Some(0x0100_0001)),
+    Shown,
+);
 
 /// It is opened. Its TEID at the packet gateway is 02000001.
 const OPENED_APART: [Row; 3] = [
@@ -132,7 +135,7 @@ const WHILE_PENDING: [Row; 12] = answered_again![
 const ACTIVE: Scene = Scene {
     counter: 2,
     rows: &[&OPENED_APART, &WHILE_ACTIVE],
-    serving: &[Has(1, 1)],
+    serving: Some((1, 1)),
     ..IDLE
 };
 
@@ -160,7 +163,7 @@ const PENDING: Scene = Scene {
             UNTOLD,
         ],
     ],
-    serving: &[Has(1, 1)],
+    serving: Some((1, 1)),
     ..IDLE
 };
 
@@ -199,7 +202,7 @@ const WITHOUT_SUBSCRIBER: Row = (
 
 const NOBODY: Scene = Scene {
     rows: &[&[WITHOUT_SUBSCRIBER, UNTOLD, WITHOUT_SUBSCRIBER, UNTOLD]],
-    packet: &[Has(0, 0)],
+    packet: Some((0, 0)),
     ..IDLE
 };
 
@@ -259,7 +262,7 @@ const PORTS: Scene = Scene {
         ),
         HEARD,
     ]],
-    packet: &[Has(2, 2)],
+    packet: Some((2, 2)),
     ..IDLE
 };
 

@@ -1,100 +1,11 @@
-//! As many pending requests, held answers and sessions as there can be.
+//! As many held answers, sessions and TEIDs as there can be.
 
 use super::hostile::WITHOUT_NAME;
-use super::{
-    Act, BEARER_REQUEST, Ended, HEARD, IDLE, Look, OPENED, Row, SESSION_ASKED, Scene, Sends,
-    UNTOLD, plays,
-};
+use super::{Act, BEARER_REQUEST, HEARD, IDLE, SESSION_ASKED, Scene, Sends, UNTOLD, plays};
 use Act::*;
-use Look::Has;
 use Sends::{Nothing, Octets, Shown};
 use gtp_gateway::*;
 use std::test::Fail;
-
-/// A command is refused, since 256 requests are pending.
-macro_rules! full {
-    ($($act:expr),*) => {
-        [$(
-            ($act, Outcome::Refused(Refusal::PendingFull), Nothing),
-        )*]
-    };
-}
-
-/// All commands that wait for an answer.
-const NONE_MORE: [Row; 6] = full![
-    Echo(Role::Serving),
-    Echo(Role::Packet),
-    CreateSession,
-    DeleteSession(0x0100_0001),
-    CreateBearer(0x0100_0001),
-    ReleaseSession(Role::Packet, 0x0100_0001)
-];
-
-/// Ticks of the packet gateway.
-const WAITS: Row = (Ticks(Role::Packet, 2, 0), Outcome::Moved, Nothing);
-
-/// A tick in which all requests are sent again.
-const ALL_AGAIN: Row = (Ticks(Role::Packet, 1, 256), Outcome::Moved, Nothing);
-
-/// 256 requests are pending at each gateway. One answer makes room for one request, with the next number.
-/// In the third tick all are sent again, and in the twelfth all are given up.
-const MOST_PENDING: Scene = Scene {
-    rows: &[
-        &OPENED,
-        &[
-            (Echoes(Role::Serving, 256), Outcome::Begun(None), Shown),
-            (Echoes(Role::Packet, 256), Outcome::Begun(None), Shown),
-        ],
-        &NONE_MORE,
-        &[
-            (
-                DeleteSession(0x0100_0009),
-                Outcome::Refused(Refusal::NoSuchContext),
-                Nothing,
-            ),
-            (
-                Comes(Role::Serving, Plane::Control, "40020009000001000300010001"),
-                Outcome::Alive,
-                Nothing,
-            ),
-            HEARD,
-            (
-                Echo(Role::Serving),
-                Outcome::Begun(None),
-                Octets("40010009000101000300010001"),
-            ),
-            (
-                CreateSession,
-                Outcome::Refused(Refusal::PendingFull),
-                Nothing,
-            ),
-        ],
-        &[WAITS, ALL_AGAIN, WAITS, ALL_AGAIN, WAITS, ALL_AGAIN, WAITS],
-        &[
-            (Ticks(Role::Packet, 1, 0), Outcome::Moved, Nothing),
-            (
-                Act::Ended(Ended {
-                    gave_up: 256,
-                    first: Some(0),
-                    forgotten: 0,
-                }),
-                Outcome::Moved,
-                Nothing,
-            ),
-            (
-                Echo(Role::Packet),
-                Outcome::Begun(None),
-                Octets("40010009000100000300010001"),
-            ),
-        ],
-    ],
-    ..IDLE
-};
-
-#[test]
-fn as_many_requests_wait_as_can(rt: HostRuntime) -> Result<(), Fail> {
-    plays(&rt, rt.alloc(), &MOST_PENDING)
-}
 
 /// No request without a fault is answered any more, whether its session is not there or is pending. A
 /// faulty one is, as are those that were answered before and Echo Requests.
@@ -180,28 +91,10 @@ const HELD_AT_PACKET: Scene = Scene {
         ),
         UNTOLD,
         (Ticks(Role::Packet, 59, 0), Outcome::Moved, Nothing),
-        (
-            Act::Ended(Ended {
-                gave_up: 0,
-                first: None,
-                forgotten: 0,
-            }),
-            Outcome::Moved,
-            Nothing,
-        ),
-        (Ticks(Role::Packet, 1, 0), Outcome::Moved, Nothing),
-        (
-            Act::Ended(Ended {
-                gave_up: 0,
-                first: None,
-                forgotten: 4096,
-            }),
-            Outcome::Moved,
-            Nothing,
-        ),
+        (Ticks(Role::Packet, 1, 4096), Outcome::Moved, Nothing),
         (Deliver(0), Outcome::Answered(16), Shown),
     ]],
-    packet: &[Has(1, 1)],
+    packet: Some((1, 1)),
     ..IDLE
 };
 
@@ -216,7 +109,7 @@ const MOST_SESSIONS: Scene = Scene {
     rows: &[&[
         (Opens(1000), Outcome::Moved, Nothing),
         (
-            CreateSession,
+            CreateSession(Role::Serving),
             Outcome::Refused(Refusal::SessionsFull),
             Nothing,
         ),
@@ -248,8 +141,8 @@ const MOST_SESSIONS: Scene = Scene {
         ),
         HEARD,
     ]],
-    serving: &[Has(1000, 1000)],
-    packet: &[Has(1000, 1000)],
+    serving: Some((1000, 1000)),
+    packet: Some((1000, 1000)),
     ..IDLE
 };
 
@@ -264,7 +157,11 @@ fn as_many_sessions_stand_as_can(rt: HostRuntime) -> Result<(), Fail> {
 const ALL_TEIDS: Scene = Scene {
     rows: &[&[
         (Refuses(8_388_607), Outcome::Moved, Nothing),
-        (CreateSession, Outcome::Refused(Refusal::TeidsUsed), Nothing),
+        (
+            CreateSession(Role::Serving),
+            Outcome::Refused(Refusal::TeidsUsed),
+            Nothing,
+        ),
         (
             Echo(Role::Serving),
             Outcome::Begun(None),
@@ -276,7 +173,7 @@ const ALL_TEIDS: Scene = Scene {
             Octets("40010009000000000300010001"),
         ),
     ]],
-    serving: &[Has(0, 0)],
+    serving: Some((0, 0)),
     ..IDLE
 };
 

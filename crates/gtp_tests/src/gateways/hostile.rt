@@ -3,9 +3,8 @@
 //! Of these datagrams some stand in examples/datagrams: control/delete-session-request,
 //! control/echo-request-cut.
 
-use super::{Act, DEDICATED, IDLE, Look, OPENED, SESSION_ASKED, Scene, Sends, plays};
+use super::{Act, DEDICATED, IDLE, OPENED, SESSION_ASKED, Scene, Sends, plays};
 use Act::*;
-use Look::Has;
 use Sends::{Nothing, Octets, Shown};
 use gtp_gateway::*;
 use std::test::Fail;
@@ -75,7 +74,7 @@ const FAULTY: Scene = Scene {
             Nothing,
         ),
     ]],
-    packet: &[Has(0, 0)],
+    packet: Some((0, 0)),
     ..IDLE
 };
 
@@ -123,7 +122,7 @@ const BAD_VALUES: Scene = Scene {
             Octets("486400170000000000000500020006004300490000010300010001"),
         ),
     ]],
-    packet: &[Has(0, 0)],
+    packet: Some((0, 0)),
     ..IDLE
 };
 
@@ -194,8 +193,8 @@ const SECOND_CONTEXTS: Scene = Scene {
             ),
         ],
     ],
-    serving: &[Has(1, 1)],
-    packet: &[Has(1, 1)],
+    serving: Some((1, 1)),
+    packet: Some((1, 1)),
     ..IDLE
 };
 
@@ -218,7 +217,7 @@ const NEVER_THERE: Scene = Scene {
             Nothing,
         ),
     ]],
-    serving: &[Has(1, 1)],
+    serving: Some((1, 1)),
     ..IDLE
 };
 
@@ -315,7 +314,7 @@ const ELSEWHERE: Scene = Scene {
                 Nothing,
             ),
             (
-                DeleteSession(0x0100_0001),
+                DeleteSession(Role::Serving, 0x0100_0001),
                 Outcome::Begun(Some(0x0100_0001)),
                 Octets("4824000d01000001000001004900010005"),
             ),
@@ -339,8 +338,8 @@ const ELSEWHERE: Scene = Scene {
             ),
         ],
     ],
-    serving: &[Has(0, 0)],
-    packet: &[Has(1, 1)],
+    serving: Some((0, 0)),
+    packet: Some((1, 1)),
     ..IDLE
 };
 
@@ -392,7 +391,7 @@ const LISTED: Scene = Scene {
             ),
         ],
     ],
-    serving: &[Has(1, 1)],
+    serving: Some((1, 1)),
     ..IDLE
 };
 

@@ -1,57 +1,29 @@
-//! Sessions and dedicated bearers, from their making to their end.
+//! What is told of requests and answers, restart counters and Echo paths (TS 29.274 7.1.1, TS 23.007 18), commands of
+//! the other gateway, and bearers that are removed in part. Whole sessions are data, in tests/scenarios and
+//! examples/scenarios.
 //!
-//! Of these datagrams some stand in examples/datagrams: control/delete-bearer-request,
-//! control/delete-bearer-response, control/delete-session-request,
-//! control/delete-session-response, user/g-pdu.
+//! Of these datagrams control/delete-bearer-request and control/delete-bearer-response stand in
+//! examples/datagrams.
 
 use super::{
-    Act, BEARER_ANSWERED, BEARER_ASKED, DEDICATED, Ended, HEARD, IDLE, Look, MADE, MADE_UNHEARD,
-    OPENED, PLAIN, Row, SESSION_ANSWERED, SESSION_ASKED, SESSION_REQUEST, SESSION_RESPONSE, Scene,
-    Sends, Tells, UNTOLD, plays,
+    Act, BEARER_ANSWERED, BEARER_ASKED, DEDICATED, HEARD, IDLE, MADE, OPENED, PLAIN, Row,
+    SESSION_ANSWERED, SESSION_ASKED, SESSION_REQUEST, SESSION_RESPONSE, Scene, Sends, Tells,
+    UNTOLD, plays,
 };
 use Act::*;
-use Look::{Address, FirstBearer, FirstSession, Has, SessionState};
 use Sends::{Nothing, Octets, Shown};
 use gtp_gateway::*;
-use gtp_tables::State;
-use gtp_values::Teid;
 use std::test::Fail;
 
-/// The one session and the one bearer of a gateway, after the session was opened.
-const ONE_SESSION: [Look; 5] = [
-    Has(1, 1),
-    FirstSession(0x0100_0001, Some(0x0100_0001)),
-    Address(Some(0x0a01_0001)),
-    SessionState(State::Active),
-    FirstBearer {
-        teid: 0x0100_0002,
-        remote: Some(0x0100_0002),
-        session: 0x0100_0001,
-        state: State::Active,
-        ended: false,
-    },
-];
-
-/// A session is opened.
-const OPENING: Scene = Scene {
-    rows: &[&OPENED],
-    serving: &ONE_SESSION,
-    packet: &ONE_SESSION,
-    ..IDLE
-};
-
-#[test]
-fn a_session_opens(rt: HostRuntime) -> Result<(), Fail> {
-    plays(&rt, rt.alloc(), &OPENING)
-}
-
-/// A packet was accepted on a bearer.
-macro_rules! took {
-    ($bearer:literal, $packet:literal) => {
+/// A restart counter was heard, or none, and whether it was later than the one that was known, or a context was
+/// made.
+macro_rules! told {
+    ($heard:expr, $restart:expr, $made:literal) => {
         (
             Act::Told(Tells {
-                bearer: Some(Teid($bearer)),
-                packet: $packet,
+                heard: $heard,
+                restart: $restart,
+                made: $made,
                 ..PLAIN
             }),
             Outcome::Moved,
@@ -60,67 +32,8 @@ macro_rules! took {
     };
 }
 
-/// Ticks ended so.
-macro_rules! ended {
-    ($gave_up:literal, $first:expr, $forgotten:literal) => {
-        (
-            Act::Ended(Ended {
-                gave_up: $gave_up,
-                first: $first,
-                forgotten: $forgotten,
-            }),
-            Outcome::Moved,
-            Nothing,
-        )
-    };
-}
-
-/// Packets each way, and the end of the session.
-const PACKETS_AND_END: Scene = Scene {
-    rows: &[
-        &OPENED,
-        &[
-            (
-                Send(Role::Serving, 0x0100_0002, b"abc"),
-                Outcome::GoneOut,
-                Octets("30ff000301000002616263"),
-            ),
-            (Deliver(2), Outcome::Accepted, Nothing),
-            took!(0x0100_0002, b"abc"),
-            (
-                Send(Role::Packet, 0x0100_0002, b"def"),
-                Outcome::GoneOut,
-                Octets("30ff000301000002646566"),
-            ),
-            (Deliver(3), Outcome::Accepted, Nothing),
-            took!(0x0100_0002, b"def"),
-            (
-                DeleteSession(0x0100_0001),
-                Outcome::Begun(Some(0x0100_0001)),
-                Octets("4824000d01000001000001004900010005"),
-            ),
-            (
-                Deliver(4),
-                Outcome::Answered(16),
-                Octets("4825001301000001000001000200020010000300010001"),
-            ),
-            UNTOLD,
-            (Deliver(5), Outcome::Closed, Nothing),
-            HEARD,
-        ],
-    ],
-    serving: &[Has(0, 0)],
-    packet: &[Has(0, 0)],
-    ..IDLE
-};
-
-#[test]
-fn a_session_carries_packets_and_ends(rt: HostRuntime) -> Result<(), Fail> {
-    plays(&rt, rt.alloc(), &PACKETS_AND_END)
-}
-
-/// The request comes three times, and its answer twice.
-const ANSWERED_AGAIN: Scene = Scene {
+/// A request comes three times and its answer twice. A request for a bearer tells no counter.
+const TOLD: Scene = Scene {
     rows: &[&[
         SESSION_ASKED,
         SESSION_ANSWERED,
@@ -134,206 +47,168 @@ const ANSWERED_AGAIN: Scene = Scene {
         (Deliver(2), Outcome::Dropped(DropReason::NoPending), Nothing),
         HEARD,
     ]],
-    packet: &[Has(1, 1)],
+    packet: Some((1, 1)),
     ..IDLE
 };
 
-#[test]
-fn a_request_that_comes_again_is_answered_again(rt: HostRuntime) -> Result<(), Fail> {
-    plays(&rt, rt.alloc(), &ANSWERED_AGAIN)
-}
-
-/// The request is sent again three times, and its answer comes too late.
-const GIVEN_UP: Scene = Scene {
-    rows: &[&[
-        SESSION_ASKED,
-        SESSION_ANSWERED,
-        (Ticks(Role::Serving, 2, 0), Outcome::Moved, Nothing),
-        (Ticks(Role::Serving, 1, 1), Outcome::Moved, Nothing),
-        (Ticks(Role::Serving, 8, 2), Outcome::Moved, Nothing),
-        ended!(0, None, 0),
-        (Ticks(Role::Serving, 1, 0), Outcome::Moved, Nothing),
-        ended!(1, Some(0), 0),
-        (Deliver(1), Outcome::Dropped(DropReason::NoPending), Nothing),
-        HEARD,
-    ]],
-    serving: &[Has(0, 0)],
-    ..IDLE
-};
-
-#[test]
-fn a_request_without_an_answer_is_given_up(rt: HostRuntime) -> Result<(), Fail> {
-    plays(&rt, rt.alloc(), &GIVEN_UP)
-}
-
-/// After 60 ticks the answer is held no more, and the request makes another bearer.
-const FORGOTTEN: Scene = Scene {
-    rows: &[
-        &OPENED,
-        &DEDICATED,
-        &[
-            (Ticks(Role::Serving, 59, 0), Outcome::Moved, Nothing),
-            ended!(0, None, 0),
-            (Ticks(Role::Serving, 1, 0), Outcome::Moved, Nothing),
-            ended!(0, None, 1),
-            (
-                Deliver(2),
-                Outcome::Answered(16),
-                Octets(concat!(
-                    "4860003c0100000100000000",
-                    "020002001000",
-                    "5d002500",
-                    "4900010007", // the next identity
-                    "020002001000",
-                    "5700090284010000040a000001", // the next TEID
-                    "5700090385010000030a000002",
-                    "0300010001"
-                )),
-            ),
-            MADE_UNHEARD,
-            (
-                Send(Role::Serving, 0x0100_0004, b"x"),
-                Outcome::GoneOut,
-                Octets("30ff00010100000378"),
-            ),
-            (Deliver(5), Outcome::Accepted, Nothing),
-            took!(0x0100_0003, b"x"),
-        ],
-    ],
-    serving: &[Has(1, 3)],
-    packet: &[Has(1, 2)],
-    ..IDLE
-};
-
-#[test]
-fn a_forgotten_request_makes_another_bearer(rt: HostRuntime) -> Result<(), Fail> {
-    plays(&rt, rt.alloc(), &FORGOTTEN)
-}
-
-/// The rows that open bearers, each by its TEID, the number of its request among the datagrams that
-/// were sent, and that of the answer.
-macro_rules! bearers {
-    ($(($teid:literal, $request:literal, $answer:literal)),*) => {
-        [$(
-            (CreateBearer(0x0100_0001), Outcome::Begun(Some($teid)), Shown),
-            (Deliver($request), Outcome::Answered(16), Shown),
-            (Deliver($answer), Outcome::Opened, Nothing),
-        )*]
-    };
-}
-
-/// Ten dedicated bearers are made. The session has then all identities.
-const ALL_IDENTITIES: [Row; 30] = bearers![
-    (0x0100_0003, 2, 3),
-    (0x0100_0004, 4, 5),
-    (0x0100_0005, 6, 7),
-    (0x0100_0006, 8, 9),
-    (0x0100_0007, 10, 11),
-    (0x0100_0008, 12, 13),
-    (0x0100_0009, 14, 15),
-    (0x0100_000a, 16, 17),
-    (0x0100_000b, 18, 19),
-    (0x0100_000c, 20, 21)
-];
-
-/// All identities are used, and one more bearer is refused.
-const ONE_MORE: Scene = Scene {
-    rows: &[
-        &OPENED,
-        &ALL_IDENTITIES,
-        &[
-            (
-                CreateBearer(0x0100_0001),
-                Outcome::Begun(Some(0x0100_000d)),
-                Shown,
-            ),
-            (Deliver(22), Outcome::Answered(73), Shown),
-            (Deliver(23), Outcome::Rejected(73), Nothing),
-        ],
-    ],
-    serving: &[Has(1, 11)],
-    packet: &[Has(1, 11)],
-    ..IDLE
-};
-
-#[test]
-fn an_eleventh_bearer_has_no_identity(rt: HostRuntime) -> Result<(), Fail> {
-    plays(&rt, rt.alloc(), &ONE_MORE)
-}
-
-/// A second session is refused.
-const SECOND: Scene = Scene {
-    addresses: 1,
-    rows: &[
-        &OPENED,
-        &[
-            (CreateSession, Outcome::Begun(Some(0x0100_0003)), Shown),
-            (Deliver(2), Outcome::Answered(84), Shown),
-            (Deliver(3), Outcome::Rejected(84), Nothing),
-        ],
-    ],
-    packet: &[Has(1, 1)],
-    ..IDLE
-};
-
-#[test]
-fn a_second_session_has_no_address(rt: HostRuntime) -> Result<(), Fail> {
-    plays(&rt, rt.alloc(), &SECOND)
-}
-
-/// A bearer is deleted by the packet gateway.
-const DELETED: Scene = Scene {
-    rows: &[
-        &OPENED,
-        &DEDICATED,
-        &[
-            (
-                DeleteBearer(0x0100_0001, 6),
-                Outcome::Begun(Some(0x0100_0003)),
-                Octets("4863000d01000001000001004900010106"),
-            ),
-            (
-                Deliver(4),
-                Outcome::Answered(16),
-                Octets(
-                    "4864002201000001000001000200020010005d000b0049000100060200020010000300010001",
-                ),
-            ),
-            (Deliver(5), Outcome::Closed, Nothing),
-        ],
-    ],
-    serving: &[Has(1, 1)],
-    packet: &[Has(1, 1)],
-    ..IDLE
-};
-
-#[test]
-fn a_dedicated_bearer_is_deleted(rt: HostRuntime) -> Result<(), Fail> {
-    plays(&rt, rt.alloc(), &DELETED)
-}
-
-/// The session is released before its bearer is opened.
-const CLASHING: Scene = Scene {
+/// A request for a bearer, which tells no counter, and the end of the session.
+const TOLD_OF_BEARER: Scene = Scene {
     rows: &[
         &OPENED,
         &[
             BEARER_ASKED,
             BEARER_ANSWERED,
+            told!(None, None, true),
             (
-                ReleaseSession(Role::Packet, 0x0100_0001),
+                DeleteSession(Role::Serving, 0x0100_0001),
                 Outcome::Begun(Some(0x0100_0001)),
-                Shown,
+                Octets("4824000d01000001000001004900010005"),
             ),
-            (Deliver(3), Outcome::Clash, Nothing),
+            (
+                Deliver(4),
+                Outcome::Answered(16),
+                Octets("4825001301000001000001000200020010000300010001"),
+            ),
+            UNTOLD,
+            (Deliver(5), Outcome::Closed, Nothing),
+            HEARD,
         ],
     ],
-    packet: &[SessionState(State::Closing)],
+    serving: Some((0, 0)),
+    packet: Some((0, 0)),
     ..IDLE
 };
 
 #[test]
-fn a_bearer_does_not_open_in_a_closing_session(rt: HostRuntime) -> Result<(), Fail> {
-    plays(&rt, rt.alloc(), &CLASHING)
+fn what_is_told_of_datagrams(rt: HostRuntime) -> Result<(), Fail> {
+    plays(&rt, rt.alloc(), &TOLD)?;
+    plays(&rt, rt.alloc(), &TOLD_OF_BEARER)
+}
+
+/// The answer of a packet gateway with the restart counter 0 to the request for a session.
+const RESPONSE_OF_COUNTER_0: &str = concat!(
+    "482100730100000100000000",
+    "020002001000",
+    "5700090187000000010a000002",
+    "4f000500010a010001",
+    "48000800000003e8000003e8",
+    "5d003a00",
+    "4900010005",
+    "020002001000",
+    "5700090285000000020a000002",
+    "500016002009",
+    "0000000000000000000000000000000000000000",
+    "5e00040000000002",
+    "0300010000"
+);
+
+/// The answer of the packet gateway's start with the counter 255 opens the session. That of its next start, with the
+/// counter 0, is too late and tells of the restart; the first, that comes once more, tells a counter that is earlier
+/// by then.
+const TWO_STARTS: Scene = Scene {
+    counter: 255,
+    rows: &[&[
+        SESSION_ASKED,
+        (Deliver(0), Outcome::Answered(16), Shown),
+        MADE,
+        (Deliver(1), Outcome::Opened, Nothing),
+        told!(Some(Counter(255)), None, false),
+        (
+            Comes(Role::Serving, Plane::Control, RESPONSE_OF_COUNTER_0),
+            Outcome::Dropped(DropReason::NoPending),
+            Nothing,
+        ),
+        told!(Some(Counter(0)), Some(Counter(0)), false),
+        (
+            Deliver(1),
+            Outcome::Dropped(DropReason::OldCounter),
+            Nothing,
+        ),
+        told!(Some(Counter(255)), None, false),
+    ]],
+    serving: Some((0, 0)),
+    ..IDLE
+};
+
+/// The next start makes the session for the same request.
+const NEXT_START: Scene = Scene {
+    counter: 0,
+    rows: &[&[
+        (
+            Comes(Role::Packet, Plane::Control, SESSION_REQUEST),
+            Outcome::Answered(16),
+            Octets(RESPONSE_OF_COUNTER_0),
+        ),
+        MADE,
+    ]],
+    packet: Some((1, 1)),
+    ..IDLE
+};
+
+#[test]
+fn a_session_ends_with_its_peers_restart(rt: HostRuntime) -> Result<(), Fail> {
+    plays(&rt, rt.alloc(), &TWO_STARTS)?;
+    plays(&rt, rt.alloc(), &NEXT_START)
+}
+
+/// An Echo Request that tells a later counter.
+const LATER_COUNTER: Row = (
+    Comes(Role::Serving, Plane::Control, "40010009000005000300010002"),
+    Outcome::Echoed,
+    Octets("40020009000005000300010001"),
+);
+
+/// Echo Requests each way; the second of the peer's tells a later counter, and the third an earlier one.
+const ECHOES: Scene = Scene {
+    rows: &[
+        &OPENED,
+        &[
+            (
+                Echo(Role::Serving),
+                Outcome::Begun(None),
+                Octets("40010009000001000300010001"),
+            ),
+            (
+                Comes(Role::Serving, Plane::Control, "40020009000001000300010001"),
+                Outcome::Alive,
+                Nothing,
+            ),
+            HEARD,
+            LATER_COUNTER,
+            told!(Some(Counter(2)), Some(Counter(2)), false),
+            (
+                Comes(Role::Serving, Plane::Control, "40010009000006000300010001"),
+                Outcome::Dropped(DropReason::OldCounter),
+                Nothing,
+            ),
+            HEARD,
+        ],
+    ],
+    serving: Some((0, 0)),
+    ..IDLE
+};
+
+/// A session is asked for between two Echo Requests, of which the second tells a later counter. It stays.
+const PENDING: Scene = Scene {
+    rows: &[&[
+        (
+            Comes(Role::Serving, Plane::Control, "40010009000004000300010001"),
+            Outcome::Echoed,
+            Octets("40020009000004000300010001"),
+        ),
+        HEARD,
+        SESSION_ASKED,
+        LATER_COUNTER,
+        told!(Some(Counter(2)), Some(Counter(2)), false),
+    ]],
+    serving: Some((1, 1)),
+    ..IDLE
+};
+
+#[test]
+fn an_echo_tells_of_a_restart(rt: HostRuntime) -> Result<(), Fail> {
+    plays(&rt, rt.alloc(), &ECHOES)?;
+    plays(&rt, rt.alloc(), &PENDING)
 }
 
 /// Two identities are named, and one of them is a bearer's.
@@ -353,7 +228,7 @@ const NAMED: Scene = Scene {
             ),
         )],
     ],
-    serving: &[Has(1, 1)],
+    serving: Some((1, 1)),
     ..IDLE
 };
 
@@ -362,50 +237,30 @@ fn bearers_are_removed_in_part(rt: HostRuntime) -> Result<(), Fail> {
     plays(&rt, rt.alloc(), &NAMED)
 }
 
-/// Commands about no session, about one that is pending, and at the wrong gateway.
+/// A command is refused for this.
+macro_rules! refused {
+    ($(($act:expr, $why:ident)),*) => {
+        [$(($act, Outcome::Refused(Refusal::$why), Nothing)),*]
+    };
+}
+
+/// Commands about no session.
+const ABOUT_NONE: [Row; 2] = refused![
+    (DeleteSession(Role::Serving, 0x0100_0009), NoSuchContext),
+    (ReleaseSession(Role::Packet, 0x0100_0009), NoSuchContext)
+];
+
+/// Commands about a session that is pending, and at the wrong gateway.
+const ABOUT_PENDING: [Row; 5] = refused![
+    (DeleteSession(Role::Serving, 0x0100_0001), NotActive),
+    (ReleaseSession(Role::Serving, 0x0100_0001), WrongRole),
+    (CreateBearer(Role::Serving, 0x0100_0001), WrongRole),
+    (CreateSession(Role::Packet), WrongRole),
+    (DeleteSession(Role::Packet, 0x0100_0001), WrongRole)
+];
+
 const REFUSED: Scene = Scene {
-    rows: &[&[
-        (
-            DeleteSession(0x0100_0009),
-            Outcome::Refused(Refusal::NoSuchContext),
-            Nothing,
-        ),
-        (
-            ReleaseSession(Role::Packet, 0x0100_0009),
-            Outcome::Refused(Refusal::NoSuchContext),
-            Nothing,
-        ),
-        (
-            CreateSession,
-            Outcome::Begun(Some(0x0100_0001)),
-            Octets(SESSION_REQUEST),
-        ),
-        (
-            DeleteSession(0x0100_0001),
-            Outcome::Refused(Refusal::NotActive),
-            Nothing,
-        ),
-        (
-            ReleaseSession(Role::Serving, 0x0100_0001),
-            Outcome::Refused(Refusal::WrongRole),
-            Nothing,
-        ),
-        (
-            CreateBearerAt(Role::Serving, 0x0100_0001),
-            Outcome::Refused(Refusal::WrongRole),
-            Nothing,
-        ),
-        (
-            CreateSessionAt(Role::Packet),
-            Outcome::Refused(Refusal::WrongRole),
-            Nothing,
-        ),
-        (
-            DeleteSessionAt(Role::Packet, 0x0100_0001),
-            Outcome::Refused(Refusal::WrongRole),
-            Nothing,
-        ),
-    ]],
+    rows: &[&ABOUT_NONE, &[SESSION_ASKED], &ABOUT_PENDING],
     ..IDLE
 };
 

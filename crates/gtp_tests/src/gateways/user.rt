@@ -1,13 +1,12 @@
 //! The user plane of both gateways (TS 29.281).
 //!
-//! Of these datagrams some stand in examples/datagrams: user/end-marker, user/error-indication,
-//! user/g-pdu, user/g-pdu-extension-headers, user/g-pdu-extension-not-understood,
-//! user/g-pdu-extension-of-length-0, user/supported-extensions.
+//! Of these datagrams some stand in examples/datagrams: user/error-indication, user/g-pdu,
+//! user/g-pdu-extension-headers, user/g-pdu-extension-not-understood, user/g-pdu-extension-of-length-0,
+//! user/supported-extensions.
 
-use super::{Act, IDLE, Look, OPENED, Scene, Sends, plays};
+use super::{Act, IDLE, OPENED, Scene, Sends, plays};
 use Act::*;
-use Look::Has;
-use Sends::{Nothing, Octets, Shown};
+use Sends::{Nothing, Octets};
 use gtp_gateway::*;
 use std::test::Fail;
 
@@ -62,55 +61,13 @@ const BROKEN: Scene = Scene {
             Nothing,
         )],
     ],
-    serving: &[Has(0, 0)],
+    serving: Some((0, 0)),
     ..IDLE
 };
 
 #[test]
 fn a_bearer_that_the_peer_does_not_know(rt: HostRuntime) -> Result<(), Fail> {
     plays(&rt, rt.alloc(), &BROKEN)
-}
-
-/// An End Marker, and what is sent before it and comes after it.
-const ENDED: Scene = Scene {
-    rows: &[
-        &OPENED,
-        &[
-            (
-                Send(Role::Packet, 0x0100_0002, b"def"),
-                Outcome::GoneOut,
-                Octets("30ff000301000002646566"),
-            ),
-            (
-                EndMarker(0x0100_0002),
-                Outcome::GoneOut,
-                Octets("30fe000001000002"),
-            ),
-            (
-                Send(Role::Packet, 0x0100_0002, b"x"),
-                Outcome::Refused(Refusal::BearerEnded),
-                Nothing,
-            ),
-            (
-                EndMarker(0x0100_0002),
-                Outcome::Refused(Refusal::BearerEnded),
-                Nothing,
-            ),
-            (Deliver(3), Outcome::Ended, Nothing),
-            (Deliver(2), Outcome::Dropped(DropReason::AfterEnd), Nothing),
-            (
-                Send(Role::Serving, 0x0100_0002, b"abc"),
-                Outcome::GoneOut,
-                Shown,
-            ),
-        ],
-    ],
-    ..IDLE
-};
-
-#[test]
-fn an_end_marker_ends_one_way(rt: HostRuntime) -> Result<(), Fail> {
-    plays(&rt, rt.alloc(), &ENDED)
 }
 
 /// Echo Requests, and packets with extension headers that are not taken.
@@ -176,39 +133,4 @@ const AFTER_HEADERS: Scene = Scene {
 #[test]
 fn a_packet_after_extension_headers(rt: HostRuntime) -> Result<(), Fail> {
     plays(&rt, rt.alloc(), &AFTER_HEADERS)
-}
-
-/// A packet that is too long, and the longest one.
-const LONGEST: Scene = Scene {
-    rows: &[
-        &OPENED,
-        &[
-            (
-                SendZeros(Role::Serving, 0x0100_0002, 65_001),
-                Outcome::Refused(Refusal::PacketTooLong),
-                Nothing,
-            ),
-            (
-                SendZeros(Role::Serving, 0x0100_0002, 65_000),
-                Outcome::GoneOut,
-                Shown,
-            ),
-            (
-                SendZeros(Role::Packet, 0x0100_0002, 65_001),
-                Outcome::Refused(Refusal::PacketTooLong),
-                Nothing,
-            ),
-            (
-                SendZeros(Role::Packet, 0x0100_0002, 65_000),
-                Outcome::GoneOut,
-                Shown,
-            ),
-        ],
-    ],
-    ..IDLE
-};
-
-#[test]
-fn the_longest_packet(rt: HostRuntime) -> Result<(), Fail> {
-    plays(&rt, rt.alloc(), &LONGEST)
 }

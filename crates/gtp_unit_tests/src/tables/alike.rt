@@ -403,12 +403,22 @@ fn call_times(both: &mut Both, rt: &impl Abort, alloc: Global, times: u32) -> Re
     Ok(())
 }
 
+/// Each kind of call was met.
+fn are_met(rt: &impl Abort, met: &[u32]) {
+    for (kind, times) in met.iter().enumerate() {
+        assert!(rt; *times > 0, "kind {kind}");
+    }
+}
+
+/// Makes 10,000 calls, of each kind some.
+fn call_all(both: &mut Both, rt: &impl Abort, alloc: Global) -> Result<(), Fail> {
+    call_times(both, rt, alloc, 10_000)?;
+    are_met(rt, &both.met);
+    Ok(())
+}
+
 #[test]
 fn ten_thousand_calls(rt: HostRuntime) -> Result<(), Fail> {
     let mut both = Both::new(rt.alloc(), 15)?;
-    call_times(&mut both, &rt, rt.alloc(), 10_000)?;
-    for (kind, times) in both.met.iter().enumerate() {
-        assert!(rt; *times > 0, "kind {kind}");
-    }
-    Ok(())
+    call_all(&mut both, &rt, rt.alloc())
 }

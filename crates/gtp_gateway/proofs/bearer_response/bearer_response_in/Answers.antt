@@ -1,5 +1,6 @@
-use Rattle.std.proofs.Common.{ℕ, sym, ap}
-use Rattle.gtp_v2.specs.Viewed.{in_row, always_has}
+use Rattle.std.proofs.Common.{ℕ, [], ◌∷◌, Some, sym, ◌∙◌, ap}
+use Rattle.gtp_machine.specs.Decoded.{row_in, contexts_in}
+use Rattle.gtp_v2.specs.Viewed.{always_has}
 use Rattle.gtp_gateway.specs.declared.procedure.Procedure.TheVariants.{BearerAnswered}
 use Rattle.gtp_gateway.proofs.BearerAnswers.{given_others, given_contexts, given_only}
 use Rattle.gtp_gateway.proofs.ByProcedure.{cause_is}
@@ -13,6 +14,7 @@ pub only_context_in-requires : goal.only_context_in-requires
 only_context_in-requires c = (given_others, _, given_contexts c.requires.spelled.0 c.args.view.now.message c.requires.spelled.1 c.requires.of)
 
 pub returns : goal.returns
+unfolding row_in contexts_in
 returns c =
     let m = c.args.view.now.message in
     let a = bearer_answered c.requires.spelled.0 m (type_is m.kind BearerAnswered c.requires.of) c.requires.spelled.1 in
@@ -23,7 +25,7 @@ returns c =
       says = record {
         number = sym r.ensures.seq;
         header = sym r.ensures.header;
-        cause = cause_is a.cause r.result.cause (in_row 2 0 m) (row_so 96 2 0 _ m a.says) r.ensures.cause;
+        cause = cause_is (Some (a.cause ∷ [])) r.result.cause (sym (row_so 96 2 0 _ m a.says) ∙ r.ensures.cause);
         contexts = given_only a.groups c.only_context_in.result (c.only_context_in.ensures given_others a.groups (given_contexts c.requires.spelled.0 m c.requires.spelled.1 c.requires.of));
       };
     }

@@ -3,7 +3,7 @@ use Rattle.std.proofs.lemmas.Option.{same_Some}
 use Rattle.gtp_ie.specs.Value.{Value, OfAmbr}
 use Rattle.gtp_v2.specs.Viewed.{in_row, always_has, front_value}
 use Rattle.gtp_values.specs.declared.qos.Ambr.{Ambr}
-use Rattle.gtp_machine.specs.Decoded.{first_in, ambr_in, octets_at, number_at, end_at, requested}
+use Rattle.gtp_machine.specs.Decoded.{row_in, contexts_in, first_in, ambr_in, octets_at, number_at, end_at, requested}
 use Rattle.gtp_gateway.specs.SessionAsked.{default_values}
 use Rattle.gtp_gateway.proofs.InPlace.{asked, requested_context, reads_so, row_so, groups_so}
 use Rattle.gtp_gateway.proofs.session_request.session_request_in.Goals as goal
@@ -38,6 +38,7 @@ none_mapped f [] ys same none = sym same
 none_mapped f (x ∷ xs) ys same none = absurd cc
 
 pub returns : goal.returns
+unfolding row_in contexts_in
 returns c =
     let m = c.args.view.now.message in
     let a = asked m c.requires.spelled c.requires.of in

@@ -1,6 +1,7 @@
-use Rattle.std.proofs.Common.{ℕ, sym, ◌∙◌, ap}
+use Rattle.std.proofs.Common.{ℕ, [], ◌∷◌, Some, sym, ◌∙◌, ap}
+use Rattle.gtp_machine.specs.Decoded.{row_in, contexts_in}
 use Rattle.gtp_machine.specs.Element.{ipv4_of, teid_in}
-use Rattle.gtp_v2.specs.Viewed.{in_row, always_has}
+use Rattle.gtp_v2.specs.Viewed.{always_has}
 use Rattle.gtp_gateway.specs.declared.procedure.Procedure.TheVariants.{SessionAnswered}
 use Rattle.gtp_gateway.proofs.ByProcedure.{cause_is}
 use Rattle.gtp_gateway.proofs.InPlace.{type_is, reads_so, row_so, session_answered}
@@ -14,6 +15,7 @@ pub only_context_in-requires : goal.only_context_in-requires
 only_context_in-requires c = (created_others, _, created_contexts c.requires.spelled.0 c.args.view.now.message c.requires.spelled.1 c.requires.of)
 
 pub returns : goal.returns
+unfolding row_in contexts_in
 returns c =
     let m = c.args.view.now.message in
     let a = session_answered c.requires.spelled.0 m (type_is m.kind SessionAnswered c.requires.of) c.requires.spelled.1 in
@@ -24,7 +26,7 @@ returns c =
       says = record {
         number = sym r.ensures.seq;
         header = sym r.ensures.header;
-        cause = cause_is a.cause r.result.cause (in_row 2 0 m) (row_so 33 2 0 _ m a.says) r.ensures.cause;
+        cause = cause_is (Some (a.cause ∷ [])) r.result.cause (sym (row_so 33 2 0 _ m a.says) ∙ r.ensures.cause);
         control = ap teid_in (end_is a.control c.value.result (c.value.ensures.field a.control (row_so 33 87 1 _ m a.says))) ∙ sym c.teid_of.ensures;
         address = ap ipv4_of (paa_is a.address c.value-2.result (c.value-2.ensures.field a.address (row_so 33 79 0 _ m a.says))) ∙ sym c.ipv4_in.ensures;
         contexts = created_only a.groups c.only_context_in.result (c.only_context_in.ensures created_others a.groups (created_contexts c.requires.spelled.0 m c.requires.spelled.1 c.requires.of));

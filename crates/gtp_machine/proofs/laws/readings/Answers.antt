@@ -11,9 +11,6 @@ returns-clause-grammar c = grammar.control_by_grammar
 pub returns-clause-user_grammar : goal.returns-clause-user_grammar
 returns-clause-user_grammar c = grammar.user_by_grammar
 
-pub returns-clause-named : goal.returns-clause-named
-returns-clause-named c = named.control_by_name
-
 pub returns-clause-user_named : goal.returns-clause-user_named
 returns-clause-user_named c = named.user_by_name
 

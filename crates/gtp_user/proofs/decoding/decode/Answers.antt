@@ -8,5 +8,5 @@ use Rattle.gtp_user.proofs.decoding.decode.Goals as goal
 pub returns : goal.returns
 returns c =
     let octets = c.args.octets.now in
-    let t = told message_value c.read_message.result (message_at octets) (IsUserMessage octets) (IsUserFault octets) c.read_message.ensures (message_decided octets) in
+    let t = told message_value c.read_first.result (message_at octets) (IsUserMessage octets) (IsUserFault octets) c.read_first.ensures (message_decided octets) in
     record { found = t.found; only = t.only; fault = t.fault; first = t.first }

@@ -5,6 +5,7 @@ use Rattle.gtp_machine.specs.Message.{Message, Delete_session_response}
 use Rattle.gtp_machine.specs.Packet.{DeletionJudged, DeletionAsked}
 use Rattle.gtp_machine.specs.Reading.{control_message}
 use Rattle.gtp_machine.specs.declared.outcome.DropReason.TheVariants.{HeldFull}
+use Rattle.gtp_gateway.specs.Asked.{deletion_by}
 use Rattle.gtp_gateway.specs.Change.{changed_by}
 use Rattle.gtp_gateway.specs.Parts.{arrival_of, node_of}
 use Rattle.gtp_gateway.specs.Station.{station_of}
@@ -15,24 +16,26 @@ use Rattle.gtp_gateway.proofs.Rows.{drops, answers}
 use Rattle.gtp_gateway.proofs.parts.Parts.take_deletion_request.Goals as goal
 
 pub returns-then-is_full-clause-taken : goal.returns-then-is_full-clause-taken
-returns-then-is_full-clause-taken c = λ d says.
+returns-then-is_full-clause-taken c =
     let old = c.args.self.now in
+    let d = deletion_by c.args.request.now in
     let request = arrival_of c.args.source c.args.octets.now in
     drops (DeletionAsked request d) request (station_of old) c.dropped.result HeldFull c.dropped.ensures (inl (λ room. held_many old.held.pairs (yes c.is_full.ensures.full c.if-is_full.true) room.few, refl))
 
 pub returns-clause-taken : goal.returns-clause-taken
-returns-clause-taken c = λ d says.
+returns-clause-taken c =
     let old = c.args.self.now in
+    let d = deletion_by c.args.request.now in
     let node = node_of old in
     let request = arrival_of c.args.source c.args.octets.now in
     let v = c.judge_deletion-verdict.result in
     let m : Message = Delete_session_response (record { header = v.header.0; number = d.number; cause = cause_of v.cause; recovery = Some node.counter }) in
-    let said : control_message c.deletion_response-message.result ≡ m = c.deletion_response-message.ensures.says ∙ (λ i. Delete_session_response (record { header = v.header.0; number = sym says.number i; cause = cause_of v.cause; recovery = Some (c.counter.ensures i) })) in
+    let said : control_message c.deletion_response-message.result ≡ m = c.deletion_response-message.ensures.says ∙ (λ i. Delete_session_response (record { header = v.header.0; number = d.number; cause = cause_of v.cause; recovery = Some (c.counter.ensures i) })) in
     answers (DeletionAsked request d) request (station_of old) (station_of c.answer.new.self) c.sent.result c.in_ok-out.out (control_message c.deletion_response-message.result) v.cause (changed_by v.change node) c.sent.ensures c.in_ok-out.ensures.sent c.in_ok-out.ensures.back c.in_ok-out.ensures.node c.in_ok-out.ensures.role
     (inr (
       record { few = held_few old.held.pairs (no c.is_full.ensures.full c.if-is_full.false) },
-      subst (λ (k : Message). DeletionJudged request d node (answered request k v.cause (changed_by v.change node))) (sym said) (c.judge_deletion-verdict.ensures.judged request d says),
+      subst (λ (k : Message). DeletionJudged request d node (answered request k v.cause (changed_by v.change node))) (sym said) (c.judge_deletion-verdict.ensures.judged request),
     ))
 
 pub returns-in_err-out-clause-memory : goal.returns-in_err-out-clause-memory
-returns-in_err-out-clause-memory c = on_err c.from_residual.result (λ arrival d. deletion_asked arrival d (node_of c.args.self.now) (record { few = held_few c.args.self.now.held.pairs (no c.is_full.ensures.full c.if-is_full.false) }))
+returns-in_err-out-clause-memory c = on_err c.from_residual.result (λ arrival. deletion_asked arrival (deletion_by c.args.request.now) (node_of c.args.self.now) (record { few = held_few c.args.self.now.held.pairs (no c.is_full.ensures.full c.if-is_full.false) }))

@@ -9,6 +9,7 @@ use Rattle.gtp_machine.specs.Response.{EchoAnswered}
 use Rattle.gtp_machine.specs.Serving.{BearerAsked, SessionAnswered, DeletionAnswered, RemovalAsked}
 use Rattle.gtp_gateway.specs.declared.procedure.Procedure.{Procedure}
 use Rattle.gtp_gateway.specs.declared.procedure.Procedure.TheVariants as procedures
+use Rattle.gtp_gateway.specs.Asked.{deletion_by}
 use Rattle.gtp_gateway.specs.Hearing.{node_heard}
 use Rattle.gtp_gateway.specs.Parts.{arrival_of}
 use Rattle.gtp_gateway.specs.Procedure.{has, TakesBy}
@@ -60,10 +61,10 @@ returns-in-DeletionAsked-clause-taken c =
     let old = station_of c.args.self.now in
     let m = c.args.view.now.message in
     let request = arrival_of c.args.source c.args.octets.now in
-    let says = deletion_request_is c.args.octets.now m c.deletion_request_in-request.result c.requires.spelled (c.requires.of ∙ ap (λ (p : Procedure). Some p) c.in-DeletionAsked.is) c.deletion_request_in-request.ensures in
-    IfOk-weaker c.take_deletion_request.result _ _ (λ step taken. as_row (DeletionAsked request says.request) (TakesBy old.role request (message_of m)) request old.role old.role (node_heard c.args.heard old.node) old.node step (station_of c.take_deletion_request.new.self) refl (unheard c.args.heard (message_of m) old c.requires.weighed (ap recovery_of says.is))
-    (takes_deletion_request old.role request says.request (message_of m) (subst (λ (p : Procedure). has old.role p ≡ true) c.in-DeletionAsked.is c.requires.has) says.is)
-    (taken says.request says.says))
+    let is = deletion_request_is c.args.octets.now m c.deletion_request_in-request.result c.requires.spelled (c.requires.of ∙ ap (λ (p : Procedure). Some p) c.in-DeletionAsked.is) c.deletion_request_in-request.ensures in
+    IfOk-weaker c.take_deletion_request.result _ _ (λ step taken. as_row (DeletionAsked request (deletion_by c.deletion_request_in-request.result)) (TakesBy old.role request (message_of m)) request old.role old.role (node_heard c.args.heard old.node) old.node step (station_of c.take_deletion_request.new.self) refl (unheard c.args.heard (message_of m) old c.requires.weighed (ap recovery_of is))
+    (takes_deletion_request old.role request _ (message_of m) (subst (λ (p : Procedure). has old.role p ≡ true) c.in-DeletionAsked.is c.requires.has) is)
+    taken)
     c.take_deletion_request.ensures.taken
 
 pub returns-in-DeletionAnswered-clause-taken : goal.returns-in-DeletionAnswered-clause-taken
@@ -195,9 +196,9 @@ returns-in-DeletionAsked-clause-memory c =
     let old = station_of c.args.self.now in
     let m = c.args.view.now.message in
     let request = arrival_of c.args.source c.args.octets.now in
-    let says = deletion_request_is c.args.octets.now m c.deletion_request_in-request.result c.requires.spelled (c.requires.of ∙ ap (λ (p : Procedure). Some p) c.in-DeletionAsked.is) c.deletion_request_in-request.ensures in
-    on_err_weaker c.take_deletion_request.result (λ needs. subst (λ (n : Node). AlwaysSendsOrOpens (TakesBy old.role request (message_of m)) n) (unheard c.args.heard (message_of m) old c.requires.weighed (ap recovery_of says.is))
-    (needs_deletion old.role request (message_of m) old.node says.request (subst (λ (p : Procedure). has old.role p ≡ true) c.in-DeletionAsked.is c.requires.has) says.is (needs request says.request)))
+    let is = deletion_request_is c.args.octets.now m c.deletion_request_in-request.result c.requires.spelled (c.requires.of ∙ ap (λ (p : Procedure). Some p) c.in-DeletionAsked.is) c.deletion_request_in-request.ensures in
+    on_err_weaker c.take_deletion_request.result (λ needs. subst (λ (n : Node). AlwaysSendsOrOpens (TakesBy old.role request (message_of m)) n) (unheard c.args.heard (message_of m) old c.requires.weighed (ap recovery_of is))
+    (needs_deletion old.role request (message_of m) old.node _ (subst (λ (p : Procedure). has old.role p ≡ true) c.in-DeletionAsked.is c.requires.has) is (needs request)))
     c.take_deletion_request.ensures.memory
 
 pub returns-in-BearerAsked-clause-memory : goal.returns-in-BearerAsked-clause-memory

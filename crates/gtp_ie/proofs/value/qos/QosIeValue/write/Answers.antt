@@ -5,4 +5,4 @@ use Rattle.gtp_ie.proofs.value.qos.QosIeValue.write.Goals as goal
 pub returns-clause-again : goal.returns-clause-again
 returns-clause-again c =
     let small : c.args.self.now.pl < 16 = omega arith in
-    qos_again c.args.self.now small c.octets_of.ensures.range c.octets_of-2.ensures.range
+    qos_again c.args.self.now small c.octets_of-mbr.ensures.range c.octets_of-gbr.ensures.range

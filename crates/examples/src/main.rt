@@ -1,0 +1,90 @@
+//! The libraries by example: a request is read in place, an answer is encoded, and a packet gateway takes part in one
+//! exchange. README shows parts of this file.
+#![tactic(auto)]
+
+use gtp::control::kinds::CREATE_SESSION_REQUEST;
+use gtp::control::{Body, EchoResponse, Imsi, Message, Recovery, encode, view};
+use gtp::gateway::{
+    Addresses, Apn, Config, Counter, Endpoint, Gateway, Ip, Plane, Pool, Role, Seq, Timers,
+};
+use std::alloc::Global;
+
+/// A Create Session Request for the subscriber 001010123456789 and the access point internet, as
+/// examples/datagrams/control/create-session-request draws it.
+const REQUEST: &str = concat!(
+    "4820008e00000000000000000100080000010121436587f952000100065300030000f110",
+    "5700090086010000010a0000014700090008696e7465726e65748000010000630001",
+    "00014f000500010000000048000800000003e8000003e85d002c0049000100055000",
+    "160020090000000000000000000000000000000000000000570009028401000002",
+    "0a0000010300010001",
+);
+
+/// The subscriber of a Create Session Request; nothing if the datagram holds another message.
+fn subscriber(octets: &[u8]) -> anyhow::Result<Option<Imsi>> {
+    let message = view(octets)?; // allocates nothing; an error is the first fault, with its place
+    if message.kind() != CREATE_SESSION_REQUEST {
+        return Ok(None);
+    }
+    Ok(Some(message.needed::<Imsi>(0))) // no Option: it is proved that each such message has one
+}
+
+/// An Echo Response with this sequence number, from a gateway with this restart counter.
+fn echo_response(alloc: Global, seq: Seq, counter: u8) -> anyhow::Result<Vec<u8>> {
+    let recovery = Recovery(Counter(counter));
+    let message = Message {
+        teid: None,
+        seq,
+        priority: None,
+        body: Body::EchoResponse(EchoResponse { recovery }),
+    };
+    Ok(encode(alloc, &message)?)
+}
+
+/// A packet gateway that has just started, for one access point and ten addresses.
+fn packet_gateway(alloc: Global, own: Ip, peer: Ip) -> anyhow::Result<Gateway> {
+    let config = Config::try_new(
+        Addresses {
+            control: own,
+            user: own,
+        },
+        Addresses {
+            control: peer,
+            user: peer,
+        },
+        vec![in alloc; Apn::from_text("internet")?]?,
+        Pool::try_new(0x0a01_0001, 10)?, // 10.1.0.1 and the nine after it
+        Timers::default(),
+    )?;
+    Ok(Gateway::start(alloc, Role::Packet, &config, Counter(1))?)
+}
+
+/// Hands a request of the serving gateway to a packet gateway, and prints what it does.
+fn exchange(rt: &impl Print, alloc: Global, request: &[u8]) -> anyhow::Result<()> {
+    let (own, peer) = (Ip::V4([10, 0, 0, 2]), Ip::V4([10, 0, 0, 1]));
+    let mut gateway = packet_gateway(alloc, own, peer)?;
+    let source = Endpoint {
+        ip: peer,
+        port: 2123,
+    };
+
+    let step = gateway.receive(alloc, source, Plane::Control, request)?;
+    println!(rt; "outcome {:?}", step.report.outcome)?;
+    if let Some(sent) = step.out {
+        println!(rt; "to {} {}", sent.to.ip, hex::encode(alloc, &sent.octets)?)?; // your socket sends it
+    }
+    for (teid, session) in gateway.sessions() {
+        println!(rt; "session {teid} {}", session.subscriber.imsi)?;
+    }
+    Ok(())
+}
+
+fn main(rt: HostRuntime) -> anyhow::Result<()> {
+    let alloc = rt.alloc();
+    let request = hex::decode(alloc, REQUEST)?;
+    if let Some(imsi) = subscriber(&request)? {
+        println!(rt; "subscriber {imsi}")?;
+    }
+    let response = echo_response(alloc, Seq::new(1), 7)?;
+    println!(rt; "echo response {}", hex::encode(alloc, &response)?)?;
+    exchange(&rt, alloc, &request)
+}

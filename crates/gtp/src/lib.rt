@@ -1,0 +1,42 @@
+//! The libraries under one name, for callers: both codecs, a gateway, and a simulated network of two gateways. Contracts
+//! and documentation are those of the items that are named here.
+#![tactic(auto)]
+
+/// GTPv2-C, the control plane (3GPP TS 29.274): view, decode and encode datagrams.
+pub mod control {
+    pub use gtp_v2::{
+        Ambr, Apn, BAD_ELEMENT, BEARER_CONTEXT, BearerRequestContext, BearerResponseContext, Below,
+        Body, Cause, ChargingId, ContextView, Contexts, Counter, CreateBearerRequest,
+        CreateBearerResponse, CreateSessionRequest, CreateSessionResponse, Datagram, DatagramView,
+        DeleteBearerRequest, DeleteBearerResponse, DeleteSessionRequest, DeleteSessionResponse,
+        EbiValue, EchoRequest, EchoResponse, FTeid, Head, IeFault, Imsi, Listed, MISSING_ELEMENT,
+        Message, Offending, OtherPdnType, Paa, PdnType, Plmn, Pti, Qos, Rat, Rate, Rates, Recovery,
+        RemovalResponseContext, Selection, Seq, SessionRequestContext, SessionResponseContext,
+        Teid, Tft, V2Fault, Values, VersionNotSupported, decode, encode, kinds, type_name, view,
+    };
+}
+
+/// GTP-U, the user plane (3GPP TS 29.281): decode and encode datagrams.
+pub mod user {
+    pub use gtp_user::{
+        ExtensionHeader, ExtensionHeaders, Extensions, Ip, Teid, UserBody, UserFault, UserMessage,
+        decode, encode, kinds,
+    };
+}
+
+/// A serving gateway or a packet gateway, without sockets and clocks.
+pub mod gateway {
+    pub use gtp_gateway::{
+        Accepted, Addresses, Ambr, Apn, Bearer, BearerList, Begun, CommandFault, Config, Counter,
+        DropReason, Ebi, Endpoint, FaultName, Gateway, Ip, Kind, Memory, Outcome, PdnType, Plane,
+        Plmn, Pool, Qos, Rat, Refusal, Report, Request, Role, Selection, Sent, Seq, Session,
+        SessionList, SessionSpec, State, Step, Subscriber, Teid, Tft, Ticked, Timers, ValueFault,
+    };
+}
+
+/// Both gateways and the network between them.
+pub mod world {
+    pub use gtp_world::{
+        Datagram, Entry, Event, EventOutcome, Mutual, Mutuals, Note, RunFault, World, WorldConfig,
+    };
+}

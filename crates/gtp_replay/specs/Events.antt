@@ -1,0 +1,55 @@
+-- The lines of events.
+use Rattle.std.specs.Prelude.{ℕ, ◌+◌, List, [], ◌∷◌, ◌++◌, Option, Some, None, codes, decimal, take, drop}
+use Rattle.std.specs.List.{flat_map, enumerate_from}
+use Rattle.gtp_values.specs.declared.plane.Plane.{Plane}
+use Rattle.gtp_machine.specs.Message.{Control, User}
+use Rattle.gtp_machine.specs.Node.{Arrival}
+use Rattle.gtp_machine.specs.Spelling.{Datagram}
+use Rattle.gtp_machine.specs.World.{By, Event}
+use Rattle.gtp_world.specs.Kept.{Told}
+use Rattle.gtp_lines.specs.Text.{octets_text}
+use Rattle.gtp_scenario.specs.Words.{word_of}
+use Rattle.gtp_replay.specs.Outcomes.{first_word, detail}
+
+abbrev pub plane_word : Plane → List ℕ
+plane_word Control = codes "control"
+plane_word User = codes "user"
+
+-- the counter of a restart of the peer that was learned, if one was
+abbrev pub learned_text : Option ℕ → List ℕ
+learned_text None = []
+learned_text (Some counter) = codes " restart " ++ decimal counter
+
+-- what an event came to
+abbrev pub told_text : Told → List ℕ
+told_text told = first_word told.outcome ++ detail told.outcome ++ learned_text told.learned ++ codes "\n"
+
+-- what happened, and what it came to
+abbrev pub head_line : ℕ → Event → Told → List ℕ
+head_line place event told = codes "event " ++ decimal place ++ codes " " ++ word_of event ++ codes " " ++ told_text told
+
+-- a datagram that was sent, under its number
+abbrev pub sent_line : ℕ × By Datagram → List ℕ
+sent_line d = codes "  sent " ++ decimal d.0 ++ codes " " ++ plane_word d.1.what.plane ++ codes " " ++ octets_text d.1.what.octets ++ codes "\n"
+
+-- a request that was given up, by its sequence number
+abbrev pub gave_up_line : ℕ → List ℕ
+gave_up_line number = codes "  gave-up " ++ decimal number ++ codes "\n"
+
+-- a request whose answer was forgotten
+abbrev pub forgot_line : Arrival → List ℕ
+forgot_line request = codes "  forgot " ++ octets_text request.octets ++ codes "\n"
+
+-- an event at this place, and the datagrams that it sent, each with its number
+abbrev pub event_lines : ℕ → List (ℕ × By Datagram) → Event → Told → List ℕ
+event_lines place sent event told = head_line place event told ++ flat_map sent_line sent ++ flat_map gave_up_line told.gave_up ++ flat_map forgot_line told.forgot
+
+-- events from this place on, what is told of each, and the datagrams that they sent, one after the other
+abbrev pub lines_from : ℕ → List (ℕ × By Datagram) → List Event → List Told → List ℕ
+lines_from place sent [] notes = []
+lines_from place sent (event ∷ events) [] = []
+lines_from place sent (event ∷ events) (told ∷ notes) = event_lines place (take told.sent sent) event told ++ lines_from (place + 1) (drop told.sent sent) events notes
+
+-- all events, and all datagrams, both numbered from 0
+abbrev pub events_text : List Event → List (By Datagram) → List Told → List ℕ
+events_text events datagrams notes = lines_from 0 (enumerate_from 0 datagrams) events notes

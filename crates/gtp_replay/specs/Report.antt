@@ -1,0 +1,27 @@
+-- The report of a world.
+use Rattle.std.specs.Prelude.{◌≡◌, ℕ, List, ◌++◌, codes, decimal}
+use Rattle.gtp_machine.specs.Input.{Entry}
+use Rattle.gtp_machine.specs.declared.role.Role.TheVariants.{Serving, Packet}
+use Rattle.gtp_machine.specs.Safety.{IsOwed as IsOwedBy}
+use Rattle.gtp_machine.specs.World.{By, Event}
+use Rattle.gtp_world.specs.Kept.{Kept, Log}
+use Rattle.gtp_world.specs.Naming.{mutual_pairs, DoAgree}
+use Rattle.gtp_replay.specs.Events.{events_text}
+use Rattle.gtp_replay.specs.Contexts.{node_text}
+use Rattle.gtp_replay.specs.Verdicts.{TellsEach, mutual_line, taken_line}
+
+-- the packet was handed in at the other gateway, octet for octet, for the same TEID, subscriber, access point and bearer
+abbrev pub IsOwed : Log → By Entry → Type 0
+IsOwed log a = IsOwedBy log.handed a.role a.what
+
+-- how many deliveries were late
+abbrev pub late_line : ℕ → List ℕ
+late_line late = codes "late " ++ decimal late ++ codes "\n"
+
+-- A report: each event and what it came to; the contexts of the serving and then of the packet gateway; those that name each other, and whether they agree; the packets that were accepted, and whether they are owed; and how many deliveries were late.
+pub record IsReport (events : List Event) (v : Kept) (text : List ℕ) : Type 0 where
+  pub pairs : List ℕ
+  pub agreeing : TellsEach (DoAgree v) mutual_line (mutual_pairs v) pairs
+  pub taken : List ℕ
+  pub owed : TellsEach (IsOwed v.log) taken_line v.log.accepted taken
+  pub whole : text ≡ events_text events v.log.datagrams v.log.notes ++ node_text Serving v.serving.station.node ++ node_text Packet v.packet.station.node ++ pairs ++ taken ++ late_line v.log.late

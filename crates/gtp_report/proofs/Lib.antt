@@ -1,4 +1,0 @@
-pub mod Appends
-pub mod Numbered
-pub mod Each
-pub mod Lines

@@ -1,8 +1,0 @@
-use Rattle.std.proofs.Common.{take}
-use Rattle.gtp_report.specs.Report.{IsOwed}
-use Rattle.gtp_report.specs.Verdicts.{AddsEach, taken_line}
-use Rattle.gtp_report.proofs.verdicts.put_all_taken.Given as goal
-
--- the packets before this one have their lines
-abbrev pub invariant-loop-index : goal.invariant-loop-index
-invariant-loop-index l = AddsEach (IsOwed l.world.log) taken_line (take l.index l.world.log.accepted) l.fn.out.items l.out.items

@@ -1,0 +1,76 @@
+"""Files of rows. Each row is a text, and those of a group have the same outcome. A group is written so, and an empty
+line ends it:
+  # Comments stand where they like.
+  in place of TEXT      the rows stand in place of this text in quiet.json; or else: the whole text
+  | ROW
+  | ROW
+  status 2              the exit status, and after it the lines that are written
+  bad json
+In rows and lines <c3a9> stands for these octets, <> for none, and <9 times TEXT> for the text so often, where # in the
+text is the number of the time, from 0; as a whole line it stands for so many lines. <filled to 99> ends a row whose
+text gets blanks at its end, up to so many octets. A blank at the end of a row is written as <20>, and < as <3c>."""
+
+import re
+from dataclasses import dataclass
+
+MARK = re.compile(r"<(?:(?P<count>\d+) times (?P<text>[^>]*)|(?P<octets>(?:[0-9a-f]{2})*))>")
+FILLED = re.compile(r"(.*)<filled to (\d+)>")
+
+
+@dataclass
+class Case:
+    """What the program is given, and what it has to write and to end with."""
+
+    name: str
+    text: bytes
+    status: int
+    output: bytes
+    words: tuple = ()
+
+
+def times_of(mark):
+    """The texts that a mark of so many times stands for."""
+    return [mark["text"].replace("#", str(time)) for time in range(int(mark["count"]))]
+
+
+def octets_of(text):
+    """The octets that a text with marks stands for."""
+    octets, at = b"", 0
+    for mark in MARK.finditer(text):
+        octets += text[at : mark.start()].encode()
+        octets += bytes.fromhex(mark["octets"]) if mark["count"] is None else "".join(times_of(mark)).encode()
+        at = mark.end()
+    return octets + text[at:].encode()
+
+
+def lines_of(text):
+    """The lines that a line with marks stands for."""
+    mark = MARK.fullmatch(text)
+    if mark and mark["count"]:
+        return [line.encode() for line in times_of(mark)]
+    return [octets_of(text)]
+
+
+def text_of(place, row, quiet):
+    """The text of a row: the row, or the quiet scenario with the row in this place."""
+    filled = FILLED.fullmatch(row)
+    row, size = filled.groups() if filled else (row, 0)
+    if place is None:
+        text = octets_of(row)
+    else:
+        before, found, after = quiet.partition(place.encode())
+        assert found, f"{place} is not in quiet.json"
+        text = before + octets_of(row) + after
+    return text.ljust(int(size))
+
+
+def cases_of(path, quiet):
+    """The cases of a file."""
+    for group in path.read_text().rstrip("\n").split("\n\n"):
+        header, *lines = [line for line in group.split("\n") if not line.startswith("# ")]
+        place = None if header == "the whole text" else header[len("in place of ") :]
+        rows = [line[2:] for line in lines if line.startswith("| ")]
+        status, *output = lines[len(rows) :]
+        written = b"".join(line + b"\n" for text in output for line in lines_of(text))
+        for row in rows:
+            yield Case(f"{path.name}: {row}", text_of(place, row, quiet), int(status[len("status ") :]), written)
