@@ -8,7 +8,7 @@ use Rattle.gtp_machine.specs.Message.{Message, plane_of}
 use Rattle.gtp_machine.specs.Spelling.{Datagram, ReadsAs, spelled}
 use Rattle.gtp_machine.specs.declared.role.Role.{Role}
 use Rattle.gtp_machine.specs.declared.role.Role.TheVariants.{Serving, Packet}
-use Rattle.gtp_machine.specs.World.{By, Sent, HasSent, World, Event, Does, Deliver, Note, EventOutcome, Run, start}
+use Rattle.gtp_machine.specs.World.{By, Sent, HasSent, World, Event, Does, Deliver, Note, EventOutcome, Happens, Run, start}
 use Rattle.gtp_machine.proofs.Exchange.Made.{fair_exchange}
 use Rattle.gtp_world.specs.Kept.{oldest_first, Told, Kept, outcomes_in}
 use Rattle.gtp_world.specs.Runs.{Setup, AreFacing, AreFor, told_in, StandsFor, IsRunOf, IsReached}
@@ -90,7 +90,19 @@ exchanged old reached spec next v1 v2 new o1 o2 o3 next_is comes1 comes2 comes3 
     let is1 = last_told setup v1 g1.world (outcomes_in old.log) o1 _ g1.stands told1 x.first in
     let is2 = last_told setup v2 g2.world (outcomes_in v1.log) o2 _ g2.stands told2 x.second in
     let is3 = last_told setup new g3.world (outcomes_in v2.log) o3 _ g3.stands told3 x.third in
-    record { begun = g1.world; answered = g2.world; opened = g3.world; exchanged = x; outcomes_are = λ i. is1 i ∷ is2 i ∷ is3 i ∷ []; stands = g3.stands }
+    let sent : length old.log.datagrams ≡ length r.world.history = as_many setup old.log.datagrams r.world.history r.stands.datagrams in
+    let sent_after : length old.log.datagrams + 1 ≡ 1 + length r.world.history = omega (arith, sent) in
+    record {
+      begun = g1.world;
+      answered = g2.world;
+      opened = g3.world;
+      begins = g1.happens;
+      answers = subst (λ n. Happens g1.world (Deliver n) g2.world) (sym sent) g2.happens;
+      opens = subst (λ n. Happens g2.world (Deliver n) g3.world) (sym sent_after) g3.happens;
+      exchanged = x;
+      outcomes_are = λ i. is1 i ∷ is2 i ∷ is3 i ∷ [];
+      stands = g3.stands;
+    }
 
 -- the first of the events came
 pub so_far : (old : Kept) (events : List Event) (new : Kept) (count : ℕ) → count < 3 → Follows old (take count events) new → CameSoFar old events new

@@ -1,10 +1,10 @@
 -- The exchange that makes a session (TS 29.274, 7.2.1 and 7.2.2).
-use Rattle.std.specs.Prelude.{◌≡◌, ◌<◌, ℕ, ◌+◌, List, [], ◌∷◌, Some, take}
+use Rattle.std.specs.Prelude.{◌≡◌, ◌<◌, ℕ, ◌+◌, List, [], ◌∷◌, Some, length, take}
 use Rattle.gtp_machine.specs.Exchange.{Exchanged}
 use Rattle.gtp_machine.specs.Input.{Specification, Create_session}
 use Rattle.gtp_machine.specs.declared.outcome.Outcome.TheVariants.{Begun, Answered, Opened}
 use Rattle.gtp_machine.specs.declared.role.Role.TheVariants.{Serving}
-use Rattle.gtp_machine.specs.World.{World, Event, Does, Deliver, EventOutcome, Came_to}
+use Rattle.gtp_machine.specs.World.{World, Event, Does, Deliver, EventOutcome, Came_to, Happens}
 use Rattle.gtp_world.specs.Kept.{Kept}
 use Rattle.gtp_world.specs.Runs.{RunsOn, IsReached, StandsFor}
 use Rattle.gtp_world.specs.Stepped.{Follows}
@@ -20,12 +20,16 @@ pub record CameSoFar (old : Kept) (events : List Event) (new : Kept) : Type 0 wh
   pub comes : Follows old (take count events) new
   pub run : RunsOn old (take count events) new
 
--- After a run, the three events make a session: they come to begun, to answered with cause 16, or 18 where both versions were asked for, and to opened; and the
--- session is a new one, at both gateways, which carries packets in both directions.
+-- After a run, the three events make a session. From the world of the machine that the run has reached they lead to three worlds, and the last is what is left. Their
+-- outcomes are begun, answered with cause 16, or 18 if both versions were asked for, and opened; the session is new at both gateways, and carries packets in both
+-- directions.
 pub record IsExchanged (spec : Specification) (old : Kept) (r : IsReached old) (outcomes : List EventOutcome) (new : Kept) : Type 0 where
   pub begun : World
   pub answered : World
   pub opened : World
+  pub begins : Happens r.run.world (Does Serving (Create_session spec)) begun
+  pub answers : Happens begun (Deliver (length old.log.datagrams)) answered
+  pub opens : Happens answered (Deliver (length old.log.datagrams + 1)) opened
   pub exchanged : Exchanged spec r.run.world begun answered opened
   pub outcomes_are : outcomes ≡ Came_to (Begun (Some exchanged.made.session)) ∷ Came_to (Answered exchanged.cause) ∷ Came_to Opened ∷ []
   pub stands : StandsFor r.setup new opened

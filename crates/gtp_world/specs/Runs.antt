@@ -97,9 +97,14 @@ pub record IsSafe (v : Kept) : Type 0 where
   pub owed : EachOwed v.log.late v.log.handed v.log.accepted
   pub none_over : (role : Role) → NoneOver (half_in v role).station.node (half_in v role).seen
 
--- A run that was left at the one is left at the other after these events more.
+-- The run of these events that was at this world of the machine goes on from there by more events, and leaves this.
+pub record Continues (setup : Setup) (events : List Event) (world : World) (more : List Event) (v : Kept) : Type 0 where
+  pub whole : IsRunOf setup (events ++ more) v
+  pub on : Run world more whole.world
+
+-- Each run that leaves the one goes on by these events, from the very world of the machine that it has reached, and then leaves the other.
 abbrev pub RunsOn : Kept → List Event → Kept → Type 0
-RunsOn old more new = (setup : Setup) (events : List Event) → IsRunOf setup events old → IsRunOf setup (events ++ more) new
+RunsOn old more new = (setup : Setup) (events : List Event) (r : IsRunOf setup events old) → Continues setup events r.world more new
 
 -- these events have come to what they come to: that is a run of the machine, and safe
 pub record IsWhole (setup : Setup) (events : List Event) (v : Kept) : Type 0 where

@@ -13,7 +13,7 @@ ghost use Rattle.gtp_world.specs.Events.{event_of};
 ghost use Rattle.gtp_world.specs.Naming.{Pair, pair_of, mutual_pairs, NameEachOther, DoAgree};
 ghost use Rattle.gtp_world.specs.Stepped.{Comes, Follows};
 ghost use Rattle.gtp_world.specs.Views.{IsMade, IsMadeOnce, IsAnsweredAlike};
-ghost use Rattle.gtp_world.specs.Ends.{IsCutShort};
+ghost use Rattle.gtp_world.specs.Ends.{IsCutShort, IsStoppedIn};
 ghost use Rattle.gtp_world.specs.Exchange.{exchange_events, CameSoFar, IsExchanged};
 ghost use Rattle.gtp_world.specs.Runs.{begun, IsReached, IsRunOf, RunsOn, IsSafe};
 
@@ -79,9 +79,23 @@ impl World {
         ensures fault { IfErr result (λ fault.
             IsCutShort config.now (map event_of events.now) fault) }
     {
-        let Ok(mut world) = World::start(alloc, config) else {
-            return Err(RunFault::Start);
-        };
+        match World::start(alloc, config) {
+            Ok(world) => world.resume(alloc, events),
+            Err(_) => Err(RunFault::Start),
+        }
+    }
+
+    /// Lets all of these events happen, in order, after those that have happened. If an allocation was refused, the
+    /// error is `At`, with the number of these events that have happened and the world after them; it is never `Start`.
+    pub fn resume(self, alloc: Global, events: &[Event]) -> Result<World, RunFault>
+        // Each event leaves what the definitions say, gateway by gateway and octet by octet.
+        ensures comes { IfOk result (λ world. Follows self (map event_of events.now) world) }
+        // They continue each run of the machine that leaves the world before.
+        ensures run { IfOk result (λ world. RunsOn self (map event_of events.now) world) }
+        // If an allocation was refused, all of this holds for the events before.
+        ensures fault { IfErr result (λ fault. IsStoppedIn self (map event_of events.now) fault) }
+    {
+        let mut world = self;
         for at in 0..events.len() {
             if world.step(alloc, &events[at]).is_err() {
                 return Err(RunFault::At { at, world });

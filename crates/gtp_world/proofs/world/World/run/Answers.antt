@@ -1,53 +1,36 @@
-use Rattle.std.proofs.Common.{◌≡◌, ◌<◌, not, length, ◌+◌, suc, List, map, take, sym, ◌∙◌, ap, subst, arith}
-use Rattle.std.proofs.lemmas.List.{take_all}
-use Rattle.gtp_machine.specs.World as machine
+-- A run is a start that goes on.
+use Rattle.std.proofs.Common.{◌≡◌, List, [], map, take}
+use Rattle.std.proofs.lemmas.Result.{IfOk-weaker, IfErr-weaker}
+use Rattle.gtp_machine.specs.World.{Event}
+use Rattle.gtp_world.specs.Ends.{IsCutShort, IsStoppedIn}
 use Rattle.gtp_world.specs.Events.{event_of}
 use Rattle.gtp_world.specs.Kept.{Kept}
-use Rattle.gtp_world.specs.Runs.{begun, IsRunOf, IsWhole}
-use Rattle.gtp_world.specs.Stepped.{Follows}
-use Rattle.gtp_world.specs.declared.event.Event.{Event}
-use Rattle.gtp_world.proofs.Finding.{on_ok, on_err}
-use Rattle.gtp_world.proofs.Running.{HasRun, one_more, follows_on, cut_short}
+use Rattle.gtp_world.specs.Runs.{Setup, begun, IsRunOf, RunsOn, IsSafe}
+use Rattle.gtp_world.specs.declared.run.RunFault.{RunFault}
+use Rattle.gtp_world.specs.declared.run.RunFault.TheVariants.{Start, At}
+use Rattle.gtp_world.proofs.Running.{begun_whole}
 use Rattle.gtp_world.proofs.Safe.{run_safe}
 use Rattle.gtp_world.proofs.world.World.run.Goals as goal
 
-pub returns-then-is_err-clause-fault : goal.returns-then-is_err-clause-fault
-returns-then-is_err-clause-fault c =
-    let events = c.args.events.now in
-    let at = c.loop-at.at in
+-- a fault of the world that goes on is one of the run
+as_run : (setup : Setup) (first : Kept) (events : List Event) (fault : RunFault) → first ≡ begun setup → IsRunOf setup [] first → IsStoppedIn first events fault → IsCutShort setup events fault
+as_run setup first events Start is run stopped = absurd stopped
+as_run setup first events (At count world) is run stopped = (stopped.0, begun_whole setup first (take count events) world is run stopped.1)
+
+pub returns-in-Ok-clause-run : goal.returns-in-Ok-clause-run
+returns-in-Ok-clause-run c =
     let setup = c.args.config.now in
-    let same = on_err c.step.result _ (sym c.is_err.ensures.value ∙ c.if-is_err.true) c.step.ensures.err in
-    subst (λ (k : Kept). (at < length (map event_of events)) × IsWhole setup (take at (map event_of events)) k) (sym same)
-    (cut_short setup events at c.loop-at.world c.loop-at-test.true c.loop-at.invariant)
+    let events = map event_of c.args.events.now in
+    IfOk-weaker c.resume.result (λ (world : Kept). RunsOn c.in-Ok.world events world) (λ (world : Kept). IsRunOf setup events world) (λ world on. (on setup [] c.in-Ok.ensures.run).whole) c.resume.ensures.run
 
-pub loop-at-init : goal.loop-at-init
-loop-at-init c = record { comes = c.in-Ok.ensures.begun; run = c.in-Ok.ensures.run }
-
-pub loop-at-preserved : goal.loop-at-preserved
-loop-at-preserved c =
+pub returns-in-Ok-clause-safe : goal.returns-in-Ok-clause-safe
+returns-in-Ok-clause-safe c =
     let setup = c.args.config.now in
-    let events = c.args.events.now in
-    let at = c.loop-at.at in
-    let is_ok = c.is_err.ensures.negation ∙ ap not c.if-is_err.false in
-    let on = on_ok c.step.result _ is_ok c.step.ensures.run in
-    let comes = on_ok c.step.result _ is_ok c.step.ensures.comes in
-    let before = map event_of (take at events) in
-    let next : suc at ≡ at + 1 = omega arith in
-    let so_far = one_more events at c.index-events-at.result c.loop-at-test.true (sym c.index-events-at.is) ∙ ap (λ n. map event_of (take n events)) next in
-    subst (λ (l : List machine.Event). HasRun setup l c.step.new.self) so_far
-    (record { comes = follows_on (begun setup) before c.loop-at.world _ c.step.new.self c.loop-at.invariant.comes comes; run = on setup before c.loop-at.invariant.run })
+    let events = map event_of c.args.events.now in
+    IfOk-weaker c.resume.result (λ (world : Kept). IsRunOf setup events world) (λ (world : Kept). IsSafe world) (λ world run. run_safe setup events world run) (returns-in-Ok-clause-run c)
 
-pub returns-clause-comes : goal.returns-clause-comes
-returns-clause-comes c =
-    let events = c.args.events.now in
-    let whole : take c.loop-at.at events ≡ events = take_all c.loop-at.at events (omega arith) in
-    subst (λ (l : List Event). Follows (begun c.args.config.now) (map event_of l) c.loop-at.world) whole c.loop-at.invariant.comes
-
-pub returns-clause-run : goal.returns-clause-run
-returns-clause-run c =
-    let events = c.args.events.now in
-    let whole : take c.loop-at.at events ≡ events = take_all c.loop-at.at events (omega arith) in
-    subst (λ (l : List Event). IsRunOf c.args.config.now (map event_of l) c.loop-at.world) whole c.loop-at.invariant.run
-
-pub returns-clause-safe : goal.returns-clause-safe
-returns-clause-safe c = run_safe c.args.config.now (map event_of (take c.loop-at.at c.args.events.now)) c.loop-at.world c.loop-at.invariant.run
+pub returns-in-Ok-clause-fault : goal.returns-in-Ok-clause-fault
+returns-in-Ok-clause-fault c =
+    let setup = c.args.config.now in
+    let events = map event_of c.args.events.now in
+    IfErr-weaker c.resume.result (λ (fault : RunFault). IsStoppedIn c.in-Ok.world events fault) (λ (fault : RunFault). IsCutShort setup events fault) (λ fault stopped. as_run setup c.in-Ok.world events fault c.in-Ok.ensures.begun c.in-Ok.ensures.run stopped) c.resume.ensures.fault
