@@ -59,18 +59,24 @@ def text_of(place, row, quiet):
         text = octets_of(row)
     else:
         before, found, after = quiet.partition(place.encode())
-        assert found, f"{place} is not in quiet.json"
+        if not found:
+            raise ValueError(f"quiet.json has no text {place}")
         text = before + octets_of(row) + after
+    if filled and len(text) > int(size):
+        raise ValueError(f"the row has {len(text)} octets and is to be filled to {size}: {row}")
     return text.ljust(int(size))
+
+
+GROUP = re.compile(r"(?:the whole text|in place of (?P<place>.+))\n(?P<rows>(?:\| .*\n)+)status (?P<status>\d)\n(?P<output>(?:.*\n)*)")
 
 
 def cases_of(path, quiet):
     """The cases of a file."""
-    for group in path.read_text().rstrip("\n").split("\n\n"):
-        header, *lines = [line for line in group.split("\n") if not line.startswith("# ")]
-        place = None if header == "the whole text" else header[len("in place of ") :]
-        rows = [line[2:] for line in lines if line.startswith("| ")]
-        status, *output = lines[len(rows) :]
-        written = b"".join(line + b"\n" for text in output for line in lines_of(text))
-        for row in rows:
-            yield Case(f"{path.name}: {row}", text_of(place, row, quiet), int(status[len("status ") :]), written)
+    for text in path.read_text(encoding="utf-8").rstrip("\n").split("\n\n"):
+        lines = [line for line in text.split("\n") if not line.startswith("# ")]
+        group = GROUP.fullmatch("".join(f"{line}\n" for line in lines))
+        if not group:
+            raise ValueError(f"{path.name}: this is no group of rows: {text}")
+        written = b"".join(line + b"\n" for line in group["output"].split("\n")[:-1] for line in lines_of(line))
+        for row in group["rows"].split("\n")[:-1]:
+            yield Case(f"{path.name}: {row}", text_of(group["place"], row[2:], quiet), int(group["status"]), written)

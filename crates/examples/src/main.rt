@@ -10,7 +10,7 @@ use gtp::gateway::{
 use std::alloc::Global;
 
 /// A Create Session Request for the subscriber 001010123456789 and the access point internet, as
-/// examples/datagrams/control/create-session-request draws it.
+/// examples/datagrams/control/create-session-request.hex has it.
 const REQUEST: &str = concat!(
     "4820008e00000000000000000100080000010121436587f952000100065300030000f110",
     "5700090086010000010a0000014700090008696e7465726e65748000010000630001",
@@ -21,7 +21,7 @@ const REQUEST: &str = concat!(
 
 /// The subscriber of a Create Session Request; nothing if the datagram holds another message.
 fn subscriber(octets: &[u8]) -> anyhow::Result<Option<Imsi>> {
-    let message = view(octets)?; // allocates nothing; an error is the first fault, with its place
+    let message = view(octets)?; // allocates nothing; an error is the first fault
     if message.kind() != CREATE_SESSION_REQUEST {
         return Ok(None);
     }

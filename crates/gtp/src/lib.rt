@@ -4,6 +4,7 @@
 
 /// GTPv2-C, the control plane (3GPP TS 29.274): view, decode and encode datagrams.
 pub mod control {
+    pub use gtp_ie::{Elements, IeValue};
     pub use gtp_v2::{
         Ambr, Apn, BAD_ELEMENT, BEARER_CONTEXT, BearerRequestContext, BearerResponseContext, Below,
         Body, Cause, ChargingId, ContextView, Contexts, Counter, CreateBearerRequest,

@@ -1,14 +1,15 @@
 -- What the program says where nothing could be shown or replayed, and how a replay ends.
 use Rattle.std.specs.Prelude.{ℕ, List, codes}
 use Rattle.gtpshow.specs.declared.command.Failure.{Failure}
-use Rattle.gtpshow.specs.declared.command.Failure.TheVariants.{BadHex, Memory, Read, Write}
+use Rattle.gtpshow.specs.declared.command.Failure.TheVariants.{BadWords, BadHex, Memory, Read, Write}
 use Rattle.gtp_replay.specs.declared.verdict.Verdict.{Verdict}
 use Rattle.gtp_replay.specs.declared.verdict.Verdict.TheVariants.{Expected, Unexpected, Bad}
 use Rattle.gtp_replay.specs.declared.verdict.ReplayFault.{ReplayFault}
 use Rattle.gtp_replay.specs.declared.verdict.ReplayFault.TheVariants as faults
 
--- the exit status: 2 for bad hexadecimal, and 3 where memory ran out, or a read or write failed
+-- the exit status: 2 for bad arguments, and 3 if memory ran out, or a read or write failed
 abbrev pub status_of : Failure → ℕ
+status_of BadWords = 2
 status_of BadHex = 2
 status_of Memory = 3
 status_of Read = 3
@@ -16,6 +17,7 @@ status_of Write = 3
 
 -- the words that are printed
 abbrev pub failure_text : Failure → List ℕ
+failure_text BadWords = codes "bad words: an argument is not UTF-8"
 failure_text BadHex = codes "bad hex"
 failure_text Memory = codes "no memory"
 failure_text Read = codes "read failed"

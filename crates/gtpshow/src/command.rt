@@ -76,19 +76,25 @@ pub fn command<'a>(alloc: Global) -> Result<Command<'a>, AllocError>
 /// Why nothing was shown or replayed.
 #[derive(Clone, Copy, Debug, PartialEq, Eq)]
 pub enum Failure {
+    /// An argument is not UTF-8.
+    BadWords,
+    /// The octets of a datagram are not hexadecimal digits, or their number is odd.
     BadHex,
+    /// An allocation was refused.
     Memory,
+    /// A read failed, or a file could not be opened.
     Read,
+    /// A write failed.
     Write,
 }
 
 impl Failure {
-    /// The exit status: 2 for bad hexadecimal digits, 3 for every other error.
+    /// The exit status: 2 for bad arguments, 3 if memory, a read or a write failed.
     pub fn status(self) -> u8
         ensures { result ≡ status_of self }
     {
         match self {
-            Failure::BadHex => 2,
+            Failure::BadWords | Failure::BadHex => 2,
             Failure::Memory | Failure::Read | Failure::Write => 3,
         }
     }
@@ -111,6 +117,7 @@ impl fmt::Display for Failure {
 
     fn fmt<W: fmt::Write>(&self, f: &mut fmt::Formatter<W>) -> fmt::Result {
         match self {
+            Failure::BadWords => write!(f, "bad words: an argument is not UTF-8"),
             Failure::BadHex => write!(f, "bad hex"),
             Failure::Memory => write!(f, "no memory"),
             Failure::Read => write!(f, "read failed"),

@@ -49,13 +49,21 @@ fn replay_asked<R: Print + Input + Files>(
     replay_file(rt, alloc, form, asked.get_str("file").unwrap_or("-"))
 }
 
+/// The error for arguments that cannot be read.
+fn unread_words(error: io::Error) -> Failure {
+    match error.kind() {
+        io::ErrorKind::InvalidData => Failure::BadWords,
+        _ => Failure::Memory,
+    }
+}
+
 /// Carries out the command line, and returns the exit status.
 fn run<R: Print + Eprint + Input + Env + Files + AllocGlobal>(rt: &R) -> Result<u8, Failure>
     ensures { IfOk result (λ status. status ≤ 2) }
 {
     let alloc: Global = rt.alloc();
     let words: Vec<String> = env::args(rt)
-        .map_err(|_| Failure::Memory)?
+        .map_err(unread_words)?
         .collect(alloc)
         .map_err(|_| Failure::Memory)?;
     let command = command(alloc).map_err(|_| Failure::Memory)?;

@@ -1,6 +1,6 @@
 //! Replaying a scenario.
 
-ghost use Rattle.std.specs.Prelude.{◌≡◌, ◌+◌, ◌-◌, ◌^◌, ◌<◌, ◌≤◌, Err, IfOk, IfSome};
+ghost use Rattle.std.specs.Prelude.{◌≡◌, ◌≢◌, ◌+◌, ◌-◌, ◌^◌, ◌<◌, ◌≤◌, Err, IfOk, IfSome};
 ghost use Rattle.gtp_replay.specs.Counts.{inner_of, failures_of};
 ghost use Rattle.gtpshow.specs.Status.{verdict_status};
 ghost use Rattle.gtpshow.specs.Replayed.{IsReplayed};
@@ -43,10 +43,18 @@ fn replay_from<I: Read, W: Write>(
         IsReplayed form octets (W.contents (inner_of writer.old))
         (W.contents (inner_of writer.new)) status)) }
     ensures small { IfOk result (λ status. status ≤ 2) }
+    // The first call of a side that fails ends it with the failure of that side, which no other end has.
     ensures read { result ≡ Err Failure.Read
         → failures_of reader.new ≡ failures_of reader.old + 1 }
+    ensures reads_on { result ≢ Err Failure.Read
+        → failures_of reader.new ≡ failures_of reader.old }
     ensures write { result ≡ Err Failure.Write
         → failures_of writer.new ≡ failures_of writer.old + 1 }
+    ensures writes_on { result ≢ Err Failure.Write
+        → failures_of writer.new ≡ failures_of writer.old }
+    ensures unread { result ≡ Err Failure.Read → writer.new ≡ writer.old }
+    ensures memory { result ≡ Err Failure.Memory → writer.new ≡ writer.old }
+    ensures kind { (result ≢ Err Failure.BadHex) × (result ≢ Err Failure.BadWords) }
 {
     match form {
         Form::Report => Ok(status(replay(alloc, reader, writer)?)),

@@ -203,6 +203,85 @@ fn a_second_context_is_refused(rt: HostRuntime) -> Result<(), Fail> {
     plays(&rt, rt.alloc(), &SECOND_CONTEXTS)
 }
 
+/// A Create Session Request whose default bearer has the identity 4.
+const IDENTITY_BELOW_5: &str = concat!(
+    "4820008e0000000000000500",
+    "0100080000010121436587f9",
+    "5200010006",
+    "5300030000f110",
+    "5700090086010000010a000001",
+    "4700090008696e7465726e6574",
+    "8000010000",
+    "6300010001",
+    "4f0005000100000000",
+    "48000800000003e8000003e8",
+    "5d002c00",
+    "4900010004",
+    "500016002009",
+    "0000000000000000000000000000000000000000",
+    "5700090284010000020a000001",
+    "0300010001"
+);
+
+/// A Create Bearer Request that is linked to the bearer 6.
+const LINKED_TO_6: &str = concat!(
+    "485f004a0100000100000500",
+    "4900010006",
+    "5d003900",
+    "4900010000",
+    "5400010021",
+    "5700090185010000030a000002",
+    "500016002009",
+    "0000000000000000000000000000000000000000",
+    "5e00040001000003"
+);
+
+/// An identity that no bearer can have, identities that are not the session's, and an extension header that must be
+/// understood and is not.
+const WRONG_IDENTITIES: Scene = Scene {
+    rows: &[
+        &OPENED,
+        &[
+            (
+                Comes(Role::Packet, Plane::Control, IDENTITY_BELOW_5),
+                Outcome::Answered(69),
+                Octets("482100170100000100000500020006004500490000000300010001"),
+            ),
+            (
+                Comes(Role::Serving, Plane::Control, LINKED_TO_6),
+                Outcome::Answered(64),
+                Octets("4860001301000001000005000200020040000300010001"),
+            ),
+            (
+                Comes(
+                    Role::Serving,
+                    Plane::Control,
+                    "4863000d01000001000006004900010006",
+                ),
+                Outcome::Answered(64),
+                Octets("4864001301000001000006000200020040000300010001"),
+            ),
+            (
+                Comes(
+                    Role::Serving,
+                    Plane::User,
+                    "34ff000b01000002000000c001aabb00616263",
+                ),
+                Outcome::Dropped(DropReason::UnknownExtension),
+                Octets("321f000700000000000000008d0140"),
+            ),
+        ],
+    ],
+    serving: Some((1, 1)),
+    packet: Some((1, 1)),
+    ..IDLE
+};
+
+#[test]
+fn identities_that_are_not_the_session_s(rt: HostRuntime) -> Result<(), Fail> {
+    plays(&rt, rt.alloc(), &WRONG_IDENTITIES)
+}
+
 /// A session is asked for, and the answer says that it is not known.
 const NEVER_THERE: Scene = Scene {
     rows: &[&[
