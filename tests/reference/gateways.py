@@ -60,8 +60,9 @@ def every(found, kind, instance):
     return [body for k, i, body in found if (k, i) == (kind, instance)]
 
 
-def cause_of(value):
-    return element(CAUSE, 0, bytes([value, 0]))
+def cause_of(value, offending=None):
+    """A Cause, and where an element is at fault its type (clause 8.4)."""
+    return element(CAUSE, 0, bytes([value, 0]) + (b"" if offending is None else bytes([offending, 0, 0, 0])))
 
 
 def number_of(kind, number, size=1, instance=0):
@@ -69,8 +70,9 @@ def number_of(kind, number, size=1, instance=0):
 
 
 def end_of(instance, interface, teid, address):
-    """An F-TEID of one IPv4 address (clause 8.22)."""
-    return element(FTEID, instance, bytes([128 | interface]) + teid.to_bytes(4, "big") + address)
+    """An F-TEID of one address, of version 4 or 6 (clause 8.22)."""
+    version = {4: 128, 16: 64}[len(address)]
+    return element(FTEID, instance, bytes([version | interface]) + teid.to_bytes(4, "big") + address)
 
 
 def teid_in(body):
@@ -147,7 +149,7 @@ def user(kind, teid, rest=b""):
 
 def error_indication(teid, address):
     """Clause 7.3.1 of TS 29.281: the TEID that is not known, and the address that it came to."""
-    rest = bytes(4) + bytes([16]) + teid.to_bytes(4, "big") + bytes([133, 0, 4]) + address
+    rest = bytes(4) + bytes([16]) + teid.to_bytes(4, "big") + bytes([133]) + len(address).to_bytes(2, "big") + address
     return bytes([0x32, ERROR_INDICATION]) + len(rest).to_bytes(2, "big") + bytes(4) + rest
 
 
@@ -431,7 +433,8 @@ class Gateway:
             DELETE_BEARER: self.bearers_deleted,
         }
         header, cause, rows = rules[message.kind](message)
-        body = cause_of(cause) + rows + number_of(RECOVERY, self.counter)
+        offending = EBI if cause == 69 else None
+        body = cause_of(cause, offending) + rows + number_of(RECOVERY, self.counter)
         answer = control(message.kind + 1, header, message.number, body)
         self.held.append(Held(octets, answer))
         told.sent, told.outcome = [("control", answer)], f"answered {cause}"
@@ -442,6 +445,9 @@ class Gateway:
         apn = text_of(first(found, APN, 0))
         pdn = first(found, PDN_TYPE, 0)[0] & 7
         context = message.contexts[0]
+        identity = first(context, EBI, 0)[0] & 15
+        if identity < 5:
+            return header, 69, b""
         if apn not in self.setup.access_points:
             return header, 78, b""
         if pdn not in (1, 3):
@@ -452,7 +458,6 @@ class Gateway:
         if address is None:
             return header, 84, b""
         session, bearer = self.draw(), self.draw()
-        identity = first(context, EBI, 0)[0] & 15
         imsi = unpacked(first(found, IMSI, 0))
         self.sessions[session] = Session(imsi, apn, identity, ACTIVE, header, address)
         self.bearers[bearer] = Bearer(session, True, ACTIVE, identity, teid_in(first(context, FTEID, 2)))

@@ -88,6 +88,60 @@ EVENTS = {
 }
 
 
+# Events in a row that random choice alone hardly ever makes.
+
+
+def newest(world):
+    return {"do": "deliver", "datagram": max(0, len(world.datagrams) - 1)}
+
+
+def more_bearers_than_identities(rng, world):
+    session = of_session(PACKET)(rng, world)
+    for _ in range(12):
+        yield {"do": "create_bearer"} | session | {"tft": "21"}
+        yield newest(world)
+        yield newest(world)
+
+
+def more_requests_than_can_wait(rng, world):
+    node = at_node(rng, world)
+    for _ in range(257):
+        yield {"do": "echo"} | node
+
+
+def more_restarts_than_can_be(rng, world):
+    node = at_node(rng, world)
+    for _ in range(128):
+        yield {"do": "restart"} | node
+
+
+def payload_too_long(rng, world):
+    yield {"do": "send"} | send(rng, world) | {"payload": "00" * 65001}
+
+
+def user_datagrams_cut(rng, world):
+    for number, (_, plane, octets) in enumerate(world.datagrams):
+        if plane == "user":
+            yield {"do": "cut", "datagram": number, "length": rng.randint(0, len(octets))}
+
+
+ROWS = [
+    more_bearers_than_identities,
+    more_requests_than_can_wait,
+    more_restarts_than_can_be,
+    payload_too_long,
+    user_datagrams_cut,
+]
+
+
+def random_events(rng, world):
+    """Mostly one event, and seldom a row of them. Each is chosen after the one before it has happened."""
+    if rng.random() < 0.995:
+        yield random_event(rng, world)
+    else:
+        yield from rng.choice(ROWS)(rng, world)
+
+
 def random_event(rng, world):
     make = rng.choices(list(EVENTS), EVENTS.values())[0]
     name = make.__name__
@@ -104,10 +158,10 @@ def scenario(number):
     made = head(rng)
     world = World(made)
     for _ in range(rng.choice([20, 60, 200])):
-        event = random_event(rng, world)
-        for _ in range(event.get("times", 1)):
-            told = world.step(event)
-        if rng.random() < 0.9:
-            event["expect"] = told.outcome.split()[0]
-        made["events"].append(event)
+        for event in random_events(rng, world):
+            for _ in range(event.get("times", 1)):
+                told = world.step(event)
+            if rng.random() < 0.9:
+                event["expect"] = told.outcome.split()[0]
+            made["events"].append(event)
     return made

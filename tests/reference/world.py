@@ -1,6 +1,7 @@
 """The world of both gateways: scenarios are run in it, and its report is written."""
 
 from dataclasses import dataclass
+from ipaddress import ip_address
 
 from gateways import ACTIVE, MOST_RESTARTS, PACKET, SERVING, Gateway, Refused, Setup, Told
 
@@ -18,7 +19,7 @@ def node_of(event):
 
 
 def octets_of(address):
-    return bytes(int(part) for part in address.split("."))
+    return ip_address(address).packed
 
 
 def setups(scenario):

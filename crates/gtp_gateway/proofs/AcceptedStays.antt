@@ -5,26 +5,25 @@ use Rattle.gtp_values.specs.declared.address.Endpoint.{Endpoint}
 use Rattle.gtp_machine.specs.declared.role.Role.{Role}
 use Rattle.gtp_machine.specs.declared.role.Role.TheVariants.{Serving, Packet}
 use Rattle.gtp_machine.specs.Message.{Message, Packet_data, End_marker, Error_indication}
-use Rattle.gtp_machine.specs.Input.{UserReading, User_message, Extension_needed, User_fault, Effect}
+use Rattle.gtp_machine.specs.Input.{Came_to, UserReading, User_message, Extension_needed, User_fault, Effect}
 use Rattle.gtp_machine.specs.Node.{Node}
 use Rattle.gtp_machine.specs.Reading.{user_reading}
 use Rattle.gtp_machine.specs.User.{PacketCame, EndCame, ErrorCame, UserTaken, UserRead, UserStep}
 use Rattle.gtp_machine.specs.declared.outcome.Outcome.TheVariants.{Accepted, Broken, Ended}
 use Rattle.gtp_gateway.specs.Station.{Station}
-use Rattle.gtp_gateway.specs.declared.step.Report.{Report}
 use Rattle.gtp_gateway.specs.declared.step.Step.{Step}
 use Rattle.gtp_gateway.specs.UserTaken.{IsUserTaken}
 
-ended_not : Ended ≡ Accepted → ⊥
+ended_not : Came_to Ended ≡ Came_to Accepted → ⊥
 ended_not is = cc
 
-broken_not : Broken ≡ Accepted → ⊥
+broken_not : Came_to Broken ≡ Came_to Accepted → ⊥
 broken_not is = cc
 
 module _ (old : Node) where
   -- where a packet was accepted, the node is as before
   abbrev Leaves : Effect → Type 0
-  Leaves e = e.outcome ≡ Accepted → e.node ≡ old
+  Leaves e = e.outcome ≡ Came_to Accepted → e.node ≡ old
 
   by : (e k : Effect) → e ≡ k → Leaves k → Leaves e
   by e k is leaves = subst Leaves (sym is) leaves
@@ -64,6 +63,6 @@ module _ (old : Node) where
 pub accepted_stays : (source : Endpoint) (octets : List ℕ) (old : Station) (step : Step) (new : Station) → IsUserTaken source octets old step new → IsSome step.accepted → new ≡ old
 accepted_stays source octets old step new taken some =
     let accepted = taken.tells.packet.1 some in
-    let node = taken.becomes ∙ step_leaves old.node old.role source (user_reading octets) taken.effect taken.takes (sym (ap (λ (r : Report). r.outcome) taken.tells.report) ∙ accepted) in
-    let timing = taken.same (λ broken. broken_not (sym broken ∙ accepted)) in
+    let node = taken.becomes ∙ step_leaves old.node old.role source (user_reading octets) taken.effect taken.takes (sym taken.tells.outcome ∙ ap (λ o. Came_to o) accepted) in
+    let timing = taken.same (λ broken. broken_not (ap (λ o. Came_to o) (sym broken ∙ accepted))) in
     λ i. record { role = taken.role i; node = node i; timing = timing i }

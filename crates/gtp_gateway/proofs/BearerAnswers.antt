@@ -18,7 +18,7 @@ use Rattle.gtp_machine.specs.declared.outcome.Outcome.TheVariants.{Opened, Clash
 use Rattle.gtp_machine.specs.Choice.{HasPending}
 use Rattle.gtp_machine.specs.Decoded.{number_at, cause_at, given}
 use Rattle.gtp_machine.specs.Element.{IsAccepting, teid_in}
-use Rattle.gtp_machine.specs.Input.{Effect, nothing}
+use Rattle.gtp_machine.specs.Input.{Came_to, Effect, nothing}
 use Rattle.gtp_machine.specs.Message.{Message, CreateBearerRequest, CreateBearerResponse, GivenBearer, Create_bearer_request, Create_bearer_response, header_of, first_given, first_identity}
 use Rattle.gtp_machine.specs.Node.{Active, Closing, Session, Bearer, Arrival, Node}
 use Rattle.gtp_machine.specs.Packet.{FitsBearer, DescribesBearer, CanOpen, opened_dedicated, BearerAnswered as BearerRow}
@@ -196,7 +196,7 @@ module _ (n : Node) (r : BearerResponse) (x : CreateBearerResponse) (says : Says
                                 openable can,
                                 record {
                                   at = record { bearer = b; stands = stands };
-                                  gives = λ i. record { out = nothing; outcome = Opened; node = record n { bearers = insert n.bearers k.bearer.0 (then i); pending = remove n.pending x.number } };
+                                  gives = λ i. record { out = nothing; outcome = Came_to Opened; node = record n { bearers = insert n.bearers k.bearer.0 (then i); pending = remove n.pending x.number } };
                                 },
                               ),
                             ),

@@ -13,7 +13,7 @@ use Rattle.gtp_machine.specs.Ordered.{Unless}
 use Rattle.gtp_machine.specs.Node.{Active, Session, Bearer, Node, written}
 use Rattle.gtp_machine.specs.Choice.{HasSession, HasBearer, HasDraws, HasPendingRoom}
 use Rattle.gtp_values.specs.declared.qos.Qos.{Qos}
-use Rattle.gtp_machine.specs.Input.{Effect, says, refused}
+use Rattle.gtp_machine.specs.Input.{Came_to, Effect, says, refused}
 use Rattle.gtp_machine.specs.Sound.{IsSound}
 use Rattle.gtp_machine.specs.declared.outcome.Refusal.{Refusal}
 use Rattle.gtp_machine.proofs.Basics.Facts.{one_value}
@@ -43,7 +43,7 @@ abbrev pub ends_on : ℕ → Node → Effect → Bearer → Type 0
 ends_on bearer old e b =
     Unless (b.state ≡ Active) (e ≡ refused old NotActive) (λ active.
     Unless (b.ended ≡ false) (e ≡ refused old BearerEnded) (λ before.
-    e ≡ record { out = says (user_end old.config.peer.user) (End_marker (written b.remote)); outcome = GoneOut; node = record old { bearers = insert old.bearers bearer (ended_bearer b) } }))
+    e ≡ record { out = says (user_end old.config.peer.user) (End_marker (written b.remote)); outcome = Came_to GoneOut; node = record old { bearers = insert old.bearers bearer (ended_bearer b) } }))
 
 -- the rules of delete_session that look at the session
 abbrev pub deletes_on : ℕ → Node → Effect → Session → Type 0

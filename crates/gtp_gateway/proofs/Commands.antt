@@ -1,9 +1,9 @@
 -- Commands leave a gateway sound.
-use Rattle.std.proofs.Common.{◌≡◌, ℕ, Option, ◌∙◌, Result, Ok, Err, sym, subst}
+use Rattle.std.proofs.Common.{◌≡◌, ℕ, Option, ◌∙◌, Result, Ok, Err, sym, ap, subst}
 use Rattle.std.specs.Prelude.{IfOk, OnErr}
 use Rattle.std.proofs.lemmas.Grind.{merely}
 use mathlib.Core.Logic.{∥∥₁_elim, ∥∥₁_prop}
-use Rattle.gtp_machine.specs.Input.{Command, Commanded, Effect}
+use Rattle.gtp_machine.specs.Input.{Came_to, Command, Commanded, Effect}
 use Rattle.gtp_machine.specs.Sound.{IsSound, IsWellFormed}
 use Rattle.gtp_machine.proofs.Sound.Rows.{stays_sound}
 use Rattle.gtp_gateway.specs.declared.fault.CommandFault.{CommandFault}
@@ -28,7 +28,7 @@ done_by command Asks (Ok begun) old new comes step asked =
       effect = asked.effect;
       step = step asked.effect asked.room asked.asks;
       sent = asked.sent;
-      outcome = asked.outcome ∙ comes _;
+      outcome = asked.outcome ∙ ap (λ o. Came_to o) (comes _);
       becomes = asked.becomes;
       role = asked.role;
     }

@@ -14,7 +14,7 @@ use Rattle.gtp_reliable.specs.Pending.{AreDistinct}
 use Rattle.gtp_reliable.specs.Waiting.{Waiting, just_sent}
 use Rattle.gtp_machine.specs.Message.{Plane, Control, User}
 use Rattle.gtp_machine.specs.Node.{PendingRequest, Arrival, Held, Node}
-use Rattle.gtp_machine.specs.Input.{Command, Commanded, Mark_end, Send_user, Control_came, ControlReading, Entry, Out, Effect}
+use Rattle.gtp_machine.specs.Input.{Came_to, Command, Commanded, Mark_end, Send_user, Control_came, ControlReading, Entry, Out, Effect}
 use Rattle.gtp_machine.specs.Choice.{HasPending}
 use Rattle.gtp_machine.specs.Spelling.{datagram_of}
 use Rattle.gtp_machine.specs.declared.outcome.Outcome.{Outcome}
@@ -66,6 +66,9 @@ held_once s tied apart = record {
 }
 
 -- ---- what is told
+
+same_outcome : (a b : Outcome) → Came_to a ≡ Came_to b → a ≡ b
+same_outcome a b e = cc
 
 -- what is told by a number that tells all of it
 one_told : {X : Type 0} (number : X → ℕ) → ((x y : X) → number x ≡ number y → x ≡ y) → (a b : Option X) → option_map number a ≡ option_map number b → a ≡ b
@@ -152,7 +155,7 @@ module _ (plane : Plane) (source : Endpoint) (octets : List ℕ) (old : Station)
         let same : e ≡ f = both.one picked in
         let tells = m.received.tells in
         let also = n.received.tells in
-        let outcome : step.report.outcome ≡ other.report.outcome = tells.outcome ∙ (ap (λ (k : Effect). k.outcome) same ∙ sym also.outcome) in
+        let outcome : step.report.outcome ≡ other.report.outcome = same_outcome step.report.outcome other.report.outcome (tells.outcome ∙ (ap (λ (k : Effect). k.outcome) same ∙ sym also.outcome)) in
         let heard : step.report.heard ≡ other.report.heard = same_heard step.report.heard other.report.heard (tells.heard ∙ (ap (λ (k : Effect). k.out.heard) same ∙ sym also.heard)) in
         let restart : step.report.restart ≡ other.report.restart = same_heard step.report.restart other.report.restart (tells.restart ∙ (ap (λ (k : Effect). k.out.learned) same ∙ sym also.restart)) in
         let made : step.report.made ≡ other.report.made = same_made (arrival_of source octets) step.report.made other.report.made (tells.made ∙ (ap (λ (k : Effect). k.out.made) same ∙ sym also.made)) in
@@ -224,7 +227,7 @@ module _ (old : Station) (whole : IsWhole old) (once : HeldOnce old.node) (tied 
       let datagram : datagram_by begun.out ≡ datagram_by other.out = cc in
       record {
         sent = datagram;
-        teid = one_teid command old begun other new left m.next n.next (sym m.done.outcome ∙ (ap (λ (k : Effect). k.outcome) same ∙ n.done.outcome));
+        teid = one_teid command old begun other new left m.next n.next (same_outcome _ _ (sym m.done.outcome ∙ (ap (λ (k : Effect). k.outcome) same ∙ n.done.outcome)));
         leaves = one_left command old begun other new left (m.done.role ∙ sym n.done.role) (m.done.becomes ∙ (ap (λ (k : Effect). k.node) same ∙ sym n.done.becomes)) datagram m.next n.next;
       }
 

@@ -6,8 +6,7 @@ use Rattle.gtp_values.specs.declared.address.Endpoint.{Endpoint}
 use Rattle.gtp_values.specs.FiniteMap.{Among}
 use Rattle.gtp_reliable.specs.Held.{HeldPair, forgotten, after_tick, IsHeld, AreApart}
 use Rattle.gtp_machine.specs.Node.{Arrival, Held, Node}
-use Rattle.gtp_machine.specs.Input.{Forget, Out, nothing}
-use Rattle.gtp_machine.specs.declared.outcome.Outcome.TheVariants.{Moved}
+use Rattle.gtp_machine.specs.Input.{Ticked, Forget, Out, nothing}
 use Rattle.gtp_machine.specs.Move.{AreLeft}
 use Rattle.gtp_machine.specs.Tick.{TickStep}
 use Rattle.gtp_gateway.specs.Parts.{arrival_of, held_of}
@@ -65,7 +64,7 @@ forgot requests = record nothing { forgot = requests }
 moves_each : (requests : List Arrival) (node : Node) (held new : List Held) → ForgetsEach requests held new → TickStep (record node { held = held }) (map Forget requests) (forgot requests) (record node { held = new })
 moves_each [] node held new is = (refl, ap (λ (l : List Held). record node { held = l }) is)
 moves_each (request ∷ requests) node held new (h, among, same, (rest, left, later)) = (
-  record { out = forgot (request ∷ []); outcome = Moved; node = record node { held = rest } },
+  record { out = forgot (request ∷ []); outcome = Ticked; node = record node { held = rest } },
   forgot requests,
   record { held = h; stood = among; same = same; rest = rest; left = left; gives = refl },
   moves_each requests node rest new later,

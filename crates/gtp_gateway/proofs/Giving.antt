@@ -13,8 +13,7 @@ use Rattle.gtp_reliable.specs.declared.waiting.NextTick.TheVariants.{WaitsOn, Se
 use Rattle.gtp_reliable.proofs.Told.{filter_twice}
 use Rattle.gtp_reliable.specs.Waiting.{Waiting, next_tick, after_tick, after_tick_by, given_up, given_up_by}
 use Rattle.gtp_tables.proofs.Found.{key_itself}
-use Rattle.gtp_machine.specs.Input.{Move, Give_up, Out, nothing}
-use Rattle.gtp_machine.specs.declared.outcome.Outcome.TheVariants.{Moved}
+use Rattle.gtp_machine.specs.Input.{Ticked, Move, Give_up, Out, nothing}
 use Rattle.gtp_machine.specs.Node.{PendingRequest, Node}
 use Rattle.gtp_machine.specs.Removal.{on, finished_about, finished}
 use Rattle.gtp_machine.specs.Tick.{TickStep, AreGiveUps}
@@ -44,7 +43,7 @@ giving_up [] old told new moves rest last each tick =
 giving_up (number ∷ numbers) old told new moves rest last (inl (absent, each)) tick = giving_up numbers old told new moves rest last each tick
 giving_up (number ∷ numbers) old told new moves rest last (inr (at, (others, each, is))) tick =
     subst (λ (t : List ℕ). TickStep old (map Give_up t ++ moves) (record rest { gave_up = t ++ rest.gave_up }) last) (sym is) (
-      record { out = record nothing { gave_up = number ∷ [] }; outcome = Moved; node = finished old number at.pending },
+      record { out = record nothing { gave_up = number ∷ [] }; outcome = Ticked; node = finished old number at.pending },
       record rest { gave_up = others ++ rest.gave_up },
       record { at = at; gives = refl },
       giving_up numbers (finished old number at.pending) others new moves rest last each tick,

@@ -13,7 +13,7 @@ use Rattle.gtp_machine.specs.declared.outcome.Outcome.TheVariants.{Opened}
 use Rattle.gtp_machine.specs.Answer.{IsNew, answered}
 use Rattle.gtp_machine.specs.Choice.{HasHeldRoom, HasSession, HasPending}
 use Rattle.gtp_machine.specs.Element.{IsAccepting, teid_in}
-use Rattle.gtp_machine.specs.Input.{Effect, RequestKind, FaultyRequest, ControlReading, Control_message, Faulty, Control_came}
+use Rattle.gtp_machine.specs.Input.{Came_to, Effect, RequestKind, FaultyRequest, ControlReading, Control_message, Faulty, Control_came}
 use Rattle.gtp_machine.specs.Message.{Message, CreateSessionRequest, CreateSessionResponse, CreatedBearer, DeleteSessionRequest, CreateBearerRequest, CreateBearerResponse, GivenBearer, DeleteBearerRequest, Echo, Echo_request, Create_session_request, Create_session_response, Delete_session_request, Create_bearer_request, Create_bearer_response, Delete_bearer_request, recovery_of}
 use Rattle.gtp_machine.specs.Node.{Active, Pending, Session, PendingRequest, Arrival, Held, Node}
 use Rattle.gtp_machine.specs.Packet.{SessionJudged, SessionAsked, DeletionJudged, DeletionAsked, BearerAnswered, FitsBearer, DescribesBearer, CanOpen, PacketFaulted, PacketReads}
@@ -114,7 +114,7 @@ removal_asked request d old room opened e (inr (few, judged)) = removal_judged r
 -- ---- responses that open what was asked for
 
 -- the outcomes of effects that are one
-is_opened : {e f : Effect} → f.outcome ≡ Opened → f ≡ e → e.outcome ≡ Opened
+is_opened : {e f : Effect} → f.outcome ≡ Came_to Opened → f ≡ e → e.outcome ≡ Came_to Opened
 is_opened opened same = ap (λ (x : Effect). x.outcome) (sym same) ∙ opened
 
 -- an accepting response that describes the session
@@ -125,7 +125,7 @@ record SessionAccepted (a : CreateSessionResponse) (old : Node) : Type 0 where
   new : DescribesSession old fits.session a
   both : IsAccepting new.context.cause
 
-session_accepted : (a : CreateSessionResponse) (old : Node) (f : Effect) → f.outcome ≡ Opened → SessionAnswered a old f → SessionAccepted a old
+session_accepted : (a : CreateSessionResponse) (old : Node) (f : Effect) → f.outcome ≡ Came_to Opened → SessionAnswered a old f → SessionAccepted a old
 session_accepted a old f opened (inl n) = absurd (let is = is_opened opened n.1 in cc)
 session_accepted a old f opened (inr (at, inl n)) = absurd (let is = is_opened opened n.1 in cc)
 session_accepted a old f opened (inr (at, inr (fits, inl n))) = absurd (let is = is_opened opened n.1 in cc)
@@ -136,7 +136,7 @@ session_accepted a old f opened (inr (at, inr (fits, inr (accepts, inr (new, inr
 one_pending : (old : Node) (number : ℕ) (a b : HasPending old number) → a.pending ≡ b.pending
 one_pending old number a b = one_value (get old.pending number) a.pending b.pending a.waits b.waits
 
-session_by : (a : CreateSessionResponse) (old : Node) → SessionAccepted a old → (e : Effect) → SessionAnswered a old e → e.outcome ≡ Opened
+session_by : (a : CreateSessionResponse) (old : Node) → SessionAccepted a old → (e : Effect) → SessionAnswered a old e → e.outcome ≡ Came_to Opened
 session_by a old w e (inl n) = absurd (n.0 w.at)
 session_by a old w e (inr (at, inl n)) = absurd (n.0 (subst (λ (p : PendingRequest). FitsSession p a) (one_pending old a.number w.at at) w.fits))
 session_by a old w e (inr (at, inr (fits, inl n))) = absurd (n.0 w.accepts)
@@ -147,7 +147,7 @@ session_by a old w e (inr (at, inr (fits, inr (accepts, inr (new, inl n))))) =
 session_by a old w e (inr (at, inr (fits, inr (accepts, inr (new, inr (both, opens)))))) = ap (λ (x : Effect). x.outcome) opens.gives
 
 -- where one answer opens the session, each does
-pub session_answered : (a : CreateSessionResponse) (old : Node) (f : Effect) → f.outcome ≡ Opened → SessionAnswered a old f → AlwaysSendsOrOpens (SessionAnswered a) old
+pub session_answered : (a : CreateSessionResponse) (old : Node) (f : Effect) → f.outcome ≡ Came_to Opened → SessionAnswered a old f → AlwaysSendsOrOpens (SessionAnswered a) old
 session_answered a old f opened is e answers = inr (session_by a old (session_accepted a old f opened is) e answers)
 
 -- an accepting response that describes the bearer, which can be opened
@@ -160,7 +160,7 @@ record BearerAccepted (x : CreateBearerResponse) (old : Node) : Type 0 where
   returned : teid_in new.context.packet_user ≡ Some fits.bearer
   can : CanOpen old fits.session new.context.identity
 
-bearer_accepted : (x : CreateBearerResponse) (old : Node) (f : Effect) → f.outcome ≡ Opened → BearerAnswered x old f → BearerAccepted x old
+bearer_accepted : (x : CreateBearerResponse) (old : Node) (f : Effect) → f.outcome ≡ Came_to Opened → BearerAnswered x old f → BearerAccepted x old
 bearer_accepted x old f opened (inl n) = absurd (let is = is_opened opened n.1 in cc)
 bearer_accepted x old f opened (inr (at, inl n)) = absurd (let is = is_opened opened n.1 in cc)
 bearer_accepted x old f opened (inr (at, inr (fits, inl n))) = absurd (let is = is_opened opened n.1 in cc)
@@ -183,7 +183,7 @@ module _ (x : CreateBearerResponse) (old : Node) (w : BearerAccepted x old) wher
   same_bearer : (at : HasPending old x.number) (fits : FitsBearer at.pending x) → w.fits.bearer ≡ fits.bearer
   same_bearer at fits = one_value at.pending.bearer w.fits.bearer fits.bearer (ap (λ (p : PendingRequest). p.bearer) (sym (same_request at)) ∙ w.fits.about_bearer) fits.about_bearer
 
-  bearer_by : (e : Effect) → BearerAnswered x old e → e.outcome ≡ Opened
+  bearer_by : (e : Effect) → BearerAnswered x old e → e.outcome ≡ Came_to Opened
   bearer_by e (inl n) = absurd (n.0 w.at)
   bearer_by e (inr (at, inl n)) = absurd (n.0 (subst (λ (p : PendingRequest). FitsBearer p x) (same_request at) w.fits))
   bearer_by e (inr (at, inr (fits, inl n))) = absurd (n.0 w.accepts)
@@ -196,7 +196,7 @@ module _ (x : CreateBearerResponse) (old : Node) (w : BearerAccepted x old) wher
   bearer_by e (inr (at, inr (fits, inr (accepts, inr (new, inr (both, inr (returned, inr (can, opens)))))))) = ap (λ (y : Effect). y.outcome) opens.gives
 
 -- where one answer opens the bearer, each does
-pub bearer_answered : (x : CreateBearerResponse) (old : Node) (f : Effect) → f.outcome ≡ Opened → BearerAnswered x old f → AlwaysSendsOrOpens (BearerAnswered x) old
+pub bearer_answered : (x : CreateBearerResponse) (old : Node) (f : Effect) → f.outcome ≡ Came_to Opened → BearerAnswered x old f → AlwaysSendsOrOpens (BearerAnswered x) old
 bearer_answered x old f opened is e answers = inr (bearer_by x old (bearer_accepted x old f opened is) e answers)
 
 -- ---- wired to the kinds of message

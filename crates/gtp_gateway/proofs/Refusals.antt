@@ -10,7 +10,7 @@ use Rattle.gtp_machine.specs.Choice.{HasPendingRoom}
 use Rattle.gtp_machine.specs.Message.{Echo_request, Create_session_request, Delete_session_request, Create_bearer_request, Delete_bearer_request}
 use Rattle.gtp_machine.specs.Removal.{session_closing}
 use Rattle.gtp_machine.specs.Command.{ClosesBearer, BeginsSession, session_request, session_begun, ClosesSession, ReleasesSession, BeginsBearer, bearer_request, pending_dedicated, asks, SendsEcho}
-use Rattle.gtp_machine.specs.Input.{Specification, Effect, refused}
+use Rattle.gtp_machine.specs.Input.{Came_to, Specification, Effect, refused}
 use Rattle.gtp_machine.specs.declared.outcome.Refusal.{Refusal}
 use Rattle.gtp_machine.specs.declared.outcome.Refusal.TheVariants.{PendingFull}
 use Rattle.gtp_machine.specs.declared.outcome.Outcome.TheVariants as outcomes
@@ -21,10 +21,10 @@ use Rattle.gtp_gateway.specs.declared.sent.Begun.{Begun}
 use Rattle.gtp_gateway.specs.Parts.{pending_in}
 use Rattle.gtp_gateway.proofs.Requests.{len_pending}
 
-not_begun : (why : Refusal) (teid : Option ℕ) → outcomes.Refused why ≡ outcomes.Begun teid → ⊥
+not_begun : (why : Refusal) (teid : Option ℕ) → Came_to (outcomes.Refused why) ≡ Came_to (outcomes.Begun teid) → ⊥
 not_begun why teid is = cc
 
-one_reason : (why other : Refusal) → outcomes.Refused why ≡ outcomes.Refused other → why ≡ other
+one_reason : (why other : Refusal) → Came_to (outcomes.Refused why) ≡ Came_to (outcomes.Refused other) → why ≡ other
 one_reason why other is = cc
 
 -- what asks is not refused

@@ -15,8 +15,7 @@ use Rattle.gtp_reliable.specs.Waiting as reliable
 use Rattle.gtp_reliable.specs.Pending.{is_pending, AreDistinct}
 use Rattle.gtp_tables.proofs.Found.{key_itself}
 use Rattle.gtp_machine.specs.Config.{Config, control_end, own_end}
-use Rattle.gtp_machine.specs.Input.{Move, Resend, Out, Sending, says}
-use Rattle.gtp_machine.specs.declared.outcome.Outcome.TheVariants.{Moved}
+use Rattle.gtp_machine.specs.Input.{Ticked, Move, Resend, Out, Sending, says}
 use Rattle.gtp_machine.specs.Message.{Message, Plane, Control, plane_of, Echo_request, Create_session_request, Delete_session_request, Create_bearer_request, Delete_bearer_request}
 use Rattle.gtp_machine.specs.Node.{PendingRequest, Node}
 use Rattle.gtp_machine.specs.Spelling.{datagram_of, spelled}
@@ -94,7 +93,7 @@ moves_each : (node : Node) (ms : List reliable.Message) (moves : List Move) (res
 moves_each node [] moves rest new each tick = tick
 moves_each node (m ∷ ms) moves rest new each tick =
     let here = each m (inl refl) in (
-      record { out = says (control_end node.config.peer.control) here.pending.request; outcome = Moved; node = node },
+      record { out = says (control_end node.config.peer.control) here.pending.request; outcome = Ticked; node = node },
       record rest { sent = map (sending_again node.config) ms ++ rest.sent },
       record { at = record { pending = here.pending; waits = here.waits }; gives = refl },
       moves_each node ms moves rest new (λ k among. each k (inr among)) tick,

@@ -12,7 +12,7 @@ use Rattle.gtp_machine.specs.Recovery.{Hears, learned_by}
 use Rattle.gtp_machine.specs.Reading.{control_reading}
 use Rattle.gtp_machine.specs.Spelling.{datagram_of}
 use Rattle.gtp_machine.specs.Step.{Step as MachineStep}
-use Rattle.gtp_machine.specs.Input.{Effect, ControlReading, Control_message, Control_came, nothing, dropped}
+use Rattle.gtp_machine.specs.Input.{Came_to, Effect, ControlReading, Control_message, Control_came, nothing, dropped}
 use Rattle.gtp_machine.specs.declared.outcome.DropReason.{DropReason}
 use Rattle.gtp_machine.specs.declared.outcome.DropReason.TheVariants.{OldCounter, Unexpected}
 use Rattle.gtp_machine.specs.declared.outcome.Outcome.{Outcome}
@@ -41,11 +41,11 @@ drops Takes request s step why is takes =
       role_stays = refl;
     })
 
-pub ends : (Takes : Node → Effect → Type 0) (request : Arrival) (old new : Station) (step : ControlStep) (outcome : Outcome) (node : Node) → step ≡ record { out = None; report = plain_report outcome } → new.node ≡ node → new.role ≡ old.role → Takes old.node (record { out = nothing; outcome = outcome; node = node }) → IsRow Takes request old.role old.node step new
+pub ends : (Takes : Node → Effect → Type 0) (request : Arrival) (old new : Station) (step : ControlStep) (outcome : Outcome) (node : Node) → step ≡ record { out = None; report = plain_report outcome } → new.node ≡ node → new.role ≡ old.role → Takes old.node (record { out = nothing; outcome = Came_to outcome; node = node }) → IsRow Takes request old.role old.node step new
 ends Takes request old new step outcome node is becomes role takes =
     subst (λ (t : ControlStep). IsRow Takes request old.role old.node t new) (sym is)
     (record {
-      effect = record { out = nothing; outcome = outcome; node = node };
+      effect = record { out = nothing; outcome = Came_to outcome; node = node };
       takes = takes;
       tells = record { sent = none_sent old.node.config; outcome = refl; made = refl; heard = refl; learned = refl; untold = refl; unlearned = refl; all = refl };
       becomes = becomes;

@@ -19,7 +19,7 @@ use Rattle.gtp_machine.specs.declared.outcome.Outcome.TheVariants.{Opened, Rejec
 use Rattle.gtp_machine.specs.Choice.{HasPending}
 use Rattle.gtp_machine.specs.Decoded.{address_of, number_at, cause_at, first_in, end_in, paa_in, created}
 use Rattle.gtp_machine.specs.Element.{IsAccepting, PdnAddress, Ipv4, Other_address, ipv4_of}
-use Rattle.gtp_machine.specs.Input.{Effect, nothing}
+use Rattle.gtp_machine.specs.Input.{Came_to, Effect, nothing}
 use Rattle.gtp_machine.specs.Message.{Message, CreateSessionRequest, CreateSessionResponse, CreatedBearer, Create_session_request, Create_session_response, header_of, first_created}
 use Rattle.gtp_machine.specs.Node.{Active, Session, Bearer, Arrival, Node}
 use Rattle.gtp_machine.specs.Response.{Named}
@@ -208,7 +208,7 @@ module _ (n : Node) (r : SessionResponse) (a : CreateSessionResponse) (says : Sa
                           default = record { bearer = b; stands = ap (λ (t : ℕ). get n.bearers t) (sym user) ∙ stands };
                           gives = λ i. record {
                             out = nothing;
-                            outcome = Opened;
+                            outcome = Came_to Opened;
                             node = record n { sessions = insert n.sessions k.session.0 (now i); bearers = insert n.bearers (user i) (then i); pending = remove n.pending a.number };
                           };
                         },

@@ -1,5 +1,5 @@
 -- What stands once a counter was heard, by what stood before.
-use Rattle.std.proofs.Common.{◌≡◌, ℕ, Bool, true, false, cond, Option, Some, None, Result, Ok, Err, refl, sym, ◌∙◌, ap}
+use Rattle.std.proofs.Common.{◌≡◌, ℕ, Bool, true, false, cond, Option, Some, None, Result, Ok, Err, is_ok, refl, sym, ◌∙◌, ap}
 use Rattle.std.specs.Prelude.{◌||◌, not, IfOk, OnOk}
 use Rattle.gtp_values.specs.declared.fault.Memory.{Memory}
 use Rattle.std.specs.FinMap.{get, insert, get-insert, same_map, nat_cmp-IsAntisymmetric}
@@ -117,6 +117,11 @@ pub settled : (Takes : Node → Effect → Type 0) (request : Arrival) (heard : 
 settled Takes request heard old new v number step is becomes role takes = ends Takes request (record old { node = node_heard heard old.node }) new step (outcome_by v) (node_by v number (node_heard heard old.node)) is becomes role takes
 
 -- what is so of each step that there may be is so of what there is
+-- what holds where a call succeeded, since it did
+pub succeeded : {T E P : Type 0} (r : Result T E) → true ≡ is_ok r → OnOk r P → P
+succeeded (Ok x) is holds = holds
+succeeded (Err e) is holds = absurd (cc is)
+
 pub if_ok : {Is : ControlStep → Type 0} {Becomes : Type 0} {Taken : ControlStep → Type 0} → ((step : ControlStep) → Is step → Becomes → Taken step) → (o : Result ControlStep Memory) → IfOk o Is → OnOk o Becomes → IfOk o Taken
 if_ok each (Ok step) is becomes = each step is becomes
 if_ok each (Err e) is becomes = tt

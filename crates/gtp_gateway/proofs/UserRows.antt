@@ -8,7 +8,7 @@ use Rattle.gtp_machine.specs.User.{UserRead}
 use Rattle.std.specs.FinMap.{get}
 use Rattle.gtp_machine.specs.Choice.{HasBearer}
 use Rattle.gtp_machine.specs.Node.{Node}
-use Rattle.gtp_machine.specs.Input.{UserReading, User_fault, nothing, Effect, dropped, undecodable}
+use Rattle.gtp_machine.specs.Input.{Came_to, UserReading, User_fault, nothing, Effect, dropped, undecodable}
 use Rattle.gtp_machine.specs.declared.outcome.DropReason.{DropReason}
 use Rattle.gtp_machine.specs.declared.outcome.Outcome.{Outcome}
 use Rattle.gtp_machine.specs.declared.outcome.Outcome.TheVariants.{Accepted, Broken, Dropped}
@@ -24,7 +24,7 @@ use Rattle.gtp_gateway.specs.Parts.{pending_in}
 use Rattle.gtp_gateway.specs.Replying.{sending_of, outcome_of, replied, IsReplyBy}
 use Rattle.gtp_gateway.specs.Sent.{AreSent}
 use Rattle.gtp_gateway.specs.Station.{Station}
-use Rattle.gtp_gateway.specs.Taken.{datagrams}
+use Rattle.gtp_gateway.specs.Taken.{datagrams, plain_report}
 use Rattle.gtp_gateway.specs.UserTaken.{plain_step, accepted_step, AreEntries, WaitOn, IsTakenBy, IsJudgedBy, IsFaultJudged}
 use Rattle.gtp_gateway.proofs.SentBack.{none_sent}
 
@@ -51,12 +51,12 @@ all_wait old new same pending =
 
 module _ (Takes : Node → Effect → Type 0) (old : Station) where
   -- nothing is told but an outcome, and no packet is accepted
-  pub plain : (outcome : Outcome) (node : Node) (new : Station) → (outcome ≡ Accepted → ⊥) → Takes old.node (record { out = nothing; outcome = outcome; node = node }) → new.node ≡ node → new.role ≡ old.role → (outcome ≢ Broken → new.timing ≡ old.timing) → WaitOn old new → IsTakenBy Takes old (plain_step outcome) new
+  pub plain : (outcome : Outcome) (node : Node) (new : Station) → (outcome ≡ Accepted → ⊥) → Takes old.node (record { out = nothing; outcome = Came_to outcome; node = node }) → new.node ≡ node → new.role ≡ old.role → (outcome ≢ Broken → new.timing ≡ old.timing) → WaitOn old new → IsTakenBy Takes old (plain_step outcome) new
   plain outcome node new other takes becomes role same waits =
       record {
-        effect = record { out = nothing; outcome = outcome; node = node };
+        effect = record { out = nothing; outcome = Came_to outcome; node = node };
         takes = takes;
-        tells = record { sent = none_sent old.node.config; report = refl; accepted = refl; packet = (λ is. absurd (other is), λ some. absurd cc); all = refl };
+        tells = record { sent = none_sent old.node.config; outcome = refl; report = refl; accepted = refl; packet = (λ is. absurd (other is), λ some. absurd cc); all = refl };
         becomes = becomes;
         role = role;
         same = same;
@@ -78,7 +78,8 @@ module _ (Takes : Node → Effect → Type 0) (old : Station) where
         takes = takes;
         tells = record {
           sent = subst (λ (s : Station). AreSent s.node.config (datagrams step.out) (sending_of reply s.node.config ∷ [])) same sends.sent;
-          report = sends.report;
+          outcome = ap (λ (r : Report). Came_to r.outcome) sends.report;
+          report = sends.report ∙ ap plain_report (sym (ap (λ (r : Report). r.outcome) sends.report));
           accepted = subst (λ (o : Option packets.Accepted). AreEntries old.node o []) (sym sends.none) refl;
           packet = (λ is. absurd (not_taken reply (sym (ap (λ (r : Report). r.outcome) sends.report) ∙ is)), λ some. absurd (none_some step.accepted sends.none some));
           all = refl;

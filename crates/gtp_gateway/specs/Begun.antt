@@ -4,7 +4,7 @@ use Rattle.gtp_reliable.specs.Pending.{IsNextFree}
 use Rattle.gtp_machine.specs.Ordered.{Unless}
 use Rattle.gtp_machine.specs.Choice.{HasPendingRoom}
 use Rattle.gtp_machine.specs.declared.outcome.Refusal.TheVariants.{PendingFull}
-use Rattle.gtp_machine.specs.Input.{Command, Mark_end, Send_user, Commanded, Effect, refused}
+use Rattle.gtp_machine.specs.Input.{Came_to, Command, Mark_end, Send_user, Commanded, Effect, refused}
 use Rattle.gtp_machine.specs.declared.outcome.Refusal.{Refusal}
 use Rattle.gtp_machine.specs.declared.outcome.Outcome.{Outcome}
 use Rattle.gtp_machine.specs.declared.outcome.Outcome.TheVariants as outcomes
@@ -30,7 +30,7 @@ pub record IsDone (command : Command) (old : Station) (begun : Begun) (new : Sta
   pub effect : Effect
   pub step : Step old.role old.node (Commanded command) effect
   pub sent : AreSent old.node.config (datagram_by begun.out ∷ []) effect.out.sent
-  pub outcome : effect.outcome ≡ outcome_by command (option_map (λ t. t.0) begun.teid)
+  pub outcome : effect.outcome ≡ Came_to (outcome_by command (option_map (λ t. t.0) begun.teid))
   pub becomes : new.node ≡ effect.node
   pub role : new.role ≡ old.role
 
@@ -67,6 +67,6 @@ pub record IsAsked (Asks : Effect → Type 0) (old : Station) (begun : Begun) (n
   pub room : HasPendingRoom old.node
   pub asks : Asks effect
   pub sent : AreSent old.node.config (datagram_by begun.out ∷ []) effect.out.sent
-  pub outcome : effect.outcome ≡ outcomes.Begun (option_map (λ t. t.0) begun.teid)
+  pub outcome : effect.outcome ≡ Came_to (outcomes.Begun (option_map (λ t. t.0) begun.teid))
   pub becomes : new.node ≡ effect.node
   pub role : new.role ≡ old.role

@@ -1,7 +1,7 @@
 -- What takes memory on the control plane: to send a datagram, and to open a context.
 use Rattle.std.specs.Prelude.{◌≡◌, ◌≢◌, ◌⊎◌, ℕ, List, []}
 use Rattle.gtp_values.specs.declared.address.Endpoint.{Endpoint}
-use Rattle.gtp_machine.specs.Input.{ControlReading, Control_came, Effect}
+use Rattle.gtp_machine.specs.Input.{Came_to, ControlReading, Control_came, Effect}
 use Rattle.gtp_machine.specs.Node.{Arrival, Node}
 use Rattle.gtp_machine.specs.Reading.{control_reading}
 use Rattle.gtp_machine.specs.Step.{Step as MachineStep}
@@ -11,7 +11,7 @@ use Rattle.gtp_gateway.specs.Station.{Station}
 
 -- a datagram is sent, or a context is opened
 abbrev pub SendsOrOpens : Effect → Type 0
-SendsOrOpens e = (e.out.sent ≢ []) ⊎ (e.outcome ≡ Opened)
+SendsOrOpens e = (e.out.sent ≢ []) ⊎ (e.outcome ≡ Came_to Opened)
 
 -- whatever may come of it
 abbrev pub AlwaysSendsOrOpens : (Node → Effect → Type 0) → Node → Type 0

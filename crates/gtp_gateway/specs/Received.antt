@@ -3,7 +3,7 @@ use Rattle.std.specs.Prelude.{◌≡◌, ◌≢◌, ℕ, List, None, option_map}
 use Rattle.gtp_values.specs.declared.address.Endpoint.{Endpoint}
 use Rattle.gtp_machine.specs.Message.{Plane, Control, User}
 use Rattle.gtp_machine.specs.Node.{Arrival, Node}
-use Rattle.gtp_machine.specs.Input.{Input, Control_came, User_came, nothing, Effect}
+use Rattle.gtp_machine.specs.Input.{Came_to, Input, Control_came, User_came, nothing, Effect}
 use Rattle.gtp_machine.specs.Reading.{control_reading, user_reading}
 use Rattle.gtp_machine.specs.Step.{Step as MachineStep}
 use Rattle.gtp_machine.specs.declared.outcome.Outcome.TheVariants.{Broken}
@@ -26,7 +26,7 @@ coming User source octets = User_came source (user_reading octets)
 -- context was made for the request, and the packet that was accepted; the effect has nothing else to tell
 pub record TellsStep (old : Node) (request : Arrival) (step : Step) (e : Effect) : Type 0 where
   pub sent : AreSent old.config (datagrams step.out) e.out.sent
-  pub outcome : step.report.outcome ≡ e.outcome
+  pub outcome : Came_to step.report.outcome ≡ e.outcome
   pub heard : option_map (λ c. c.0) step.report.heard ≡ e.out.heard
   pub restart : option_map (λ c. c.0) step.report.restart ≡ e.out.learned
   pub made : made_for request step.report.made ≡ e.out.made

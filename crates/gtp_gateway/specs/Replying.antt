@@ -5,7 +5,7 @@ use Rattle.gtp_user.specs.declared.message.UserMessage.{UserMessage}
 use Rattle.gtp_machine.specs.Message.{Error_indication, User_echo_response, Supported_extensions}
 use Rattle.gtp_machine.specs.Config.{Config, user_end}
 use Rattle.gtp_machine.specs.Node.{Node}
-use Rattle.gtp_machine.specs.Input.{Sending, nothing, Effect}
+use Rattle.gtp_machine.specs.Input.{Came_to, Sending, nothing, Effect}
 use Rattle.gtp_machine.specs.declared.outcome.DropReason.TheVariants.{UnknownContext, UnknownExtension}
 use Rattle.gtp_machine.specs.declared.outcome.Outcome.{Outcome}
 use Rattle.gtp_machine.specs.declared.outcome.Outcome.TheVariants.{Dropped, Echoed}
@@ -33,7 +33,7 @@ outcome_of (EchoResponse to number) = Echoed
 
 -- a datagram for which this is sent: nothing changes
 abbrev pub replied : Reply → Node → Effect
-replied reply old = record { out = record nothing { sent = sending_of reply old.config ∷ [] }; outcome = outcome_of reply; node = old }
+replied reply old = record { out = record nothing { sent = sending_of reply old.config ∷ [] }; outcome = Came_to (outcome_of reply); node = old }
 
 -- the reply is sent, and nothing else is told
 pub record IsReplyBy (reply : Reply) (config : Config) (step : Step) : Type 0 where

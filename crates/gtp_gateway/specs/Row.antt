@@ -5,7 +5,7 @@ use Rattle.gtp_machine.specs.Config.{Config}
 use Rattle.gtp_machine.specs.Message.{Message, recovery_of}
 use Rattle.gtp_machine.specs.declared.role.Role.{Role}
 use Rattle.gtp_machine.specs.Node.{Arrival, Node}
-use Rattle.gtp_machine.specs.Input.{nothing, Effect}
+use Rattle.gtp_machine.specs.Input.{Came_to, nothing, Effect}
 use Rattle.gtp_gateway.specs.declared.control_step.ControlStep.{ControlStep}
 use Rattle.gtp_gateway.specs.declared.hearing.Heard.{Heard}
 use Rattle.gtp_gateway.specs.Hearing.{weighed_by, node_heard}
@@ -17,7 +17,7 @@ use Rattle.gtp_gateway.specs.Taken.{datagrams, made_for}
 -- the step tells what the effect has, which has nothing else to tell, and nothing of a counter
 pub record TellsRow (config : Config) (request : Arrival) (step : ControlStep) (e : Effect) : Type 0 where
   pub sent : AreSent config (datagrams step.out) e.out.sent
-  pub outcome : step.report.outcome ≡ e.outcome
+  pub outcome : Came_to step.report.outcome ≡ e.outcome
   pub made : made_for request step.report.made ≡ e.out.made
   pub heard : e.out.heard ≡ None
   pub learned : e.out.learned ≡ None

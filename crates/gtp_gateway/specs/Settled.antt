@@ -5,7 +5,7 @@ use Rattle.gtp_values.specs.FiniteMap.{FiniteMap}
 use Rattle.gtp_values.specs.declared.identifiers.Teid.{Teid}
 use Rattle.gtp_machine.specs.Message.{Message}
 use Rattle.gtp_machine.specs.Node.{Session, Bearer, Node}
-use Rattle.gtp_machine.specs.Input.{Effect, nothing}
+use Rattle.gtp_machine.specs.Input.{Came_to, Effect, nothing}
 use Rattle.gtp_machine.specs.Removal.{finished_about}
 use Rattle.gtp_machine.specs.declared.outcome.Outcome.{Outcome}
 use Rattle.gtp_machine.specs.declared.outcome.Outcome.TheVariants.{Opened, Dropped}
@@ -53,7 +53,7 @@ node_by (OpensBearer teid bearer) number node = record node { bearers = insert n
 
 -- the effect that a verdict stands for
 abbrev pub effect_by : Verdict → ℕ → Node → Effect
-effect_by verdict number node = record { out = nothing; outcome = outcome_by verdict; node = node_by verdict number node }
+effect_by verdict number node = record { out = nothing; outcome = Came_to (outcome_by verdict); node = node_by verdict number node }
 
 -- a bearer without a remote stands there, and is opened in its session
 pub record IsOpenedAt (bearers : FiniteMap Bearer) (teid : ℕ) (opened : Bearer) : Type 0 where

@@ -4,7 +4,7 @@ use Rattle.gtp_values.specs.declared.address.Endpoint.{Endpoint}
 use Rattle.gtp_reliable.specs.Held.{HeldPair, IsHeld}
 use Rattle.gtp_machine.specs.Node.{Arrival}
 use Rattle.gtp_machine.specs.Answer.{IsNew}
-use Rattle.gtp_machine.specs.Input.{Control_came, nothing, Effect}
+use Rattle.gtp_machine.specs.Input.{Came_to, Control_came, nothing, Effect}
 use Rattle.gtp_machine.specs.declared.outcome.Outcome.{Outcome}
 use Rattle.gtp_machine.specs.Reading.{control_reading}
 use Rattle.gtp_machine.specs.Spelling.{Datagram}
@@ -36,7 +36,7 @@ made_for request false = []
 -- context was made; the effect has nothing else to tell
 pub record Tells (old : Station) (request : Arrival) (step : ControlStep) (e : Effect) : Type 0 where
   pub sent : AreSent old.node.config (datagrams step.out) e.out.sent
-  pub outcome : step.report.outcome ≡ e.outcome
+  pub outcome : Came_to step.report.outcome ≡ e.outcome
   pub heard : option_map (λ c. c.0) step.report.heard ≡ e.out.heard
   pub restart : option_map (λ c. c.0) step.report.restart ≡ e.out.learned
   pub made : made_for request step.report.made ≡ e.out.made

@@ -38,10 +38,14 @@ due_in t =
       forgets = map asked_by (filter_map (forgotten t.timers.hold) t.held);
     }
 
+-- no answer is due to be forgotten
+abbrev pub ForgetsNone : Timing → Type 0
+ForgetsNone t = All (λ (p : HeldPair). p.age + 1 < t.timers.hold) t.held
+
 -- nothing is due
 pub record IsIdle (t : Timing) : Type 0 where
   pub requests : All (λ (w : Waiting Purpose). w.waited + 1 < t.timers.t3) t.waiting
-  pub answers : All (λ (p : HeldPair). p.age + 1 < t.timers.hold) t.held
+  pub answers : ForgetsNone t
 
 -- a request as it is sent again
 abbrev pub datagram_again : Config → Message → Datagram

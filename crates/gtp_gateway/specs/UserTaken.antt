@@ -5,7 +5,7 @@ use Rattle.gtp_reliable.specs.Waiting.{Waiting}
 use Rattle.gtp_machine.specs.Node.{Node}
 use Rattle.gtp_machine.specs.Choice.{HasSession, HasBearer}
 use Rattle.gtp_machine.specs.Message.{User}
-use Rattle.gtp_machine.specs.Input.{UserReading, User_fault, Extension_needed, User_came, Entry, entry_for, nothing, Effect, undecodable}
+use Rattle.gtp_machine.specs.Input.{Came_to, UserReading, User_fault, Extension_needed, User_came, Entry, entry_for, nothing, Effect, undecodable}
 use Rattle.gtp_machine.specs.declared.outcome.Outcome.{Outcome}
 use Rattle.gtp_machine.specs.declared.outcome.Outcome.TheVariants as outcomes
 use Rattle.gtp_machine.specs.Reading.{user_reading}
@@ -45,7 +45,8 @@ AreEntries node (Some accepted) entries = (entry : Entry) × IsEntryOf node acce
 -- anything else to tell
 pub record TellsUser (old : Node) (step : Step) (e : Effect) : Type 0 where
   pub sent : AreSent old.config (datagrams step.out) e.out.sent
-  pub report : step.report ≡ plain_report e.outcome
+  pub outcome : Came_to step.report.outcome ≡ e.outcome
+  pub report : step.report ≡ plain_report step.report.outcome
   pub accepted : AreEntries old step.accepted e.out.accepted
   pub packet : (step.report.outcome ≡ outcomes.Accepted) ↔ IsSome step.accepted
   pub all : e.out ≡ record nothing { sent = e.out.sent; accepted = e.out.accepted }

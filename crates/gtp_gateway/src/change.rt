@@ -58,7 +58,7 @@ impl Parts {
         ensures role { self.new.role ≡ self.old.role }
         ensures err { OnErr result (station_of self.new ≡ station_of self.old) }
     {
-        self.bearers.add(teid, bearer)?;
+        self.bearers.add(teid, bearer).map_err(|_| Memory)?;
         self.draws = draws;
         Ok(())
     }
@@ -107,7 +107,7 @@ impl Parts {
         ensures err { OnErr result (station_of self.new ≡ station_of self.old) }
     {
         self.prepare_session()?;
-        self.bearers.add(user, bearer)?;
+        self.bearers.add(user, bearer).map_err(|_| Memory)?;
         self.sessions.add(control, session);
         self.draws = draws;
         Ok(())

@@ -19,7 +19,8 @@ pub struct Addresses {
     pub user: Ip,
 }
 
-/// How long messages are kept, in ticks. The caller decides how long a tick is (TS 29.274 7.6).
+/// The times of reliable delivery, in ticks, and its number of repeats (TS 29.274 7.6). The caller decides how long a
+/// tick is. The default is 3, 3 and 60.
 #[derive(Clone, Copy, Debug, PartialEq, Eq)]
 pub struct Timers {
     /// T3-RESPONSE: the ticks without an answer after which a request is sent again, 1 to 1,000.
@@ -43,7 +44,7 @@ impl Default for Timers {
 }
 
 /// The addresses of both gateways, the access points that the packet gateway serves, the pool of addresses that it
-/// gives to sessions, and the timers.
+/// gives to sessions, and the timers. A serving gateway uses neither access points nor pool.
 #[derive(Debug, Drop)]
 pub struct Config {
     own: Addresses,

@@ -10,7 +10,7 @@ ghost use Rattle.gtp_gateway.specs.Specified.{specification};
 ghost use Rattle.gtp_reliable.specs.Pending.{AreDistinct};
 ghost use Rattle.gtp_machine.specs.Determined.{HeldOnce};
 ghost use Rattle.gtp_gateway.specs.Station.{Station, starting, IsTied, IsWhole};
-ghost use Rattle.gtp_gateway.specs.Ticked.{IsIdle, IsTicked, CountsOn, arrivals_of, due_in};
+ghost use Rattle.gtp_gateway.specs.Ticked.{IsIdle, ForgetsNone, IsTicked, CountsOn, arrivals_of, due_in};
 ghost use Rattle.gtp_gateway.specs.Received.{IsReceived, KeepsTiming, NeedsMemory};
 
 use crate::config::Config;
@@ -29,7 +29,8 @@ use std::alloc::Global;
 use std::marker::Model;
 
 /// A serving gateway or a packet gateway (TS 23.401 4.4.3), without sockets and clocks. Contracts see its role, its
-/// state as a node of the machine, its settings and its timers. After an error the gateway is as before.
+/// state as a node of the machine, its settings and its timers. A command returns the datagram to be sent, or the first
+/// refusal that applies. After an error the gateway is as before.
 #[derive(Drop)]
 pub struct Gateway {
     parts: Parts,
@@ -83,11 +84,13 @@ impl Gateway {
         self.parts.bearers.get(bearer)
     }
 
-    /// The requests whose held answers the next tick forgets, oldest first. Allocates nothing if there is none.
+    /// The requests whose held answers the next tick forgets, oldest first. Allocates nothing if there is none; `Memory`
+    /// if an allocation was refused.
     pub fn forgets(&self) -> Result<Vec<Request>, Memory>
         ensures forgets { IfOk result (λ requests.
             arrivals_of requests.items ≡ (due_in self.now.timing).forgets) }
-        ensures quiet { IsIdle self.now.timing → IsOk result }
+        // It is answered if there is none, whatever else is due.
+        ensures quiet { ForgetsNone self.now.timing → IsOk result }
     {
         self.parts.held.due().map_err(|_| Memory)
     }
@@ -204,7 +207,7 @@ impl Gateway {
         self.parts.end_marker(alloc, bearer)
     }
 
-    /// Sends a packet of at most 65,000 octets on a bearer, as a G-PDU (TS 29.281 7.1). The gateway does not change.
+    /// Sends a packet of at most 65,000 octets on a bearer, as a G-PDU (TS 29.281 5.1). The gateway does not change.
     pub fn send_user(
         &self,
         alloc: Global,
@@ -260,8 +263,9 @@ impl Gateway {
     }
 
     /// A tick passes, the unit of `Timers` (TS 29.274 7.6): each request that has waited T3-RESPONSE is sent again, or
-    /// given up after N3-REQUESTS times, and each answer that was held long enough is forgotten. A tick in which
-    /// nothing is due allocates nothing.
+    /// given up after N3-REQUESTS times, and each answer that was held long enough is forgotten. Returns the datagrams to
+    /// be sent again. `Memory` if an allocation was refused: the tick has then not passed. A tick in which nothing is
+    /// due allocates nothing.
     pub fn tick(&mut self, alloc: Global) -> Result<Ticked, Memory>
         // It is the machine's tick, which sends and reports exactly this.
         ensures ticked { IfOk result (λ ticked. IsTicked self.old ticked self.new) }

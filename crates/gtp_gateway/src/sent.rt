@@ -7,8 +7,11 @@ use gtp_values::{Endpoint, Teid};
 #[derive(Debug, Drop)]
 pub struct Sent {
     pub plane: Plane,
+    /// The own address of the plane, with port 2123 (control) or 2152 (user).
     pub from: Endpoint,
+    /// The peer's address with the same port; of an answer, the source of the request.
     pub to: Endpoint,
+    /// The payload of the UDP datagram.
     pub octets: Vec<u8>,
 }
 

@@ -28,7 +28,7 @@ pub struct SessionSpec {
     pub rat: Rat,
     /// How the access point was selected (8.58).
     pub selection: Selection,
-    /// The type of the PDN: 1 is IPv4 (8.34).
+    /// The PDN type (8.34): 1 is IPv4; 3, IPv4v6, is answered with IPv4 and cause 18; others are refused with cause 83.
     pub pdn: PdnType,
     /// The aggregate maximum bit rate, in kilobits a second (8.7).
     pub ambr: Ambr,

@@ -172,9 +172,10 @@ impl Parts {
         ensures role { self.new.role ≡ self.old.role }
         ensures err { OnErr result (station_of self.new ≡ station_of self.old) }
     {
-        self.sessions.reserve_one()?;
+        self.sessions.reserve_one().map_err(|_| Memory)?;
         self.bearers
-            .add(grant.drawn.user, granted_bearer(request, grant))?;
+            .add(grant.drawn.user, granted_bearer(request, grant))
+            .map_err(|_| Memory)?;
         self.hear(heard);
         self.sessions
             .add(grant.drawn.control, granted_session(request, grant));

@@ -124,7 +124,7 @@ impl Parts {
         ensures role { self.new.role ≡ self.old.role }
         ensures err { OnErr result (station_of self.new ≡ station_of self.old) }
     {
-        self.bearers.open(teid, bearer)?;
+        self.bearers.open(teid, bearer).map_err(|_| Memory)?;
         self.hear(heard);
         Ok(())
     }

@@ -21,9 +21,11 @@ pub struct Accepted<'a> {
 #[derive(Clone, Copy, Debug, PartialEq, Eq)]
 pub struct Report {
     pub outcome: Outcome,
-    /// The restart counter in the datagram, if it has one that counts (TS 23.007 18).
+    /// The restart counter in the message (TS 23.007 18), also an earlier one: of a control message of the peer, of a
+    /// type that this gateway takes, that is neither a repeat nor a faulty request.
     pub heard: Option<Counter>,
-    /// That restart counter if it is later than the latest one received before: the peer has restarted.
+    /// That restart counter if it is later than the latest one received before: the peer has restarted, and all sessions
+    /// but the pending ones were removed.
     pub restart: Option<Counter>,
     /// Whether a session or bearer was made for a request.
     pub made: bool,

@@ -8,28 +8,28 @@ use Rattle.gtp_machine.specs.Ordered.{Unless}
 use Rattle.gtp_machine.specs.Element.{cause_at, teid_in}
 use Rattle.gtp_machine.specs.Message.{Message, Control, Echo, Echo_response, Create_session_response, Delete_session_response, Create_bearer_response, Delete_bearer_response, recovery_of}
 use Rattle.gtp_machine.specs.Node.{Pending, Active, Closing, State, Session, Arrival, Held, Node, holding, written}
-use Rattle.gtp_machine.specs.Input.{RequestKind, Of_create_session, Of_delete_session, Of_create_bearer, Of_delete_bearer, Defect, Mandatory_missing, Conditional_missing, Too_short, Out_of_range, FaultyRequest, Effect, Answered, Echoed, Repeated, says, dropped, HeldFull, NotPeer, ControlReading, Control_message, Faulty, Control_fault, undecodable, Unexpected}
+use Rattle.gtp_machine.specs.Input.{Came_to, RequestKind, Of_create_session, Of_delete_session, Of_create_bearer, Of_delete_bearer, Defect, Mandatory_missing, Conditional_missing, Too_short, Out_of_range, FaultyRequest, Effect, Answered, Echoed, Repeated, says, dropped, HeldFull, NotPeer, ControlReading, Control_message, Faulty, Control_fault, undecodable, Unexpected}
 use Rattle.gtp_machine.specs.Choice.{HasHeldRoom}
 use Rattle.gtp_machine.specs.Recovery.{Hears}
 
 -- an answer goes to where the request came from, and is held
 abbrev pub answered : Arrival → Message → ℕ → Node → Effect
-answered request answer cause new = record { out = says request.source answer; outcome = Answered cause; node = holding request answer new }
+answered request answer cause new = record { out = says request.source answer; outcome = Came_to (Answered cause); node = holding request answer new }
 
 -- the same, where a context was made for the request
 abbrev pub making : Arrival → Message → ℕ → Node → Effect
-making request answer cause new = record { out = record (says request.source answer) { made = request ∷ [] }; outcome = Answered cause; node = holding request answer new }
+making request answer cause new = record { out = record (says request.source answer) { made = request ∷ [] }; outcome = Came_to (Answered cause); node = holding request answer new }
 
 -- an Echo Request is answered with the own counter and the same number (7.1.2); the answer is not held
 abbrev pub echoed : Arrival → Echo → Node → Effect
-echoed request q old = record { out = says request.source (Echo_response (record { number = q.number; recovery = old.counter })); outcome = Echoed; node = old }
+echoed request q old = record { out = says request.source (Echo_response (record { number = q.number; recovery = old.counter })); outcome = Came_to Echoed; node = old }
 
 -- a request that came before from there, octet for octet, gets the answer that is held for it, and nothing changes (7.6)
 pub record Repeats (old : Node) (request : Arrival) (e : Effect) : Type 0 where
   pub held : Held
   pub stands : Among held old.held
   pub same : held.request ≡ request
-  pub gives : e ≡ record { out = says request.source held.answer; outcome = Repeated; node = old }
+  pub gives : e ≡ record { out = says request.source held.answer; outcome = Came_to Repeated; node = old }
 
 -- no answer is held for the request
 abbrev pub IsNew : Node → Arrival → Type 0
@@ -76,7 +76,7 @@ refusing Of_delete_bearer header number cause counter = Delete_bearer_response (
 
 -- a faulty request is answered with the element at fault (7.7.6 to 7.7.8); the answer is not held, and nothing changes
 abbrev pub faulted : Arrival → FaultyRequest → Node → Effect
-faulted request f old = record { out = says request.source (refusing f.kind (faulty_header old f.kind f) f.number (cause_at (defect_cause f.defect) f.element f.instance) old.counter); outcome = Answered (defect_cause f.defect); node = old }
+faulted request f old = record { out = says request.source (refusing f.kind (faulty_header old f.kind f) f.number (cause_at (defect_cause f.defect) f.element f.instance) old.counter); outcome = Came_to (Answered (defect_cause f.defect)); node = old }
 
 -- A request whose answer is to be held: with 4,096 held answers it is dropped, and else it is judged.
 abbrev pub UnlessFull : (Node → Effect → Type 0) → Node → Effect → Type 0

@@ -7,14 +7,14 @@ use Rattle.gtp_machine.specs.Config.{control_end, user_end}
 use Rattle.gtp_machine.specs.Element.{Ipv4, tunnel_end}
 use Rattle.gtp_machine.specs.Message.{CreateSessionRequest, CreateBearerRequest, Echo_request, Create_session_request, Delete_session_request, Create_bearer_request, Delete_bearer_request, Packet_data, End_marker, subscriber_of}
 use Rattle.gtp_machine.specs.Node.{Role, Serving, Packet, Pending, Active, Closing, Session, Default, Dedicated, Bearer, PendingRequest, Node, written}
-use Rattle.gtp_machine.specs.Input.{Specification, Command, Create_session, Delete_session, Create_bearer, Delete_bearer, Release_session, Mark_end, Send_echo, Send_user, Effect, Begun, GoneOut, entry_for, says, refused, NoSuchContext, NotActive, WrongRole, SessionsFull, TeidsUsed, PendingFull, BearerEnded, PacketTooLong}
+use Rattle.gtp_machine.specs.Input.{Came_to, Specification, Command, Create_session, Delete_session, Create_bearer, Delete_bearer, Release_session, Mark_end, Send_echo, Send_user, Effect, Begun, GoneOut, entry_for, says, refused, NoSuchContext, NotActive, WrongRole, SessionsFull, TeidsUsed, PendingFull, BearerEnded, PacketTooLong}
 use Rattle.gtp_machine.specs.Choice.{IsFree, HasDraws, IsFreeNumber, HasSessionRoom, HasPendingRoom, HasSession, HasBearer}
 use Rattle.gtp_machine.specs.Removal.{session_closing}
 use Rattle.gtp_machine.specs.User.{ended_bearer}
 
 -- a request is sent to the peer, and waits for its answer
 abbrev pub asks : Node → ℕ → PendingRequest → Option ℕ → Node → Effect
-asks old number pending teid new = record { out = says (control_end old.config.peer.control) pending.request; outcome = Begun teid; node = record new { pending = insert old.pending number pending } }
+asks old number pending teid new = record { out = says (control_end old.config.peer.control) pending.request; outcome = Came_to (Begun teid); node = record new { pending = insert old.pending number pending } }
 
 -- the Create Session Request for a specification, with these TEIDs and this number
 abbrev pub session_request : Node → Specification → ℕ → ℕ → ℕ → CreateSessionRequest
@@ -123,7 +123,7 @@ pub record SendsEcho (old : Node) (e : Effect) : Type 0 where
 -- A packet is handed in for a bearer, and sent.
 pub record SendsPacket (old : Node) (at : Bearer) (payload : List ℕ) (e : Effect) : Type 0 where
   pub of : HasSession old at.session
-  pub gives : e ≡ record { out = record (says (user_end old.config.peer.user) (Packet_data (written at.remote) payload)) { handed = entry_for (written at.remote) payload of.session.subscriber at.identity ∷ [] }; outcome = GoneOut; node = old }
+  pub gives : e ≡ record { out = record (says (user_end old.config.peer.user) (Packet_data (written at.remote) payload)) { handed = entry_for (written at.remote) payload of.session.subscriber at.identity ∷ [] }; outcome = Came_to GoneOut; node = old }
 
 -- no End Marker was sent before: that counts at the packet gateway alone
 abbrev pub MayGo : Role → Bearer → Type 0
@@ -184,7 +184,7 @@ EndMarked Packet bearer old e =
     Unless (HasBearer old bearer) (e ≡ refused old NoSuchContext) (λ at.
     Unless (at.bearer.state ≡ Active) (e ≡ refused old NotActive) (λ active.
     Unless (at.bearer.ended ≡ false) (e ≡ refused old BearerEnded) (λ before.
-    e ≡ record { out = says (user_end old.config.peer.user) (End_marker (written at.bearer.remote)); outcome = GoneOut; node = record old { bearers = insert old.bearers bearer (ended_bearer at.bearer) } })))
+    e ≡ record { out = says (user_end old.config.peer.user) (End_marker (written at.bearer.remote)); outcome = Came_to GoneOut; node = record old { bearers = insert old.bearers bearer (ended_bearer at.bearer) } })))
 
 -- echo: at both
 abbrev pub EchoBegun : Node → Effect → Type 0

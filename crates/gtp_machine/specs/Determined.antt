@@ -5,7 +5,7 @@ use Rattle.gtp_values.specs.declared.address.Endpoint.{Endpoint}
 use Rattle.gtp_values.specs.FiniteMap.{Among}
 use Rattle.gtp_machine.specs.Config.{Config}
 use Rattle.gtp_machine.specs.Node.{Role, Session, Bearer, Held, Node, fresh_node}
-use Rattle.gtp_machine.specs.Input.{Input, Commanded, Sending, Out, Effect, Outcome, Begun}
+use Rattle.gtp_machine.specs.Input.{Input, Commanded, Sending, Out, Effect, EventOutcome, Came_to, Begun}
 use Rattle.gtp_machine.specs.Choice.{HasPending}
 use Rattle.gtp_machine.specs.Tick.{Due, Ticks}
 use Rattle.gtp_machine.specs.Step.{Step, Done, Steps}
@@ -22,9 +22,9 @@ pub record StepsTwice (role : Role) (old : Node) (input : Input) (e f : Effect) 
   pub first : Step role old input e
   pub second : Step role old input f
 
--- the outcome without what is chosen: where a command begins a context, its TEID
-abbrev pub unchosen : Input → Outcome → Outcome
-unchosen (Commanded command) (Begun teid) = Begun None
+-- what it comes to without what is chosen: where a command begins a context, its TEID
+abbrev pub unchosen : Input → EventOutcome → EventOutcome
+unchosen (Commanded command) (Came_to (Begun teid)) = Came_to (Begun None)
 unchosen input outcome = outcome
 
 -- what is told besides the messages that are sent
@@ -36,7 +36,7 @@ abbrev pub destinations : List Sending → List Endpoint
 destinations [] = []
 destinations (s ∷ sent) = s.destination ∷ destinations sent
 
--- Both tell the same: the outcome, the counter that was heard, and all else besides the messages; as many messages are sent, to the same places; the
+-- Both tell the same: what it comes to, the counter that was heard, and all else besides the messages; as many messages are sent, to the same places; the
 -- counters are the same after them, the peer's and the own; and as many TEIDs were drawn.
 pub record TellAlike (input : Input) (e f : Effect) : Type 0 where
   pub outcome : unchosen input e.outcome ≡ unchosen input f.outcome

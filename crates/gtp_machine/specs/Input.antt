@@ -14,7 +14,7 @@ pub use Rattle.gtp_machine.specs.declared.outcome.FaultName.{FaultName}
 pub use Rattle.gtp_machine.specs.declared.outcome.DropReason.{DropReason}
 pub use Rattle.gtp_machine.specs.declared.outcome.DropReason.TheVariants.{Undecodable, OldCounter, NoPending, Mismatch, ContextNotActive, UnknownContext, AfterEnd, HeldFull, Unexpected, UnknownExtension, NotPeer}
 pub use Rattle.gtp_machine.specs.declared.outcome.Outcome.{Outcome}
-pub use Rattle.gtp_machine.specs.declared.outcome.Outcome.TheVariants.{Begun, GoneOut, Refused, Answered, Echoed, Repeated, Opened, Closed, Clash, Rejected, Alive, Accepted, Ended, Broken, Dropped, Moved}
+pub use Rattle.gtp_machine.specs.declared.outcome.Outcome.TheVariants.{Begun, GoneOut, Refused, Answered, Echoed, Repeated, Opened, Closed, Clash, Rejected, Alive, Accepted, Ended, Broken, Dropped}
 
 -- what a session is to be made with; where a command is well formed (Sound) the identity of its default bearer is 5 to 15
 pub record Specification : Type 0 where
@@ -127,15 +127,24 @@ abbrev pub messages : List Sending → List Message
 messages [] = []
 messages (s ∷ sent) = s.message ∷ messages sent
 
--- what a step gives: what it sends and tells, its outcome, and the gateway after it
+-- what an event comes to: of a command and of a datagram an outcome is told, and of a tick none
+pub data EventOutcome : Type 0 where
+  Came_to : Outcome → EventOutcome
+  Ticked : EventOutcome
+  Restarted : ℕ → EventOutcome  -- with this counter
+  No_such_datagram : EventOutcome  -- N1
+  Restarts_used : EventOutcome  -- N2
+  Cut_too_long : EventOutcome  -- N3
+
+-- what a step gives: what it sends and tells, what it comes to, and the gateway after it
 pub record Effect : Type 0 where
   pub out : Out
-  pub outcome : Outcome
+  pub outcome : EventOutcome
   pub node : Node
 
 -- nothing changes, and the command is refused
 abbrev pub refused : Node → Refusal → Effect
-refused node why = record { out = nothing; outcome = Refused why; node = node }
+refused node why = record { out = nothing; outcome = Came_to (Refused why); node = node }
 
 -- a datagram of this plane with the fault of this printed number
 abbrev pub undecodable : Plane → ℕ → DropReason
@@ -143,4 +152,4 @@ undecodable plane number = Undecodable (record { plane = plane; number = number 
 
 -- nothing changes, and the datagram is dropped
 abbrev pub dropped : Node → DropReason → Effect
-dropped node why = record { out = nothing; outcome = Dropped why; node = node }
+dropped node why = record { out = nothing; outcome = Came_to (Dropped why); node = node }

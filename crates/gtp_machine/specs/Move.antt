@@ -3,19 +3,19 @@ use Rattle.std.specs.Prelude.{◌≡◌, ◌≢◌, ◌⊎◌, ℕ, List, [], �
 use Rattle.gtp_values.specs.FiniteMap.{Among}
 use Rattle.gtp_machine.specs.Config.{control_end}
 use Rattle.gtp_machine.specs.Node.{Arrival, Held, Node}
-use Rattle.gtp_machine.specs.Input.{Move, Resend, Give_up, Forget, Effect, Moved, nothing, says}
+use Rattle.gtp_machine.specs.Input.{Move, Resend, Give_up, Forget, Effect, Ticked, nothing, says}
 use Rattle.gtp_machine.specs.Choice.{HasPending}
 use Rattle.gtp_machine.specs.Removal.{finished}
 
 -- A pending request is sent again, the same octets to the same place.
 pub record Resends (old : Node) (number : ℕ) (e : Effect) : Type 0 where
   pub at : HasPending old number
-  pub gives : e ≡ record { out = says (control_end old.config.peer.control) at.pending.request; outcome = Moved; node = old }
+  pub gives : e ≡ record { out = says (control_end old.config.peer.control) at.pending.request; outcome = Ticked; node = old }
 
 -- A pending request is given up, as if a rejecting answer came: a pending or closing context goes.
 pub record GivesUp (old : Node) (number : ℕ) (e : Effect) : Type 0 where
   pub at : HasPending old number
-  pub gives : e ≡ record { out = record nothing { gave_up = number ∷ [] }; outcome = Moved; node = finished old number at.pending }
+  pub gives : e ≡ record { out = record nothing { gave_up = number ∷ [] }; outcome = Ticked; node = finished old number at.pending }
 
 -- what is left of held answers without those to the request, in order
 abbrev pub AreLeft : Arrival → List Held → List Held → Type 0
@@ -31,7 +31,7 @@ pub record Forgets (old : Node) (request : Arrival) (e : Effect) : Type 0 where
   pub same : held.request ≡ request
   pub rest : List Held
   pub left : AreLeft request old.held rest
-  pub gives : e ≡ record { out = record nothing { forgot = request ∷ [] }; outcome = Moved; node = record old { held = rest } }
+  pub gives : e ≡ record { out = record nothing { forgot = request ∷ [] }; outcome = Ticked; node = record old { held = rest } }
 
 -- the moves of a tick
 abbrev pub MoveStep : Node → Move → Effect → Type 0

@@ -7,7 +7,7 @@ use Rattle.gtp_values.specs.FiniteMap.{Among}
 use Rattle.gtp_machine.specs.Element.{IsAccepting, Ipv4, cause_of, cause_at, teid_in, tunnel_end}
 use Rattle.gtp_machine.specs.Message.{CreateSessionRequest, CreateSessionResponse, DeleteSessionRequest, CreateBearerRequest, GivenBearer, CreateBearerResponse, DeleteBearerRequest, DeleteBearerResponse, Message, Control, Echo_request, Echo_response, Create_session_request, Create_session_response, Delete_session_request, Delete_session_response, Create_bearer_request, Create_bearer_response, Delete_bearer_request, Delete_bearer_response, subscriber_of, first_given, first_identity}
 use Rattle.gtp_machine.specs.Node.{Active, Closing, Session, Bearer, Default, PendingRequest, Arrival, Node, written}
-use Rattle.gtp_machine.specs.Input.{ControlReading, RequestKind, Of_create_session, Of_delete_session, Of_create_bearer, Of_delete_bearer, FaultyRequest, Effect, Opened, Closed, Clash, Rejected, nothing, dropped, undecodable, NoPending, Mismatch, Unexpected}
+use Rattle.gtp_machine.specs.Input.{Came_to, ControlReading, RequestKind, Of_create_session, Of_delete_session, Of_create_bearer, Of_delete_bearer, FaultyRequest, Effect, Opened, Closed, Clash, Rejected, nothing, dropped, undecodable, NoPending, Mismatch, Unexpected}
 use Rattle.gtp_machine.specs.Choice.{IsFree, HasDraws, IsFreeAddress, HasFreeAddress, IsIdentity, IsUnused, HasSessionRoom, HasSession, HasBearer, HasPending}
 use Rattle.gtp_machine.specs.Removal.{without_session}
 use Rattle.gtp_machine.specs.Response.{Named, finishing, EchoAnswered}
@@ -123,7 +123,7 @@ opened_dedicated b x = record b { remote = first_given x.contexts; identity = fi
 -- The bearer is active, with its remote and identity.
 pub record OpensBearer (old : Node) (x : CreateBearerResponse) (bearer : ℕ) (e : Effect) : Type 0 where
   pub at : HasBearer old bearer
-  pub gives : e ≡ record { out = nothing; outcome = Opened; node = record old { bearers = insert old.bearers bearer (opened_dedicated at.bearer x); pending = remove old.pending x.number } }
+  pub gives : e ≡ record { out = nothing; outcome = Came_to Opened; node = record old { bearers = insert old.bearers bearer (opened_dedicated at.bearer x); pending = remove old.pending x.number } }
 
 -- A Create Bearer Response (7.2.4). What does not accept, or clashes, removes the pending bearer.
 abbrev pub BearerAnswered : CreateBearerResponse → Node → Effect → Type 0

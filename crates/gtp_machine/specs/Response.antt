@@ -4,7 +4,7 @@ use Rattle.gtp_values.specs.declared.cause.Cause.{Cause}
 use Rattle.gtp_machine.specs.Ordered.{Unless}
 use Rattle.gtp_machine.specs.Message.{Echo, Echo_request, header_of}
 use Rattle.gtp_machine.specs.Node.{PendingRequest, Node}
-use Rattle.gtp_machine.specs.Input.{Effect, Outcome, Alive, nothing, dropped, NoPending, Mismatch}
+use Rattle.gtp_machine.specs.Input.{Effect, Outcome, Came_to, Alive, nothing, dropped, NoPending, Mismatch}
 use Rattle.gtp_machine.specs.Choice.{HasPending}
 use Rattle.gtp_machine.specs.Removal.{finished}
 
@@ -14,7 +14,7 @@ Named p header cause = (p.session ≡ Some header) ⊎ ((header ≡ 0) × (cause
 
 -- the request with this number is finished, and what it was about goes
 abbrev pub finishing : Node → ℕ → PendingRequest → Outcome → Effect
-finishing old number p outcome = record { out = nothing; outcome = outcome; node = finished old number p }
+finishing old number p outcome = record { out = nothing; outcome = Came_to outcome; node = finished old number p }
 
 -- the request is an Echo Request
 pub record IsEcho (p : PendingRequest) : Type 0 where

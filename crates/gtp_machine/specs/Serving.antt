@@ -5,7 +5,7 @@ use Rattle.gtp_machine.specs.Ordered.{Unless}
 use Rattle.gtp_machine.specs.Element.{IsAccepting, Ipv4, cause_of, teid_in, tunnel_end}
 use Rattle.gtp_machine.specs.Message.{CreateSessionRequest, CreatedBearer, CreateSessionResponse, DeleteSessionRequest, DeleteSessionResponse, CreateBearerRequest, CreateBearerResponse, DeleteBearerRequest, RemovedBearer, Message, Control, Echo_request, Echo_response, Create_session_request, Create_session_response, Delete_session_request, Delete_session_response, Create_bearer_request, Create_bearer_response, Delete_bearer_request, Delete_bearer_response, first_created}
 use Rattle.gtp_machine.specs.Node.{Pending, Active, Session, Bearer, Dedicated, PendingRequest, Arrival, Node, written}
-use Rattle.gtp_machine.specs.Input.{ControlReading, RequestKind, Of_create_session, Of_delete_session, Of_create_bearer, Of_delete_bearer, FaultyRequest, Effect, Opened, Closed, Rejected, nothing, dropped, undecodable, NoPending, Mismatch, ContextNotActive, Unexpected}
+use Rattle.gtp_machine.specs.Input.{Came_to, ControlReading, RequestKind, Of_create_session, Of_delete_session, Of_create_bearer, Of_delete_bearer, FaultyRequest, Effect, Opened, Closed, Rejected, nothing, dropped, undecodable, NoPending, Mismatch, ContextNotActive, Unexpected}
 use Rattle.gtp_machine.specs.Choice.{IsFree, HasDraws, IsFreeIdentity, HasFreeIdentity, HasSession, HasBearer, HasPending}
 use Rattle.gtp_machine.specs.Removal.{without_session, without_bearer}
 use Rattle.gtp_machine.specs.Response.{Named, finishing, EchoAnswered}
@@ -42,7 +42,7 @@ pub record OpensSession (old : Node) (a : CreateSessionResponse) (q : CreateSess
   pub default : HasBearer old q.context.user.teid
   pub gives : e ≡ record {
     out = nothing;
-    outcome = Opened;
+    outcome = Came_to Opened;
     node = record old {
       sessions = insert old.sessions session (opened_session s a address);
       bearers = insert old.bearers q.context.user.teid (opened_bearer default.bearer a);

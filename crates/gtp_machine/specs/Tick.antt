@@ -2,7 +2,7 @@
 use Rattle.std.specs.Prelude.{◌≡◌, ℕ, List, [], ◌∷◌, ◌++◌, map}
 use Rattle.gtp_machine.specs.Ordered.{Unless}
 use Rattle.gtp_machine.specs.Node.{Arrival, Node}
-use Rattle.gtp_machine.specs.Input.{Move, Resend, Give_up, Forget, Out, Effect, Moved, nothing}
+use Rattle.gtp_machine.specs.Input.{Move, Resend, Give_up, Forget, Out, Effect, Ticked, nothing}
 use Rattle.gtp_machine.specs.Choice.{HasPending}
 use Rattle.gtp_machine.specs.Removal.{finished}
 use Rattle.gtp_machine.specs.Move.{MoveStep}
@@ -28,7 +28,7 @@ TickStep old (move ∷ moves) out new = (effect : Effect) × (rest : Out) × Mov
 
 -- what a tick gives
 abbrev pub ticked : Out → Node → Effect
-ticked out new = record { out = out; outcome = Moved; node = new }
+ticked out new = record { out = out; outcome = Ticked; node = new }
 
 -- what is due in a tick: requests to send again and requests to give up, each in the order in which they were begun, and requests whose answers are to be
 -- forgotten, in the order in which those came to be held

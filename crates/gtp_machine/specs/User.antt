@@ -9,14 +9,14 @@ use Rattle.gtp_machine.specs.Ordered.{Unless}
 use Rattle.gtp_machine.specs.Config.{user_end}
 use Rattle.gtp_machine.specs.Message.{Message, User, Packet_data, End_marker, Error_indication, User_echo_request, User_echo_response, Supported_extensions}
 use Rattle.gtp_machine.specs.Node.{Role, Serving, Packet, Active, Bearer, Node}
-use Rattle.gtp_machine.specs.Input.{UserReading, User_message, Extension_needed, User_fault, Effect, Accepted, Ended, Broken, Echoed, Dropped, entry_for, nothing, says, dropped, undecodable, ContextNotActive, UnknownContext, AfterEnd, Unexpected, UnknownExtension, NotPeer}
+use Rattle.gtp_machine.specs.Input.{Came_to, UserReading, User_message, Extension_needed, User_fault, Effect, Accepted, Ended, Broken, Echoed, Dropped, entry_for, nothing, says, dropped, undecodable, ContextNotActive, UnknownContext, AfterEnd, Unexpected, UnknownExtension, NotPeer}
 use Rattle.gtp_machine.specs.Choice.{HasSession, HasBearer}
 use Rattle.gtp_machine.specs.Removal.{without}
 
 -- A packet comes to an active bearer, and is accepted.
 pub record Accepts (old : Node) (target : ℕ) (payload : List ℕ) (at : Bearer) (e : Effect) : Type 0 where
   pub of : HasSession old at.session
-  pub gives : e ≡ record { out = record nothing { accepted = entry_for target payload of.session.subscriber at.identity ∷ [] }; outcome = Accepted; node = old }
+  pub gives : e ≡ record { out = record nothing { accepted = entry_for target payload of.session.subscriber at.identity ∷ [] }; outcome = Came_to Accepted; node = old }
 
 -- no End Marker came before: that counts at the serving gateway alone
 abbrev pub MayCome : Role → Bearer → Type 0
@@ -26,7 +26,7 @@ MayCome Packet b = Unit {0}
 -- A G-PDU: for no bearer it is answered with an Error Indication (7.3.1).
 abbrev pub PacketCame : Role → ℕ → List ℕ → Node → Effect → Type 0
 PacketCame role target payload old e =
-    Unless (HasBearer old target) (e ≡ record { out = says (user_end old.config.peer.user) (Error_indication target old.config.own.user); outcome = Dropped UnknownContext; node = old }) (λ at.
+    Unless (HasBearer old target) (e ≡ record { out = says (user_end old.config.peer.user) (Error_indication target old.config.own.user); outcome = Came_to (Dropped UnknownContext); node = old }) (λ at.
     Unless (at.bearer.state ≡ Active) (e ≡ dropped old ContextNotActive) (λ open_to_packets.
     Unless (MayCome role at.bearer) (e ≡ dropped old AfterEnd) (λ comes.
     Accepts old target payload at.bearer e)))
@@ -40,7 +40,7 @@ abbrev pub EndCame : Role → ℕ → Node → Effect → Type 0
 EndCame Serving target old e =
     Unless (HasBearer old target) (e ≡ dropped old Unexpected) (λ at.
     Unless (at.bearer.state ≡ Active) (e ≡ dropped old ContextNotActive) (λ active.
-    e ≡ record { out = nothing; outcome = Ended; node = record old { bearers = insert old.bearers target (ended_bearer at.bearer) } }))
+    e ≡ record { out = nothing; outcome = Came_to Ended; node = record old { bearers = insert old.bearers target (ended_bearer at.bearer) } }))
 EndCame Packet target old e = e ≡ dropped old Unexpected
 
 -- the bearer is the session's default one and has that remote
@@ -65,20 +65,20 @@ pub record HasRemote (node : Node) (remote : ℕ) : Type 0 where
 abbrev pub ErrorCame : ℕ → Node → Effect → Type 0
 ErrorCame remote old e =
     Unless (HasRemote old remote) (e ≡ dropped old Unexpected) (λ named.
-    e ≡ record { out = nothing; outcome = Broken; node = broken old remote })
+    e ≡ record { out = nothing; outcome = Came_to Broken; node = broken old remote })
 
 -- a user plane message that came from the peer
 abbrev pub UserTaken : Role → Endpoint → Message → Node → Effect → Type 0
 UserTaken role source (Packet_data target payload) old e = PacketCame role target payload old e
 UserTaken role source (End_marker target) old e = EndCame role target old e
 UserTaken role source (Error_indication remote address) old e = ErrorCame remote old e
-UserTaken role source (User_echo_request number) old e = e ≡ record { out = says source (User_echo_response number); outcome = Echoed; node = old }
+UserTaken role source (User_echo_request number) old e = e ≡ record { out = says source (User_echo_response number); outcome = Came_to Echoed; node = old }
 UserTaken role source _ old e = e ≡ dropped old Unexpected
 
 -- what was read; a needed extension header that is not known is told of, with one type that may stand, 64 (5.2.1, 7.2.3)
 abbrev pub UserRead : Role → Endpoint → UserReading → Node → Effect → Type 0
 UserRead role source (User_message message) old e = UserTaken role source message old e
-UserRead role source Extension_needed old e = e ≡ record { out = says (user_end old.config.peer.user) (Supported_extensions (64 ∷ [])); outcome = Dropped UnknownExtension; node = old }
+UserRead role source Extension_needed old e = e ≡ record { out = says (user_end old.config.peer.user) (Supported_extensions (64 ∷ [])); outcome = Came_to (Dropped UnknownExtension); node = old }
 UserRead role source (User_fault fault) old e = e ≡ dropped old (undecodable User fault)
 
 -- a user plane datagram: first its source address is looked at

@@ -5,7 +5,8 @@ use Rattle.gtp_values.specs.FiniteMap.{Among}
 use Rattle.gtp_machine.specs.Config.{Addresses, Config, control_end, user_end}
 use Rattle.gtp_machine.specs.Message.{Message, Plane, Control, User, plane_of}
 use Rattle.gtp_machine.specs.Node.{Role, Serving, Packet, Arrival, Node, fresh_node}
-use Rattle.gtp_machine.specs.Input.{Command, Move, Input, Commanded, Control_came, User_came, Control_message, Control_fault, User_message, User_fault, Outcome, Entry, Out, Effect, messages}
+use Rattle.gtp_machine.specs.Input.{Command, Move, Input, Commanded, Control_came, User_came, Control_message, Control_fault, User_message, User_fault, Entry, Out, Effect, messages}
+pub use Rattle.gtp_machine.specs.Input.{EventOutcome, Came_to, Ticked, Restarted, No_such_datagram, Restarts_used, Cut_too_long}
 use Rattle.gtp_machine.specs.Tick.{TickStep, ticked}
 use Rattle.gtp_machine.specs.Step.{Step, Done, tick_steps}
 use Rattle.gtp_machine.specs.Reading.{cut_fault, user_cut_fault}
@@ -34,15 +35,6 @@ pub record Side : Type 0 where
   pub forgotten : List Arrival  -- requests whose answers were given up since it started
   pub came_late : List Arrival  -- requests that came late since it started
   pub made : List Arrival  -- create requests for which a context was made since it started
-
--- what an event comes to
-pub data EventOutcome : Type 0 where
-  Came_to : Outcome → EventOutcome
-  Ticked : EventOutcome
-  Restarted : ℕ → EventOutcome  -- with this counter
-  No_such_datagram : EventOutcome  -- N1
-  Restarts_used : EventOutcome  -- N2
-  Cut_too_long : EventOutcome  -- N3
 
 -- what is kept of an event
 pub record Note : Type 0 where
@@ -148,7 +140,7 @@ note_of outcome out = record { outcome = outcome; learned = out.learned; sent = 
 pub record Moves (old : World) (role : Role) (input : Input) (new : World) : Type 0 where
   pub effect : Effect
   pub step : Step role (side_of old role).node input effect
-  pub becomes : new ≡ logged (noted (moved old role effect) (note_of (Came_to effect.outcome) effect.out)) role (record { before = (side_of old role).node; input = input; effect = effect } ∷ [])
+  pub becomes : new ≡ logged (noted (moved old role effect) (note_of effect.outcome effect.out)) role (record { before = (side_of old role).node; input = input; effect = effect } ∷ [])
 
 -- A tick is any list of moves.
 pub record TicksOn (old : World) (role : Role) (new : World) : Type 0 where

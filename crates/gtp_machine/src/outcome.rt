@@ -96,6 +96,4 @@ pub enum Outcome {
     Broken,
     /// The datagram was dropped.
     Dropped(DropReason),
-    /// A move of a tick. It is an outcome of the definitions alone: no call returns it.
-    Moved,
 }

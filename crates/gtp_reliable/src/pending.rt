@@ -265,7 +265,7 @@ impl<P: Copy> Pending<P> {
         number
     }
 
-    /// Begins the request that was prepared, which is sent now.
+    /// Stores the prepared request as pending; the caller sends it now.
     pub fn begin(&mut self, seq: Seq, to: Endpoint, octets: Vec<u8>, purpose: P)
         requires { IsPrepared self.old seq }
         ensures waiting { self.new.waiting

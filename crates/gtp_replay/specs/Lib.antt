@@ -8,3 +8,4 @@ pub mod Streams
 pub mod Expected
 pub mod Told
 pub mod Ran
+pub mod Determined

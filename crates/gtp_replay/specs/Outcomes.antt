@@ -8,7 +8,7 @@ use Rattle.gtp_machine.specs.declared.outcome.Refusal.TheVariants.{NoSuchContext
 use Rattle.gtp_machine.specs.declared.outcome.DropReason.{DropReason}
 use Rattle.gtp_machine.specs.declared.outcome.DropReason.TheVariants.{Undecodable, OldCounter, NoPending, Mismatch, ContextNotActive, UnknownContext, AfterEnd, HeldFull, Unexpected, UnknownExtension, NotPeer}
 use Rattle.gtp_machine.specs.declared.outcome.Outcome.{Outcome}
-use Rattle.gtp_machine.specs.declared.outcome.Outcome.TheVariants.{Begun, GoneOut, Refused, Answered, Echoed, Repeated, Opened, Closed, Clash, Rejected, Alive, Accepted, Ended, Broken, Dropped, Moved}
+use Rattle.gtp_machine.specs.declared.outcome.Outcome.TheVariants.{Begun, GoneOut, Refused, Answered, Echoed, Repeated, Opened, Closed, Clash, Rejected, Alive, Accepted, Ended, Broken, Dropped}
 use Rattle.gtp_machine.specs.World.{EventOutcome, Came_to, Ticked, Restarted, No_such_datagram, Restarts_used, Cut_too_long}
 
 -- the code of a refused command
@@ -70,7 +70,6 @@ outcome_word Accepted = codes "accepted"
 outcome_word Ended = codes "ended"
 outcome_word Broken = codes "broken"
 outcome_word (Dropped reason) = drop_word reason
-outcome_word Moved = codes "moved"
 
 -- a number after a word
 abbrev pub after : ℕ → List ℕ

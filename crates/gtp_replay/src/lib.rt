@@ -3,6 +3,7 @@
 
 mod counted;
 mod expected;
+pub mod laws;
 mod replaying;
 mod reporting;
 mod streams;

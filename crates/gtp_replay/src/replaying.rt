@@ -183,13 +183,14 @@ pub fn replay<R: Read, W: Write>(
 ) -> Result<Verdict, ReplayFault>
     requires reads { failures_of reader.old < 2 ^ 64 - 1 }
     requires writes { failures_of writer.old < 2 ^ 64 - 1 }
-    // What is written is what is told for the octets that are read, and so is the verdict.
+    // The text is the report of a world that the events leave, or the line of the refusal; the verdict is that of the
+    // same octets.
     ensures written { IfOk result (λ verdict. IfSome (R.remaining (inner_of reader.old)) (λ octets.
         Told octets verdict
         (W.contents (inner_of writer.old)) (W.contents (inner_of writer.new)))) }
     ensures consumed { ConsumesUpTo 16777217
         (R.remaining (inner_of reader.old)) (R.remaining (inner_of reader.new)) }
-    // The first call of a side that fails ends it with the fault of that side, which no other end has.
+    // `Read` means one more failed call of the reader, and every other result none; likewise `Write`.
     ensures read { result ≡ Err ReplayFault.Read
         → failures_of reader.new ≡ failures_of reader.old + 1 }
     ensures reads_on { result ≢ Err ReplayFault.Read
@@ -224,7 +225,7 @@ pub fn replay_diagram<R: Read, W: Write>(
         (W.contents (inner_of writer.old)) (W.contents (inner_of writer.new)))) }
     ensures consumed { ConsumesUpTo 16777217
         (R.remaining (inner_of reader.old)) (R.remaining (inner_of reader.new)) }
-    // The first call of a side that fails ends it with the fault of that side, which no other end has.
+    // `Read` means one more failed call of the reader, and every other result none; likewise `Write`.
     ensures read { result ≡ Err ReplayFault.Read
         → failures_of reader.new ≡ failures_of reader.old + 1 }
     ensures reads_on { result ≢ Err ReplayFault.Read

@@ -10,9 +10,10 @@ use thiserror::Error;
 /// The result of a replay that was written completely.
 #[derive(Clone, Copy, Debug, PartialEq, Eq)]
 pub enum Verdict {
-    /// Each event had the outcome that the scenario expects.
+    /// Each event had the outcome that its entry expects; without an expected one, no event was refused (G), dropped
+    /// (X) or impossible (N).
     Expected,
-    /// An event had another outcome.
+    /// Some event did not.
     Unexpected,
     /// The octets that were read are not a scenario.
     Bad,

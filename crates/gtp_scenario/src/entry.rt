@@ -19,7 +19,8 @@ pub struct Entry {
     pub event: Event,
     /// How often the event happens: 1 to 1,000 for a tick, once for every other event.
     pub times: u32,
-    /// The first word of the outcome that the event must have each time, if the scenario has one.
+    /// The first word of the outcome that the event must have each time. `None`: any outcome but a refusal (G), a drop
+    /// (X) or an impossible event (N).
     pub expect: Option<String>,
 }
 

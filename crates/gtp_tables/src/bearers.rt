@@ -1,7 +1,7 @@
 //! Bearers by own user plane TEID, and by the peer's.
 
 ghost use Rattle.std.specs.Prelude.{◌≡◌, ◌↔◌, ◌<◌, ◌≤◌, ℕ, Option, None, Some};
-ghost use Rattle.std.specs.Prelude.{true, false, IsTrue, IfSome, IfNone, IsOk, OnOk, OnErr};
+ghost use Rattle.std.specs.Prelude.{true, false, IsTrue, IfSome, IfNone, IsOk, IfErr, OnOk, OnErr};
 ghost use Rattle.std.specs.Prelude.{option_map, slice_get};
 ghost use Rattle.std.specs.FinMap as map;
 ghost use Rattle.std.specs.Prelude.{Bool, not, map as mapped};
@@ -20,7 +20,7 @@ use crate::index::{
     first_named, forget_if, keep_named, keep_noted, name_if, next_named, noted_for, unname_if,
 };
 use crate::table::Table;
-use gtp_values::{Ebi, Memory, Teid};
+use gtp_values::{Ebi, Teid};
 use indexmap::IndexMap;
 use std::alloc::Global;
 use std::collections::BTreeSet;
@@ -179,10 +179,11 @@ impl Bearers {
 
     /// Adds a bearer under a TEID above all those in the table: `Memory` where an allocation was
     /// refused, and then nothing has changed.
-    pub fn add(&mut self, teid: Teid, bearer: Bearer) -> Result<(), Memory>
+    pub fn add(&mut self, teid: Teid, bearer: Bearer) -> Result<(), TablesFault>
         requires rises { Each (λ key _. key < teid.0) self.old }
         ensures ok { OnOk result (self.new ≡ map.insert self.old teid.0 bearer) }
         ensures err { OnErr result (self.new ≡ self.old) }
+        ensures fault { IfErr result (λ f. f ≡ TablesFault.Memory) }
     {
         self.table.reserve_one()?;
         let (index, noted) = (&mut self.by_remote, &mut self.noted);
@@ -193,10 +194,11 @@ impl Bearers {
 
     /// Puts a bearer in the place of one that has no remote: `Memory` where an allocation was
     /// refused, and then nothing has changed.
-    pub fn open(&mut self, teid: Teid, bearer: Bearer) -> Result<(), Memory>
+    pub fn open(&mut self, teid: Teid, bearer: Bearer) -> Result<(), TablesFault>
         requires unopened { IsUnopened self.old teid.0 }
         ensures ok { OnOk result (self.new ≡ map.insert self.old teid.0 bearer) }
         ensures err { OnErr result (self.new ≡ self.old) }
+        ensures fault { IfErr result (λ f. f ≡ TablesFault.Memory) }
         ensures unnamed { bearer.remote ≡ None → IsOk result }
     {
         let (index, noted) = (&mut self.by_remote, &mut self.noted);

@@ -34,14 +34,6 @@ impl From<AllocError> for TablesFault {
     }
 }
 
-impl From<gtp_values::Memory> for TablesFault {
-    ghost from_gives = { λ _ e. e ≡ Memory };
-
-    fn from(_e: gtp_values::Memory) -> TablesFault {
-        TablesFault::Memory
-    }
-}
-
 impl<T: Drop> From<AllocFailed<T>> for TablesFault {
     ghost from_gives = { λ _ e. e ≡ Memory };
 

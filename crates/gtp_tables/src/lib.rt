@@ -24,4 +24,4 @@ pub use table::Table;
 pub use view::{View, end_opened};
 
 /// What the signatures and contracts here name of the crate below.
-pub use gtp_values::{Age, Apn, Counter, Ebi, Imsi, Memory, Teid, ValueFault};
+pub use gtp_values::{Age, Apn, Counter, Ebi, Imsi, Teid, ValueFault};

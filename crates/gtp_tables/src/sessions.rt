@@ -34,7 +34,6 @@ impl Table<Session> {
         if self.is_full() {
             return Err(TablesFault::SessionsFull);
         }
-        self.reserve_one()?;
-        Ok(())
+        self.reserve_one()
     }
 }

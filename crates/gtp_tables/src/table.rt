@@ -1,7 +1,7 @@
 //! Contexts by own TEID.
 
 ghost use Rattle.std.specs.Prelude.{◌≡◌, ◌↔◌, ◌<◌, ◌≤◌, ℕ, Bool, Option, None, Some, true, false, not};
-ghost use Rattle.std.specs.Prelude.{IsSome, IsTrue, IsOk, OnOk, OnErr};
+ghost use Rattle.std.specs.Prelude.{IsSome, IsTrue, IsOk, IfErr, OnOk, OnErr};
 ghost use Rattle.std.specs.Prelude.{filter, option_map, slice_get, is_some, length};
 ghost use Rattle.std.specs.Prelude.{vec_len, vec_capacity};
 ghost use Rattle.std.specs.List.{list_any, IsDistinct};
@@ -14,7 +14,8 @@ ghost use Rattle.gtp_values.specs.FiniteMap.{Each, kept};
 ghost use Rattle.gtp_tables.specs.Deciding.{Answers};
 ghost use Rattle.gtp_tables.specs.Rows.{AreRising};
 
-use gtp_values::{Memory, Teid};
+use crate::fault::TablesFault;
+use gtp_values::Teid;
 use indexmap::IndexMap;
 use std::alloc::Global;
 use std::marker::Model;
@@ -80,9 +81,10 @@ impl<V: Copy> Table<V> {
 
     /// Room for one more, however many there are: `Memory` where an allocation was refused. Nothing
     /// else changes.
-    pub fn reserve_one(&mut self) -> Result<(), Memory>
+    pub fn reserve_one(&mut self) -> Result<(), TablesFault>
         ensures ok { OnOk result (self.new ≡ record self.old { has_room = true }) }
         ensures err { OnErr result (self.new ≡ self.old) }
+        ensures fault { IfErr result (λ f. f ≡ TablesFault.Memory) }
         ensures ready { self.old.has_room ≡ true → IsOk result }
     {
         if !self.ready {

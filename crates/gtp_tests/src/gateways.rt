@@ -7,11 +7,13 @@ mod faulty;
 mod full;
 mod hostile;
 mod sessions;
+mod transport;
 mod user;
 
 use gtp_gateway::*;
 use gtp_values::{Below, Imsi, Rate, Rates};
 use std::alloc::Global;
+use std::ops::Range;
 use std::process::Abort;
 use std::test::Fail;
 
@@ -40,18 +42,10 @@ enum Act {
     Asks(Role, u8, u32),
     /// So many requests of this type are handed to a gateway, with the numbers from 0 on.
     AsksOften(Role, u8, u32),
-    /// So many sessions are opened.
-    Opens(u32),
-    /// So many sessions are asked for, and each is refused before the next.
-    Refuses(u32),
-    /// So many ticks pass, in which so many answers are forgotten, and nothing is sent again or given up.
-    Ticks(Role, u32, usize),
-    /// The last datagram that came told this.
-    Told(Tells),
 }
 
 /// What is told of a datagram that came, beside its outcome and what is sent for it.
-#[derive(Clone, Copy)]
+#[derive(Clone, Copy, Debug, PartialEq, Eq)]
 struct Tells {
     /// The restart counter that was heard.
     heard: Option<Counter>,
@@ -70,12 +64,39 @@ enum Sends {
     Shown,
 }
 
+/// A row of a scene.
+#[derive(Clone, Copy)]
+enum Row {
+    /// What is done, what it comes to, and what is sent for it.
+    Does(Act, Outcome, Sends),
+    /// The last datagram that came told this.
+    Told(Tells),
+    /// So many ticks pass, in which so many answers are forgotten, and nothing is sent again or given up.
+    Ticks(Role, u32, usize),
+    /// So many sessions are opened.
+    Opens(u32),
+    /// Sessions are requested from the serving gateway, and each is refused before the next. The requests have the
+    /// numbers from the first one to the second one, which is left out.
+    Refuses(u32, u32),
+    /// So many sessions are made and deleted at the packet gateway, by requests with the numbers from 0 on.
+    MakesAndDeletes(u32),
+}
+
 /// What is done, what it comes to, and what is sent for it.
-type Row = (Act, Outcome, Sends);
+#[derive(Clone, Copy)]
+struct Step {
+    act: Act,
+    outcome: Outcome,
+    sends: Sends,
+}
 
 /// What is done with two gateways, and what they have at the end.
 #[derive(Clone, Copy)]
 struct Scene {
+    /// The version of both gateways' own addresses.
+    transport: Version,
+    /// For how many ticks an answer is held.
+    hold: u32,
     /// The restart counter of the packet gateway.
     counter: u8,
     /// How many addresses it has, from 10.1.0.1 on.
@@ -90,6 +111,8 @@ struct Scene {
 
 /// Two gateways with the counter 1 and ten addresses, with which nothing is done.
 const IDLE: Scene = Scene {
+    transport: Version::V4,
+    hold: 60,
     counter: 1,
     addresses: 10,
     rows: &[],
@@ -97,16 +120,24 @@ const IDLE: Scene = Scene {
     packet: None,
 };
 
+/// A version of the Internet Protocol.
+#[derive(Clone, Copy, Debug, PartialEq, Eq)]
+enum Version {
+    V4,
+    V6,
+}
+
 /// Two gateways, and what they sent.
 #[derive(Drop)]
 struct Path {
+    transport: Version,
     serving: Gateway,
     packet: Gateway,
     sent: Vec<(Role, Sent)>,
     /// How many rows were played.
     at: usize,
-    /// What the last datagram told.
-    report: Report,
+    /// What the last datagram told, if one came.
+    report: Option<Report>,
 }
 
 /// The other gateway.
@@ -117,44 +148,57 @@ fn peer_of(role: Role) -> Role {
     }
 }
 
-/// The address of a gateway, on both planes.
-fn address_of(role: Role) -> Ip {
+/// The last octet of a gateway's address.
+fn last_octet_of(role: Role) -> u8 {
     match role {
-        Role::Serving => Ip::V4([10, 0, 0, 1]),
-        Role::Packet => Ip::V4([10, 0, 0, 2]),
+        Role::Serving => 1,
+        Role::Packet => 2,
+    }
+}
+
+/// The address of a gateway, on both planes: 10.0.0.1 or 2001:db8::1, and 10.0.0.2 or 2001:db8::2.
+fn address_of(version: Version, role: Role) -> Ip {
+    let last = last_octet_of(role);
+    match version {
+        Version::V4 => Ip::V4([10, 0, 0, last]),
+        Version::V6 => Ip::V6([0x20, 1, 0xd, 0xb8, 0, 0, 0, 0, 0, 0, 0, 0, 0, 0, 0, last]),
+    }
+}
+
+/// The version of an address.
+fn version_of(ip: Ip) -> Version {
+    match ip {
+        Ip::V4(_) => Version::V4,
+        Ip::V6(_) => Version::V6,
     }
 }
 
 /// The same address on each plane.
-fn addresses_of(role: Role) -> Addresses {
+fn addresses_of(version: Version, role: Role) -> Addresses {
     Addresses {
-        control: address_of(role),
-        user: address_of(role),
+        control: address_of(version, role),
+        user: address_of(version, role),
     }
 }
 
-/// How a gateway is set up, with so many addresses for sessions from 10.1.0.1 on.
-fn set_up(alloc: Global, role: Role, addresses: u32) -> Result<Config, Fail> {
-    let pool = Pool::try_new(0x0a01_0001, addresses)?;
+/// How a gateway is set up for a scene, with its addresses for sessions from 10.1.0.1 on.
+fn set_up(alloc: Global, role: Role, scene: &Scene) -> Result<Config, Fail> {
+    let pool = Pool::try_new(0x0a01_0001, scene.addresses)?;
     let names = Vec::from_slice(alloc, &[Apn::from_text("internet")?])?;
-    let own = addresses_of(role);
-    let peer = addresses_of(peer_of(role));
-    Ok(Config::try_new(own, peer, names, pool, Timers::default())?)
+    let own = addresses_of(scene.transport, role);
+    let peer = addresses_of(scene.transport, peer_of(role));
+    let timers = Timers {
+        hold: scene.hold,
+        ..Timers::default()
+    };
+    Ok(Config::try_new(own, peer, names, pool, timers)?)
 }
 
-/// A gateway that starts with this restart counter.
-fn started(alloc: Global, role: Role, addresses: u32, counter: u8) -> Result<Gateway, Fail> {
-    let config = set_up(alloc, role, addresses)?;
+/// A gateway of a scene that starts with this restart counter.
+fn started(alloc: Global, role: Role, scene: &Scene, counter: u8) -> Result<Gateway, Fail> {
+    let config = set_up(alloc, role, scene)?;
     Ok(Gateway::start(alloc, role, &config, Counter(counter))?)
 }
-
-/// No datagram came.
-const NO_REPORT: Report = Report {
-    outcome: Outcome::Moved,
-    heard: None,
-    restart: None,
-    made: false,
-};
 
 /// No bit rate.
 fn no_rates() -> Rates {
@@ -261,9 +305,9 @@ fn answer_to(alloc: Global, gateway: &mut Gateway, act: Act) -> Result<Answer, F
 const PORT: u16 = 40_000;
 
 /// The peer of a gateway, at this port.
-fn from_peer(to: Role, port: u16) -> Endpoint {
+fn from_peer(version: Version, to: Role, port: u16) -> Endpoint {
     Endpoint {
-        ip: address_of(peer_of(to)),
+        ip: address_of(version, peer_of(to)),
         port,
     }
 }
@@ -299,7 +343,7 @@ fn refused(
     number: u32,
 ) -> Option<Outcome> {
     serving.create_session(alloc, spec).ok()?;
-    let source = from_peer(Role::Serving, PORT);
+    let source = from_peer(Version::V4, Role::Serving, PORT);
     let answer = refusal_of(number);
     let step = serving
         .receive(alloc, source, Plane::Control, &answer)
@@ -307,17 +351,65 @@ fn refused(
     Some(step.report.outcome)
 }
 
-/// So many sessions are asked for, and each is refused.
+/// Sessions are asked for by requests with these numbers, and each is refused.
 fn refuses(
     rt: &impl Abort,
     alloc: Global,
     serving: &mut Gateway,
-    sessions: u32,
+    numbers: Range<u32>,
 ) -> Result<(), Fail> {
     let spec = specification()?;
-    for number in 0..sessions {
+    for number in numbers {
         let outcome = refused(alloc, serving, &spec, number);
         assert!(rt; outcome == Some(Outcome::Rejected(73)), "session {number}");
+    }
+    Ok(())
+}
+
+/// The octets of a request, with another number.
+fn numbered(request: &mut [u8], number: u32) {
+    let [_, a, b, c] = number.to_be_bytes();
+    if let Some(place) = request.get_mut(8..11) {
+        place.copy_from_slice(&[a, b, c]);
+    }
+}
+
+/// A Delete Session Request with this number, for the session that was made by the request of this number. Before each
+/// session, so many drew two TEIDs.
+fn deletion_of(number: u32) -> [u8; 17] {
+    let teid = 0x0100_0001u32.wrapping_add(number).wrapping_add(number);
+    let [h, i, j, k] = teid.to_be_bytes();
+    let [_, a, b, c] = number.to_be_bytes();
+    [0x48, 36, 0, 13, h, i, j, k, a, b, c, 0, 73, 0, 1, 0, 5]
+}
+
+/// What a request of the serving gateway comes to.
+fn outcome_of(alloc: Global, packet: &mut Gateway, request: &[u8]) -> Option<Outcome> {
+    let source = from_peer(Version::V4, Role::Packet, PORT);
+    let step = packet.receive(alloc, source, Plane::Control, request).ok()?;
+    Some(step.report.outcome)
+}
+
+/// A session is made by the request with this number, and deleted. A tick passes after each thousand.
+fn is_made_and_deleted(alloc: Global, packet: &mut Gateway, request: &[u8], number: u32) -> bool {
+    let made = outcome_of(alloc, packet, request);
+    let deleted = outcome_of(alloc, packet, &deletion_of(number));
+    let is_in_time = number % 1000 != 0 || packet.tick(alloc).is_ok();
+    made == Some(Outcome::Answered(16)) && deleted == Some(Outcome::Answered(16)) && is_in_time
+}
+
+/// So many sessions are made and deleted.
+fn makes_and_deletes(
+    rt: &impl Abort,
+    alloc: Global,
+    packet: &mut Gateway,
+    sessions: u32,
+) -> Result<(), Fail> {
+    let mut request = hex::decode(alloc, SESSION_REQUEST)?;
+    for number in 0..sessions {
+        numbered(request.as_mut_slice(), number);
+        let is_done = is_made_and_deleted(alloc, packet, request.as_slice(), number);
+        assert!(rt; is_done, "session {number}");
     }
     Ok(())
 }
@@ -361,7 +453,7 @@ impl Path {
     ) -> Result<Came, Fail> {
         let step = self.gateway(to).receive(alloc, source, plane, octets)?;
         let (report, sent) = (step.report, step.out);
-        self.report = report;
+        self.report = Some(report);
         Ok(Came {
             outcome: report.outcome,
             sent,
@@ -384,7 +476,8 @@ impl Path {
     /// A datagram that was sent is handed to the other gateway.
     fn deliver(&mut self, alloc: Global, number: usize) -> Result<Came, Fail> {
         let (to, plane, octets) = copy_of(alloc, &self.sent, number)?;
-        self.comes(alloc, to, plane, from_peer(to, PORT), octets.as_slice())
+        let source = from_peer(self.transport, to, PORT);
+        self.comes(alloc, to, plane, source, octets.as_slice())
     }
 
     /// A gateway is given a command.
@@ -394,17 +487,20 @@ impl Path {
 
     /// What is done comes to this.
     fn act(&mut self, alloc: Global, act: Act) -> Result<Came, Fail> {
+        let version = self.transport;
         match act {
             Act::Deliver(number) => self.deliver(alloc, number),
             Act::Comes(role, plane, digits) => {
-                self.comes_as(alloc, role, plane, from_peer(role, PORT), digits)
+                self.comes_as(alloc, role, plane, from_peer(version, role, PORT), digits)
             }
             Act::ComesFrom(role, port, digits) => {
-                self.comes_as(alloc, role, Plane::Control, from_peer(role, port), digits)
+                let source = from_peer(version, role, port);
+                self.comes_as(alloc, role, Plane::Control, source, digits)
             }
             Act::Asks(role, kind, number) => {
                 let request = request_of(kind, number);
-                self.comes(alloc, role, Plane::Control, from_peer(role, PORT), &request)
+                let source = from_peer(version, role, PORT);
+                self.comes(alloc, role, Plane::Control, source, &request)
             }
             Act::Strays(role, plane, digits) => self.comes_as(alloc, role, plane, STRANGER, digits),
             _ => self.command(alloc, act),
@@ -413,59 +509,95 @@ impl Path {
 
     /// The last datagram told this.
     fn tells(&self, rt: &impl Abort, tells: &Tells) {
-        let (at, report) = (self.at, &self.report);
-        let is_heard = report.heard == tells.heard && report.restart == tells.restart;
-        assert!(rt;
-            is_heard && report.made == tells.made,
-            "row {at}: {report:?}"
-        );
-    }
-
-    /// Ticks, sessions that are refused, and what was told: what has no outcome.
-    fn passes(&mut self, rt: &impl Abort, alloc: Global, act: Act) -> Result<bool, Fail> {
-        match act {
-            Act::Ticks(role, times, count) => {
-                assert!(rt;
-                    forgotten_in(alloc, self.gateway(role), times)? == count,
-                    "forgotten in row {}",
-                    self.at
-                );
-            }
-            Act::Refuses(sessions) => refuses(rt, alloc, &mut self.serving, sessions)?,
-            Act::Told(tells) => self.tells(rt, &tells),
-            _ => return Ok(false),
-        }
-        Ok(true)
-    }
-
-    /// One row.
-    fn row(&mut self, rt: &impl Abort, alloc: Global, row: &Row) -> Result<(), Fail> {
         let at = self.at;
-        self.at = at.saturating_add(1);
-        if self.passes(rt, alloc, row.0)? {
-            return Ok(());
-        }
-        let came = self.act(alloc, row.0)?;
-        assert!(rt; came.outcome == row.1, "row {at}: {:?}", came.outcome);
-        is_sent(rt, alloc, at, row, &came.sent)?;
+        let told = self.report.map(|report| Tells {
+            heard: report.heard,
+            restart: report.restart,
+            made: report.made,
+        });
+        assert!(rt; told == Some(*tells), "row {at}: {told:?}");
+    }
+
+    /// What is done comes to this, and this is sent for it.
+    fn step(&mut self, rt: &impl Abort, alloc: Global, step: &Step) -> Result<(), Fail> {
+        let at = self.at;
+        let came = self.act(alloc, step.act)?;
+        assert!(rt;
+            came.outcome == step.outcome,
+            "row {at}: {:?}",
+            came.outcome
+        );
+        is_sent(rt, alloc, at, step, &came.sent)?;
         if let Some(sent) = came.sent {
             self.sent.push((sender_of(&sent), sent))?;
         }
         Ok(())
     }
 
-    /// One row, as often as it is done.
-    fn often(&mut self, rt: &impl Abort, alloc: Global, row: &Row) -> Result<(), Fail> {
-        for at in 0..times(row.0) {
-            self.row(rt, alloc, &nth(row, at))?;
+    /// The same, as often as it is done.
+    fn often(&mut self, rt: &impl Abort, alloc: Global, step: &Step) -> Result<(), Fail> {
+        for at in 0..times(step.act) {
+            self.step(rt, alloc, &nth(step, at))?;
         }
         Ok(())
+    }
+
+    /// So many sessions are opened.
+    fn opens(&mut self, rt: &impl Abort, alloc: Global, sessions: u32) -> Result<(), Fail> {
+        for before in 0..sessions {
+            for step in &opening(before) {
+                self.step(rt, alloc, step)?;
+            }
+        }
+        Ok(())
+    }
+
+    /// So many ticks pass, in which so many answers are forgotten.
+    fn ticks(
+        &mut self,
+        rt: &impl Abort,
+        alloc: Global,
+        role: Role,
+        times: u32,
+        count: usize,
+    ) -> Result<(), Fail> {
+        let at = self.at;
+        assert!(rt;
+            forgotten_in(alloc, self.gateway(role), times)? == count,
+            "forgotten in row {at}"
+        );
+        Ok(())
+    }
+
+    /// One row.
+    fn row(&mut self, rt: &impl Abort, alloc: Global, row: &Row) -> Result<(), Fail> {
+        self.at = self.at.saturating_add(1);
+        match *row {
+            Row::Does(act, outcome, sends) => {
+                let step = Step {
+                    act,
+                    outcome,
+                    sends,
+                };
+                self.often(rt, alloc, &step)
+            }
+            Row::Told(tells) => {
+                self.tells(rt, &tells);
+                Ok(())
+            }
+            Row::Ticks(role, times, count) => self.ticks(rt, alloc, role, times, count),
+            Row::Opens(sessions) => self.opens(rt, alloc, sessions),
+            Row::Refuses(from, to) => refuses(rt, alloc, &mut self.serving, from..to),
+            Row::MakesAndDeletes(sessions) => {
+                makes_and_deletes(rt, alloc, &mut self.packet, sessions)
+            }
+        }
     }
 
     /// Rows in order.
     fn rows(&mut self, rt: &impl Abort, alloc: Global, rows: &[Row]) -> Result<(), Fail> {
         for row in rows {
-            self.often(rt, alloc, row)?;
+            self.row(rt, alloc, row)?;
         }
         Ok(())
     }
@@ -483,7 +615,8 @@ impl Path {
 
 /// The gateway that sent a datagram.
 fn sender_of(sent: &Sent) -> Role {
-    if sent.from.ip == address_of(Role::Serving) {
+    let ip = sent.from.ip;
+    if ip == address_of(version_of(ip), Role::Serving) {
         Role::Serving
     } else {
         Role::Packet
@@ -503,41 +636,46 @@ fn copy_of(
     Ok((peer_of(*from), sent.plane, octets))
 }
 
-/// How often a row is done.
+/// How often it is done.
 fn times(act: Act) -> u32 {
     match act {
         Act::AsksOften(_, _, times) => times,
-        Act::Opens(sessions) => sessions.saturating_mul(3),
         _ => 1,
     }
 }
 
 /// What is done the next time, from 0.
-fn nth(row: &Row, at: u32) -> Row {
-    match row.0 {
-        Act::AsksOften(role, kind, _) => (Act::Asks(role, kind, at), row.1, row.2),
-        Act::Opens(_) => opening(at / 3, at % 3),
-        _ => *row,
+fn nth(step: &Step, at: u32) -> Step {
+    match step.act {
+        Act::AsksOften(role, kind, _) => Step {
+            act: Act::Asks(role, kind, at),
+            ..*step
+        },
+        _ => *step,
     }
 }
 
-/// A step of the opening of a session, of which so many were opened before.
-fn opening(before: u32, step: u32) -> Row {
+/// The steps of the opening of a session, of which so many were opened before.
+fn opening(before: u32) -> [Step; 3] {
     let teid = 0x0100_0001u32.wrapping_add(before).wrapping_add(before);
     let number = (before as usize).saturating_add(before as usize);
-    match step {
-        0 => (
-            Act::CreateSession(Role::Serving),
-            Outcome::Begun(Some(teid)),
-            Sends::Shown,
-        ),
-        1 => (Act::Deliver(number), Outcome::Answered(16), Sends::Shown),
-        _ => (
-            Act::Deliver(number.saturating_add(1)),
-            Outcome::Opened,
-            Sends::Nothing,
-        ),
-    }
+    [
+        Step {
+            act: Act::CreateSession(Role::Serving),
+            outcome: Outcome::Begun(Some(teid)),
+            sends: Sends::Shown,
+        },
+        Step {
+            act: Act::Deliver(number),
+            outcome: Outcome::Answered(16),
+            sends: Sends::Shown,
+        },
+        Step {
+            act: Act::Deliver(number.saturating_add(1)),
+            outcome: Outcome::Opened,
+            sends: Sends::Nothing,
+        },
+    ]
 }
 
 /// The port of a plane.
@@ -550,17 +688,18 @@ fn port_of(plane: Plane) -> u16 {
 
 /// The port that what is sent for a row goes to: an answer to the port that asked, all else to that of
 /// its plane.
-fn port_for(row: &Row, plane: Plane) -> u16 {
-    match row {
-        (Act::ComesFrom(_, port, _), _, _) => *port,
-        (_, Outcome::Answered(_) | Outcome::Echoed | Outcome::Repeated, _) => PORT,
+fn port_for(step: &Step, plane: Plane) -> u16 {
+    match (step.act, step.outcome) {
+        (Act::ComesFrom(_, port, _), _) => port,
+        (_, Outcome::Answered(_) | Outcome::Echoed | Outcome::Repeated) => PORT,
         _ => port_of(plane),
     }
 }
 
 /// A datagram goes from a port of its plane to the port that it is for at the other gateway.
-fn has_ends(row: &Row, sent: &Sent) -> bool {
-    let to = from_peer(sender_of(sent), port_for(row, sent.plane));
+fn has_ends(step: &Step, sent: &Sent) -> bool {
+    let version = version_of(sent.from.ip);
+    let to = from_peer(version, sender_of(sent), port_for(step, sent.plane));
     sent.from.port == port_of(sent.plane) && sent.to == to
 }
 
@@ -569,17 +708,17 @@ fn is_sent(
     rt: &impl Abort,
     alloc: Global,
     at: usize,
-    row: &Row,
+    step: &Step,
     sent: &Option<Sent>,
 ) -> Result<(), Fail> {
-    match (row.2, sent) {
+    match (step.sends, sent) {
         (Sends::Nothing, None) => Ok(()),
         (Sends::Shown, Some(sent)) => {
-            assert!(rt; has_ends(row, sent), "ends in row {at}");
+            assert!(rt; has_ends(step, sent), "ends in row {at}");
             Ok(())
         }
         (Sends::Octets(digits), Some(sent)) => {
-            assert!(rt; has_ends(row, sent), "ends in row {at}");
+            assert!(rt; has_ends(step, sent), "ends in row {at}");
             is_written(rt, alloc, at, digits, sent.octets.as_slice())
         }
         _ => Err("sent, or not sent".into()),
@@ -653,14 +792,15 @@ fn has(rt: &impl Abort, gateway: &Gateway, wanted: Option<(usize, usize)>) {
 
 /// A scene is played.
 fn plays(rt: &impl Abort, alloc: Global, scene: &Scene) -> Result<(), Fail> {
-    let serving = started(alloc, Role::Serving, scene.addresses, 1)?;
-    let packet = started(alloc, Role::Packet, scene.addresses, scene.counter)?;
+    let serving = started(alloc, Role::Serving, scene, 1)?;
+    let packet = started(alloc, Role::Packet, scene, scene.counter)?;
     let mut path = Path {
+        transport: scene.transport,
         serving,
         packet,
         sent: Vec::new(alloc),
         at: 0,
-        report: NO_REPORT,
+        report: None,
     };
     let played = path.play(rt, alloc, scene);
     drop(path);
@@ -668,14 +808,14 @@ fn plays(rt: &impl Abort, alloc: Global, scene: &Scene) -> Result<(), Fail> {
 }
 
 /// A session is asked for.
-const SESSION_ASKED: Row = (
+const SESSION_ASKED: Row = Row::Does(
     Act::CreateSession(Role::Serving),
     Outcome::Begun(Some(0x0100_0001)),
     Sends::Octets(SESSION_REQUEST),
 );
 
 /// The request for it is answered.
-const SESSION_ANSWERED: Row = (
+const SESSION_ANSWERED: Row = Row::Does(
     Act::Deliver(0),
     Outcome::Answered(16),
     Sends::Octets(SESSION_RESPONSE),
@@ -685,18 +825,18 @@ const SESSION_ANSWERED: Row = (
 const OPENED: [Row; 3] = [
     SESSION_ASKED,
     SESSION_ANSWERED,
-    (Act::Deliver(1), Outcome::Opened, Sends::Nothing),
+    Row::Does(Act::Deliver(1), Outcome::Opened, Sends::Nothing),
 ];
 
 /// A dedicated bearer of it is asked for.
-const BEARER_ASKED: Row = (
+const BEARER_ASKED: Row = Row::Does(
     Act::CreateBearer(Role::Packet, 0x0100_0001),
     Outcome::Begun(Some(0x0100_0003)),
     Sends::Octets(BEARER_REQUEST),
 );
 
 /// The request for the bearer is answered.
-const BEARER_ANSWERED: Row = (
+const BEARER_ANSWERED: Row = Row::Does(
     Act::Deliver(2),
     Outcome::Answered(16),
     Sends::Octets(BEARER_RESPONSE),
@@ -706,7 +846,7 @@ const BEARER_ANSWERED: Row = (
 const DEDICATED: [Row; 3] = [
     BEARER_ASKED,
     BEARER_ANSWERED,
-    (Act::Deliver(3), Outcome::Opened, Sends::Nothing),
+    Row::Does(Act::Deliver(3), Outcome::Opened, Sends::Nothing),
 ];
 
 /// Nothing more is told of a datagram.
@@ -717,25 +857,17 @@ const PLAIN: Tells = Tells {
 };
 
 /// The last datagram told nothing more.
-const UNTOLD: Row = (Act::Told(PLAIN), Outcome::Moved, Sends::Nothing);
+const UNTOLD: Row = Row::Told(PLAIN);
 
 /// It told the restart counter 1, which is no later one.
-const HEARD: Row = (
-    Act::Told(Tells {
-        heard: Some(Counter(1)),
-        ..PLAIN
-    }),
-    Outcome::Moved,
-    Sends::Nothing,
-);
+const HEARD: Row = Row::Told(Tells {
+    heard: Some(Counter(1)),
+    ..PLAIN
+});
 
 /// The same, and a context was made.
-const MADE: Row = (
-    Act::Told(Tells {
-        heard: Some(Counter(1)),
-        made: true,
-        ..PLAIN
-    }),
-    Outcome::Moved,
-    Sends::Nothing,
-);
+const MADE: Row = Row::Told(Tells {
+    heard: Some(Counter(1)),
+    made: true,
+    ..PLAIN
+});

@@ -34,6 +34,19 @@ fn written(alloc: Global, message: &Message) -> Result<Vec<u8>, Fail> {
     Ok(encode(alloc, message)?)
 }
 
+/// Reads octets. If they spell a message, writes it, and reads it again: an error if that is another message.
+pub(crate) fn reads_again(alloc: Global, octets: &[u8]) -> Result<(), Fail> {
+    let Ok(datagram) = decode(alloc, octets) else {
+        return Ok(());
+    };
+    let again = written(alloc, &datagram.message)?;
+    if read(alloc, &again)? == datagram.message {
+        Ok(())
+    } else {
+        Err("another message".into())
+    }
+}
+
 /// The octets of the message that octets spell, where it meets the marks of its table.
 fn written_again(alloc: Global, octets: &[u8]) -> Result<Vec<u8>, Fail> {
     let message = read(alloc, octets)?;

@@ -5,8 +5,8 @@ mod lists;
 mod many;
 
 use gtp_tables::{
-    Age, Apn, Bearer, Bearers, Counter, Draws, Ebi, Imsi, Kind, Memory, Peer, Pool, Session,
-    Sessions, State, Subscriber, Table, TablesFault, Teid, ValueFault, View, end_opened,
+    Age, Apn, Bearer, Bearers, Counter, Draws, Ebi, Imsi, Kind, Peer, Pool, Session, Sessions,
+    State, Subscriber, Table, TablesFault, Teid, ValueFault, View, end_opened,
 };
 use std::process::Abort;
 use std::test::Fail;

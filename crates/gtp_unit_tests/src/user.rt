@@ -23,6 +23,19 @@ fn written(alloc: Global, message: &UserMessage) -> Result<Vec<u8>, Fail> {
     Ok(encode(alloc, message)?)
 }
 
+/// Reads octets. If they spell a message, writes it, and reads it again: an error if that is another message.
+pub(crate) fn reads_again(alloc: Global, octets: &[u8]) -> Result<(), Fail> {
+    let Ok(message) = decode(octets) else {
+        return Ok(());
+    };
+    let again = written(alloc, &message)?;
+    if decode(&again)? == message {
+        Ok(())
+    } else {
+        Err("another message".into())
+    }
+}
+
 /// The message that the octets spell is written as the same octets.
 fn is_written_again(rt: &impl Abort, alloc: Global, octets: &[u8]) -> Result<(), Fail> {
     let again = written(alloc, &decode(octets)?)?;
@@ -31,7 +44,7 @@ fn is_written_again(rt: &impl Abort, alloc: Global, octets: &[u8]) -> Result<(),
 }
 
 /// Messages of the path and of a tunnel, the last with two extension headers.
-const VECTORS: [&[u8]; 10] = [
+pub(crate) const VECTORS: [&[u8]; 10] = [
     b"\x32\x02\x00\x06\x00\x00\x00\x00\x00\x05\x00\x00\x0e\x00",
     b"\x32\x01\x00\x04\x00\x00\x00\x00\x00\x05\x00\x00",
     b"\x32\x1f\x00\x07\x00\x00\x00\x00\x00\x00\x00\x00\x8d\x01\x40",

@@ -8,10 +8,9 @@ use Rattle.gtp_machine.specs.declared.role.Role.{Role}
 use Rattle.gtp_machine.specs.declared.role.Role.TheVariants.{Serving, Packet}
 use Rattle.gtp_machine.specs.Node.{Arrival}
 use Rattle.gtp_machine.specs.Spelling.{Datagram, spelled}
-use Rattle.gtp_machine.specs.declared.outcome.Outcome.{Outcome}
 use Rattle.gtp_machine.specs.Step.{Step, Done, tick_steps}
 use Rattle.gtp_machine.specs.Tick.{Ticks, ticked}
-use Rattle.gtp_machine.specs.World.{By, Sent, World, Side, EventOutcome, Restarted, Event, Does, Tick, Deliver, Cut, Restart, Happens, Moves, Stands, Came_to, Ticked, No_such_datagram, Cut_too_long, Restarts_used, quiet_note, noted, with_side, with_steps, restarted, next_counter, other, side_of, arrival, delivered_on, IsLateOn, late_once, Run, start}
+use Rattle.gtp_machine.specs.World.{By, Sent, World, Side, EventOutcome, Restarted, Event, Does, Tick, Deliver, Cut, Restart, Happens, Moves, Stands, Ticked, No_such_datagram, Cut_too_long, Restarts_used, quiet_note, noted, with_side, with_steps, restarted, next_counter, other, side_of, arrival, delivered_on, IsLateOn, late_once, Run, start}
 use Rattle.gtp_machine.proofs.Worlds.Runs.{Run-push}
 use Rattle.gtp_gateway.specs.Parts.{arrival_of}
 use Rattle.gtp_gateway.specs.Received.{coming}
@@ -48,27 +47,27 @@ module _ (setup : Setup) (v : Kept) (w : World) (stands : StandsFor setup v w) (
   no_request : Role → Arrival
   no_request role = record { source = own_end (side_of w role).node.config Control; octets = [] }
 
-  takes_on : (role : Role) (input there : Input) (Timed : List Datagram → Outcome → Station → Station → Type 0) (new : Kept) → input ≡ there → Takes v role input Timed false new → Moved setup w role there new
+  takes_on : (role : Role) (input there : Input) (Timed : List Datagram → EventOutcome → Station → Station → Type 0) (new : Kept) → input ≡ there → Takes v role input Timed false new → Moved setup w role there new
   takes_on role input there Timed new is t =
       let steps : List Done = record { before = (side_of w role).node; input = there; effect = t.effect } ∷ [] in
-      let next = world_after w role t.effect (Came_to t.effect.outcome) steps in
+      let next = world_after w role t.effect t.effect.outcome steps in
       record {
         world = next;
         moves = record { effect = t.effect; step = subst (λ k. Step role (side_of w role).node k t.effect) is (step_there role input t.effect t.step); becomes = refl };
-        stands = subst (λ k. StandsFor setup k next) (sym t.becomes) (after_step setup v w role t.station t.effect (Came_to t.effect.outcome) false (no_request role) steps (same role) stands t.readable t.node t.role_stays);
+        stands = subst (λ k. StandsFor setup k next) (sym t.becomes) (after_step setup v w role t.station t.effect t.effect.outcome false (no_request role) steps (same role) stands t.readable t.node t.role_stays);
       }
 
   late_node : (role : Role) (a : Arrival) → (side_of w role).node ≡ (side_of (late_once w role a) role).node
   late_node Serving a = refl
   late_node Packet a = refl
 
-  takes_late : (role : Role) (a : Arrival) (input there : Input) (Timed : List Datagram → Outcome → Station → Station → Type 0) (new : Kept) → input ≡ there → Takes v role input Timed true new → (world : World) × Moves (late_once w role a) role there world × StandsFor setup new world
+  takes_late : (role : Role) (a : Arrival) (input there : Input) (Timed : List Datagram → EventOutcome → Station → Station → Type 0) (new : Kept) → input ≡ there → Takes v role input Timed true new → (world : World) × Moves (late_once w role a) role there world × StandsFor setup new world
   takes_late role a input there Timed new is t =
       let steps : List Done = record { before = (side_of (late_once w role a) role).node; input = there; effect = t.effect } ∷ [] in
-      let next = world_after (late_once w role a) role t.effect (Came_to t.effect.outcome) steps in (
+      let next = world_after (late_once w role a) role t.effect t.effect.outcome steps in (
         next,
         record { effect = t.effect; step = subst (λ n. Step role n there t.effect) (late_node role a) (subst (λ k. Step role (side_of w role).node k t.effect) is (step_there role input t.effect t.step)); becomes = refl },
-        subst (λ k. StandsFor setup k next) (sym t.becomes) (after_step setup v w role t.station t.effect (Came_to t.effect.outcome) true a steps (same role) stands t.readable t.node t.role_stays),
+        subst (λ k. StandsFor setup k next) (sym t.becomes) (after_step setup v w role t.station t.effect t.effect.outcome true a steps (same role) stands t.readable t.node t.role_stays),
       )
 
   does_on : (role : Role) (input : Input) (new : Kept) → Takes v role input AsksFor false new → Moved setup w role input new

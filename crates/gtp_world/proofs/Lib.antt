@@ -20,3 +20,5 @@ pub mod Exchanging
 pub mod Timely
 pub mod Reached
 pub mod Running
+pub mod Repeating
+pub mod Determined

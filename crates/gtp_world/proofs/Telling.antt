@@ -11,8 +11,7 @@ use Rattle.gtp_machine.specs.Input.{Command, Create_session, Delete_session, Cre
 use Rattle.gtp_machine.specs.Message.{Plane, Control, User}
 use Rattle.gtp_machine.specs.Node.{Arrival, Node}
 use Rattle.gtp_machine.specs.Spelling.{Datagram}
-use Rattle.gtp_machine.specs.World.{By, signed}
-use Rattle.gtp_machine.specs.declared.outcome.Outcome.{Outcome}
+use Rattle.gtp_machine.specs.World.{By, EventOutcome, Came_to, signed}
 use Rattle.gtp_machine.specs.declared.outcome.Outcome.TheVariants.{Begun as Asked, Refused, GoneOut}
 use Rattle.gtp_machine.specs.declared.outcome.Refusal.{Refusal}
 use Rattle.gtp_gateway.specs.Begun.{IsDone, AsksNext, outcome_by}
@@ -39,7 +38,7 @@ none_handed : (role : Role) (entry : Option (By Entry)) (e : Effect) → entry �
 none_handed role entry e none quiet = ap option_to_list none ∙ ap (λ (o : Out). signed role o.handed) (sym quiet)
 
 -- the entry that is kept is that of the packet which the command hands in
-told : (node role : Role) (command : Command) (old : Node) (teid : Option ℕ) (entry : Option (By Entry)) (e : Effect) → Handing role old command e → e.outcome ≡ outcome_by command teid → IsHanded node old command entry → option_to_list entry ≡ signed node e.out.handed
+told : (node role : Role) (command : Command) (old : Node) (teid : Option ℕ) (entry : Option (By Entry)) (e : Effect) → Handing role old command e → e.outcome ≡ Came_to (outcome_by command teid) → IsHanded node old command entry → option_to_list entry ≡ signed node e.out.handed
 told node role (Create_session spec) old teid entry e quiet outcome none = none_handed node entry e none quiet
 told node role (Delete_session session) old teid entry e quiet outcome none = none_handed node entry e none quiet
 told node role (Create_bearer session tft qos) old teid entry e quiet outcome none = none_handed node entry e none quiet
@@ -47,7 +46,7 @@ told node role (Delete_bearer session identity) old teid entry e quiet outcome n
 told node role (Release_session session) old teid entry e quiet outcome none = none_handed node entry e none quiet
 told node role (Mark_end bearer) old teid entry e quiet outcome none = none_handed node entry e none quiet
 told node role Send_echo old teid entry e quiet outcome none = none_handed node entry e none quiet
-told node role (Send_user bearer payload) old teid entry e (inl refusal) outcome is = let apart : Refused refusal.why ≡ GoneOut = ap (λ (k : Effect). k.outcome) (sym refusal.is) ∙ outcome in absurd (cc apart)
+told node role (Send_user bearer payload) old teid entry e (inl refusal) outcome is = let apart : Came_to (Refused refusal.why) ≡ Came_to GoneOut = ap (λ (k : Effect). k.outcome) (sym refusal.is) ∙ outcome in absurd (cc apart)
 told node role (Send_user bearer payload) old teid entry e (inr hands) outcome is = is hands.at hands.sends.of ∙ ap (λ (k : Effect). signed node k.out.handed) (sym hands.sends.gives)
 
 -- nothing was heard, forgotten or made
@@ -59,7 +58,7 @@ as_before old station out heard forgot made =
     λ i. record old { station = station; seen = seen i; forgotten = forgotten i; made = makes i }
 
 -- a request was begun, and waits
-asked : (old new : Station) (begun : Begun) (teid : Option ℕ) (sent : List Datagram) (outcome : Outcome) → outcome ≡ Asked teid → (datagram_by begun.out ∷ []) ≡ sent → AsksNext old begun new → AsksFor sent outcome old new
+asked : (old new : Station) (begun : Begun) (teid : Option ℕ) (sent : List Datagram) (outcome : EventOutcome) → outcome ≡ Came_to (Asked teid) → (datagram_by begun.out ∷ []) ≡ sent → AsksNext old begun new → AsksFor sent outcome old new
 asked old new begun teid sent outcome is out next =
     record {
       asks = λ other same. (datagram_by begun.out, sym out, record { number = next.number; free = next.free; purpose = next.purpose; timing = next.timing; tied = next.tied });
@@ -67,14 +66,14 @@ asked old new begun teid sent outcome is out next =
     }
 
 -- none was
-unasked : (old new : Station) (sent : List Datagram) (outcome : Outcome) → ((teid : Option ℕ) → outcome ≡ Asked teid → ⊥) → new.timing ≡ old.timing → AsksFor sent outcome old new
+unasked : (old new : Station) (sent : List Datagram) (outcome : EventOutcome) → ((teid : Option ℕ) → outcome ≡ Came_to (Asked teid) → ⊥) → new.timing ≡ old.timing → AsksFor sent outcome old new
 unasked old new sent outcome never same = record { asks = λ teid is. absurd (never teid is); none = λ other. same }
 
-gone_out : (outcome : Outcome) → outcome ≡ GoneOut → (teid : Option ℕ) → outcome ≡ Asked teid → ⊥
-gone_out outcome is teid asks = let apart : GoneOut ≡ Asked teid = sym is ∙ asks in cc apart
+gone_out : (outcome : EventOutcome) → outcome ≡ Came_to GoneOut → (teid : Option ℕ) → outcome ≡ Came_to (Asked teid) → ⊥
+gone_out outcome is teid asks = let apart : Came_to GoneOut ≡ Came_to (Asked teid) = sym is ∙ asks in cc apart
 
 -- what ticks go by, after a command
-asks_for : (command : Command) (old new : Station) (begun : Begun) (teid : Option ℕ) (sent : List Datagram) (outcome : Outcome) → outcome ≡ outcome_by command teid → (datagram_by begun.out ∷ []) ≡ sent → IsTimed command old begun new → AsksFor sent outcome old new
+asks_for : (command : Command) (old new : Station) (begun : Begun) (teid : Option ℕ) (sent : List Datagram) (outcome : EventOutcome) → outcome ≡ Came_to (outcome_by command teid) → (datagram_by begun.out ∷ []) ≡ sent → IsTimed command old begun new → AsksFor sent outcome old new
 asks_for (Create_session spec) old new begun teid sent outcome is out next = asked old new begun teid sent outcome is out next
 asks_for (Delete_session session) old new begun teid sent outcome is out next = asked old new begun teid sent outcome is out next
 asks_for (Create_bearer session tft qos) old new begun teid sent outcome is out next = asked old new begun teid sent outcome is out next
@@ -124,7 +123,7 @@ turned_down node command old why step =
       node = refl;
       role_stays = refl;
       lowest = λ makes. absurd (makes refl);
-      timed = unasked old.station old.station [] (Refused why) (λ teid is. cc is) refl;
+      timed = unasked old.station old.station [] (Came_to (Refused why)) (λ teid is. cc is) refl;
       becomes = as_before old old.station nothing refl refl refl;
       tells = record { sent = refl; outcome = refl; learned = refl; handed = refl; accepted = refl; gave_up = refl; forgot = refl };
     }
@@ -143,9 +142,9 @@ heard_kept seen None = map-append (λ (c : Counter). c.0) seen []
 heard_kept seen (Some c) = map-append (λ (k : Counter). k.0) seen (c ∷ [])
 
 -- what ticks go by, after a datagram
-keeps_on : (plane : Plane) (source : Endpoint) (octets : List ℕ) (sent : List Datagram) (outcome : Outcome) (step : Step) (old new : Station) → step.report.outcome ≡ outcome → KeepsTiming plane source octets step old new → KeepsOn plane source octets sent outcome old new
+keeps_on : (plane : Plane) (source : Endpoint) (octets : List ℕ) (sent : List Datagram) (outcome : EventOutcome) (step : Step) (old new : Station) → Came_to step.report.outcome ≡ outcome → KeepsTiming plane source octets step old new → KeepsOn plane source octets sent outcome old new
 keeps_on Control source octets sent outcome step old new is keeps = keeps
-keeps_on User source octets sent outcome step old new is keeps = (λ apart. keeps.0 (λ broken. apart (sym is ∙ broken)), keeps.1, keeps.2)
+keeps_on User source octets sent outcome step old new is keeps = (λ apart. keeps.0 (λ broken. apart (sym is ∙ ap (λ o. Came_to o) broken)), keeps.1, keeps.2)
 
 -- of what is free the lowest was taken, if anything was made
 lowest_made : (request : Arrival) (made : Bool) (role : Role) (out : Out) (old new : Node) → made_for request made ≡ out.made → ChoosesLowest made role old new → TakesLowest role out old new

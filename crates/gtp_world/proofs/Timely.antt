@@ -9,7 +9,7 @@ use Rattle.gtp_machine.specs.Step.{Done, tick_steps}
 use Rattle.gtp_machine.specs.Tick.{ticked}
 use Rattle.gtp_machine.specs.declared.role.Role.{Role}
 use Rattle.gtp_machine.specs.declared.role.Role.TheVariants.{Serving, Packet}
-use Rattle.gtp_machine.specs.World.{World, Event, Does, Tick, Deliver, Cut, Restart, Came_to, Ticked, Restarted, No_such_datagram, Cut_too_long, Restarts_used, Note, note_of, quiet_note, next_counter, Happens, Delivers, Moves, TicksOn, Run, start, side_of, moved, noted, logged, late_once, restarted, with_side, with_steps}
+use Rattle.gtp_machine.specs.World.{World, Event, Does, Tick, Deliver, Cut, Restart, Ticked, Restarted, No_such_datagram, Cut_too_long, Restarts_used, Note, note_of, quiet_note, next_counter, Happens, Delivers, Moves, TicksOn, Run, start, side_of, moved, noted, logged, late_once, restarted, with_side, with_steps}
 use Rattle.gtp_machine.proofs.Basics.Facts.{one_more}
 
 -- where no delivery was late, none is kept as late
@@ -39,7 +39,7 @@ after_timely w role e note steps timely = stays w (after w role e note steps) (l
 moves_timely : (old : World) (role : Role) (input : Input) (new : World) → NoneLate old → Moves old role input new → NoneLate new
 moves_timely old role input new timely m =
     let steps : List Done = record { before = (side_of old role).node; input = input; effect = m.effect } ∷ [] in
-    subst NoneLate (sym m.becomes) (after_timely old role m.effect (note_of (Came_to m.effect.outcome) m.effect.out) steps timely)
+    subst NoneLate (sym m.becomes) (after_timely old role m.effect (note_of m.effect.outcome m.effect.out) steps timely)
 
 ticks_timely : (old : World) (role : Role) (new : World) → NoneLate old → TicksOn old role new → NoneLate new
 ticks_timely old role new timely t =

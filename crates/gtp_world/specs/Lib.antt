@@ -10,3 +10,5 @@ pub mod Ends
 pub mod Views
 pub mod Naming
 pub mod Exchange
+pub mod Repeated
+pub mod Determined

@@ -2,12 +2,11 @@
 use Rattle.std.specs.Prelude.{◌≡◌, ℕ, List, [], ◌∷◌, map, Option, Some, None, option_map, option_to_list}
 use Rattle.gtp_values.specs.declared.identifiers.Teid.{Teid}
 use Rattle.gtp_machine.specs.Choice.{HasSession, HasBearer}
-use Rattle.gtp_machine.specs.Input.{Command, Send_user, Input, Entry, entry_for, Out, Effect, nothing}
+use Rattle.gtp_machine.specs.Input.{Command, Send_user, Input, Entry, entry_for, EventOutcome, Came_to, Out, Effect, nothing}
 use Rattle.gtp_machine.specs.declared.role.Role.{Role}
 use Rattle.gtp_machine.specs.Node.{Node, written}
 use Rattle.gtp_machine.specs.Spelling.{Datagram}
 use Rattle.gtp_machine.specs.Step.{Step}
-use Rattle.gtp_machine.specs.declared.outcome.Outcome.{Outcome}
 use Rattle.gtp_machine.specs.Tick.{Ticks}
 use Rattle.gtp_machine.specs.World.{By, signed}
 use Rattle.gtp_gateway.specs.Sent.{datagram_by}
@@ -29,7 +28,7 @@ entries entry = option_to_list (option_map entry_by entry)
 -- what came of an input tells what its effect has
 pub record TellsCame (role : Role) (old : Half) (came : Came) (e : Effect) : Type 0 where
   pub sent : datagrams came.out ≡ sent_at old e.out
-  pub outcome : came.outcome ≡ e.outcome
+  pub outcome : Came_to came.outcome ≡ e.outcome
   pub learned : option_map (λ c. c.0) came.restart ≡ e.out.learned
   pub handed : option_to_list came.handed ≡ signed role e.out.handed
   pub accepted : entries came.accepted ≡ signed role e.out.accepted
@@ -37,7 +36,7 @@ pub record TellsCame (role : Role) (old : Half) (came : Came) (e : Effect) : Typ
   pub forgot : e.out.forgot ≡ []
 
 -- The gateway took an input, of what is free it took the lowest, and what its ticks go by is as this says.
-pub record IsInput (role : Role) (input : Input) (Timed : List Datagram → Outcome → Station → Station → Type 0) (old : Half) (came : Came) (new : Half) : Type 0 where
+pub record IsInput (role : Role) (input : Input) (Timed : List Datagram → EventOutcome → Station → Station → Type 0) (old : Half) (came : Came) (new : Half) : Type 0 where
   pub effect : Effect
   pub step : Step old.station.role old.station.node input effect
   pub readable : AreReadable effect.out

@@ -6,7 +6,6 @@ use Rattle.gtp_reliable.specs.Pending.{IsNextFree}
 use Rattle.gtp_machine.specs.Input.{Input, Commanded, Out, Effect, nothing}
 use Rattle.gtp_machine.specs.Message.{Plane, Control, User}
 use Rattle.gtp_machine.specs.Node.{Node}
-use Rattle.gtp_machine.specs.declared.outcome.Outcome.{Outcome}
 use Rattle.gtp_machine.specs.declared.outcome.Outcome.TheVariants.{Begun, Broken}
 use Rattle.gtp_machine.specs.declared.role.Role.{Role}
 use Rattle.gtp_machine.specs.Ordered.{Unless}
@@ -67,22 +66,22 @@ pub record WaitsFor (old : Station) (d : Datagram) (new : Station) : Type 0 wher
   pub tied : IsTied new
 
 -- what ticks go by, after a command: a request that was begun waits from now on; where none was, nothing changes
-pub record AsksFor (sent : List Datagram) (outcome : Outcome) (old new : Station) : Type 0 where
-  pub asks : (teid : Option ℕ) → outcome ≡ Begun teid → (d : Datagram) × (sent ≡ d ∷ []) × WaitsFor old d new
-  pub none : ((teid : Option ℕ) → outcome ≢ Begun teid) → new.timing ≡ old.timing
+pub record AsksFor (sent : List Datagram) (outcome : EventOutcome) (old new : Station) : Type 0 where
+  pub asks : (teid : Option ℕ) → outcome ≡ Came_to (Begun teid) → (d : Datagram) × (sent ≡ d ∷ []) × WaitsFor old d new
+  pub none : ((teid : Option ℕ) → outcome ≢ Came_to (Begun teid)) → new.timing ≡ old.timing
 
 -- what ticks go by, after a datagram of that plane: the requests that are still pending wait on; one of the control plane may have been given an answer, which
 -- is held from now on, and one of the user plane changes nothing, but where bearers go that the peer does not know; and it is what the node keeps
-abbrev pub KeepsOn : Plane → Endpoint → List ℕ → List Datagram → Outcome → Station → Station → Type 0
+abbrev pub KeepsOn : Plane → Endpoint → List ℕ → List Datagram → EventOutcome → Station → Station → Type 0
 KeepsOn Control source octets sent outcome old new = GoesOn source octets old new
-KeepsOn User source octets sent outcome old new = (outcome ≢ Broken → new.timing ≡ old.timing) × WaitOn old new × IsTied new
+KeepsOn User source octets sent outcome old new = (outcome ≢ Came_to Broken → new.timing ≡ old.timing) × WaitOn old new × IsTied new
 
 -- what is made on a request has the lowest address or identity that is free
 abbrev pub TakesLowest : Role → Out → Node → Node → Type 0
 TakesLowest role out old new = out.made ≢ [] → MakesLowest role old new
 
 -- A gateway takes an input, by the rules of the machine, and of what is free it takes the lowest; and what its ticks go by is as this says.
-pub record Takes (old : Kept) (role : Role) (input : Input) (Timed : List Datagram → Outcome → Station → Station → Type 0) (late : Bool) (new : Kept) : Type 0 where
+pub record Takes (old : Kept) (role : Role) (input : Input) (Timed : List Datagram → EventOutcome → Station → Station → Type 0) (late : Bool) (new : Kept) : Type 0 where
   pub effect : Effect
   pub step : Step (half_in old role).station.role (half_in old role).station.node input effect
   pub readable : AreReadable effect.out
@@ -91,7 +90,7 @@ pub record Takes (old : Kept) (role : Role) (input : Input) (Timed : List Datagr
   pub role_stays : station.role ≡ (half_in old role).station.role
   pub lowest : TakesLowest station.role effect.out (half_in old role).station.node station.node
   pub timed : Timed (sent_at (half_in old role) effect.out) effect.outcome (half_in old role).station station
-  pub becomes : new ≡ kept_after old role station effect.out (sent_at (half_in old role) effect.out) (Came_to effect.outcome) late
+  pub becomes : new ≡ kept_after old role station effect.out (sent_at (half_in old role) effect.out) effect.outcome late
 
 -- The octets of a datagram come to the gateway that did not send it.
 abbrev pub Brings : Kept → By Datagram → List ℕ → Bool → Kept → Type 0

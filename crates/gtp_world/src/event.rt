@@ -37,12 +37,14 @@ pub enum Event {
     Tick(Role),
     /// The datagram with this number is delivered to the gateway that did not send it. It can be delivered again.
     Deliver(u64),
-    /// The first `length` octets of the datagram with this number are delivered.
+    /// The first `length` octets of the datagram with this number are delivered to the gateway that did not send it;
+    /// N3 unless the datagram is longer.
     Cut {
         datagram: u64,
         length: u64,
     },
-    /// A gateway restarts: it loses all contexts, and its restart counter is one higher, modulo 256.
+    /// A gateway restarts: it loses all contexts, and its restart counter is one higher, modulo 256. N2 after 127
+    /// restarts.
     Restart(Role),
 }
 

@@ -6,6 +6,7 @@ mod command;
 mod config;
 mod event;
 mod handed;
+pub mod laws;
 mod log;
 mod mutual;
 mod records;
@@ -22,7 +23,6 @@ pub use gtp_gateway::{
     Apn, Config, Counter, Ebi, Gateway, Memory, Outcome, Qos, Role, Sent, Seq, SessionSpec, Teid,
     Tft, ValueFault,
 };
-pub use gtp_machine::laws;
 pub use log::{Datagram, Entry, Note};
 pub use mutual::{Mutual, Mutuals};
 pub use run::RunFault;

@@ -105,7 +105,7 @@ impl World {
     }
 
     /// Lets an event happen. Each datagram that it sends gets the next number. A datagram that does not exist, a cut
-    /// that is too long, a restart beyond the 127th and a refused command change nothing but the record of events.
+    /// that is not shorter than its datagram, a restart beyond the 127th and a refused command change nothing but the record of events.
     /// `Memory` if an allocation was refused; the world is then as before.
     pub fn step(&mut self, alloc: Global, event: &Event) -> Result<EventOutcome, Memory>
         // It leaves what the definitions say, gateway by gateway and octet by octet.
@@ -216,7 +216,7 @@ impl World {
     }
 
     /// Whether two contexts agree: sessions on subscriber, access point, default bearer identity and address; bearers
-    /// on their identity, if also their sessions agree. Allocates nothing.
+    /// on their identity, if also their sessions agree. False if a context does not exist. Allocates nothing.
     pub fn agrees(&self, pair: Mutual) -> bool
         ensures { IsTrue result ↔ DoAgree self.now (pair_of pair) }
     {
@@ -233,7 +233,7 @@ impl World {
             × (slice_get (mutual_pairs self.now) index ≡ Some pair)
             × (IsTrue agree ↔ DoAgree self.now pair)) }
         ensures none { IfNone result (length (mutual_pairs self.now) ≤ index) }
-        // It does.
+        // Each such pair agrees.
         ensures safe { IfSome result (λ agree. IsTrue agree) }
     {
         let serving = &self.sides.serving.gateway;
@@ -249,7 +249,7 @@ impl World {
             × (slice_get self.now.log.accepted index ≡ Some entry)
             × (IsTrue owed ↔ IsOwed self.now.log.handed entry.role entry.what)) }
         ensures none { IfNone result (length self.now.log.accepted ≤ index) }
-        // If no delivery was late, it was.
+        // If no delivery was late, it was handed in.
         ensures safe { self.now.log.late ≡ 0 → IfSome result (λ owed. IsTrue owed) }
     {
         let accepted = self.accepted().get(index)?;

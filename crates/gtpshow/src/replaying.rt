@@ -1,6 +1,7 @@
 //! Replaying a scenario.
 
 ghost use Rattle.std.specs.Prelude.{◌≡◌, ◌≢◌, ◌+◌, ◌-◌, ◌^◌, ◌<◌, ◌≤◌, Err, IfOk, IfSome};
+ghost use Rattle.std.specs.IoError.{error_kind};
 ghost use Rattle.gtp_replay.specs.Counts.{inner_of, failures_of};
 ghost use Rattle.gtpshow.specs.Status.{verdict_status};
 ghost use Rattle.gtpshow.specs.Replayed.{IsReplayed};
@@ -8,7 +9,7 @@ ghost use Rattle.gtpshow.specs.Replayed.{IsReplayed};
 use crate::command::Failure;
 use gtp_replay::{Counted, Verdict, replay, replay_diagram};
 use std::alloc::Global;
-use std::io::{Read, Write};
+use std::io::{ErrorKind, Read, Write};
 use std::rt::Files;
 use std::{fs, io};
 
@@ -62,10 +63,13 @@ fn replay_from<I: Read, W: Write>(
     }
 }
 
-/// The error for a file that cannot be opened.
-fn unopened(error: io::Error) -> Failure {
+/// The error for a file that cannot be opened: no memory if that is its kind, and else a failed read.
+fn unopened(error: io::Error) -> Failure
+    ensures memory { error_kind error ≡ ErrorKind.OutOfMemory → result ≡ Failure.Memory }
+    ensures read { error_kind error ≢ ErrorKind.OutOfMemory → result ≡ Failure.Read }
+{
     match error.kind() {
-        io::ErrorKind::OutOfMemory => Failure::Memory,
+        ErrorKind::OutOfMemory => Failure::Memory,
         _ => Failure::Read,
     }
 }

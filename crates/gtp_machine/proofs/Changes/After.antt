@@ -9,7 +9,7 @@ use Rattle.gtp_values.specs.FiniteMap.{FiniteMap, Each, Among}
 use Rattle.gtp_machine.specs.Config.{control_end}
 use Rattle.gtp_machine.specs.Message.{CreateSessionRequest, CreateBearerRequest, Message, Create_session_request, Create_bearer_request, recovery_of}
 use Rattle.gtp_machine.specs.Node.{Role, Serving, Packet, Pending, Active, Session, Bearer, PendingRequest, Arrival, Held, Node, holding}
-use Rattle.gtp_machine.specs.Input.{Outcome, Begun, Answered, Effect, nothing, says, messages}
+use Rattle.gtp_machine.specs.Input.{Came_to, EventOutcome, Begun, Answered, Effect, nothing, says, messages}
 use Rattle.gtp_machine.specs.Choice.{IsFree, counter_of}
 use Rattle.gtp_machine.specs.Command.{asks}
 use Rattle.gtp_machine.specs.Answer.{answered}
@@ -168,7 +168,7 @@ module _ (role : Role) (history : List Sent) (taken : Arrival → Message → Ty
   }
 
   -- a step that only shrinks, and sends nothing
-  pub shrunk : (new : Node) → Shrunk old new → (gave_up : List ℕ) (outcome : Outcome) → After role history taken old (record { out = record nothing { gave_up = gave_up }; outcome = outcome; node = new })
+  pub shrunk : (new : Node) → Shrunk old new → (gave_up : List ℕ) (outcome : EventOutcome) → After role history taken old (record { out = record nothing { gave_up = gave_up }; outcome = outcome; node = new })
   shrunk new s gave_up outcome = record {
     knows = knows_shrunk [] new s;
     known = s.known;
@@ -178,11 +178,11 @@ module _ (role : Role) (history : List Sent) (taken : Arrival → Message → Ty
   }
 
   -- nothing changes, and nothing is sent
-  pub stays : (outcome : Outcome) → After role history taken old (record { out = nothing; outcome = outcome; node = old })
+  pub stays : (outcome : EventOutcome) → After role history taken old (record { out = nothing; outcome = outcome; node = old })
   stays outcome = shrunk old (Shrunk-itself old) [] outcome
 
   -- a step that only shrinks, and sends a message that is made now
-  pub speaks : (destination : Endpoint) (m : Message) (outcome : Outcome) (new : Node) → Shrunk old new → IsPlain m → IsMadeNow history old new m → After role history taken old (record { out = says destination m; outcome = outcome; node = new })
+  pub speaks : (destination : Endpoint) (m : Message) (outcome : EventOutcome) (new : Node) → Shrunk old new → IsPlain m → IsMadeNow history old new m → After role history taken old (record { out = says destination m; outcome = outcome; node = new })
   speaks destination m outcome new s plain made = record {
     knows = knows_shrunk (m ∷ []) new s;
     known = s.known;
@@ -207,7 +207,7 @@ module _ (role : Role) (history : List Sent) (taken : Arrival → Message → Ty
     known = s.known;
     told = nothing_told history (other role);
     draws = Draws-one history role old (holding request m new) m s.config s.counter s.drawn (inr made);
-    logs = Logs-plain history role taken old (holding request m new) (Answered cause) (λ h was. Among-left h new.held _ (subst (Among h) (sym s.held) was)) request.source m plain;
+    logs = Logs-plain history role taken old (holding request m new) (Came_to (Answered cause)) (λ h was. Among-left h new.held _ (subst (Among h) (sym s.held) was)) request.source m plain;
   }
 
   -- a pending request is added to what only shrinks
@@ -230,11 +230,11 @@ module _ (role : Role) (history : List Sent) (taken : Arrival → Message → Ty
         known = s.known;
         told = nothing_told history (other role);
         draws = Draws-one history role old (record new { pending = insert old.pending number p }) m s.config s.counter s.drawn (inr made);
-        logs = Logs-plain history role taken old (record new { pending = insert old.pending number p }) (Begun teid) (λ h was. subst (Among h) (sym s.held) was) (control_end old.config.peer.control) m plain;
+        logs = Logs-plain history role taken old (record new { pending = insert old.pending number p }) (Came_to (Begun teid)) (λ h was. subst (Among h) (sym s.held) was) (control_end old.config.peer.control) m plain;
       }
 
   -- nothing changes, and a message is sent that was sent before
-  pub repeated : (destination : Endpoint) (m : Message) (outcome : Outcome) → HasSent history role m → After role history taken old (record { out = says destination m; outcome = outcome; node = old })
+  pub repeated : (destination : Endpoint) (m : Message) (outcome : EventOutcome) → HasSent history role m → After role history taken old (record { out = says destination m; outcome = outcome; node = old })
   repeated destination m outcome was = record {
     knows = later (m ∷ []);
     known = refl;

@@ -5,7 +5,7 @@ use Rattle.gtp_values.specs.declared.address.Endpoint.{Endpoint}
 use Rattle.gtp_values.specs.FiniteMap.{Among}
 use Rattle.gtp_machine.specs.Message.{Message, CreateBearerRequest, CreateBearerResponse, Create_bearer_request, Create_bearer_response, Packet_data, Owns, recovery_of, first_given, first_returned}
 use Rattle.gtp_machine.specs.Node.{Role, Packet, Session, Arrival, Held, Node}
-use Rattle.gtp_machine.specs.Input.{Entry, Out, Outcome, Effect, nothing, says, messages}
+use Rattle.gtp_machine.specs.Input.{EventOutcome, Entry, Out, Effect, nothing, says, messages}
 use Rattle.gtp_machine.specs.Choice.{IsFree}
 use Rattle.gtp_machine.specs.World.{other, Sent, HasSent}
 use Rattle.gtp_machine.proofs.Origins.Drawing.{Draws, IsMadeNow}
@@ -54,7 +54,7 @@ IsPlain (Packet_data target payload) = ⊥
 IsPlain (Create_bearer_response x) = first_given x.contexts ≡ None
 IsPlain _ = Unit {0}
 
-module _ (history : List Sent) (role : Role) (taken : Arrival → Message → Type 0) (old new : Node) (outcome : Outcome) (held : (h : Held) → Among h old.held → Among h new.held) where
+module _ (history : List Sent) (role : Role) (taken : Arrival → Message → Type 0) (old new : Node) (outcome : EventOutcome) (held : (h : Held) → Among h old.held → Among h new.held) where
   pub Logs-silent : (gave_up : List ℕ) → Logs history role taken old (record { out = record nothing { gave_up = gave_up }; outcome = outcome; node = new })
   Logs-silent gave_up = record {
     held_stays = λ h was. inl (held h was);

@@ -21,7 +21,7 @@ use Rattle.gtp_machine.specs.Packet.{session_cause, session_response, session_ma
 use Rattle.gtp_machine.specs.Reading.{control_reading}
 use Rattle.gtp_machine.specs.Spelling.{ReadsAs, spelled, IsSendable}
 use Rattle.gtp_machine.specs.Step.{Step}
-use Rattle.gtp_machine.specs.World.{World, Sent, HasSent, Side, Event, Does, Deliver, Happens, Delivers, Moves, Run, Came_to, other, side_of, signed, late_once, arrival, delivered_on, start}
+use Rattle.gtp_machine.specs.World.{World, Sent, HasSent, Side, Event, Does, Deliver, Happens, Delivers, Moves, Run, other, side_of, signed, late_once, arrival, delivered_on, start}
 use Rattle.gtp_machine.specs.Exchange.{AllRead, IsOnePath, IsConfigured, IsSpecified, CanExchange, CameTo, Carries, IsMade, Exchanged, FairExchange, ExchangeSendable}
 use Rattle.gtp_machine.proofs.Basics.Ages.{earlier_start}
 use Rattle.gtp_machine.proofs.Basics.FiniteMaps.{get-insert_same, Among-left, Among-last}
@@ -52,7 +52,7 @@ record IsMoved (old : World) (role : Role) (e : Effect) (new : World) : Type 0 w
   pub history : new.history ≡ old.history ++ signed role (messages e.out.sent)
   pub handed : new.handed ≡ old.handed ++ signed role e.out.handed
   pub accepted : new.accepted ≡ old.accepted ++ signed role e.out.accepted
-  pub note : CameTo new (Came_to e.outcome)
+  pub note : CameTo new e.outcome
 
 moved_is : (old : World) (role : Role) (input : Input) (new : World) (m : Moves old role input new) → IsMoved old role m.effect new
 moved_is old Serving input new m = record { node = ap (λ (w : World). w.serving.node) m.becomes; elsewhere = ap (λ (w : World). w.packet.node) m.becomes; history = ap (λ (w : World). w.history) m.becomes; handed = ap (λ (w : World). w.handed) m.becomes; accepted = ap (λ (w : World). w.accepted) m.becomes; note = record { note = _; before = _; notes = ap (λ (w : World). w.notes) m.becomes; is = refl } }
@@ -173,7 +173,7 @@ carries w role bearer there ends payload sent came short h1 h2 =
     ap (λ (f : Effect). f.out.accepted) takes.gives ∙ ap (λ (s : Session). entry_for there payload s.subscriber ends.at.identity ∷ []) (same_Some takes.of.session ends.session_there (sym takes.of.stands ∙ ends.of_there))
     ∙ (λ i. entry_for there payload (ends.subscriber i) (ends.identity i) ∷ []) in
     record {
-      outcome = record { note = f2.note.note; before = f2.note.before; notes = f2.note.notes; is = f2.note.is ∙ ap (λ (f : Effect). Came_to f.outcome) takes.gives };
+      outcome = record { note = f2.note.note; before = f2.note.before; notes = f2.note.notes; is = f2.note.is ∙ ap (λ (f : Effect). f.outcome) takes.gives };
       packet = packet;
       carries = refl;
       handed = f1.handed ∙ ap (λ es. w.handed ++ signed role es) handed;
@@ -404,12 +404,12 @@ module _ (serving packet : Config) (serving_counter packet_counter : ℕ) (event
         cause = session_cause spec.pdn;
         one_version = λ one. ap session_cause one;
         both_versions = λ both. ap session_cause both;
-        first = record { note = f1.note.note; before = f1.note.before; notes = f1.note.notes; is = f1.note.is ∙ ap (λ (f : Effect). Came_to f.outcome) r1.gives };
-        second = record { note = f2.note.note; before = f2.note.before; notes = f2.note.notes; is = f2.note.is ∙ ap (λ o. Came_to o) (a2.outcome ∙ ap (λ (f : Effect). f.outcome) a2.made.gives) };
+        first = record { note = f1.note.note; before = f1.note.before; notes = f1.note.notes; is = f1.note.is ∙ ap (λ (f : Effect). f.outcome) r1.gives };
+        second = record { note = f2.note.note; before = f2.note.before; notes = f2.note.notes; is = f2.note.is ∙ (a2.outcome ∙ ap (λ (f : Effect). f.outcome) a2.made.gives) };
         answer = a;
         told = answered_history ∙ ap (λ h. h ++ signed Packet (Create_session_response a ∷ [])) (sym begun_history);
         says = refl;
-        third = record { note = f3.note.note; before = f3.note.before; notes = f3.note.notes; is = f3.note.is ∙ ap (λ o. Came_to o) o3.outcome };
+        third = record { note = f3.note.note; before = f3.note.before; notes = f3.note.notes; is = f3.note.is ∙ o3.outcome };
         made = made;
       }
 

@@ -11,7 +11,7 @@ use Rattle.gtp_machine.specs.Config.{Config}
 use Rattle.gtp_machine.specs.Element.{IsAccepting, Ipv4}
 use Rattle.gtp_machine.specs.Message.{CreateSessionRequest, CreatedBearer, CreateSessionResponse, Create_session_request, Create_session_response}
 use Rattle.gtp_machine.specs.Node.{Serving, Packet, State, Pending, Session, Bearer, PendingRequest, Arrival, Held, Node}
-use Rattle.gtp_machine.specs.Input.{Specification, Control_came, Control_message, Opened, Effect, nothing, messages}
+use Rattle.gtp_machine.specs.Input.{Came_to, Specification, Control_came, Control_message, Opened, Effect, nothing, messages}
 use Rattle.gtp_machine.specs.Choice.{HasDraws, IsFreeAddress, HasFreeAddress, IsIdentity, HasSessionRoom, HasPendingRoom, HasHeldRoom}
 use Rattle.gtp_machine.specs.Removal.{on, is_pending, is_opened}
 use Rattle.gtp_machine.specs.Recovery.{peer_restarted, Judges, Weighs, learned_by, Hears}
@@ -144,7 +144,7 @@ abbrev pub opening : CreateSessionResponse → CreateSessionRequest → Node →
 opening a q mid address =
     record {
       out = nothing;
-      outcome = Opened;
+      outcome = Came_to Opened;
       node = record mid {
         sessions = insert mid.sessions q.control.teid (opened_session (pending_session q) a address);
         bearers = insert mid.bearers q.context.user.teid (opened_bearer (pending_bearer q.control.teid q) a);
@@ -189,7 +189,7 @@ opens a q mid e address waits by r =
     both.1.gives
     ∙ sym (λ i. record {
       out = nothing;
-      outcome = Opened;
+      outcome = Came_to Opened;
       node = record mid {
         sessions = insert mid.sessions (same_s i) (opened_session (same_at i) a (same_a i));
         bearers = insert mid.bearers (same_q i).context.user.teid (opened_bearer (same_b i) a);
@@ -212,7 +212,7 @@ pub record IsOpened (a : CreateSessionResponse) (q : CreateSessionRequest) (addr
   pub ready : IsReady old mid
   pub node : e.node ≡ (opening a q mid address).node
   pub sent : messages e.out.sent ≡ []
-  pub outcome : e.outcome ≡ Opened
+  pub outcome : e.outcome ≡ Came_to Opened
 
 pub is_opened_by : (request : Arrival) (a : CreateSessionResponse) (q : CreateSessionRequest) (address counter : ℕ) (old : Node) (e : Effect) → request.source.ip ≡ old.config.peer.control → IsNew old request → a.recovery ≡ Some counter → ((k : ℕ) → old.known ≡ Some k → age_of k counter ≢ Earlier) → Waits old q → OpensBy a q address → Step Serving old (Control_came request (Control_message (Create_session_response a))) e → IsOpened a q address old e
 is_opened_by request a q address counter old e peer new tells not_earlier waits by (inl f) = absurd (f.0 peer)

@@ -10,7 +10,7 @@ use Rattle.gtp_tables.specs.Index.{names}
 use Rattle.gtp_machine.specs.Config.{control_end, user_end}
 use Rattle.gtp_machine.specs.Message.{CreateSessionRequest, DeleteSessionRequest, CreateBearerRequest, DeleteBearerRequest, CreateBearerResponse, Message, Create_session_request, Delete_session_request, Create_bearer_request, Create_bearer_response, Delete_bearer_request, Packet_data, End_marker, Error_indication, User_echo_request, User_echo_response, Supported_extensions, Owns, recovery_of, first_given}
 use Rattle.gtp_machine.specs.Node.{Role, Serving, Packet, Active, Closing, Session, Bearer, PendingRequest, Arrival, Node, written}
-use Rattle.gtp_machine.specs.Input.{UserReading, User_message, Extension_needed, User_fault, Move, Resend, Give_up, Forget, Entry, entry_for, Outcome, Moved, GoneOut, Dropped, UnknownContext, UnknownExtension, Echoed, Repeated, Effect, nothing, says, messages}
+use Rattle.gtp_machine.specs.Input.{UserReading, User_message, Extension_needed, User_fault, Move, Resend, Give_up, Forget, Entry, entry_for, Ticked, Came_to, EventOutcome, GoneOut, Dropped, UnknownContext, UnknownExtension, Echoed, Repeated, Effect, nothing, says, messages}
 use Rattle.gtp_machine.specs.Removal.{finished}
 use Rattle.gtp_machine.specs.Recovery.{peer_restarted, Judges, Weighs, Hears, learned_by}
 use Rattle.gtp_machine.specs.Move.{MoveStep, Forgets}
@@ -53,11 +53,11 @@ UserCarried role history (User_fault fault) = Unit {0}
 
 module _ (role : Role) (history : List Sent) (taken : Arrival → Message → Type 0) (serving_once : Once history Serving) (packet_once : Once history Packet) (old : Node) (knows : Knows role history old) where
   -- a command or a datagram that leaves everything as it is
-  pub unchanged : (outcome : Outcome) (e : Effect) → e ≡ record { out = nothing; outcome = outcome; node = old } → After role history taken old e
+  pub unchanged : (outcome : EventOutcome) (e : Effect) → e ≡ record { out = nothing; outcome = outcome; node = old } → After role history taken old e
   unchanged outcome e gives = at_result (After role history taken old) e _ gives (stays role history taken old knows outcome)
 
   -- a message that is made now, owns no TEID and changes nothing
-  tells_plain : (destination : Endpoint) (m : Message) (outcome : Outcome) (new : Node) → Shrunk old new → IsPlain m → ((t : ℕ) → Owns m t → ⊥) → ((r : ℕ) → recovery_of m ≡ Some r → r ≡ old.counter) → IsProper m → After role history taken old (record { out = says destination m; outcome = outcome; node = new })
+  tells_plain : (destination : Endpoint) (m : Message) (outcome : EventOutcome) (new : Node) → Shrunk old new → IsPlain m → ((t : ℕ) → Owns m t → ⊥) → ((r : ℕ) → recovery_of m ≡ Some r → r ≡ old.counter) → IsProper m → After role history taken old (record { out = says destination m; outcome = outcome; node = new })
   tells_plain destination m outcome new s plain none told proper = speaks role history taken old knows destination m outcome new s plain (Made-plain history old new m none told proper)
 
   -- a request that makes nothing is sent, and what it is about closes or stays
@@ -128,7 +128,7 @@ module _ (role : Role) (history : List Sent) (taken : Arrival → Message → Ty
   end_marked Packet bearer e (inl f) = unchanged _ e f.1
   end_marked Packet bearer e (inr (at, inl f)) = unchanged _ e f.1
   end_marked Packet bearer e (inr (at, inr (active, inl f))) = unchanged _ e f.1
-  end_marked Packet bearer e (inr (at, inr (active, inr (before, gives)))) = at_result (After role history taken old) e _ gives (tells_plain _ (End_marker (written at.bearer.remote)) GoneOut (record old { bearers = insert old.bearers bearer (ended_bearer at.bearer) }) (Shrunk-bearer old bearer at.bearer (ended_bearer at.bearer) at.stands (ended_same at.bearer)) tt (λ t none. none) (λ c e. absurd (cc e)) tt)
+  end_marked Packet bearer e (inr (at, inr (active, inr (before, gives)))) = at_result (After role history taken old) e _ gives (tells_plain _ (End_marker (written at.bearer.remote)) (Came_to GoneOut) (record old { bearers = insert old.bearers bearer (ended_bearer at.bearer) }) (Shrunk-bearer old bearer at.bearer (ended_bearer at.bearer) at.stands (ended_same at.bearer)) tt (λ t none. none) (λ c e. absurd (cc e)) tt)
 
   pub echo_begun : (e : Effect) → EchoBegun old e → After role history taken old e
   echo_begun e (inl f) = unchanged _ e f.1
@@ -142,7 +142,7 @@ module _ (role : Role) (history : List Sent) (taken : Arrival → Message → Ty
   packet_sent by bearer payload e (inr (at, inr (active, inr (goes, inr (short, r))))) = sends bearer payload at.bearer e at.stands active r
 
   pub repeats : (request : Arrival) (e : Effect) → Repeats old request e → After role history taken old e
-  repeats request e r = at_result (After role history taken old) e _ r.gives (repeated role history taken old knows request.source r.held.answer Repeated (knows.held r.held r.stands))
+  repeats request e r = at_result (After role history taken old) e _ r.gives (repeated role history taken old knows request.source r.held.answer (Came_to Repeated) (knows.held r.held r.stands))
 
   forgets : (request : Arrival) (e : Effect) → Forgets old request e → After role history taken old e
   forgets request e r =
@@ -164,8 +164,8 @@ module _ (role : Role) (history : List Sent) (taken : Arrival → Message → Ty
       })
 
   pub moves : (move : Move) (e : Effect) → MoveStep old move e → After role history taken old e
-  moves (Resend number) e r = at_result (After role history taken old) e _ r.gives (repeated role history taken old knows (control_end old.config.peer.control) r.at.pending.request Moved (knows.pending number r.at.pending r.at.waits).sent)
-  moves (Give_up number) e r = at_result (After role history taken old) e _ r.gives (shrunk role history taken old knows (finished old number r.at.pending) (Shrunk-finished old number r.at.pending.session r.at.pending.bearer) (number ∷ []) Moved)
+  moves (Resend number) e r = at_result (After role history taken old) e _ r.gives (repeated role history taken old knows (control_end old.config.peer.control) r.at.pending.request Ticked (knows.pending number r.at.pending r.at.waits).sent)
+  moves (Give_up number) e r = at_result (After role history taken old) e _ r.gives (shrunk role history taken old knows (finished old number r.at.pending) (Shrunk-finished old number r.at.pending.session r.at.pending.bearer) (number ∷ []) Ticked)
   moves (Forget request) e r = forgets request e r
 
   accepts : (target : ℕ) (payload : List ℕ) (b : Bearer) (e : Effect) → get old.bearers target ≡ Some b → b.state ≡ Active → HasSent history (other role) (Packet_data target payload) → Accepts old target payload b e → After role history taken old e
@@ -192,7 +192,7 @@ module _ (role : Role) (history : List Sent) (taken : Arrival → Message → Ty
       accepted entry delivered is e (inr none) = absurd none
 
   packet_came : (by : Role) (target : ℕ) (payload : List ℕ) (e : Effect) → HasSent history (other role) (Packet_data target payload) → PacketCame by target payload old e → After role history taken old e
-  packet_came by target payload e came (inl f) = at_result (After role history taken old) e _ f.1 (tells_plain (user_end old.config.peer.user) (Error_indication target old.config.own.user) (Dropped UnknownContext) old (Shrunk-itself old) tt (λ t none. none) (λ c e. absurd (cc e)) tt)
+  packet_came by target payload e came (inl f) = at_result (After role history taken old) e _ f.1 (tells_plain (user_end old.config.peer.user) (Error_indication target old.config.own.user) (Came_to (Dropped UnknownContext)) old (Shrunk-itself old) tt (λ t none. none) (λ c e. absurd (cc e)) tt)
   packet_came by target payload e came (inr (at, inl f)) = unchanged _ e f.1
   packet_came by target payload e came (inr (at, inr (active, inl f))) = unchanged _ e f.1
   packet_came by target payload e came (inr (at, inr (active, inr (comes, r)))) = accepts target payload at.bearer e at.stands active came r
@@ -211,12 +211,12 @@ module _ (role : Role) (history : List Sent) (taken : Arrival → Message → Ty
   user_taken by source (Packet_data target payload) e came r = packet_came by target payload e came r
   user_taken by source (End_marker target) e came r = end_came by target e r
   user_taken by source (Error_indication remote address) e came r = error_came remote e r
-  user_taken by source (User_echo_request number) e came r = at_result (After role history taken old) e _ r (tells_plain source (User_echo_response number) Echoed old (Shrunk-itself old) tt (λ t none. none) (λ c e. absurd (cc e)) tt)
+  user_taken by source (User_echo_request number) e came r = at_result (After role history taken old) e _ r (tells_plain source (User_echo_response number) (Came_to Echoed) old (Shrunk-itself old) tt (λ t none. none) (λ c e. absurd (cc e)) tt)
   user_taken by source _ e came r = unchanged _ e r
 
   user_read : (by : Role) (source : Endpoint) (reading : UserReading) (e : Effect) → UserCarried role history reading → UserRead by source reading old e → After role history taken old e
   user_read by source (User_message m) e came r = user_taken by source m e came r
-  user_read by source Extension_needed e came r = at_result (After role history taken old) e _ r (tells_plain (user_end old.config.peer.user) (Supported_extensions (64 ∷ [])) (Dropped UnknownExtension) old (Shrunk-itself old) tt (λ t none. none) (λ c e. absurd (cc e)) tt)
+  user_read by source Extension_needed e came r = at_result (After role history taken old) e _ r (tells_plain (user_end old.config.peer.user) (Supported_extensions (64 ∷ [])) (Came_to (Dropped UnknownExtension)) old (Shrunk-itself old) tt (λ t none. none) (λ c e. absurd (cc e)) tt)
   user_read by source (User_fault fault) e came r = unchanged _ e r
 
   pub user_step : (by : Role) (source : Endpoint) (reading : UserReading) (e : Effect) → UserCarried role history reading → UserStep by source reading old e → After role history taken old e

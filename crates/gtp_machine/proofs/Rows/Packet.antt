@@ -8,7 +8,7 @@ use Rattle.gtp_values.specs.FiniteMap.{FiniteMap, Each, Among}
 use Rattle.gtp_machine.specs.Element.{IsAccepting, cause_of, cause_at, teid_in}
 use Rattle.gtp_machine.specs.Message.{CreateSessionRequest, CreateSessionResponse, DeleteSessionRequest, DeleteSessionResponse, CreateBearerRequest, CreateBearerResponse, DeleteBearerResponse, Message, Create_session_request, Create_session_response, Delete_session_response, Create_bearer_request, Create_bearer_response, Packet_data, Owns, recovery_of, first_returned}
 use Rattle.gtp_machine.specs.Node.{Serving, Packet, Active, Closing, Session, Bearer, PendingRequest, Arrival, Held, Node, holding, written}
-use Rattle.gtp_machine.specs.Input.{Begun, Opened, Answered, Effect}
+use Rattle.gtp_machine.specs.Input.{Came_to, Begun, Opened, Answered, Effect}
 use Rattle.gtp_machine.specs.Choice.{IsFree, HasPending, counter_of}
 use Rattle.gtp_machine.specs.Removal.{without_session}
 use Rattle.gtp_machine.specs.Command.{bearer_request, pending_dedicated, BeginsBearer, BearerBegun}
@@ -72,7 +72,7 @@ module _ (history : List Sent) (taken : Arrival → Message → Type 0) (serving
         known = refl;
         told = nothing_told history Serving;
         draws = Draws-new history Packet old new_node m refl refl (λ t stood. inr stood) (one_more_drawn old.counter r.user old.drawn r.user_free.counted) (record { free = λ t is. subst (IsFree old) (sym is) r.user_free; drawn = λ t is. inl is; told = λ c e. absurd (none_some c e); tells = λ t none. absurd none; proper = tt });
-        logs = Logs-plain history Packet taken old new_node (Begun (Some r.user)) (λ h stood. stood) _ m tt;
+        logs = Logs-plain history Packet taken old new_node (Came_to (Begun (Some r.user))) (λ h stood. stood) _ m tt;
       })
     where
       of_session : (q k : CreateBearerRequest) → Create_bearer_request q ≡ Create_bearer_request k → (b : Bearer) → get (insert old.bearers q.context.user.teid (pending_dedicated session)) k.context.user.teid ≡ Some b → Some session ≡ Some b.session
@@ -124,7 +124,7 @@ module _ (history : List Sent) (taken : Arrival → Message → Type 0) (serving
           told = nothing_told history Serving;
           draws = Draws-new history Packet old (holding request m new) m refl refl (λ t stood. inr (inr stood)) (two_more_drawn old.counter r.user r.control old.drawn r.user_free.counted r.control_free.counted) (record { free = free; drawn = drawn; told = λ c e. cc e; tells = λ t is owns. refl; proper = record { control = λ accepts. (r.control, refl); user = λ accepts. (r.user, refl); apart = λ t control user. r.apart (same_Some r.control t control ∙ sym (same_Some r.user t user)) } });
           logs =
-              let l = Logs-plain history Packet taken old (holding request m new) (Answered (session_cause q.pdn)) (λ h stood. Among-left h old.held _ stood) request.source m tt in record {
+              let l = Logs-plain history Packet taken old (holding request m new) (Came_to (Answered (session_cause q.pdn))) (λ h stood. Among-left h old.held _ stood) request.source m tt in record {
                 held_stays = l.held_stays;
                 packets = λ t p among. absurd (no_packet a t p among);
                 handed = l.handed;
@@ -223,7 +223,7 @@ module _ (history : List Sent) (taken : Arrival → Message → Type 0) (serving
             known = refl;
             told = nothing_told history Serving;
             draws = Draws-nothing history Packet old new_node refl refl refl;
-            logs = Logs-silent history Packet taken old new_node Opened (λ h stood. stood) [];
+            logs = Logs-silent history Packet taken old new_node (Came_to Opened) (λ h stood. stood) [];
           })
         where
           session_is : x.header ≡ r.at.bearer.session

@@ -6,7 +6,7 @@ use Rattle.gtp_values.specs.FiniteMap.{Each, Among}
 use Rattle.gtp_machine.specs.Element.{IsAccepting, cause_of, ipv4_of}
 use Rattle.gtp_machine.specs.Message.{CreateSessionRequest, CreateSessionResponse, DeleteSessionResponse, CreateBearerRequest, GivenBearer, CreateBearerResponse, DeleteBearerRequest, DeleteBearerResponse, Message, Create_session_request, Create_session_response, Create_bearer_request, Create_bearer_response, Delete_bearer_response, Packet_data, Owns, recovery_of, first_given}
 use Rattle.gtp_machine.specs.Node.{Serving, Packet, Pending, Active, Closing, Session, Bearer, PendingRequest, Arrival, Held, Node, holding, written}
-use Rattle.gtp_machine.specs.Input.{Specification, Of_create_bearer, Begun, Opened, Effect}
+use Rattle.gtp_machine.specs.Input.{Came_to, Specification, Of_create_bearer, Begun, Opened, Effect}
 use Rattle.gtp_machine.specs.Choice.{IsFree, HasPending, HasSession, counter_of}
 use Rattle.gtp_machine.specs.Removal.{without_session}
 use Rattle.gtp_machine.specs.Command.{session_request, pending_session, pending_bearer, session_begun, BeginsSession, SessionBegun}
@@ -68,7 +68,7 @@ module _ (history : List Sent) (taken : Arrival → Message → Type 0) (serving
         known = refl;
         told = nothing_told history Packet;
         draws = Draws-new history Serving old new_node m refl refl (λ t stood. inr (inr stood)) (two_more_drawn old.counter r.user r.control old.drawn r.user_free.counted r.control_free.counted) (record { free = free; drawn = drawn; told = λ c e. cc e; tells = λ t is owns. refl; proper = r.apart });
-        logs = Logs-plain history Serving taken old new_node (Begun (Some r.control)) (λ h stood. stood) _ m tt;
+        logs = Logs-plain history Serving taken old new_node (Came_to (Begun (Some r.control))) (λ h stood. stood) _ m tt;
       })
     where
       pending_not_closing : Pending ≡ Closing → ⊥
@@ -170,7 +170,7 @@ module _ (history : List Sent) (taken : Arrival → Message → Type 0) (serving
             known = refl;
             told = nothing_told history Packet;
             draws = Draws-nothing history Serving old new_node refl refl refl;
-            logs = Logs-silent history Serving taken old new_node Opened (λ h stood. stood) [];
+            logs = Logs-silent history Serving taken old new_node (Came_to Opened) (λ h stood. stood) [];
           })
         where
           -- no other pending request is for this session

@@ -3,7 +3,7 @@ use Rattle.std.proofs.Common.{◌≡◌, inl, inr, ⊎_elim, ℕ, List, [], ◌�
 use Rattle.gtp_values.specs.FiniteMap.{Among}
 use Rattle.gtp_machine.specs.Config.{control_end}
 use Rattle.gtp_machine.specs.Node.{Arrival, Held, Node}
-use Rattle.gtp_machine.specs.Input.{Move, Resend, Give_up, Forget, Moves_on, Effect, Moved, nothing, says, Out}
+use Rattle.gtp_machine.specs.Input.{Move, Resend, Give_up, Forget, Moves_on, Effect, Ticked, nothing, says, Out}
 use Rattle.gtp_machine.specs.Choice.{HasPending}
 use Rattle.gtp_machine.specs.Removal.{finished}
 use Rattle.gtp_machine.specs.Move.{MoveStep}
@@ -30,7 +30,7 @@ resends : (numbers : List ℕ) (node : Node) (moves : List Move) → ((number : 
 resends [] node moves waits rest = rest
 resends (number ∷ numbers) node moves waits rest =
     let at = waits number (inl refl) in
-    goes node (Resend number) (map Resend numbers ++ moves) (record { out = says (control_end node.config.peer.control) at.pending.request; outcome = Moved; node = node }) (record { at = at; gives = refl })
+    goes node (Resend number) (map Resend numbers ++ moves) (record { out = says (control_end node.config.peer.control) at.pending.request; outcome = Ticked; node = node }) (record { at = at; gives = refl })
     (resends numbers node moves (λ k among. waits k (inr among)) rest)
 
 -- each in turn that still waits is given up, and what is held stays
@@ -42,14 +42,14 @@ gives_up (number ∷ numbers) node moves rest none = gives_up numbers node moves
     absent others at = others (finished node number at.pending) (λ later same. rest later (same ∙ (Shrunk-finished node number at.pending.session at.pending.bearer).held))
         (λ g found. none (Give_up number ∷ g) (
           inr (at, (g, found.0, refl)),
-          goes node (Give_up number) (g ++ moves) (record { out = record nothing { gave_up = number ∷ [] }; outcome = Moved; node = finished node number at.pending }) (record { at = at; gives = refl }) found.1,
+          goes node (Give_up number) (g ++ moves) (record { out = record nothing { gave_up = number ∷ [] }; outcome = Ticked; node = finished node number at.pending }) (record { at = at; gives = refl }) found.1,
         ))
 
 forgets : (requests : List Arrival) (node : Node) → ((request : Arrival) → Among request requests → CanMove node (Forget request)) → AreDistinct requests → CanGo node (map Forget requests)
 forgets [] node held once none = none (ticked nothing node) (refl, refl)
 forgets (request ∷ requests) node held once none =
     some_left request node.held (λ left are.
-    goes node (Forget request) (map Forget requests) (record { out = record nothing { forgot = request ∷ [] }; outcome = Moved; node = record node { held = left } })
+    goes node (Forget request) (map Forget requests) (record { out = record nothing { forgot = request ∷ [] }; outcome = Ticked; node = record node { held = left } })
     (let h = held request (inl refl) in record { held = h.0; stood = h.1; same = h.2; rest = left; left = are; gives = refl })
     (forgets requests (record node { held = left }) (λ r among. let h = held r (inr among) in (
       h.0,

@@ -55,7 +55,7 @@ control_not_user e = omega arith
 
 -- the world after a step, with its note and the step
 abbrev pub after : World → Role → Input → Effect → World
-after w role input e = logged (noted (moved w role e) (note_of (Came_to e.outcome) e.out)) role (record { before = (side_of w role).node; input = input; effect = e } ∷ [])
+after w role input e = logged (noted (moved w role e) (note_of e.outcome e.out)) role (record { before = (side_of w role).node; input = input; effect = e } ∷ [])
 
 -- a message as it comes from the serving gateway, and from the packet gateway
 abbrev pub from_serving : Message → Input
@@ -109,7 +109,7 @@ module _ (pdn : ℕ) where
   at_serving = opened_session (pending_session q) a 7
 
   abbrev pub opened : Effect
-  opened = record { out = nothing; outcome = Opened; node = record serving_heard { sessions = insert serving_heard.sessions control at_serving; bearers = insert serving_heard.bearers user (opened_bearer (pending_bearer control q) a); pending = remove serving_heard.pending 0 } }
+  opened = record { out = nothing; outcome = Came_to Opened; node = record serving_heard { sessions = insert serving_heard.sessions control at_serving; bearers = insert serving_heard.bearers user (opened_bearer (pending_bearer control q) a); pending = remove serving_heard.pending 0 } }
 
   abbrev pub w3 : World
   w3 = after w2 Serving (from_packet (Create_session_response a)) (heard opened)

@@ -26,7 +26,7 @@ use Rattle.gtp_machine.specs.Response.{finishing}
 
 -- the Create Session Request comes again, and its answer goes again, and is lost
 abbrev e9 : Effect
-e9 = record { out = says asked.source (Create_session_response a); outcome = Repeated; node = w8.packet.node }
+e9 = record { out = says asked.source (Create_session_response a); outcome = Came_to Repeated; node = w8.packet.node }
 
 abbrev w9 : World
 w9 = after w8 Packet (from_serving (Create_session_request q)) e9
@@ -46,7 +46,7 @@ abbrev entry_with : ℕ → Entry
 entry_with octet = entry_for dedicated (octet ∷ []) (subscriber_of q) (Some 6)
 
 abbrev sent_with : ℕ → Effect
-sent_with octet = record { out = record (says (user_end packet_ip) (Packet_data dedicated (octet ∷ []))) { handed = entry_with octet ∷ [] }; outcome = GoneOut; node = w6.serving.node }
+sent_with octet = record { out = record (says (user_end packet_ip) (Packet_data dedicated (octet ∷ []))) { handed = entry_with octet ∷ [] }; outcome = Came_to GoneOut; node = w6.serving.node }
 
 sends_with : (octet : ℕ) → CommandStep Serving (Send_user dedicated (octet ∷ [])) w6.serving.node (sent_with octet)
 sends_with octet = inr (
@@ -62,7 +62,7 @@ w11 = after w10 Serving (Commanded (Send_user dedicated (122 ∷ []))) (sent_wit
 
 -- they come, the second first
 abbrev taken_with : ℕ → Effect
-taken_with octet = record { out = record nothing { accepted = entry_with octet ∷ [] }; outcome = Accepted; node = w7.packet.node }
+taken_with octet = record { out = record nothing { accepted = entry_with octet ∷ [] }; outcome = Came_to Accepted; node = w7.packet.node }
 
 takes_with : (octet : ℕ) → UserStep Packet (user_end serving_ip) (User_message (Packet_data dedicated (octet ∷ []))) w7.packet.node (taken_with octet)
 takes_with octet = inr (

@@ -6,7 +6,7 @@ use Rattle.gtp_machine.specs.Config.{user_end}
 use Rattle.gtp_machine.specs.Element.{cause_of, tunnel_end}
 use Rattle.gtp_machine.specs.Message.{CreateSessionRequest, CreateSessionResponse, CreateBearerRequest, CreateBearerResponse, Create_session_request, Create_session_response, Create_bearer_request, Create_bearer_response, Packet_data, subscriber_of}
 use Rattle.gtp_machine.specs.Node.{Serving, Packet, Session, Bearer, Arrival, Held}
-use Rattle.gtp_machine.specs.Input.{Specification, Create_session, Create_bearer, Send_user, Commanded, Opened, Accepted, GoneOut, Entry, Effect, entry_for, nothing, says}
+use Rattle.gtp_machine.specs.Input.{Came_to, Specification, Create_session, Create_bearer, Send_user, Commanded, Opened, Accepted, GoneOut, Entry, Effect, entry_for, nothing, says}
 use Rattle.gtp_machine.specs.Choice.{IsFreeIdentity, IsUnused}
 use Rattle.gtp_machine.specs.Command.{asks, pending_session, pending_bearer, bearer_request, pending_dedicated}
 use Rattle.gtp_machine.specs.Answer.{making, IsNew}
@@ -96,7 +96,7 @@ abbrev pub at_packet_bearer : Bearer
 at_packet_bearer = opened_dedicated (pending_dedicated control) x
 
 abbrev pub given : Effect
-given = record { out = nothing; outcome = Opened; node = record w5.packet.node { bearers = insert w5.packet.node.bearers dedicated at_packet_bearer; pending = remove w5.packet.node.pending 0 } }
+given = record { out = nothing; outcome = Came_to Opened; node = record w5.packet.node { bearers = insert w5.packet.node.bearers dedicated at_packet_bearer; pending = remove w5.packet.node.pending 0 } }
 
 abbrev pub w6 : World
 w6 = after w5 Packet (from_serving (Create_bearer_response x)) (heard given)
@@ -106,13 +106,13 @@ abbrev pub entry : Entry
 entry = entry_for dedicated (120 ∷ []) (subscriber_of q) (Some 6)
 
 abbrev pub e7 : Effect
-e7 = record { out = record (says (user_end packet_ip) (Packet_data dedicated (120 ∷ []))) { handed = entry ∷ [] }; outcome = GoneOut; node = w6.serving.node }
+e7 = record { out = record (says (user_end packet_ip) (Packet_data dedicated (120 ∷ []))) { handed = entry ∷ [] }; outcome = Came_to GoneOut; node = w6.serving.node }
 
 abbrev pub w7 : World
 w7 = after w6 Serving (Commanded (Send_user dedicated (120 ∷ []))) e7
 
 abbrev pub e8 : Effect
-e8 = record { out = record nothing { accepted = entry ∷ [] }; outcome = Accepted; node = w7.packet.node }
+e8 = record { out = record nothing { accepted = entry ∷ [] }; outcome = Came_to Accepted; node = w7.packet.node }
 
 abbrev pub w8 : World
 w8 = after w7 Packet (from_serving (Packet_data dedicated (120 ∷ []))) e8

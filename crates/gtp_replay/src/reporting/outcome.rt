@@ -76,7 +76,6 @@ fn outcome_word(outcome: Outcome) -> &'static str
         Outcome::Ended => "ended",
         Outcome::Broken => "broken",
         Outcome::Dropped(reason) => drop_word(reason),
-        Outcome::Moved => "moved",
     }
 }
 

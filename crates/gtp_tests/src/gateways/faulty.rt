@@ -5,12 +5,13 @@ use super::{
     UNTOLD, plays,
 };
 use Act::*;
+use Row::*;
 use Sends::{Nothing, Octets, Shown};
 use gtp_gateway::*;
 use std::test::Fail;
 
 /// A session is asked for.
-const ASKED: Row = (
+const ASKED: Row = Does(
     CreateSession(Role::Serving),
     Outcome::Begun(Some(0x0100_0001)),
     Shown,
@@ -19,8 +20,8 @@ const ASKED: Row = (
 /// It is opened. Its TEID at the packet gateway is 02000001.
 const OPENED_APART: [Row; 3] = [
     ASKED,
-    (Deliver(0), Outcome::Answered(16), Shown),
-    (Deliver(1), Outcome::Opened, Nothing),
+    Does(Deliver(0), Outcome::Answered(16), Shown),
+    Does(Deliver(1), Outcome::Opened, Nothing),
 ];
 
 /// An identity has no value.
@@ -69,13 +70,13 @@ const NO_IDENTITY: &str = "486300080100000100000a00";
 macro_rules! answered_again {
     ($(($request:ident, $cause:literal, $answer:literal)),*) => {
         [$(
-            (
+            Does(
                 Comes(Role::Serving, Plane::Control, $request),
                 Outcome::Answered($cause),
                 Octets($answer),
             ),
             UNTOLD,
-            (
+            Does(
                 Comes(Role::Serving, Plane::Control, $request),
                 Outcome::Answered($cause),
                 Octets($answer),
@@ -146,12 +147,12 @@ const PENDING: Scene = Scene {
         &[ASKED],
         &WHILE_PENDING,
         &[
-            (
+            Does(
                 Comes(Role::Serving, Plane::Control, BEARER_REQUEST),
                 Outcome::Dropped(DropReason::ContextNotActive),
                 Nothing,
             ),
-            (
+            Does(
                 Comes(
                     Role::Serving,
                     Plane::Control,
@@ -174,7 +175,7 @@ fn faulty_requests_about_a_session(rt: HostRuntime) -> Result<(), Fail> {
 }
 
 /// A Create Session Request without its subscriber.
-const WITHOUT_SUBSCRIBER: Row = (
+const WITHOUT_SUBSCRIBER: Row = Does(
     Comes(
         Role::Packet,
         Plane::Control,
@@ -231,31 +232,31 @@ const SECOND_RESPONSE: &str = concat!(
 /// The same request from two ports is two requests, each with its answer, which goes to its port.
 const PORTS: Scene = Scene {
     rows: &[&[
-        (
+        Does(
             Comes(Role::Packet, Plane::Control, SESSION_REQUEST),
             Outcome::Answered(16),
             Octets(SESSION_RESPONSE),
         ),
         MADE,
-        (
+        Does(
             ComesFrom(Role::Packet, 40_001, SESSION_REQUEST),
             Outcome::Answered(16),
             Octets(SECOND_RESPONSE),
         ),
         MADE,
-        (
+        Does(
             ComesFrom(Role::Packet, 40_001, SESSION_REQUEST),
             Outcome::Repeated,
             Octets(SECOND_RESPONSE),
         ),
         UNTOLD,
-        (
+        Does(
             Comes(Role::Packet, Plane::Control, SESSION_REQUEST),
             Outcome::Repeated,
             Octets(SESSION_RESPONSE),
         ),
         UNTOLD,
-        (
+        Does(
             ComesFrom(Role::Packet, 40_001, "40010009000005000300010001"),
             Outcome::Echoed,
             Octets("40020009000005000300010001"),

@@ -3,8 +3,9 @@
 //! Of these datagrams some stand in examples/datagrams: control/delete-session-request,
 //! control/echo-request-cut.
 
-use super::{Act, DEDICATED, IDLE, OPENED, SESSION_ASKED, Scene, Sends, plays};
+use super::{Act, DEDICATED, IDLE, OPENED, Row, SESSION_ASKED, Scene, Sends, plays};
 use Act::*;
+use Row::*;
 use Sends::{Nothing, Octets, Shown};
 use gtp_gateway::*;
 use std::test::Fail;
@@ -43,32 +44,32 @@ pub(super) const WITHOUT_NAME: &str = concat!(
 /// The same faulty requests at each gateway.
 const FAULTY: Scene = Scene {
     rows: &[&[
-        (
+        Does(
             Comes(Role::Packet, Plane::Control, WITHOUT_NAME),
             Outcome::Answered(70),
             Octets("482100170100000100000000020006004600470000000300010001"),
         ),
-        (
+        Does(
             Comes(Role::Serving, Plane::Control, WITHOUT_NAME),
             MISSING,
             Nothing,
         ),
-        (
+        Does(
             Comes(Role::Serving, Plane::Control, "486300080100000100000500"),
             Outcome::Answered(103),
             Shown,
         ),
-        (
+        Does(
             Comes(Role::Packet, Plane::Control, "486300080100000100000500"),
             MISSING,
             Nothing,
         ),
-        (
+        Does(
             Comes(Role::Serving, Plane::Control, "485f00080100000100000500"),
             Outcome::Answered(70),
             Shown,
         ),
-        (
+        Does(
             Comes(Role::Packet, Plane::Control, "485f00080100000100000500"),
             MISSING,
             Nothing,
@@ -86,7 +87,7 @@ fn faulty_requests_at_each_gateway(rt: HostRuntime) -> Result<(), Fail> {
 /// The sender's F-TEID has no address, and an identity has no value.
 const BAD_VALUES: Scene = Scene {
     rows: &[&[
-        (
+        Does(
             Comes(
                 Role::Packet,
                 Plane::Control,
@@ -112,7 +113,7 @@ const BAD_VALUES: Scene = Scene {
             Outcome::Answered(69),
             Octets("482100170000000000000000020006004500570000000300010001"),
         ),
-        (
+        Does(
             Comes(
                 Role::Serving,
                 Plane::Control,
@@ -181,12 +182,12 @@ const SECOND_CONTEXTS: Scene = Scene {
     rows: &[
         &OPENED,
         &[
-            (
+            Does(
                 Comes(Role::Packet, Plane::Control, TWO_CONTEXTS_OF_A_SESSION),
                 Outcome::Answered(94),
                 Octets("482100130100000100000000020002005e000300010001"),
             ),
-            (
+            Does(
                 Comes(Role::Serving, Plane::Control, TWO_CONTEXTS_OF_A_BEARER),
                 Outcome::Answered(94),
                 Octets("486000130100000100000000020002005e000300010001"),
@@ -242,17 +243,17 @@ const WRONG_IDENTITIES: Scene = Scene {
     rows: &[
         &OPENED,
         &[
-            (
+            Does(
                 Comes(Role::Packet, Plane::Control, IDENTITY_BELOW_5),
                 Outcome::Answered(69),
                 Octets("482100170100000100000500020006004500490000000300010001"),
             ),
-            (
+            Does(
                 Comes(Role::Serving, Plane::Control, LINKED_TO_6),
                 Outcome::Answered(64),
                 Octets("4860001301000001000005000200020040000300010001"),
             ),
-            (
+            Does(
                 Comes(
                     Role::Serving,
                     Plane::Control,
@@ -261,7 +262,7 @@ const WRONG_IDENTITIES: Scene = Scene {
                 Outcome::Answered(64),
                 Octets("4864001301000001000006000200020040000300010001"),
             ),
-            (
+            Does(
                 Comes(
                     Role::Serving,
                     Plane::User,
@@ -286,7 +287,7 @@ fn identities_that_are_not_the_session_s(rt: HostRuntime) -> Result<(), Fail> {
 const NEVER_THERE: Scene = Scene {
     rows: &[&[
         SESSION_ASKED,
-        (
+        Does(
             Comes(
                 Role::Serving,
                 Plane::Control,
@@ -308,12 +309,12 @@ fn a_context_that_was_never_there_is_not_lost(rt: HostRuntime) -> Result<(), Fai
 /// Messages of a kind that the gateway does not take, and datagrams from elsewhere.
 const UNEXPECTED: Scene = Scene {
     rows: &[&[
-        (
+        Does(
             Strays(Role::Serving, Plane::Control, "40010009000005000300010002"),
             Outcome::Dropped(DropReason::NotPeer),
             Nothing,
         ),
-        (
+        Does(
             Comes(
                 Role::Serving,
                 Plane::Control,
@@ -322,7 +323,7 @@ const UNEXPECTED: Scene = Scene {
             Outcome::Dropped(DropReason::Unexpected),
             Nothing,
         ),
-        (
+        Does(
             Comes(
                 Role::Packet,
                 Plane::Control,
@@ -331,22 +332,22 @@ const UNEXPECTED: Scene = Scene {
             Outcome::Dropped(DropReason::Unexpected),
             Nothing,
         ),
-        (
+        Does(
             Comes(Role::Packet, Plane::Control, "482200080100000100000700"),
             Outcome::Dropped(DropReason::Unexpected),
             Nothing,
         ),
-        (
+        Does(
             Strays(Role::Packet, Plane::Control, "40010009000005000300010002"),
             Outcome::Dropped(DropReason::NotPeer),
             Nothing,
         ),
-        (
+        Does(
             Strays(Role::Packet, Plane::User, "320100040000000000050000"),
             Outcome::Dropped(DropReason::NotPeer),
             Nothing,
         ),
-        (
+        Does(
             Comes(Role::Packet, Plane::Control, "400100090000010003000100"),
             CUT,
             Nothing,
@@ -365,7 +366,7 @@ const ELSEWHERE: Scene = Scene {
     rows: &[
         &OPENED,
         &[
-            (
+            Does(
                 Comes(
                     Role::Packet,
                     Plane::Control,
@@ -374,7 +375,7 @@ const ELSEWHERE: Scene = Scene {
                 Outcome::Answered(64),
                 Octets("4825001300000000000005000200020040000300010001"),
             ),
-            (
+            Does(
                 Comes(
                     Role::Packet,
                     Plane::Control,
@@ -383,7 +384,7 @@ const ELSEWHERE: Scene = Scene {
                 Outcome::Answered(64),
                 Octets("4825001301000001000006000200020040000300010001"),
             ),
-            (
+            Does(
                 Comes(
                     Role::Serving,
                     Plane::Control,
@@ -392,12 +393,12 @@ const ELSEWHERE: Scene = Scene {
                 Outcome::Dropped(DropReason::NoPending),
                 Nothing,
             ),
-            (
+            Does(
                 DeleteSession(Role::Serving, 0x0100_0001),
                 Outcome::Begun(Some(0x0100_0001)),
                 Octets("4824000d01000001000001004900010005"),
             ),
-            (
+            Does(
                 Comes(
                     Role::Serving,
                     Plane::Control,
@@ -406,7 +407,7 @@ const ELSEWHERE: Scene = Scene {
                 Outcome::Dropped(DropReason::Mismatch),
                 Nothing,
             ),
-            (
+            Does(
                 Comes(
                     Role::Serving,
                     Plane::Control,
@@ -433,7 +434,7 @@ const LISTED: Scene = Scene {
         &OPENED,
         &DEDICATED,
         &[
-            (
+            Does(
                 Comes(
                     Role::Serving,
                     Plane::Control,
@@ -444,7 +445,7 @@ const LISTED: Scene = Scene {
                     "4864003101000001000005000200020011005d000b0049000100060200020010005d000b0049000100060200020040000300010001",
                 ),
             ),
-            (
+            Does(
                 Comes(
                     Role::Serving,
                     Plane::Control,
@@ -456,7 +457,7 @@ const LISTED: Scene = Scene {
                 Outcome::Answered(64),
                 Shown,
             ),
-            (
+            Does(
                 Comes(
                     Role::Serving,
                     Plane::Control,

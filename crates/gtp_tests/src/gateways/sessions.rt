@@ -11,6 +11,7 @@ use super::{
     UNTOLD, plays,
 };
 use Act::*;
+use Row::*;
 use Sends::{Nothing, Octets, Shown};
 use gtp_gateway::*;
 use std::test::Fail;
@@ -19,16 +20,12 @@ use std::test::Fail;
 /// made.
 macro_rules! told {
     ($heard:expr, $restart:expr, $made:literal) => {
-        (
-            Act::Told(Tells {
-                heard: $heard,
-                restart: $restart,
-                made: $made,
-                ..PLAIN
-            }),
-            Outcome::Moved,
-            Nothing,
-        )
+        Told(Tells {
+            heard: $heard,
+            restart: $restart,
+            made: $made,
+            ..PLAIN
+        })
     };
 }
 
@@ -38,13 +35,13 @@ const TOLD: Scene = Scene {
         SESSION_ASKED,
         SESSION_ANSWERED,
         MADE,
-        (Deliver(0), Outcome::Repeated, Octets(SESSION_RESPONSE)),
+        Does(Deliver(0), Outcome::Repeated, Octets(SESSION_RESPONSE)),
         UNTOLD,
-        (Deliver(0), Outcome::Repeated, Octets(SESSION_RESPONSE)),
+        Does(Deliver(0), Outcome::Repeated, Octets(SESSION_RESPONSE)),
         UNTOLD,
-        (Deliver(1), Outcome::Opened, Nothing),
+        Does(Deliver(1), Outcome::Opened, Nothing),
         HEARD,
-        (Deliver(2), Outcome::Dropped(DropReason::NoPending), Nothing),
+        Does(Deliver(2), Outcome::Dropped(DropReason::NoPending), Nothing),
         HEARD,
     ]],
     packet: Some((1, 1)),
@@ -59,18 +56,18 @@ const TOLD_OF_BEARER: Scene = Scene {
             BEARER_ASKED,
             BEARER_ANSWERED,
             told!(None, None, true),
-            (
+            Does(
                 DeleteSession(Role::Serving, 0x0100_0001),
                 Outcome::Begun(Some(0x0100_0001)),
                 Octets("4824000d01000001000001004900010005"),
             ),
-            (
+            Does(
                 Deliver(4),
                 Outcome::Answered(16),
                 Octets("4825001301000001000001000200020010000300010001"),
             ),
             UNTOLD,
-            (Deliver(5), Outcome::Closed, Nothing),
+            Does(Deliver(5), Outcome::Closed, Nothing),
             HEARD,
         ],
     ],
@@ -109,17 +106,17 @@ const TWO_STARTS: Scene = Scene {
     counter: 255,
     rows: &[&[
         SESSION_ASKED,
-        (Deliver(0), Outcome::Answered(16), Shown),
+        Does(Deliver(0), Outcome::Answered(16), Shown),
         MADE,
-        (Deliver(1), Outcome::Opened, Nothing),
+        Does(Deliver(1), Outcome::Opened, Nothing),
         told!(Some(Counter(255)), None, false),
-        (
+        Does(
             Comes(Role::Serving, Plane::Control, RESPONSE_OF_COUNTER_0),
             Outcome::Dropped(DropReason::NoPending),
             Nothing,
         ),
         told!(Some(Counter(0)), Some(Counter(0)), false),
-        (
+        Does(
             Deliver(1),
             Outcome::Dropped(DropReason::OldCounter),
             Nothing,
@@ -134,7 +131,7 @@ const TWO_STARTS: Scene = Scene {
 const NEXT_START: Scene = Scene {
     counter: 0,
     rows: &[&[
-        (
+        Does(
             Comes(Role::Packet, Plane::Control, SESSION_REQUEST),
             Outcome::Answered(16),
             Octets(RESPONSE_OF_COUNTER_0),
@@ -152,7 +149,7 @@ fn a_session_ends_with_its_peers_restart(rt: HostRuntime) -> Result<(), Fail> {
 }
 
 /// An Echo Request that tells a later counter.
-const LATER_COUNTER: Row = (
+const LATER_COUNTER: Row = Does(
     Comes(Role::Serving, Plane::Control, "40010009000005000300010002"),
     Outcome::Echoed,
     Octets("40020009000005000300010001"),
@@ -163,12 +160,12 @@ const ECHOES: Scene = Scene {
     rows: &[
         &OPENED,
         &[
-            (
+            Does(
                 Echo(Role::Serving),
                 Outcome::Begun(None),
                 Octets("40010009000001000300010001"),
             ),
-            (
+            Does(
                 Comes(Role::Serving, Plane::Control, "40020009000001000300010001"),
                 Outcome::Alive,
                 Nothing,
@@ -176,7 +173,7 @@ const ECHOES: Scene = Scene {
             HEARD,
             LATER_COUNTER,
             told!(Some(Counter(2)), Some(Counter(2)), false),
-            (
+            Does(
                 Comes(Role::Serving, Plane::Control, "40010009000006000300010001"),
                 Outcome::Dropped(DropReason::OldCounter),
                 Nothing,
@@ -191,7 +188,7 @@ const ECHOES: Scene = Scene {
 /// A session is asked for between two Echo Requests, of which the second tells a later counter. It stays.
 const PENDING: Scene = Scene {
     rows: &[&[
-        (
+        Does(
             Comes(Role::Serving, Plane::Control, "40010009000004000300010001"),
             Outcome::Echoed,
             Octets("40020009000004000300010001"),
@@ -216,7 +213,7 @@ const NAMED: Scene = Scene {
     rows: &[
         &OPENED,
         &DEDICATED,
-        &[(
+        &[Does(
             Comes(
                 Role::Serving,
                 Plane::Control,
@@ -240,7 +237,7 @@ fn bearers_are_removed_in_part(rt: HostRuntime) -> Result<(), Fail> {
 /// A command is refused for this.
 macro_rules! refused {
     ($(($act:expr, $why:ident)),*) => {
-        [$(($act, Outcome::Refused(Refusal::$why), Nothing)),*]
+        [$(Does($act, Outcome::Refused(Refusal::$why), Nothing)),*]
     };
 }
 

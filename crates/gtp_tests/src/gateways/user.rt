@@ -4,15 +4,16 @@
 //! user/g-pdu-extension-headers, user/g-pdu-extension-not-understood, user/g-pdu-extension-of-length-0,
 //! user/supported-extensions.
 
-use super::{Act, IDLE, OPENED, Scene, Sends, plays};
+use super::{Act, IDLE, OPENED, Row, Scene, Sends, plays};
 use Act::*;
+use Row::*;
 use Sends::{Nothing, Octets};
 use gtp_gateway::*;
 use std::test::Fail;
 
 /// A packet for no bearer.
 const NO_BEARER: Scene = Scene {
-    rows: &[&[(
+    rows: &[&[Does(
         Comes(Role::Packet, Plane::User, "30ff000301000002616263"),
         Outcome::Dropped(DropReason::UnknownContext),
         Octets("321a0010000000000000000010010000028500040a000002"),
@@ -23,12 +24,12 @@ const NO_BEARER: Scene = Scene {
 /// A packet for no bearer, and what comes of it at the other gateway.
 const UNKNOWN: Scene = Scene {
     rows: &[&[
-        (
+        Does(
             Comes(Role::Packet, Plane::User, "30ff000301000009616263"),
             Outcome::Dropped(DropReason::UnknownContext),
             Octets("321a0010000000000000000010010000098500040a000002"),
         ),
-        (
+        Does(
             Comes(
                 Role::Serving,
                 Plane::User,
@@ -51,7 +52,7 @@ fn a_packet_for_no_bearer(rt: HostRuntime) -> Result<(), Fail> {
 const BROKEN: Scene = Scene {
     rows: &[
         &OPENED,
-        &[(
+        &[Does(
             Comes(
                 Role::Serving,
                 Plane::User,
@@ -73,17 +74,17 @@ fn a_bearer_that_the_peer_does_not_know(rt: HostRuntime) -> Result<(), Fail> {
 /// Echo Requests, and packets with extension headers that are not taken.
 const HEADERS: Scene = Scene {
     rows: &[&[
-        (
+        Does(
             Comes(Role::Serving, Plane::User, "320100040000000000050000"),
             Outcome::Echoed,
             Octets("3202000600000000000500000e00"),
         ),
-        (
+        Does(
             Comes(Role::Packet, Plane::User, "320100040000000000050000"),
             Outcome::Echoed,
             Octets("3202000600000000000500000e00"),
         ),
-        (
+        Does(
             Comes(
                 Role::Packet,
                 Plane::User,
@@ -92,7 +93,7 @@ const HEADERS: Scene = Scene {
             Outcome::Dropped(DropReason::UnknownExtension),
             Octets("321f000700000000000000008d0140"),
         ),
-        (
+        Does(
             Comes(
                 Role::Packet,
                 Plane::User,
@@ -117,7 +118,7 @@ fn echoes_and_extension_headers(rt: HostRuntime) -> Result<(), Fail> {
 const AFTER_HEADERS: Scene = Scene {
     rows: &[
         &OPENED,
-        &[(
+        &[Does(
             Comes(
                 Role::Packet,
                 Plane::User,

@@ -106,12 +106,12 @@ impl Lists {
         Err(TablesFault::PoolEmpty)
     }
 
-    pub fn add_session(&mut self, teid: Teid, session: &Session) -> Result<(), Memory> {
+    pub fn add_session(&mut self, teid: Teid, session: &Session) -> Result<(), TablesFault> {
         self.sessions.push((teid, *session))?;
         Ok(())
     }
 
-    pub fn add_bearer(&mut self, teid: Teid, bearer: &Bearer) -> Result<(), Memory> {
+    pub fn add_bearer(&mut self, teid: Teid, bearer: &Bearer) -> Result<(), TablesFault> {
         self.bearers.push((teid, *bearer))?;
         Ok(())
     }

@@ -5,7 +5,7 @@ use Rattle.gtp_machine.specs.Command.{EndMarked}
 use Rattle.gtp_machine.specs.Message.{End_marker}
 use Rattle.gtp_machine.specs.Node.{written}
 use Rattle.gtp_machine.specs.User.{ended_bearer}
-use Rattle.gtp_machine.specs.Input.{Effect, says, refused}
+use Rattle.gtp_machine.specs.Input.{Came_to, Effect, says, refused}
 use Rattle.gtp_machine.specs.Spelling.{datagram_of}
 use Rattle.gtp_machine.specs.declared.role.Role.{Role}
 use Rattle.gtp_machine.specs.declared.outcome.Refusal.TheVariants.{NoSuchContext, NotActive, BearerEnded}
@@ -43,7 +43,7 @@ returns-clause-done c =
     let at = c.in-Some.at in
     let bearer = c.args.bearer.0 in
     let stands : get node.bearers bearer ≡ Some at = sym c.get.ensures ∙ c.in-Some.is in
-    let effect : Effect = record { out = says (user_end node.config.peer.user) (End_marker (written at.remote)); outcome = GoneOut; node = record node { bearers = insert node.bearers bearer (ended_bearer at) } } in
+    let effect : Effect = record { out = says (user_end node.config.peer.user) (End_marker (written at.remote)); outcome = Came_to GoneOut; node = record node { bearers = insert node.bearers bearer (ended_bearer at) } } in
     record {
       effect = effect;
       step = subst (λ (role : Role). EndMarked role bearer node effect) (sym c.in-Packet.is) (inr (record { bearer = at; stands = stands }, inr (yes c.is_active.ensures c.if-not-is_active.false, inr (c.if-at.false, refl))));

@@ -2,7 +2,7 @@ use Rattle.std.proofs.Common.{◌≡◌, inl, inr, refl, sym, ◌∙◌, ap, sub
 use Rattle.gtp_reliable.specs.Held.{HasAnswer}
 use Rattle.gtp_machine.specs.Config.{control_end, own_end}
 use Rattle.gtp_machine.specs.Message.{Control, plane_of}
-use Rattle.gtp_machine.specs.Input.{says, dropped}
+use Rattle.gtp_machine.specs.Input.{Came_to, says, dropped}
 use Rattle.gtp_machine.specs.Reading.{control_reading}
 use Rattle.gtp_machine.specs.Spelling.{Datagram, spelled, datagram_of}
 use Rattle.gtp_machine.specs.declared.outcome.DropReason.TheVariants.{NotPeer}
@@ -63,8 +63,8 @@ returns-clause-entered c =
     ◌∙◌ {A = Datagram} (λ i. record { plane = Control; from = from i; to = source; octets = sends i }) (λ i. record { plane = plane i; from = own_end config (plane i); to = source; octets = spelled m }) in
     subst (λ (s : ControlStep). IsTaken source octets old s old) (sym c.sent.ensures)
     (record {
-      effect = record { out = says source m; outcome = Repeated; node = old.node };
-      takes = by_role old.role old.node (arrival_of source octets) (control_reading octets) (record { out = says source m; outcome = Repeated; node = old.node }) (λ Reads. inr (yes c.is_from_peer.ensures c.if-not-is_from_peer.false, inl (record { held = pair.pair; stands = pair.stands; same = pair.same; gives = refl })));
+      effect = record { out = says source m; outcome = Came_to Repeated; node = old.node };
+      takes = by_role old.role old.node (arrival_of source octets) (control_reading octets) (record { out = says source m; outcome = Came_to Repeated; node = old.node }) (λ Reads. inr (yes c.is_from_peer.ensures c.if-not-is_from_peer.false, inl (record { held = pair.pair; stands = pair.stands; same = pair.same; gives = refl })));
       tells = record { sent = one_sent config _ _ sent (subst ReadsBack (sym pair.answer) (kept_back answer (control_kept answer) kept)); outcome = refl; heard = refl; restart = refl; made = refl; all = refl };
       becomes = refl;
       role = refl;

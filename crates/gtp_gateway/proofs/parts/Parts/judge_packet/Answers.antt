@@ -2,7 +2,7 @@ use Rattle.std.proofs.Common.{◌≡◌, Some, [], ◌∷◌, inl, inr, refl, sy
 use Rattle.std.specs.FinMap.{get}
 use Rattle.gtp_machine.specs.Choice.{HasBearer, HasSession}
 use Rattle.gtp_machine.specs.User.{PacketCame}
-use Rattle.gtp_machine.specs.Input.{nothing, Entry, entry_for}
+use Rattle.gtp_machine.specs.Input.{Came_to, nothing, Entry, entry_for}
 use Rattle.gtp_machine.specs.declared.outcome.DropReason.TheVariants.{ContextNotActive, AfterEnd}
 use Rattle.gtp_machine.specs.declared.outcome.Outcome.TheVariants.{Accepted}
 use Rattle.gtp_gateway.specs.declared.user_receive.Judged.{Judged}
@@ -40,9 +40,9 @@ returns c =
     let of : HasSession old.node b.session = session_stands old target b c.requires.whole stands in
     let entry : Entry = entry_for target payload of.session.subscriber b.identity in
     record {
-      effect = record { out = record nothing { accepted = entry ∷ [] }; outcome = Accepted; node = old.node };
+      effect = record { out = record nothing { accepted = entry ∷ [] }; outcome = Came_to Accepted; node = old.node };
       takes = inr (at, inr (yes c.is_active.ensures c.if-not-is_active.false, inr (yes c.may_come.ensures c.if-not-may_come.false, record { of = of; gives = refl })));
-      tells = record { sent = none_sent old.node.config; report = refl; accepted = (entry, record { at = at; of = of; is = refl }, refl); packet = (λ is. refl, λ some. refl); all = refl };
+      tells = record { sent = none_sent old.node.config; outcome = refl; report = refl; accepted = (entry, record { at = at; of = of; is = refl }, refl); packet = (λ is. refl, λ some. refl); all = refl };
       becomes = refl;
       role = refl;
       same = λ _. refl;

@@ -7,6 +7,7 @@ use Rattle.gtp_gateway.specs.Grant.{bearer_of}
 use Rattle.gtp_gateway.specs.Hearing.{node_heard}
 use Rattle.gtp_gateway.specs.Parts.{node_of}
 use Rattle.gtp_gateway.proofs.SessionGrants.{none_above, heard_with, still_above}
+use Rattle.gtp_gateway.proofs.Settled.{succeeded}
 use Rattle.gtp_gateway.proofs.Weighing.{counter_stays, drawn_stays}
 use Rattle.gtp_gateway.proofs.parts.Parts.make_granted.Goals as goal
 
@@ -15,8 +16,8 @@ add-requires-2-clause-rises c =
     let node = node_of c.args.self.now in
     let g = c.args.grant.now in
     let bearer = bearer_of c.args.request.now g in
-    let stands = ap (λ r. r.table) c.in_ok-reserve_one.ensures.ok in
-    let made = c.in_ok-add.ensures.ok ∙ ap (λ (b : Bearer). insert node.bearers g.drawn.user.0 b) c.granted_bearer.ensures in
+    let stands = ap (λ r. r.table) (succeeded c.reserve_one.result c.in_ok-map_err.ensures.variant c.reserve_one.ensures.ok) in
+    let made = succeeded c.add.result c.in_ok-map_err-2.ensures.variant c.add.ensures.ok ∙ ap (λ (b : Bearer). insert node.bearers g.drawn.user.0 b) c.granted_bearer.ensures in
     let heard = c.hear.ensures.node ∙ (λ i. node_heard c.args.heard (record node { sessions = stands i; bearers = made i })) ∙ heard_with c.args.heard node g.drawn.user.0 bearer (none_above node.sessions g.drawn.control.0 c.requires.can.control_above) in
     subst (λ (sessions : FiniteMap Session). IsAbove sessions g.drawn.control.0) (sym (ap (λ (n : Node). n.sessions) heard)) (still_above c.args.heard node g.drawn.control.0 c.requires.can.control_above)
 
@@ -26,8 +27,8 @@ returns-clause-node c =
     let g = c.args.grant.now in
     let bearer = bearer_of c.args.request.now g in
     let can = c.requires.can in
-    let stands = ap (λ r. r.table) c.in_ok-reserve_one.ensures.ok in
-    let made = c.in_ok-add.ensures.ok ∙ ap (λ (b : Bearer). insert node.bearers g.drawn.user.0 b) c.granted_bearer.ensures in
+    let stands = ap (λ r. r.table) (succeeded c.reserve_one.result c.in_ok-map_err.ensures.variant c.reserve_one.ensures.ok) in
+    let made = succeeded c.add.result c.in_ok-map_err-2.ensures.variant c.add.ensures.ok ∙ ap (λ (b : Bearer). insert node.bearers g.drawn.user.0 b) c.granted_bearer.ensures in
     let heard = c.hear.ensures.node ∙ (λ i. node_heard c.args.heard (record node { sessions = stands i; bearers = made i })) ∙ heard_with c.args.heard node g.drawn.user.0 bearer (none_above node.sessions g.drawn.control.0 can.control_above) in
     let counter = can.are.counter ∙ sym (counter_stays c.args.heard node) in
     let drawn = can.are.drawn ∙ (λ i. g.drawn.user.0 ∷ g.drawn.control.0 ∷ sym (drawn_stays c.args.heard node) i) in

@@ -1,7 +1,7 @@
 use Rattle.std.proofs.Common.{◌∙◌}
 use Rattle.gtp_gateway.specs.Hearing.{node_heard}
 use Rattle.gtp_gateway.specs.Parts.{node_of}
-use Rattle.gtp_gateway.proofs.Settled.{bearer_stood, heard_opened}
+use Rattle.gtp_gateway.proofs.Settled.{bearer_stood, heard_opened, succeeded}
 use Rattle.gtp_gateway.proofs.parts.Parts.open_bearer.Goals as goal
 
 pub open-requires : goal.open-requires
@@ -12,6 +12,7 @@ open-requires c =
 pub returns-clause-node : goal.returns-clause-node
 returns-clause-node c =
     let old = node_of c.args.self.now in
+    let opened = succeeded c.open.result c.in_ok-map_err.ensures.variant c.open.ensures.ok in
     c.hear.ensures.node
-    ∙ ((λ i. node_heard c.args.heard (record old { bearers = c.in_ok-open.ensures.ok i }))
+    ∙ ((λ i. node_heard c.args.heard (record old { bearers = opened i }))
     ∙ heard_opened c.args.heard old c.args.teid c.args.bearer c.requires.can)

@@ -4,7 +4,7 @@ use Rattle.gtp_machine.specs.Config.{user_end}
 use Rattle.gtp_machine.specs.Message.{Packet_data}
 use Rattle.gtp_machine.specs.Node.{written}
 use Rattle.gtp_machine.specs.Choice.{HasSession}
-use Rattle.gtp_machine.specs.Input.{says, refused, entry_for}
+use Rattle.gtp_machine.specs.Input.{Came_to, says, refused, entry_for}
 use Rattle.gtp_machine.specs.Spelling.{datagram_of}
 use Rattle.gtp_machine.specs.declared.outcome.Refusal.TheVariants.{NoSuchContext, NotActive, BearerEnded, PacketTooLong}
 use Rattle.gtp_machine.specs.declared.outcome.Outcome.TheVariants.{GoneOut}
@@ -50,7 +50,7 @@ returns-clause-done c =
     let of : HasSession node at.session = session_stands (station_of old) c.args.bearer.0 at c.requires.whole stands in
     let few : length payload ≤ 65000 = c.if-payload-gt-LONGEST_PAYLOAD.false in
     record {
-      effect = record { out = record (says (user_end node.config.peer.user) (Packet_data (written at.remote) payload)) { handed = entry_for (written at.remote) payload of.session.subscriber at.identity ∷ [] }; outcome = GoneOut; node = node };
+      effect = record { out = record (says (user_end node.config.peer.user) (Packet_data (written at.remote) payload)) { handed = entry_for (written at.remote) payload of.session.subscriber at.identity ∷ [] }; outcome = Came_to GoneOut; node = node };
       step = inr (record { bearer = at; stands = stands }, inr (yes c.is_active.ensures c.if-not-is_active.false, inr (yes c.may_go.ensures c.if-not-may_go.false, inr (few, record { of = of; gives = refl }))));
       sent = one_sent node.config _ _ (c.in_ok-out.ensures.sent ∙ (λ i. datagram_of node.config (record { destination = user_end node.config.peer.user; message = Packet_data (c.written_teid-teid.ensures i) payload })))
           (subst (λ (t : ℕ). ReadsBack (Packet_data t payload)) c.written_teid-teid.ensures c.in_ok-out.ensures.back);

@@ -1,5 +1,6 @@
 use Rattle.std.proofs.Common.{ℕ, ap, subst}
 use Rattle.std.proofs.lemmas.Result.{IfOk-weaker, on_err_weaker}
+use Rattle.gtp_machine.specs.Input.{Came_to}
 use Rattle.gtp_machine.specs.Serving.{SessionAnswered}
 use Rattle.gtp_gateway.specs.Hearing.{node_heard}
 use Rattle.gtp_gateway.specs.Settled.{effect_by}
@@ -23,7 +24,7 @@ returns-clause-memory c =
     let old = station_of c.args.self.now in
     let v = c.judge_session_response-verdict.result in
     let n = node_heard c.args.heard old.node in
-    on_err_weaker c.settle.result (λ opened a says. session_answered a n (effect_by v a.number n) opened (c.judge_session_response-verdict.ensures.judged a says)) c.settle.ensures.memory
+    on_err_weaker c.settle.result (λ opened a says. session_answered a n (effect_by v a.number n) (ap (λ o. Came_to o) opened) (c.judge_session_response-verdict.ensures.judged a says)) c.settle.ensures.memory
 
 pub returns-clause-unmade : goal.returns-clause-unmade
 returns-clause-unmade c = IfOk-weaker c.settle.result _ _ (λ step is. ap (λ (s : ControlStep). s.report.made) is) c.settle.ensures.step

@@ -1,0 +1,34 @@
+//! Datagrams that are decoded and encoded again.
+
+use crate::stop::Stop;
+use crate::trial::Trial;
+use gtp_v2::{V2Fault, decode, encode};
+use std::alloc::Global;
+
+/// Whether a datagram is decoded, and its message encoded to the same octets.
+fn is_encoded_again(alloc: Global, octets: &[u8]) -> Result<bool, V2Fault> {
+    let datagram = decode(alloc, octets)?;
+    encode(alloc, &datagram.message).map(|encoded| encoded.as_slice() == octets)
+}
+
+/// The same, decoded and encoded once more if memory was refused.
+fn is_canonical(trial: &mut Trial, octets: &[u8]) -> bool {
+    match is_encoded_again(trial.alloc, octets) {
+        Ok(is_same) => is_same,
+        Err(_) => {
+            trial.was_refused = true;
+            is_encoded_again(trial.alloc, octets) == Ok(true)
+        }
+    }
+}
+
+/// Appends a line with the digits of a datagram, which is decoded and encoded before.
+pub fn put_datagram(text: &mut Vec<u8>, trial: &mut Trial, octets: &[u8]) -> Result<(), Stop> {
+    if !is_canonical(trial, octets) {
+        return Err(Stop::Wrong("a datagram that was decoded and encoded"));
+    }
+    let digits = hex::encode(trial.alloc, octets).map_err(|_| Stop::Refused)?;
+    text.extend_from_slice(digits.as_bytes())
+        .map_err(|_| Stop::Refused)?;
+    text.push(b'\n').map_err(|_| Stop::Refused)
+}

@@ -1,0 +1,68 @@
+-- One report for the octets of a scenario.
+use Rattle.std.proofs.Common.{◌≡◌, ℕ, Bool, true, false, List, [], ◌∷◌, ◌++◌, Result, Ok, Err, refl, sym, ◌∙◌, ap, subst}
+use Rattle.std.specs.Prelude.{IsTrue, MatchResult, if◌then◌else◌}
+use Rattle.std.specs.FinMap.{entries}
+use Rattle.gtp_machine.specs.declared.role.Role.TheVariants.{Serving, Packet}
+use Rattle.gtp_world.specs.Kept.{Log}
+use Rattle.gtp_world.specs.Naming.{Pair, session_pairs, bearer_pairs, mutual_pairs, AgreeAt, DoAgree}
+use Rattle.gtp_world.proofs.Determined.Runs.{follow_one}
+use Rattle.gtp_scenario.specs.declared.fault.Refusal.{Refusal}
+use Rattle.gtp_scenario.specs.Scenarios.{Scenario, scenario_of}
+use Rattle.gtp_replay.specs.Contexts.{node_text}
+use Rattle.gtp_replay.specs.Determined.{ReportOne, TellOne}
+use Rattle.gtp_replay.specs.Events.{events_text}
+use Rattle.gtp_replay.specs.Report.{IsOwed, late_line}
+use Rattle.gtp_replay.specs.Told.{TellsScenario, TellsRefusal, Tells, events_of}
+use Rattle.gtp_replay.specs.Verdicts.{TellsEach, mutual_line, taken_line}
+use Rattle.gtp_replay.specs.declared.replaying.Form.TheVariants.{Report}
+use Rattle.gtp_replay.specs.declared.verdict.Verdict.{Verdict}
+use Rattle.gtp_replay.specs.declared.verdict.Verdict.TheVariants.{Expected, Unexpected}
+use Rattle.gtp_replay.specs.Expected.{all_met}
+
+one_verdict : (a b : Bool) → (IsTrue a → IsTrue b) → (IsTrue b → IsTrue a) → a ≡ b
+one_verdict true b there back = sym (there refl)
+one_verdict false true there back = back refl
+one_verdict false false there back = refl
+
+-- lines that say the same of each
+each_one : {X : Type 0} (P Q : X → Type 0) (line : X → Bool → List ℕ) (xs : List X) (a b : List ℕ) → ((x : X) → P x → Q x) → ((x : X) → Q x → P x) → TellsEach P line xs a → TellsEach Q line xs b → a ≡ b
+each_one P Q line [] a b there back r s = r ∙ sym s
+each_one P Q line (x ∷ xs) a b there back (v, others, holds, rest, is) (w, others_too, holds_too, rest_too, is_too) =
+    let verdict : v ≡ w = one_verdict v w (λ t. holds_too.1 (there x (holds.0 t))) (λ t. holds.1 (back x (holds_too.0 t))) in
+    let lines : others ≡ others_too = each_one P Q line xs others others_too there back rest rest_too in
+    is ∙ ((λ i. line x (verdict i) ++ lines i) ∙ sym is_too)
+
+pub report_one : ReportOne
+report_one events one other text text_too alike r s =
+    let serving : one.serving.station.node ≡ other.serving.station.node = alike.serving.station.node in
+    let packet : one.packet.station.node ≡ other.packet.station.node = alike.packet.station.node in
+    let pairs : mutual_pairs one ≡ mutual_pairs other = λ i. session_pairs (packet i).sessions (entries (serving i).sessions) ++ bearer_pairs (packet i).bearers (entries (serving i).bearers) in
+    let agreeing : r.pairs ≡ s.pairs =
+    each_one (DoAgree one) (DoAgree other) mutual_line (mutual_pairs one) r.pairs s.pairs
+    (λ p a. subst (λ n. AgreeAt n other.packet.station.node p) serving (subst (λ n. AgreeAt one.serving.station.node n p) packet a))
+    (λ p a. subst (λ n. AgreeAt n one.packet.station.node p) (sym serving) (subst (λ n. AgreeAt other.serving.station.node n p) (sym packet) a))
+    r.agreeing (subst (λ (l : List Pair). TellsEach (DoAgree other) mutual_line l s.pairs) (sym pairs) s.agreeing) in
+    let owed : r.taken ≡ s.taken =
+    each_one (IsOwed one.log) (IsOwed other.log) taken_line one.log.accepted r.taken s.taken
+    (λ e o. subst (λ (l : Log). IsOwed l e) alike.log o)
+    (λ e o. subst (λ (l : Log). IsOwed l e) (sym alike.log) o)
+    r.owed (subst (λ (l : Log). TellsEach (IsOwed other.log) taken_line l.accepted s.taken) (sym alike.log) s.owed) in
+    r.whole ∙ ((λ i. events_text events (alike.log i).datagrams (alike.log i).notes ++ node_text Serving (serving i) ++ node_text Packet (packet i) ++ agreeing i ++ owed i ++ late_line (alike.log i).late) ∙ sym s.whole)
+
+scenario_one : (scenario : Scenario) (text text_too : List ℕ) (verdict verdict_too : Verdict) → TellsScenario Report scenario text verdict → TellsScenario Report scenario text_too verdict_too → (text ≡ text_too) × (verdict ≡ verdict_too)
+scenario_one scenario text text_too verdict verdict_too r s =
+    let alike = follow_one scenario.setup (events_of scenario) r.world s.world r.run.comes s.run.comes in (
+      report_one (events_of scenario) r.world s.world text text_too alike r.text_is s.text_is,
+      r.verdict_is ∙ (ap (λ (l : Log). if all_met scenario.entries l.notes then Expected else Unexpected) alike.log ∙ sym s.verdict_is),
+    )
+
+refusal_one : (refusal : Refusal) (text text_too : List ℕ) (verdict verdict_too : Verdict) → TellsRefusal refusal text verdict → TellsRefusal refusal text_too verdict_too → (text ≡ text_too) × (verdict ≡ verdict_too)
+refusal_one refusal text text_too verdict verdict_too r s = (r.line ∙ sym s.line, r.verdict_is ∙ sym s.verdict_is)
+
+pub tell_one : TellOne
+unfolding Tells
+tell_one octets text text_too verdict verdict_too r s = by_scenario (scenario_of octets) r s
+  where
+    by_scenario : (o : Result Scenario Refusal) → MatchResult o (λ scenario. TellsScenario Report scenario text verdict) (λ refusal. TellsRefusal refusal text verdict) → MatchResult o (λ scenario. TellsScenario Report scenario text_too verdict_too) (λ refusal. TellsRefusal refusal text_too verdict_too) → (text ≡ text_too) × (verdict ≡ verdict_too)
+    by_scenario (Ok scenario) p q = scenario_one scenario text text_too verdict verdict_too p q
+    by_scenario (Err refusal) p q = refusal_one refusal text text_too verdict verdict_too p q

@@ -1,0 +1,173 @@
+-- What holds of both gateways of a world at each moment: steps of the machine led there, and what the node keeps is what ticks and draws go by.
+use Rattle.std.proofs.Common.{◌≡◌, ◌⊎◌, inl, inr, ℕ, Bool, true, false, List, [], ◌∷◌, ◌++◌, filter, length, map, refl, sym, ◌∙◌, ap, subst}
+use Rattle.gtp_values.specs.declared.address.Endpoint.{Endpoint}
+use Rattle.gtp_tables.specs.Drawn.{drawn_up_to}
+use Rattle.gtp_reliable.specs.Pending.{AreDistinct}
+use Rattle.gtp_reliable.specs.Waiting.{just_sent}
+use Rattle.gtp_reliable.proofs.Requests.{distinct_push, distinct_filter, ticked_distinct}
+use Rattle.gtp_machine.specs.Config.{Config}
+use Rattle.gtp_machine.specs.Message.{Plane, Control, User}
+use Rattle.gtp_machine.specs.declared.role.Role.{Role}
+use Rattle.gtp_machine.specs.declared.role.Role.TheVariants.{Serving, Packet}
+use Rattle.gtp_machine.specs.Node.{Node, fresh_node}
+use Rattle.gtp_machine.specs.Input.{Move, Input, Moves_on, Out, Effect}
+use Rattle.gtp_machine.specs.Move.{MoveStep}
+use Rattle.gtp_machine.specs.Spelling.{Datagram}
+use Rattle.gtp_machine.specs.Step.{Step, Done, Steps}
+use Rattle.gtp_machine.specs.Tick.{TickStep}
+use Rattle.gtp_machine.specs.Determined.{HeldOnce}
+use Rattle.gtp_machine.specs.World.{EventOutcome, By, Event, Does, Tick, Deliver, Cut, Restart, other}
+use Rattle.gtp_machine.proofs.Determined.Alike.{Fits}
+use Rattle.gtp_machine.proofs.Requests.ActsOnce.{reached_holds_once}
+use Rattle.gtp_gateway.specs.GoesOn.{GoesOn}
+use Rattle.gtp_gateway.specs.Parts.{held_of, pending_in}
+use Rattle.gtp_gateway.specs.Settings.{Settings}
+use Rattle.gtp_gateway.specs.Station.{Timing, Station, starting, IsTied}
+use Rattle.gtp_gateway.specs.Ticked.{CountsOn}
+use Rattle.gtp_gateway.proofs.GoingOn.{on_goes}
+use Rattle.gtp_world.specs.Kept.{Log, Kept, half_in, with_half}
+use Rattle.gtp_world.specs.Runs.{Setup, begun}
+use Rattle.gtp_world.specs.Stepped.{WaitsFor, AsksFor, KeepsOn, Takes, Brings, kept_after, passed_over, counter_after, half_restarted, Comes}
+use Rattle.gtp_world.proofs.Determined.Commands.{IsQuiet, IsBegun, commanded}
+use Rattle.gtp_world.proofs.Determined.Placed.{placed_fits, reached_placed}
+
+-- steps of the machine lead to the gateway from a start, no two of its requests have one number, and what its node keeps is what ticks and draws go by
+pub record Lasts (s : Station) : Type 0 where
+  pub config : Config
+  pub counter : ℕ
+  pub log : List Done
+  pub steps : Steps s.role (fresh_node config counter) log s.node
+  pub tied : IsTied s
+  pub apart : AreDistinct s.timing.waiting
+
+pub lasts_fits : (s : Station) → Lasts s → Fits s.node
+lasts_fits s l = placed_fits s.node (reached_placed s.role l.config l.counter l.log s.node l.steps)
+
+pub lasts_once : (s : Station) → Lasts s → HeldOnce s.node
+lasts_once s l = reached_holds_once s.role l.config l.counter l.log s.node l.steps
+
+pub lasts_starting : (role : Role) (settings : Settings) (counter : ℕ) → Lasts (starting role settings counter)
+lasts_starting role settings counter = record { config = settings.config; counter = counter; log = []; steps = refl; tied = record { pending = refl; held = refl; drawn = refl }; apart = tt }
+
+-- ---- one step more
+
+steps_push : (role : Role) (start : Node) (log : List Done) (old : Node) (input : Input) (e : Effect) → Steps role start log old → Step role old input e → Steps role start (log ++ (record { before = old; input = input; effect = e } ∷ [])) e.node
+steps_push role start [] old input e is step = (is, subst (λ n. Step role n input e) is step, refl)
+steps_push role start (done ∷ log) old input e steps step = (steps.0, steps.1, steps_push role done.effect.node log old input e steps.2 step)
+
+move_is : (role : Role) (old : Node) (move : Move) (e : Effect) → MoveStep old move e → Step role old (Moves_on move) e
+move_is Serving old move e step = step
+move_is Packet old move e step = step
+
+-- a tick, move by move
+steps_ticked : (role : Role) (start : Node) (log : List Done) (old : Node) (moves : List Move) (out : Out) (new : Node) → Steps role start log old → TickStep old moves out new → (longer : List Done) × Steps role start longer new
+steps_ticked role start log old [] out new steps tick = (log, subst (λ n. Steps role start log n) (sym tick.1) steps)
+steps_ticked role start log old (move ∷ moves) out new steps (e, rest, step, others, is) =
+    steps_ticked role start (log ++ (record { before = old; input = Moves_on move; effect = e } ∷ [])) e.node moves rest new (steps_push role start log old (Moves_on move) e steps (move_is role old move e step)) others
+
+module _ (old new : Station) (l : Lasts old) (stays : new.role ≡ old.role) (tied : IsTied new) (apart : AreDistinct new.timing.waiting) where
+  lasts_with : (log : List Done) (node : Node) → new.node ≡ node → Steps old.role (fresh_node l.config l.counter) log node → Lasts new
+  lasts_with log node is steps = record {
+    config = l.config;
+    counter = l.counter;
+    log = log;
+    steps = subst (λ r. Steps r (fresh_node l.config l.counter) log new.node) (sym stays) (subst (λ n. Steps old.role (fresh_node l.config l.counter) log n) (sym is) steps);
+    tied = tied;
+    apart = apart;
+  }
+
+  lasts_took : (input : Input) (e : Effect) → new.node ≡ e.node → Step old.role old.node input e → Lasts new
+  lasts_took input e is step = lasts_with _ e.node is (steps_push old.role (fresh_node l.config l.counter) l.log old.node input e l.steps step)
+
+  lasts_ticked : (moves : List Move) (out : Out) → TickStep old.node moves out new.node → Lasts new
+  lasts_ticked moves out tick =
+      let longer = steps_ticked old.role (fresh_node l.config l.counter) l.log old.node moves out new.node l.steps tick in
+      lasts_with longer.0 new.node refl longer.1
+
+-- ---- what ticks go by
+
+pub keeps_goes : (plane : Plane) (source : Endpoint) (octets : List ℕ) (sent : List Datagram) (outcome : EventOutcome) (old new : Station) → KeepsOn plane source octets sent outcome old new → GoesOn source octets old new
+keeps_goes Control source octets sent outcome old new keeps = keeps
+keeps_goes User source octets sent outcome old new keeps = on_goes source octets old new keeps.1 keeps.2
+
+goes_apart : (source : Endpoint) (octets : List ℕ) (old new : Station) → GoesOn source octets old new → AreDistinct old.timing.waiting → AreDistinct new.timing.waiting
+goes_apart source octets old new goes apart = subst (λ (t : Timing). AreDistinct t.waiting) (sym goes.timing) (distinct_filter goes.stays old.timing.waiting apart)
+
+waits_apart : (old : Station) (d : Datagram) (new : Station) → WaitsFor old d new → AreDistinct old.timing.waiting → AreDistinct new.timing.waiting
+waits_apart old d new waits apart = subst (λ (t : Timing). AreDistinct t.waiting) (sym waits.timing) (distinct_push old.timing.waiting (just_sent waits.number d.to d.octets waits.purpose) apart waits.free.free)
+
+counts_apart : (old new : Station) → CountsOn old new → AreDistinct old.timing.waiting → AreDistinct new.timing.waiting
+counts_apart old new counts apart = subst (λ (t : Timing). AreDistinct t.waiting) (sym counts.timing) (ticked_distinct old.timing.timers.t3 old.timing.timers.n3 (filter counts.stays old.timing.waiting) (distinct_filter counts.stays old.timing.waiting apart))
+
+-- where a command leaves what ticks and draws go by
+pub quiet_tied : (old new : Station) (e : Effect) → IsTied old → IsQuiet old.node e → new.node ≡ e.node → new.timing ≡ old.timing → IsTied new
+quiet_tied old new e tied quiet is timing =
+    let counter : new.node.counter ≡ old.node.counter = ap (λ (n : Node). n.counter) is ∙ quiet.counter in
+    let drawn : new.node.drawn ≡ old.node.drawn = ap (λ (n : Node). n.drawn) is ∙ quiet.drawn in
+    record {
+      pending = ap (λ (n : Node). n.pending) is ∙ (quiet.pending ∙ (tied.pending ∙ ap (λ (t : Timing). pending_in t.waiting) (sym timing)));
+      held = ap (λ (n : Node). n.held) is ∙ (quiet.held ∙ (tied.held ∙ ap (λ (t : Timing). map held_of t.held) (sym timing)));
+      drawn = drawn ∙ (tied.drawn ∙ (λ i. drawn_up_to (sym counter i) (length (sym drawn i))));
+    }
+
+-- and so it is after each command, and after each datagram
+pub asks_ready : (old new : Station) (sent : List Datagram) (e : Effect) → Lasts old → IsBegun e ⊎ IsQuiet old.node e → new.node ≡ e.node → AsksFor sent e.outcome old new → IsTied new × AreDistinct new.timing.waiting
+asks_ready old new sent e l (inl begun) is asks = let a = asks.asks begun.0 begun.1 in (a.2.tied, waits_apart old a.0 new a.2 l.apart)
+asks_ready old new sent e l (inr quiet) is asks =
+    let same = asks.none quiet.begins_none in
+    (quiet_tied old new e l.tied quiet is same, subst (λ (t : Timing). AreDistinct t.waiting) (sym same) l.apart)
+
+-- ---- both gateways of a world
+
+pub record BothLast (v : Kept) : Type 0 where
+  pub serving : Lasts v.serving.station
+  pub packet : Lasts v.packet.station
+
+pub last_of : (v : Kept) → BothLast v → (role : Role) → Lasts (half_in v role).station
+last_of v both Serving = both.serving
+last_of v both Packet = both.packet
+
+pub begun_last : (setup : Setup) → BothLast (begun setup)
+begun_last setup = record { serving = lasts_starting Serving setup.serving setup.serving_counter; packet = lasts_starting Packet setup.packet setup.packet_counter }
+
+after_last : (v : Kept) (role : Role) (station : Station) (out : Out) (sent : List Datagram) (outcome : EventOutcome) (late : Bool) → BothLast v → Lasts station → BothLast (kept_after v role station out sent outcome late)
+after_last v Serving station out sent outcome late both l = record { serving = l; packet = both.packet }
+after_last v Packet station out sent outcome late both l = record { serving = both.serving; packet = l }
+
+restarted_last : (v : Kept) (role : Role) (log : Log) → BothLast v → BothLast (record (with_half v role (half_restarted role (half_in v role))) { log = log })
+restarted_last v Serving log both = record { serving = lasts_starting Serving v.serving.settings (counter_after v.serving); packet = both.packet }
+restarted_last v Packet log both = record { serving = both.serving; packet = lasts_starting Packet v.packet.settings (counter_after v.packet) }
+
+passed_last : (v : Kept) (outcome : EventOutcome) (new : Kept) → BothLast v → new ≡ passed_over v outcome → BothLast new
+passed_last v outcome new both is = subst (λ k. BothLast k) (sym is) (record { serving = both.serving; packet = both.packet })
+
+takes_last : (v : Kept) (role : Role) (input : Input) (Timed : List Datagram → EventOutcome → Station → Station → Type 0) (late : Bool) (new : Kept) (t : Takes v role input Timed late new) → BothLast v → IsTied t.station × AreDistinct t.station.timing.waiting → BothLast new
+takes_last v role input Timed late new t both ready =
+    subst (λ k. BothLast k) (sym t.becomes)
+    (after_last v role t.station t.effect.out _ _ late both
+    (lasts_took (half_in v role).station t.station (last_of v both role) t.role_stays ready.0 ready.1 input t.effect t.node t.step))
+
+brings_last : (v : Kept) (sent : By Datagram) (octets : List ℕ) (late : Bool) (new : Kept) → BothLast v → Brings v sent octets late new → BothLast new
+brings_last v sent octets late new both t =
+    let old = (half_in v (other sent.role)).station in
+    let goes = keeps_goes sent.what.plane sent.what.from octets _ t.effect.outcome old t.station t.timed in
+    takes_last v (other sent.role) _ _ late new t both (goes.tied, goes_apart sent.what.from octets old t.station goes (last_of v both (other sent.role)).apart)
+
+-- what comes of an event
+pub comes_last : (v : Kept) (event : Event) (new : Kept) → BothLast v → Comes v event new → BothLast new
+comes_last v (Does role command) new both t =
+    let old = (half_in v role).station in
+    takes_last v role _ _ false new t both (asks_ready old t.station _ t.effect (last_of v both role) (commanded old.node old.role command t.effect t.step) t.node t.timed)
+comes_last v (Tick role) new both t =
+    let old = (half_in v role).station in
+    subst (λ k. BothLast k) (sym t.becomes)
+    (after_last v role t.station t.out _ _ false both
+    (lasts_ticked old t.station (last_of v both role) t.role_stays t.counts.tied (counts_apart old t.station t.counts (last_of v both role).apart) t.ticks.moves t.out t.ticks.step))
+comes_last v (Deliver number) new both (inl (none, is)) = passed_last v _ new both is
+comes_last v (Deliver number) new both (inr (found, inl (timely, t))) = brings_last v found.sent _ false new both t
+comes_last v (Deliver number) new both (inr (found, inr (late, t))) = brings_last v found.sent _ true new both t
+comes_last v (Cut number count) new both (inl (none, is)) = passed_last v _ new both is
+comes_last v (Cut number count) new both (inr (found, inl (long, is))) = passed_last v _ new both is
+comes_last v (Cut number count) new both (inr (found, inr (short, t))) = brings_last v found.sent _ false new both t
+comes_last v (Restart role) new both (inl (used, is)) = passed_last v _ new both is
+comes_last v (Restart role) new both (inr (few, is)) = subst (λ k. BothLast k) (sym is) (restarted_last v role _ both)

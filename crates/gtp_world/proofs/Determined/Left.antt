@@ -1,0 +1,300 @@
+-- What ticks go by, where two gateways that were alike are left with the same node.
+use Rattle.std.proofs.Common.{◌≡◌, ℕ, ◌+◌, Bool, true, false, ◌||◌, cond, filter, List, [], ◌∷◌, ◌++◌, length, map, Option, Some, None, option_map, refl, sym, ◌∙◌, ap, subst, arith, length-append}
+use Rattle.std.specs.Prelude.{◌==◌, if◌then◌else◌, nat_lt}
+use Rattle.std.specs.List.{list_any, filter_map, cons_option}
+use Rattle.std.specs.FinMap.{get, insert}
+use Rattle.std.proofs.lemmas.Bool.{or_parts}
+use Rattle.std.proofs.lemmas.List.{map_push, length-map}
+use Rattle.gtp_values.specs.declared.address.Endpoint.{Endpoint}
+use Rattle.gtp_reliable.specs.Held.{HeldPair, Question, just_kept, forgotten}
+use Rattle.gtp_reliable.specs.Held as held
+use Rattle.gtp_reliable.specs.Pending.{is_pending, AreDistinct, IsNextFree, number_after}
+use Rattle.gtp_reliable.specs.Waiting.{Waiting, Message, just_sent, next_tick, after_tick_by, after_tick, sent_again_by, sent_again, given_up_by, given_up}
+use Rattle.gtp_reliable.specs.declared.waiting.NextTick.{NextTick}
+use Rattle.gtp_reliable.specs.declared.waiting.NextTick.TheVariants.{WaitsOn, SentAgain, GivenUp}
+use Rattle.gtp_machine.specs.Node.{Node}
+use Rattle.gtp_machine.specs.Spelling.{Datagram}
+use Rattle.gtp_machine.specs.Tick.{Due}
+use Rattle.gtp_machine.proofs.Basics.FiniteMaps.{get-insert_same}
+use Rattle.gtp_gateway.specs.declared.config.Timers.{Timers}
+use Rattle.gtp_gateway.specs.declared.purpose.Purpose.{Purpose}
+use Rattle.gtp_gateway.specs.Determined.{held_as, waits_as, AreLeftAlike}
+use Rattle.gtp_gateway.specs.GoesOn.{held_with, GoesOn}
+use Rattle.gtp_gateway.specs.Parts.{held_of, pending_of, pending_in}
+use Rattle.gtp_gateway.specs.Station.{Timing, Station}
+use Rattle.gtp_gateway.specs.Ticked.{asked_by, due_in, CountsOn}
+use Rattle.gtp_gateway.proofs.ChosenOnce.{same_beside, one_next}
+use Rattle.gtp_gateway.proofs.Requests.{none_pending}
+use Rattle.gtp_world.specs.Stepped.{WaitsFor}
+
+-- a request that waits, but for what it is about
+abbrev Form : Type 0
+Form = Waiting (Unit {0})
+
+-- ---- what is due is due by the forms alone
+
+map_cons : {A C : Type 0} (f : A → C) (o : Option A) (xs : List A) → map f (cons_option o xs) ≡ cons_option (option_map f o) (map f xs)
+map_cons f None xs = refl
+map_cons f (Some x) xs = refl
+
+-- what a function gives of the items, by their forms
+by_forms : {X Y A B C : Type 0} (f : X → Option A) (g : Y → Option B) (form : X → Y) (k : A → C) (l : B → C) → ((x : X) → option_map k (f x) ≡ option_map l (g (form x))) → (xs : List X) → map k (filter_map f xs) ≡ map l (filter_map g (map form xs))
+by_forms f g form k l same [] = refl
+by_forms f g form k l same (x ∷ xs) = map_cons k (f x) (filter_map f xs) ∙ ((λ i. cons_option (same x i) (by_forms f g form k l same xs i)) ∙ sym (map_cons l (g (form x)) (filter_map g (map form xs))))
+
+-- what is due, by the forms
+abbrev due_by : Timers → List Form → List HeldPair → Due
+due_by timers waiting pairs =
+    record {
+      resends = map (λ (m : Message). m.seq) (filter_map (sent_again timers.t3 timers.n3) waiting);
+      give_ups = map (λ (g : ℕ × Unit {0}). g.0) (filter_map (given_up timers.t3 timers.n3) waiting);
+      forgets = map asked_by (filter_map (forgotten timers.hold) pairs);
+    }
+
+module _ (t3 n3 : ℕ) (w : Waiting Purpose) where
+  sent_form : option_map (λ (m : Message). m.seq) (sent_again t3 n3 w) ≡ option_map (λ (m : Message). m.seq) (sent_again t3 n3 (waits_as w))
+  sent_form = by_tick (next_tick t3 n3 w)
+    where
+      by_tick : (next : NextTick) → option_map (λ (m : Message). m.seq) (sent_again_by next w) ≡ option_map (λ (m : Message). m.seq) (sent_again_by next (waits_as w))
+      by_tick WaitsOn = refl
+      by_tick SentAgain = refl
+      by_tick GivenUp = refl
+
+  given_form : option_map (λ (g : ℕ × Purpose). g.0) (given_up t3 n3 w) ≡ option_map (λ (g : ℕ × Unit {0}). g.0) (given_up t3 n3 (waits_as w))
+  given_form = by_tick (next_tick t3 n3 w)
+    where
+      by_tick : (next : NextTick) → option_map (λ (g : ℕ × Purpose). g.0) (given_up_by next w) ≡ option_map (λ (g : ℕ × Unit {0}). g.0) (given_up_by next (waits_as w))
+      by_tick WaitsOn = refl
+      by_tick SentAgain = refl
+      by_tick GivenUp = refl
+
+  -- what a tick makes of it, by its form
+  ticked_form : option_map waits_as (after_tick t3 n3 w) ≡ after_tick t3 n3 (waits_as w)
+  ticked_form = by_tick (next_tick t3 n3 w)
+    where
+      by_tick : (next : NextTick) → option_map waits_as (after_tick_by next w) ≡ after_tick_by next (waits_as w)
+      by_tick WaitsOn = refl
+      by_tick SentAgain = refl
+      by_tick GivenUp = refl
+
+  numbered_later : (v : Waiting Purpose) → after_tick t3 n3 w ≡ Some v → v.seq ≡ w.seq
+  numbered_later v is = by_tick (next_tick t3 n3 w) is
+    where
+      by_tick : (next : NextTick) → after_tick_by next w ≡ Some v → v.seq ≡ w.seq
+      by_tick WaitsOn e = cc
+      by_tick SentAgain e = cc
+      by_tick GivenUp e = cc
+
+due_as : (t : Timing) → due_in t ≡ due_by t.timers (map waits_as t.waiting) (map held_as t.held)
+due_as t = λ i. record {
+  resends = by_forms (sent_again t.timers.t3 t.timers.n3) (sent_again t.timers.t3 t.timers.n3) waits_as (λ (m : Message). m.seq) (λ (m : Message). m.seq) (sent_form t.timers.t3 t.timers.n3) t.waiting i;
+  give_ups = by_forms (given_up t.timers.t3 t.timers.n3) (given_up t.timers.t3 t.timers.n3) waits_as (λ (g : ℕ × Purpose). g.0) (λ (g : ℕ × Unit {0}). g.0) (given_form t.timers.t3 t.timers.n3) t.waiting i;
+  forgets = by_forms (forgotten t.timers.hold) (forgotten t.timers.hold) held_as asked_by asked_by (λ p. refl) t.held i;
+}
+
+pub same_due : (one other : Station) → AreLeftAlike one other → due_in one.timing ≡ due_in other.timing
+same_due one other alike = due_as one.timing ∙ ((λ i. due_by (alike.timers i) (alike.waiting i) (alike.held i)) ∙ sym (due_as other.timing))
+
+-- ---- which numbers wait
+
+pending_form : (n : ℕ) (ws : List (Waiting Purpose)) → is_pending n ws ≡ is_pending n (map waits_as ws)
+unfolding is_pending
+pending_form n [] = refl
+pending_form n (w ∷ ws) = ap (λ k. (w.seq == n) || k) (pending_form n ws)
+
+same_pending : (ws vs : List (Waiting Purpose)) → map waits_as ws ≡ map waits_as vs → (n : ℕ) → is_pending n ws ≡ is_pending n vs
+same_pending ws vs same n = pending_form n ws ∙ (ap (λ k. is_pending n k) same ∙ sym (pending_form n vs))
+
+free_among : (start : ℕ) (ws vs : List (Waiting Purpose)) → map waits_as ws ≡ map waits_as vs → (n : ℕ) → IsNextFree start vs n → IsNextFree start ws n
+free_among start ws vs same n f = record {
+  free = same_pending ws vs same n ∙ f.free;
+  passed = f.passed;
+  few = f.few;
+  place = f.place;
+  taken = λ j less. same_pending ws vs same _ ∙ f.taken j less;
+}
+
+-- the next free number is one
+pub one_free : (one other : Station) (m n : ℕ) → AreLeftAlike one other → IsNextFree one.timing.next one.timing.waiting m → IsNextFree other.timing.next other.timing.waiting n → m ≡ n
+one_free one other m n alike a b = one_next one.timing.next one.timing.waiting m n a (free_among one.timing.next one.timing.waiting other.timing.waiting alike.waiting n (subst (λ k. IsNextFree k other.timing.waiting n) (sym alike.next) b))
+
+-- ---- requests that stay
+
+-- a list with what an option holds before it, where a test is true
+abbrev taken : Bool → Option (Waiting Purpose) → List (Waiting Purpose) → List (Waiting Purpose)
+taken true o ws = cons_option o ws
+taken false o ws = ws
+
+none_taken : (n : ℕ) (b : Bool) (o : Option (Waiting Purpose)) (ws : List (Waiting Purpose)) → ((v : Waiting Purpose) → o ≡ Some v → (v.seq == n) ≡ false) → is_pending n ws ≡ false → is_pending n (taken b o ws) ≡ false
+unfolding is_pending
+none_taken n false o ws other none = none
+none_taken n true None ws other none = none
+none_taken n true (Some v) ws other none = rw (other v refl) none
+
+same_taken : (a b : Bool) (o p : Option (Waiting Purpose)) (ws vs : List (Waiting Purpose)) → option_map waits_as o ≡ option_map waits_as p → ((w : Waiting Purpose) → o ≡ Some w → get (pending_in ws) w.seq ≡ None) → ((v : Waiting Purpose) → p ≡ Some v → get (pending_in vs) v.seq ≡ None) → (pending_in ws ≡ pending_in vs → map waits_as ws ≡ map waits_as vs) → pending_in (taken a o ws) ≡ pending_in (taken b p vs) → map waits_as (taken a o ws) ≡ map waits_as (taken b p vs)
+same_taken false false o p ws vs both absent missing rest e = rest e
+same_taken false true None None ws vs both absent missing rest e = rest e
+same_taken true false None None ws vs both absent missing rest e = rest e
+same_taken true true None None ws vs both absent missing rest e = rest e
+same_taken a b None (Some v) ws vs both absent missing rest e = absurd (cc both)
+same_taken a b (Some w) None ws vs both absent missing rest e = absurd (cc both)
+same_taken false true (Some w) (Some v) ws vs both absent missing rest e =
+    let seq : v.seq ≡ w.seq = let form : waits_as w ≡ waits_as v = cc both in sym (ap (λ (k : Form). k.seq) form) in
+    absurd (never (ap (λ k. get k v.seq) e ∙ get-insert_same (pending_in vs) v.seq (pending_of v).1) (ap (λ k. get (pending_in ws) k) seq ∙ absent w refl))
+  where
+    never : get (pending_in ws) v.seq ≡ Some (pending_of v).1 → get (pending_in ws) v.seq ≡ None → ⊥
+    never there none = cc
+same_taken true false (Some w) (Some v) ws vs both absent missing rest e =
+    let seq : w.seq ≡ v.seq = let form : waits_as w ≡ waits_as v = cc both in ap (λ (k : Form). k.seq) form in
+    absurd (never (ap (λ k. get k w.seq) (sym e) ∙ get-insert_same (pending_in ws) w.seq (pending_of w).1) (ap (λ k. get (pending_in vs) k) seq ∙ missing v refl))
+  where
+    never : get (pending_in vs) w.seq ≡ Some (pending_of w).1 → get (pending_in vs) w.seq ≡ None → ⊥
+    never there none = cc
+same_taken true true (Some w) (Some v) ws vs both absent missing rest e =
+    let form : waits_as w ≡ waits_as v = cc both in
+    let seq : w.seq ≡ v.seq = ap (λ (k : Form). k.seq) form in
+    let same = same_beside (pending_in ws) (pending_in vs) w.seq (pending_of w).1 (pending_of v).1 (absent w refl) (ap (λ k. get (pending_in vs) k) seq ∙ missing v refl) (e ∙ ap (λ k. insert (pending_in vs) k (pending_of v).1) (sym seq)) in
+    λ i. form i ∷ rest same i
+
+-- of requests, those that stay, each as a tick leaves it
+module _ (later : Waiting Purpose → Option (Waiting Purpose)) (numbered : (w v : Waiting Purpose) → later w ≡ Some v → v.seq ≡ w.seq) (formed : (w v : Waiting Purpose) → waits_as w ≡ waits_as v → option_map waits_as (later w) ≡ option_map waits_as (later v)) where
+  abbrev staying : (Waiting Purpose → Bool) → List (Waiting Purpose) → List (Waiting Purpose)
+  staying stays ws = filter_map later (filter stays ws)
+
+  first_taken : (w : Waiting Purpose) (b : Bool) (ws : List (Waiting Purpose)) → filter_map later (cond b (w ∷ ws) ws) ≡ taken b (later w) (filter_map later ws)
+  first_taken w true ws = refl
+  first_taken w false ws = refl
+
+  none_stays : (stays : Waiting Purpose → Bool) (n : ℕ) (ws : List (Waiting Purpose)) → is_pending n ws ≡ false → is_pending n (staying stays ws) ≡ false
+  unfolding is_pending
+  none_stays stays n [] none = refl
+  none_stays stays n (w ∷ ws) none =
+      let both = or_parts (w.seq == n) (list_any (λ (x : Waiting Purpose). x.seq == n) ws) none in
+      ap (λ k. is_pending n k) (first_taken w (stays w) (filter stays ws)) ∙ none_taken n (stays w) (later w) (staying stays ws) (λ v is. ap (λ (k : ℕ). k == n) (numbered w v is) ∙ both.0) (none_stays stays n ws both.1)
+
+  -- the request does not wait among those after it
+  gone : (test : Waiting Purpose → Bool) (w : Waiting Purpose) (ws : List (Waiting Purpose)) → is_pending w.seq ws ≡ false → (v : Waiting Purpose) → later w ≡ Some v → get (pending_in (staying test ws)) v.seq ≡ None
+  gone test w ws none v is = none_pending (staying test ws) v.seq (subst (λ k. is_pending k (staying test ws) ≡ false) (sym (numbered w v is)) (none_stays test w.seq ws none))
+
+  same_staying : (stays keeps : Waiting Purpose → Bool) (ws vs : List (Waiting Purpose)) → map waits_as ws ≡ map waits_as vs → AreDistinct ws → AreDistinct vs → pending_in (staying stays ws) ≡ pending_in (staying keeps vs) → map waits_as (staying stays ws) ≡ map waits_as (staying keeps vs)
+  same_staying stays keeps [] [] same apart also e = refl
+  same_staying stays keeps [] (v ∷ vs) same apart also e = absurd (cc same)
+  same_staying stays keeps (w ∷ ws) [] same apart also e = absurd (cc same)
+  same_staying stays keeps (w ∷ ws) (v ∷ vs) same apart also e =
+      let form : waits_as w ≡ waits_as v = cc same in
+      let forms : map waits_as ws ≡ map waits_as vs = cc same in
+      let first = first_taken w (stays w) (filter stays ws) in
+      let second = first_taken v (keeps v) (filter keeps vs) in
+      ap (map waits_as) first
+      ∙ (same_taken (stays w) (keeps v) (later w) (later v) (staying stays ws) (staying keeps vs) (formed w v form) (gone stays w ws apart.0) (gone keeps v vs also.0) (same_staying stays keeps ws vs forms apart.1 also.1) (ap pending_in (sym first) ∙ (e ∙ ap pending_in second))
+      ∙ ap (map waits_as) (sym second))
+
+-- requests that stay, as they are
+all_there : (ws : List (Waiting Purpose)) → filter_map (λ (w : Waiting Purpose). Some w) ws ≡ ws
+all_there [] = refl
+all_there (w ∷ ws) = ap (λ k. w ∷ k) (all_there ws)
+
+same_filter : (stays keeps : Waiting Purpose → Bool) (ws vs : List (Waiting Purpose)) → map waits_as ws ≡ map waits_as vs → AreDistinct ws → AreDistinct vs → pending_in (filter stays ws) ≡ pending_in (filter keeps vs) → map waits_as (filter stays ws) ≡ map waits_as (filter keeps vs)
+same_filter stays keeps ws vs same apart also e =
+    ap (map waits_as) (sym (all_there (filter stays ws)))
+    ∙ (same_staying (λ w. Some w) (λ w v is. numbered w v is) (λ w v form. ap (λ k. Some k) form) stays keeps ws vs same apart also (ap pending_in (all_there (filter stays ws)) ∙ (e ∙ ap pending_in (sym (all_there (filter keeps vs)))))
+    ∙ ap (map waits_as) (all_there (filter keeps vs)))
+  where
+    numbered : (w v : Waiting Purpose) → ◌≡◌ {A = Option (Waiting Purpose)} (Some w) (Some v) → v.seq ≡ w.seq
+    numbered w v is = let same : w ≡ v = cc in ap (λ (k : Waiting Purpose). k.seq) (sym same)
+
+-- ---- answers that are held
+
+longer : (ps qs : List HeldPair) (p : HeldPair) → map held_as ps ≡ map held_as qs → map held_of ps ≡ map held_of (qs ++ (p ∷ [])) → ⊥
+longer ps qs p same e = omega (arith, ap length e, ap length same, length-map ps held_of, length-map (qs ++ (p ∷ [])) held_of, length-append qs (p ∷ []), length-map ps held_as, length-map qs held_as)
+
+-- an answer that is held, or none
+same_held : (source : Endpoint) (octets : List ℕ) (a b : Option (List ℕ)) (ps qs : List HeldPair) → map held_as ps ≡ map held_as qs → map held_of (held_with source octets a ps) ≡ map held_of (held_with source octets b qs) → map held_as (held_with source octets a ps) ≡ map held_as (held_with source octets b qs)
+same_held source octets None None ps qs same e = same
+same_held source octets (Some a) (Some b) ps qs same e = map_push held_as ps (just_kept source octets a) ∙ (ap (λ k. k ++ (held_as (just_kept source octets a) ∷ [])) same ∙ sym (map_push held_as qs (just_kept source octets b)))
+same_held source octets None (Some b) ps qs same e = absurd (longer ps qs (just_kept source octets b) same e)
+same_held source octets (Some a) None ps qs same e = absurd (longer qs ps (just_kept source octets a) (sym same) (sym e))
+
+-- a tick, by the forms
+held_form : (hold : ℕ) (p : HeldPair) → option_map held_as (held.after_tick hold p) ≡ option_map held_as (held.after_tick hold (held_as p))
+held_form hold p = by_test (nat_lt (p.age + 1) hold)
+  where
+    by_test : (b : Bool) → option_map held_as (if b then Some (record p { age = p.age + 1 }) else None) ≡ option_map held_as (if b then Some (record (held_as p) { age = p.age + 1 }) else None)
+    by_test true = refl
+    by_test false = refl
+
+-- ---- two gateways that were alike
+
+module _ (one other new left : Station) (alike : AreLeftAlike one other) (role : new.role ≡ left.role) (node : new.node ≡ left.node) where
+  -- where nothing changes
+  pub left_stays : new.timing ≡ one.timing → left.timing ≡ other.timing → AreLeftAlike new left
+  left_stays m n = record {
+    role = role;
+    node = node;
+    timers = ap (λ (t : Timing). t.timers) m ∙ (alike.timers ∙ sym (ap (λ (t : Timing). t.timers) n));
+    next = ap (λ (t : Timing). t.next) m ∙ (alike.next ∙ sym (ap (λ (t : Timing). t.next) n));
+    waiting = ap (λ (t : Timing). map waits_as t.waiting) m ∙ (alike.waiting ∙ sym (ap (λ (t : Timing). map waits_as t.waiting) n));
+    held = ap (λ (t : Timing). map held_as t.held) m ∙ (alike.held ∙ sym (ap (λ (t : Timing). map held_as t.held) n));
+  }
+
+  -- where the same request was begun
+  pub left_begun : (d : Datagram) → WaitsFor one d new → WaitsFor other d left → AreLeftAlike new left
+  left_begun d m n =
+      let number : m.number ≡ n.number = one_free one other m.number n.number alike m.free n.free in
+      let first : Waiting Purpose = just_sent m.number d.to d.octets m.purpose in
+      let second : Waiting Purpose = just_sent n.number d.to d.octets n.purpose in
+      let same : waits_as first ≡ waits_as second = λ i. record { seq = number i; to = d.to; octets = d.octets; purpose = tt; waited = 0; resent = 0 } in
+      record {
+        role = role;
+        node = node;
+        timers = ap (λ (t : Timing). t.timers) m.timing ∙ (alike.timers ∙ sym (ap (λ (t : Timing). t.timers) n.timing));
+        next = ap (λ (t : Timing). t.next) m.timing ∙ (ap number_after number ∙ sym (ap (λ (t : Timing). t.next) n.timing));
+        waiting = ap (λ (t : Timing). map waits_as t.waiting) m.timing ∙ (map_push waits_as one.timing.waiting first ∙ ((λ i. alike.waiting i ++ (same i ∷ [])) ∙ (sym (map_push waits_as other.timing.waiting second) ∙ sym (ap (λ (t : Timing). map waits_as t.waiting) n.timing))));
+        held = ap (λ (t : Timing). map held_as t.held) m.timing ∙ (alike.held ∙ sym (ap (λ (t : Timing). map held_as t.held) n.timing));
+      }
+
+  module _ (apart : AreDistinct one.timing.waiting) (also : AreDistinct other.timing.waiting) where
+    -- after a datagram
+    pub left_goes : (source : Endpoint) (octets : List ℕ) → GoesOn source octets one new → GoesOn source octets other left → AreLeftAlike new left
+    left_goes source octets m n =
+        let pending : pending_in (filter m.stays one.timing.waiting) ≡ pending_in (filter n.stays other.timing.waiting) =
+        ap (λ (t : Timing). pending_in t.waiting) (sym m.timing) ∙ (sym m.tied.pending ∙ (ap (λ (k : Node). k.pending) node ∙ (n.tied.pending ∙ ap (λ (t : Timing). pending_in t.waiting) n.timing))) in
+        let held : map held_of (held_with source octets m.answer one.timing.held) ≡ map held_of (held_with source octets n.answer other.timing.held) =
+        ap (λ (t : Timing). map held_of t.held) (sym m.timing) ∙ (sym m.tied.held ∙ (ap (λ (k : Node). k.held) node ∙ (n.tied.held ∙ ap (λ (t : Timing). map held_of t.held) n.timing))) in
+        record {
+          role = role;
+          node = node;
+          timers = ap (λ (t : Timing). t.timers) m.timing ∙ (alike.timers ∙ sym (ap (λ (t : Timing). t.timers) n.timing));
+          next = ap (λ (t : Timing). t.next) m.timing ∙ (alike.next ∙ sym (ap (λ (t : Timing). t.next) n.timing));
+          waiting = ap (λ (t : Timing). map waits_as t.waiting) m.timing ∙ (same_filter m.stays n.stays one.timing.waiting other.timing.waiting alike.waiting apart also pending ∙ sym (ap (λ (t : Timing). map waits_as t.waiting) n.timing));
+          held = ap (λ (t : Timing). map held_as t.held) m.timing ∙ (same_held source octets m.answer n.answer one.timing.held other.timing.held alike.held held ∙ sym (ap (λ (t : Timing). map held_as t.held) n.timing));
+        }
+
+    -- after a tick
+    pub left_ticked : CountsOn one new → CountsOn other left → AreLeftAlike new left
+    left_ticked m n =
+        let t3 = one.timing.timers.t3 in
+        let n3 = one.timing.timers.n3 in
+        let hold = one.timing.timers.hold in
+        let later : Waiting Purpose → Option (Waiting Purpose) = after_tick t3 n3 in
+        let timers : other.timing.timers ≡ one.timing.timers = sym alike.timers in
+        let timing : left.timing ≡ record other.timing { timers = one.timing.timers; waiting = filter_map later (filter n.stays other.timing.waiting); held = filter_map (held.after_tick hold) other.timing.held } =
+        n.timing ∙ (λ i. record other.timing { timers = timers i; waiting = filter_map (after_tick (timers i).t3 (timers i).n3) (filter n.stays other.timing.waiting); held = filter_map (held.after_tick (timers i).hold) other.timing.held }) in
+        let pending : pending_in (filter_map later (filter m.stays one.timing.waiting)) ≡ pending_in (filter_map later (filter n.stays other.timing.waiting)) =
+        ap (λ (t : Timing). pending_in t.waiting) (sym m.timing) ∙ (sym m.tied.pending ∙ (ap (λ (k : Node). k.pending) node ∙ (n.tied.pending ∙ ap (λ (t : Timing). pending_in t.waiting) timing))) in
+        record {
+          role = role;
+          node = node;
+          timers = ap (λ (t : Timing). t.timers) m.timing ∙ sym (ap (λ (t : Timing). t.timers) timing);
+          next = ap (λ (t : Timing). t.next) m.timing ∙ (alike.next ∙ sym (ap (λ (t : Timing). t.next) timing));
+          waiting =
+              ap (λ (t : Timing). map waits_as t.waiting) m.timing
+              ∙ (same_staying later (numbered_later t3 n3) (λ w v form. ticked_form t3 n3 w ∙ (ap (λ k. after_tick t3 n3 k) form ∙ sym (ticked_form t3 n3 v))) m.stays n.stays one.timing.waiting other.timing.waiting alike.waiting apart also pending
+              ∙ sym (ap (λ (t : Timing). map waits_as t.waiting) timing));
+          held =
+              ap (λ (t : Timing). map held_as t.held) m.timing
+              ∙ (by_forms (held.after_tick hold) (held.after_tick hold) held_as held_as held_as (held_form hold) one.timing.held
+              ∙ (ap (λ k. map held_as (filter_map (held.after_tick hold) k)) alike.held
+              ∙ (sym (by_forms (held.after_tick hold) (held.after_tick hold) held_as held_as held_as (held_form hold) other.timing.held)
+              ∙ sym (ap (λ (t : Timing). map held_as t.held) timing))));
+        }

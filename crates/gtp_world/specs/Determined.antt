@@ -1,0 +1,33 @@
+-- What the clauses of a world's runs leave open: nothing of the log and of the nodes, but for a few forms in which the same is kept.
+use Rattle.std.specs.Prelude.{◌≡◌, List}
+use Rattle.gtp_machine.specs.World.{Event}
+use Rattle.gtp_gateway.specs.Determined.{AreLeftAlike}
+use Rattle.gtp_world.specs.Kept.{Half, Kept}
+use Rattle.gtp_world.specs.Runs.{Setup, begun}
+use Rattle.gtp_world.specs.Stepped.{Follows}
+
+-- the same is kept of a gateway: its role, its node and what its ticks go by, how it is set up and how often it was restarted, and what it has heard, given up
+-- and made
+pub record HalvesAlike (one other : Half) : Type 0 where
+  pub settings : one.settings ≡ other.settings
+  pub station : AreLeftAlike one.station other.station
+  pub first : one.first ≡ other.first
+  pub restarts : one.restarts ≡ other.restarts
+  pub seen : one.seen ≡ other.seen
+  pub forgotten : one.forgotten ≡ other.forgotten
+  pub made : one.made ≡ other.made
+
+-- the same is kept of both gateways, and the logs are one: each datagram, octet for octet, each packet that was handed in and that was accepted, how many deliveries
+-- were late, and what came of each event
+pub record WorldsAlike (one other : Kept) : Type 0 where
+  pub serving : HalvesAlike one.serving other.serving
+  pub packet : HalvesAlike one.packet other.packet
+  pub log : one.log ≡ other.log
+
+-- Whatever happens from whatever setup, it leaves one world: one log, and the same of both gateways.
+abbrev pub FollowOne : Type 0
+FollowOne =
+    (setup : Setup) (events : List Event) (one other : Kept)
+    → Follows (begun setup) events one
+    → Follows (begun setup) events other
+    → WorldsAlike one other
