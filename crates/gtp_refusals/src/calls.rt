@@ -72,12 +72,13 @@ pub fn sent_for(
     call: Call<'_>,
 ) -> Result<Option<Sent>, Stop> {
     let before = contexts_of(gateway);
-    if let Ok(sent) = call.make(trial.alloc, gateway) {
-        return Ok(sent);
+    match call.make(trial.alloc, gateway) {
+        Ok(sent) => return Ok(sent),
+        Err(CommandFault::Memory) => trial.was_refused = true,
+        Err(CommandFault::Refused(_)) => return Err(Stop::Wrong("a command")),
     }
-    trial.was_refused = true;
     if contexts_of(gateway) != before {
-        return Err(Stop::Wrong("the contexts after a call that failed"));
+        return Err(Stop::Wrong("the contexts after a call that was refused memory"));
     }
     call.make(trial.alloc, gateway)
         .map_err(|_| Stop::Wrong("a call that was made again"))

@@ -15,14 +15,15 @@ fn is_encoded_again(alloc: Global, octets: &[u8]) -> Result<bool, V2Fault> {
 fn is_canonical(trial: &mut Trial, octets: &[u8]) -> bool {
     match is_encoded_again(trial.alloc, octets) {
         Ok(is_same) => is_same,
-        Err(_) => {
+        Err(V2Fault::Memory) => {
             trial.was_refused = true;
             is_encoded_again(trial.alloc, octets) == Ok(true)
         }
+        Err(_) => false,
     }
 }
 
-/// Appends a line with the digits of a datagram, which is decoded and encoded before.
+/// Appends a line with the digits of a datagram, which is first decoded and encoded.
 pub fn put_datagram(text: &mut Vec<u8>, trial: &mut Trial, octets: &[u8]) -> Result<(), Stop> {
     if !is_canonical(trial, octets) {
         return Err(Stop::Wrong("a datagram that was decoded and encoded"));

@@ -1,5 +1,7 @@
 //! What the libraries leave when an allocation is refused. `tests/refused/check` refuses each allocation of this program
-//! in turn, from outside: the call must then leave everything as before, and succeed when it is made again.
+//! in turn, from outside. A run, a report, a command, a datagram that is received, decoded or encoded must then leave
+//! everything as before, and succeed when the call is made again, or the run goes on. Any other refused allocation ends
+//! the program.
 //!
 //! The scenario is on standard input. Standard output has the report of its run, and in hexadecimal the datagrams of its
 //! first session and its first dedicated bearer. Exit status: 0 if nothing was refused; 3 if an allocation was refused

@@ -66,6 +66,7 @@ fn resumed_report(
 ) -> Result<Vec<u8>, Stop> {
     let (past, rest) = events.split_at(at.min(events.len()));
     let is_as_before = is_left_by(trial, config, past, &world);
+    // the world is used up before an error can end this
     let report = report_of_rest(trial, events, rest, world);
     if is_as_before? {
         report

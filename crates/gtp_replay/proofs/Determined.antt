@@ -9,7 +9,7 @@ use Rattle.gtp_world.proofs.Determined.Runs.{follow_one}
 use Rattle.gtp_scenario.specs.declared.fault.Refusal.{Refusal}
 use Rattle.gtp_scenario.specs.Scenarios.{Scenario, scenario_of}
 use Rattle.gtp_replay.specs.Contexts.{node_text}
-use Rattle.gtp_replay.specs.Determined.{ReportOne, TellOne}
+use Rattle.gtp_replay.specs.Determined.{WorldsHaveOneReport, OctetsHaveOneText}
 use Rattle.gtp_replay.specs.Events.{events_text}
 use Rattle.gtp_replay.specs.Report.{IsOwed, late_line}
 use Rattle.gtp_replay.specs.Told.{TellsScenario, TellsRefusal, Tells, events_of}
@@ -32,8 +32,8 @@ each_one P Q line (x ∷ xs) a b there back (v, others, holds, rest, is) (w, oth
     let lines : others ≡ others_too = each_one P Q line xs others others_too there back rest rest_too in
     is ∙ ((λ i. line x (verdict i) ++ lines i) ∙ sym is_too)
 
-pub report_one : ReportOne
-report_one events one other text text_too alike r s =
+pub report_one : WorldsHaveOneReport
+report_one events one other text other_text alike r s =
     let serving : one.serving.station.node ≡ other.serving.station.node = alike.serving.station.node in
     let packet : one.packet.station.node ≡ other.packet.station.node = alike.packet.station.node in
     let pairs : mutual_pairs one ≡ mutual_pairs other = λ i. session_pairs (packet i).sessions (entries (serving i).sessions) ++ bearer_pairs (packet i).bearers (entries (serving i).bearers) in
@@ -49,20 +49,20 @@ report_one events one other text text_too alike r s =
     r.owed (subst (λ (l : Log). TellsEach (IsOwed other.log) taken_line l.accepted s.taken) (sym alike.log) s.owed) in
     r.whole ∙ ((λ i. events_text events (alike.log i).datagrams (alike.log i).notes ++ node_text Serving (serving i) ++ node_text Packet (packet i) ++ agreeing i ++ owed i ++ late_line (alike.log i).late) ∙ sym s.whole)
 
-scenario_one : (scenario : Scenario) (text text_too : List ℕ) (verdict verdict_too : Verdict) → TellsScenario Report scenario text verdict → TellsScenario Report scenario text_too verdict_too → (text ≡ text_too) × (verdict ≡ verdict_too)
-scenario_one scenario text text_too verdict verdict_too r s =
+scenario_one : (scenario : Scenario) (text other_text : List ℕ) (verdict other_verdict : Verdict) → TellsScenario Report scenario text verdict → TellsScenario Report scenario other_text other_verdict → (text ≡ other_text) × (verdict ≡ other_verdict)
+scenario_one scenario text other_text verdict other_verdict r s =
     let alike = follow_one scenario.setup (events_of scenario) r.world s.world r.run.comes s.run.comes in (
-      report_one (events_of scenario) r.world s.world text text_too alike r.text_is s.text_is,
+      report_one (events_of scenario) r.world s.world text other_text alike r.text_is s.text_is,
       r.verdict_is ∙ (ap (λ (l : Log). if all_met scenario.entries l.notes then Expected else Unexpected) alike.log ∙ sym s.verdict_is),
     )
 
-refusal_one : (refusal : Refusal) (text text_too : List ℕ) (verdict verdict_too : Verdict) → TellsRefusal refusal text verdict → TellsRefusal refusal text_too verdict_too → (text ≡ text_too) × (verdict ≡ verdict_too)
-refusal_one refusal text text_too verdict verdict_too r s = (r.line ∙ sym s.line, r.verdict_is ∙ sym s.verdict_is)
+refusal_one : (refusal : Refusal) (text other_text : List ℕ) (verdict other_verdict : Verdict) → TellsRefusal refusal text verdict → TellsRefusal refusal other_text other_verdict → (text ≡ other_text) × (verdict ≡ other_verdict)
+refusal_one refusal text other_text verdict other_verdict r s = (r.line ∙ sym s.line, r.verdict_is ∙ sym s.verdict_is)
 
-pub tell_one : TellOne
+pub tell_one : OctetsHaveOneText
 unfolding Tells
-tell_one octets text text_too verdict verdict_too r s = by_scenario (scenario_of octets) r s
+tell_one octets text other_text verdict other_verdict r s = by_scenario (scenario_of octets) r s
   where
-    by_scenario : (o : Result Scenario Refusal) → MatchResult o (λ scenario. TellsScenario Report scenario text verdict) (λ refusal. TellsRefusal refusal text verdict) → MatchResult o (λ scenario. TellsScenario Report scenario text_too verdict_too) (λ refusal. TellsRefusal refusal text_too verdict_too) → (text ≡ text_too) × (verdict ≡ verdict_too)
-    by_scenario (Ok scenario) p q = scenario_one scenario text text_too verdict verdict_too p q
-    by_scenario (Err refusal) p q = refusal_one refusal text text_too verdict verdict_too p q
+    by_scenario : (o : Result Scenario Refusal) → MatchResult o (λ scenario. TellsScenario Report scenario text verdict) (λ refusal. TellsRefusal refusal text verdict) → MatchResult o (λ scenario. TellsScenario Report scenario other_text other_verdict) (λ refusal. TellsRefusal refusal other_text other_verdict) → (text ≡ other_text) × (verdict ≡ other_verdict)
+    by_scenario (Ok scenario) p q = scenario_one scenario text other_text verdict other_verdict p q
+    by_scenario (Err refusal) p q = refusal_one refusal text other_text verdict other_verdict p q

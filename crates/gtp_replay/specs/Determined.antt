@@ -9,18 +9,18 @@ use Rattle.gtp_replay.specs.declared.replaying.Form.TheVariants.{Report}
 use Rattle.gtp_replay.specs.declared.verdict.Verdict.{Verdict}
 
 -- Worlds that are alike have one report.
-abbrev pub ReportOne : Type 0
-ReportOne =
-    (events : List Event) (one other : Kept) (text text_too : List ℕ)
+abbrev pub WorldsHaveOneReport : Type 0
+WorldsHaveOneReport =
+    (events : List Event) (one other : Kept) (text other_text : List ℕ)
     → WorldsAlike one other
     → IsReport events one text
-    → IsReport events other text_too
-    → text ≡ text_too
+    → IsReport events other other_text
+    → text ≡ other_text
 
 -- Whatever octets come, there is one report of them, or one line of a refusal, and one verdict.
-abbrev pub TellOne : Type 0
-TellOne =
-    (octets text text_too : List ℕ) (verdict verdict_too : Verdict)
+abbrev pub OctetsHaveOneText : Type 0
+OctetsHaveOneText =
+    (octets text other_text : List ℕ) (verdict other_verdict : Verdict)
     → Tells Report octets text verdict
-    → Tells Report octets text_too verdict_too
-    → (text ≡ text_too) × (verdict ≡ verdict_too)
+    → Tells Report octets other_text other_verdict
+    → (text ≡ other_text) × (verdict ≡ other_verdict)

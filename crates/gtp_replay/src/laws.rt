@@ -1,12 +1,11 @@
 //! What the clauses of a replay leave open. The function does nothing: each clause is a law.
 
-ghost use Rattle.gtp_replay.specs.Determined.{ReportOne, TellOne};
+ghost use Rattle.gtp_replay.specs.Determined.{WorldsHaveOneReport, OctetsHaveOneText};
 
-/// A replay writes the report of a scenario, and not only a report that its clauses allow: for the same octets it writes
-/// the same text, with the same verdict.
+/// The clauses of `replay` allow one text and one verdict for given octets: the report of the scenario.
 pub fn reports_are_determined()
     // Worlds that are alike have one report.
-    ensures report { ReportOne }
+    ensures report { WorldsHaveOneReport }
     // Octets have one report, or one line of a refusal, and one verdict.
-    ensures told { TellOne }
+    ensures told { OctetsHaveOneText }
 {}

@@ -390,8 +390,9 @@ fn outcome_of(alloc: Global, packet: &mut Gateway, request: &[u8]) -> Option<Out
     Some(step.report.outcome)
 }
 
-/// A session is made by the request with this number, and deleted. A tick passes after each thousand.
-fn is_made_and_deleted(alloc: Global, packet: &mut Gateway, request: &[u8], number: u32) -> bool {
+/// Makes a session by the request with this number, and deletes it: whether both are done. After the first and then each
+/// thousandth a tick forgets the held answers, of which there can be 4,096.
+fn make_and_delete(alloc: Global, packet: &mut Gateway, request: &[u8], number: u32) -> bool {
     let made = outcome_of(alloc, packet, request);
     let deleted = outcome_of(alloc, packet, &deletion_of(number));
     let is_in_time = number % 1000 != 0 || packet.tick(alloc).is_ok();
@@ -408,7 +409,7 @@ fn makes_and_deletes(
     let mut request = hex::decode(alloc, SESSION_REQUEST)?;
     for number in 0..sessions {
         numbered(request.as_mut_slice(), number);
-        let is_done = is_made_and_deleted(alloc, packet, request.as_slice(), number);
+        let is_done = make_and_delete(alloc, packet, request.as_slice(), number);
         assert!(rt; is_done, "session {number}");
     }
     Ok(())

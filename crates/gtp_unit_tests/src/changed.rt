@@ -6,27 +6,28 @@ use crate::user::VECTORS;
 use crate::{control, user};
 use std::alloc::Global;
 use std::mem;
+use std::process::Abort;
 use std::test::Fail;
 
 /// A plane, with its codec.
 trait Codec {
-    /// Reads octets. If they spell a message, writes it, and reads it again: an error if that is another message.
-    fn reads_again(alloc: Global, octets: &[u8]) -> Result<(), Fail>;
+    /// Whether the message that octets spell, if they spell one, is written, and read again as the same one.
+    fn is_read_again(alloc: Global, octets: &[u8]) -> bool;
 }
 
 struct ControlPlane;
 
 impl Codec for ControlPlane {
-    fn reads_again(alloc: Global, octets: &[u8]) -> Result<(), Fail> {
-        control::reads_again(alloc, octets)
+    fn is_read_again(alloc: Global, octets: &[u8]) -> bool {
+        control::is_read_again(alloc, octets)
     }
 }
 
 struct UserPlane;
 
 impl Codec for UserPlane {
-    fn reads_again(alloc: Global, octets: &[u8]) -> Result<(), Fail> {
-        user::reads_again(alloc, octets)
+    fn is_read_again(alloc: Global, octets: &[u8]) -> bool {
+        user::is_read_again(alloc, octets)
     }
 }
 
@@ -39,25 +40,26 @@ fn set(octets: &mut [u8], place: usize, value: u8) -> u8 {
 }
 
 /// Reads octets with each value at a place.
-fn each_value<C: Codec>(alloc: Global, octets: &mut [u8], place: usize) -> Result<(), Fail> {
+fn each_value<C: Codec>(rt: &impl Abort, alloc: Global, octets: &mut [u8], place: usize) {
     let first = set(octets, place, 0);
     for value in 0..=255u8 {
         set(octets, place, value);
-        C::reads_again(alloc, octets)?;
+        assert!(rt;
+            C::is_read_again(alloc, octets),
+            "octet {place} set to {value}"
+        );
     }
     set(octets, place, first);
-    Ok(())
 }
 
 /// Reads octets with each value at each place.
-fn each_octet<C: Codec>(alloc: Global, octets: &mut [u8]) -> Result<(), Fail> {
+fn each_octet<C: Codec>(rt: &impl Abort, alloc: Global, octets: &mut [u8]) {
     for place in 0..octets.len() {
-        each_value::<C>(alloc, octets, place)?;
+        each_value::<C>(rt, alloc, octets, place);
     }
-    Ok(())
 }
 
-/// The requests and answers of a session with a dedicated bearer.
+/// The requests and answers of a session and of a dedicated bearer.
 #[test]
 fn each_octet_of_the_control_plane(rt: HostRuntime) -> Result<(), Fail> {
     for digits in [
@@ -67,17 +69,23 @@ fn each_octet_of_the_control_plane(rt: HostRuntime) -> Result<(), Fail> {
         BEARER_RESPONSE,
     ] {
         let mut octets = hex::decode(rt.alloc(), digits)?;
-        each_octet::<ControlPlane>(rt.alloc(), octets.as_mut_slice())?;
+        each_octet::<ControlPlane>(&rt, rt.alloc(), octets.as_mut_slice());
     }
     Ok(())
 }
 
+/// G-PDUs with an extension header that has to be understood and is not, and with one of length 0.
+const FAULTS: [&[u8]; 2] = [
+    b"\x34\xff\x00\x0b\x01\x00\x00\x02\x00\x00\x00\xc0\x01\xaa\xbb\x00abc",
+    b"\x34\xff\x00\x0b\x01\x00\x00\x02\x00\x00\x00\x20\x00\xaa\xbb\x00abc",
+];
+
 /// Messages of the path, of errors and of a tunnel.
 #[test]
 fn each_octet_of_the_user_plane(rt: HostRuntime) -> Result<(), Fail> {
-    for vector in VECTORS {
+    for vector in VECTORS.iter().chain(&FAULTS) {
         let mut octets = Vec::from_slice(rt.alloc(), vector)?;
-        each_octet::<UserPlane>(rt.alloc(), octets.as_mut_slice())?;
+        each_octet::<UserPlane>(&rt, rt.alloc(), octets.as_mut_slice());
     }
     Ok(())
 }

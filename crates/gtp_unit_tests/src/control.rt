@@ -34,16 +34,22 @@ fn written(alloc: Global, message: &Message) -> Result<Vec<u8>, Fail> {
     Ok(encode(alloc, message)?)
 }
 
-/// Reads octets. If they spell a message, writes it, and reads it again: an error if that is another message.
-pub(crate) fn reads_again(alloc: Global, octets: &[u8]) -> Result<(), Fail> {
-    let Ok(datagram) = decode(alloc, octets) else {
-        return Ok(());
-    };
-    let again = written(alloc, &datagram.message)?;
-    if read(alloc, &again)? == datagram.message {
-        Ok(())
-    } else {
-        Err("another message".into())
+/// Whether a message is written, and read again as the same one.
+fn is_written_and_read(alloc: Global, message: &Message) -> bool {
+    if !message.is_encodable() {
+        return false;
+    }
+    match encode(alloc, message) {
+        Ok(again) => decode(alloc, &again).is_ok_and(|datagram| datagram.message == *message),
+        Err(_) => false,
+    }
+}
+
+/// Whether the message that octets spell, if they spell one, is written, and read again as the same one.
+pub(crate) fn is_read_again(alloc: Global, octets: &[u8]) -> bool {
+    match decode(alloc, octets) {
+        Ok(datagram) => is_written_and_read(alloc, &datagram.message),
+        Err(_) => true,
     }
 }
 

@@ -1,43 +1,106 @@
 -- A create request that is delivered again is answered with the same octets.
-use Rattle.std.proofs.Common.{◌≡◌, inl, inr, ℕ, zero, suc, List, [], ◌∷◌, ◌++◌, Some, refl, sym, ◌∙◌, ap, subst, append_assoc, append-nil, slice_get}
+use Rattle.std.proofs.Common.{◌≡◌, inl, inr, ⊎_elim, ℕ, List, [], ◌∷◌, ◌++◌, Some, refl, sym, ◌∙◌, ap, subst, append_assoc, append-nil, slice_get}
 use Rattle.gtp_values.specs.FiniteMap.{Among}
-use Rattle.gtp_machine.specs.Config.{Addresses}
-use Rattle.gtp_machine.specs.Input.{Input, Commanded, Control_came, Control_message, messages}
+use Rattle.gtp_values.specs.declared.address.Endpoint.{Endpoint}
+use Rattle.gtp_machine.specs.Input.{Move, Input, Commanded, Control_came, Control_message, Out, Effect, messages}
 use Rattle.gtp_machine.specs.Laws.{Follow}
 use Rattle.gtp_machine.specs.Message.{Message, Plane, Control, User, plane_of}
-use Rattle.gtp_machine.specs.Node.{Arrival}
-use Rattle.gtp_machine.specs.Once.{Makes, Takes}
+use Rattle.gtp_machine.specs.Node.{Arrival, Node}
+use Rattle.gtp_machine.specs.Once.{Takes, NeverForgets}
 use Rattle.gtp_machine.specs.Spelling.{Datagram, spelled}
-use Rattle.gtp_machine.specs.Step.{Done}
-use Rattle.gtp_machine.specs.World.{By, Sent, World, Note, Event, Does, Tick, Deliver, Cut, Restart, Happens, Delivers, Moves, TicksOn, Run, arrival, delivered_on, late_once, noted, other, side_of, signed, steps_of}
+use Rattle.gtp_machine.specs.Step.{Done, tick_steps}
+use Rattle.gtp_machine.specs.Tick.{TickStep, ticked}
+use Rattle.gtp_machine.specs.World.{By, Sent, World, Note, Event, Does, Tick, Deliver, Cut, Restart, Happens, Delivers, Moves, TicksOn, Run, arrival, delivered_on, late_once, logged, moved, noted, other, side_of, signed, steps_of}
 use Rattle.gtp_machine.specs.declared.role.Role.{Role}
 use Rattle.gtp_machine.specs.declared.role.Role.TheVariants.{Serving, Packet}
+use Rattle.gtp_machine.proofs.Basics.FiniteMaps.{Among-left, Among-right, Among-cases}
 use Rattle.gtp_machine.proofs.Worlds.Logs.{always_acts_once}
 use Rattle.gtp_gateway.specs.Received.{coming}
 use Rattle.gtp_world.specs.Kept.{Kept}
 use Rattle.gtp_world.specs.Repeated.{IsSentBetween, NeverRestarts, IsAnsweredAgainAlike}
-use Rattle.gtp_world.specs.Runs.{Setup, config_in, AreFor}
+use Rattle.gtp_world.specs.Runs.{Setup, config_in, IsFor, AreFor}
 use Rattle.gtp_world.specs.Views.{as_it_came}
 use Rattle.gtp_world.proofs.Configs.{set_up}
 use Rattle.gtp_world.proofs.Cuts.{comes}
 use Rattle.gtp_world.proofs.Going.{goes}
 use Rattle.gtp_world.proofs.Lists.{find}
 use Rattle.gtp_world.proofs.Running.{runs_on}
-use Rattle.gtp_world.proofs.Timely.{always_timely}
+use Rattle.gtp_world.proofs.Standing.{half_stands}
 
 -- ---- what a run adds
 
-stays_there : {X : Type 0} (xs ys : List X) (n : ℕ) (x : X) → slice_get xs n ≡ Some x → slice_get (xs ++ ys) n ≡ Some x
-stays_there [] ys n x e = absurd (cc e)
-stays_there (y ∷ xs) ys zero x e = e
-stays_there (y ∷ xs) ys (suc n) x e = stays_there xs ys n x e
-
--- of the gateway, the steps of the one are the first steps of the other; and of both, so it is with what was sent
+-- Of the gateway, the steps of the one are the first steps of the other, and of both, so it is with what was sent. The other has forgotten what the one has, and
+-- what the steps forget that came between.
 record HasGrown (role : Role) (old new : World) : Type 0 where
   pub steps : List Done
   pub sent : List Sent
   pub steps_are : steps_of new role ≡ steps_of old role ++ steps
   pub history : new.history ≡ old.history ++ sent
+  pub forgets : (done : Done) (a : Arrival) → Among done steps → Among a done.effect.out.forgot → Among a (side_of new role).forgotten
+  pub keeps : (a : Arrival) → Among a (side_of old role).forgotten → Among a (side_of new role).forgotten
+
+nothing_grown : (role : Role) (old new : World) → steps_of new role ≡ steps_of old role → new.history ≡ old.history → (side_of new role).forgotten ≡ (side_of old role).forgotten → HasGrown role old new
+nothing_grown role old new steps history forgotten = record {
+  steps = [];
+  sent = [];
+  steps_are = steps ∙ sym (append-nil (steps_of old role));
+  history = history ∙ sym (append-nil old.history);
+  forgets = λ done a none gone. absurd none;
+  keeps = λ a was. subst (λ k. Among a k) (sym forgotten) was;
+}
+
+-- a gateway has made some steps, which forget no more than is told
+step_grown : (role mover : Role) (old : World) (e : Effect) (note : Note) (steps : List Done) (new : World) → new ≡ logged (noted (moved old mover e) note) mover steps → ((done : Done) (a : Arrival) → Among done steps → Among a done.effect.out.forgot → Among a e.out.forgot) → HasGrown role old new
+step_grown Serving Serving old e note steps new is each = record {
+  steps = steps;
+  sent = _;
+  steps_are = ap (λ (w : World). w.serving_steps) is;
+  history = ap (λ (w : World). w.history) is;
+  forgets = λ done a among gone. subst (λ (w : World). Among a w.serving.forgotten) (sym is) (Among-right a old.serving.forgotten e.out.forgot (each done a among gone));
+  keeps = λ a was. subst (λ (w : World). Among a w.serving.forgotten) (sym is) (Among-left a old.serving.forgotten e.out.forgot was);
+}
+step_grown Packet Packet old e note steps new is each = record {
+  steps = steps;
+  sent = _;
+  steps_are = ap (λ (w : World). w.packet_steps) is;
+  history = ap (λ (w : World). w.history) is;
+  forgets = λ done a among gone. subst (λ (w : World). Among a w.packet.forgotten) (sym is) (Among-right a old.packet.forgotten e.out.forgot (each done a among gone));
+  keeps = λ a was. subst (λ (w : World). Among a w.packet.forgotten) (sym is) (Among-left a old.packet.forgotten e.out.forgot was);
+}
+step_grown Serving Packet old e note steps new is each = record {
+  steps = [];
+  sent = _;
+  steps_are = ap (λ (w : World). w.serving_steps) is ∙ sym (append-nil old.serving_steps);
+  history = ap (λ (w : World). w.history) is;
+  forgets = λ done a none gone. absurd none;
+  keeps = λ a was. subst (λ (w : World). Among a w.serving.forgotten) (sym is) was;
+}
+step_grown Packet Serving old e note steps new is each = record {
+  steps = [];
+  sent = _;
+  steps_are = ap (λ (w : World). w.packet_steps) is ∙ sym (append-nil old.packet_steps);
+  history = ap (λ (w : World). w.history) is;
+  forgets = λ done a none gone. absurd none;
+  keeps = λ a was. subst (λ (w : World). Among a w.packet.forgotten) (sym is) was;
+}
+
+moves_grown : (role mover : Role) (old : World) (input : Input) (new : World) → Moves old mover input new → HasGrown role old new
+moves_grown role mover old input new m = step_grown role mover old m.effect _ _ new m.becomes (λ done a among gone. one_step done a among gone)
+  where
+    one_step : (done : Done) (a : Arrival) → Among done (record { before = (side_of old mover).node; input = input; effect = m.effect } ∷ []) → Among a done.effect.out.forgot → Among a m.effect.out.forgot
+    one_step done a (inl is) gone = subst (λ (d : Done). Among a d.effect.out.forgot) is gone
+    one_step done a (inr none) gone = absurd none
+
+-- what a step of a tick forgets, the tick forgets
+tick_forgets : (moves : List Move) (old : Node) (out : Out) (new : Node) (tick : TickStep old moves out new) (done : Done) (a : Arrival) → Among done (tick_steps old moves out new tick) → Among a done.effect.out.forgot → Among a out.forgot
+tick_forgets [] old out new tick done a none gone = absurd none
+tick_forgets (move ∷ moves) old out new (e, rest, step, others, is) done a (inl same) gone =
+    subst (λ (o : Out). Among a o.forgot) (sym is) (Among-left a e.out.forgot rest.forgot (subst (λ (d : Done). Among a d.effect.out.forgot) same gone))
+tick_forgets (move ∷ moves) old out new (e, rest, step, others, is) done a (inr there) gone =
+    subst (λ (o : Out). Among a o.forgot) (sym is) (Among-right a e.out.forgot rest.forgot (tick_forgets moves e.node rest new others done a there gone))
+
+ticks_grown : (role mover : Role) (old new : World) → TicksOn old mover new → HasGrown role old new
+ticks_grown role mover old new t = step_grown role mover old (ticked t.out t.after) _ _ new t.becomes (tick_forgets t.moves (side_of old mover).node t.out t.after t.tick)
 
 same_steps : (w : World) (role receiver : Role) (a : Arrival) → steps_of (late_once w receiver a) role ≡ steps_of w role
 same_steps w Serving Serving a = refl
@@ -45,24 +108,15 @@ same_steps w Serving Packet a = refl
 same_steps w Packet Serving a = refl
 same_steps w Packet Packet a = refl
 
+same_forgotten : (w : World) (role receiver : Role) (a : Arrival) → (side_of (late_once w receiver a) role).forgotten ≡ (side_of w role).forgotten
+same_forgotten w Serving Serving a = refl
+same_forgotten w Serving Packet a = refl
+same_forgotten w Packet Serving a = refl
+same_forgotten w Packet Packet a = refl
+
 same_history : (w : World) (receiver : Role) (a : Arrival) → (late_once w receiver a).history ≡ w.history
 same_history w Serving a = refl
 same_history w Packet a = refl
-
-nothing_grown : (role : Role) (old new : World) → steps_of new role ≡ steps_of old role → new.history ≡ old.history → HasGrown role old new
-nothing_grown role old new steps history = record { steps = []; sent = []; steps_are = steps ∙ sym (append-nil (steps_of old role)); history = history ∙ sym (append-nil old.history) }
-
-moves_grown : (role mover : Role) (old : World) (input : Input) (new : World) → Moves old mover input new → HasGrown role old new
-moves_grown Serving Serving old input new m = record { steps = _; sent = _; steps_are = ap (λ (w : World). w.serving_steps) m.becomes; history = ap (λ (w : World). w.history) m.becomes }
-moves_grown Packet Packet old input new m = record { steps = _; sent = _; steps_are = ap (λ (w : World). w.packet_steps) m.becomes; history = ap (λ (w : World). w.history) m.becomes }
-moves_grown Serving Packet old input new m = record { steps = []; sent = _; steps_are = ap (λ (w : World). w.serving_steps) m.becomes ∙ sym (append-nil old.serving_steps); history = ap (λ (w : World). w.history) m.becomes }
-moves_grown Packet Serving old input new m = record { steps = []; sent = _; steps_are = ap (λ (w : World). w.packet_steps) m.becomes ∙ sym (append-nil old.packet_steps); history = ap (λ (w : World). w.history) m.becomes }
-
-ticks_grown : (role mover : Role) (old new : World) → TicksOn old mover new → HasGrown role old new
-ticks_grown Serving Serving old new t = record { steps = _; sent = _; steps_are = ap (λ (w : World). w.serving_steps) t.becomes; history = ap (λ (w : World). w.history) t.becomes }
-ticks_grown Packet Packet old new t = record { steps = _; sent = _; steps_are = ap (λ (w : World). w.packet_steps) t.becomes; history = ap (λ (w : World). w.history) t.becomes }
-ticks_grown Serving Packet old new t = record { steps = []; sent = _; steps_are = ap (λ (w : World). w.serving_steps) t.becomes ∙ sym (append-nil old.serving_steps); history = ap (λ (w : World). w.history) t.becomes }
-ticks_grown Packet Serving old new t = record { steps = []; sent = _; steps_are = ap (λ (w : World). w.packet_steps) t.becomes ∙ sym (append-nil old.packet_steps); history = ap (λ (w : World). w.history) t.becomes }
 
 late_grown : (role receiver : Role) (a : Arrival) (old new : World) → HasGrown role (late_once old receiver a) new → HasGrown role old new
 late_grown role receiver a old new g = record {
@@ -70,6 +124,8 @@ late_grown role receiver a old new g = record {
   sent = g.sent;
   steps_are = g.steps_are ∙ ap (λ k. k ++ g.steps) (same_steps old role receiver a);
   history = g.history ∙ ap (λ k. k ++ g.sent) (same_history old receiver a);
+  forgets = g.forgets;
+  keeps = λ b was. g.keeps b (subst (λ k. Among b k) (sym (same_forgotten old role receiver a)) was);
 }
 
 delivers_grown : (role sender : Role) (m : Message) (old new : World) → Delivers old sender m new → HasGrown role old new
@@ -78,8 +134,8 @@ delivers_grown role sender m old new (inr d) = late_grown role (other sender) (a
 
 -- what changes nothing, and is noted
 noted_grown : (role : Role) (old new : World) (note : Note) → new ≡ noted old note → HasGrown role old new
-noted_grown Serving old new note is = nothing_grown Serving old new (ap (λ (w : World). w.serving_steps) is) (ap (λ (w : World). w.history) is)
-noted_grown Packet old new note is = nothing_grown Packet old new (ap (λ (w : World). w.packet_steps) is) (ap (λ (w : World). w.history) is)
+noted_grown Serving old new note is = nothing_grown Serving old new (ap (λ (w : World). w.serving_steps) is) (ap (λ (w : World). w.history) is) (ap (λ (w : World). w.serving.forgotten) is)
+noted_grown Packet old new note is = nothing_grown Packet old new (ap (λ (w : World). w.packet_steps) is) (ap (λ (w : World). w.history) is) (ap (λ (w : World). w.packet.forgotten) is)
 
 happens_grown : (role : Role) (old : World) (event : Event) (new : World) → (event ≡ Restart role → ⊥) → Happens old event new → HasGrown role old new
 happens_grown role old (Does mover command) new never m = moves_grown role mover old (Commanded command) new m
@@ -92,11 +148,11 @@ happens_grown role old (Cut number count) new never (inr (found, inr (short, c))
 happens_grown role old (Restart mover) new never (inl used) = noted_grown role old new _ used.1
 happens_grown Serving old (Restart Serving) new never (inr (few, is)) = absurd (never refl)
 happens_grown Packet old (Restart Packet) new never (inr (few, is)) = absurd (never refl)
-happens_grown Serving old (Restart Packet) new never (inr (few, is)) = nothing_grown Serving old new (ap (λ (w : World). w.serving_steps) is) (ap (λ (w : World). w.history) is)
-happens_grown Packet old (Restart Serving) new never (inr (few, is)) = nothing_grown Packet old new (ap (λ (w : World). w.packet_steps) is) (ap (λ (w : World). w.history) is)
+happens_grown Serving old (Restart Packet) new never (inr (few, is)) = nothing_grown Serving old new (ap (λ (w : World). w.serving_steps) is) (ap (λ (w : World). w.history) is) (ap (λ (w : World). w.serving.forgotten) is)
+happens_grown Packet old (Restart Serving) new never (inr (few, is)) = nothing_grown Packet old new (ap (λ (w : World). w.packet_steps) is) (ap (λ (w : World). w.history) is) (ap (λ (w : World). w.packet.forgotten) is)
 
 runs_grown : (role : Role) (old : World) (events : List Event) (new : World) → NeverRestarts role events → Run old events new → HasGrown role old new
-runs_grown role old [] new never is = nothing_grown role old new (ap (λ (w : World). steps_of w role) is) (ap (λ (w : World). w.history) is)
+runs_grown role old [] new never is = nothing_grown role old new (ap (λ (w : World). steps_of w role) is) (ap (λ (w : World). w.history) is) (ap (λ (w : World). (side_of w role).forgotten) is)
 runs_grown role old (event ∷ events) new never r =
     let one = happens_grown role old event r.0 (λ is. never (inl (sym is))) r.1 in
     let rest = runs_grown role r.0 events new (λ there. never (inr there)) r.2 in
@@ -105,6 +161,8 @@ runs_grown role old (event ∷ events) new never r =
       sent = one.sent ++ rest.sent;
       steps_are = rest.steps_are ∙ (ap (λ k. k ++ rest.steps) one.steps_are ∙ append_assoc (steps_of old role) one.steps rest.steps);
       history = rest.history ∙ (ap (λ k. k ++ rest.sent) one.history ∙ append_assoc old.history one.sent rest.sent);
+      forgets = λ done a among gone. ⊎_elim (λ first. rest.keeps a (one.forgets done a first gone)) (λ later. rest.forgets done a later gone) (Among-cases done one.steps rest.steps among);
+      keeps = λ a was. rest.keeps a (one.keeps a was);
     }
 
 -- ---- what a delivery does
@@ -176,43 +234,55 @@ sent_says setup old new role before after said d are all is sent =
 
 -- ---- the law
 
-is_request : (p : Plane) (from : Addresses) (m request : Message) (a : Arrival) → delivered_on p from m ≡ Control_came a (Control_message request) → (delivered_on p from m ≡ Control_came (arrival from m) (Control_message m)) × (request ≡ m)
-is_request Control from m request a e = (refl, cc (sym e))
-is_request User from m request a e = absurd (cc e)
+-- a datagram comes as its message is delivered
+as_said : (setup : Setup) (d : By Datagram) (s : Sent) → IsFor setup d s → coming d.what.plane d.what.from d.what.octets ≡ delivered_on (plane_of s.what) (config_in setup s.role).own s.what
+as_said setup d s for = (λ i. coming (for.plane i) (for.from i) (for.octets i)) ∙ comes (config_in setup s.role) s.what for.reads
+
+-- the plane of a datagram that reads as a control message
+control_plane : (p : Plane) (from : Endpoint) (octets : List ℕ) (a : Arrival) (m : Message) → coming p from octets ≡ Control_came a (Control_message m) → p ≡ Control
+control_plane Control from octets a m reads = refl
+control_plane User from octets a m reads = absurd (cc reads)
 
 pub answered_again : (first : Kept) → IsAnsweredAgainAlike first
-answered_again first setup events r number between answered second again twice timely found create never one other_one one_sent other_sent =
+answered_again first setup events r number second_number between answered second again are found found_again repeats create timely never answer second_answer answer_sent second_sent =
     let f = find setup first.log.datagrams r.world.history number found.sent r.stands.datagrams found.is in
-    let s : Sent = f.sent in
-    let receiver = other s.role in
-    let config = config_in setup s.role in
-    let begin = goes setup events first r (Deliver number) answered twice.comes in
-    let on = runs_on answered between second twice.goes_on setup (events ++ (Deliver number ∷ [])) (record { world = begin.world; run = begin.run; stands = begin.stands }) in
-    let end = goes setup ((events ++ (Deliver number ∷ [])) ++ between) second on.whole (Deliver number) again twice.comes_again in
-    let one_taken = taken r.world number s begin.world begin.happens f.is in
-    let grown = runs_grown receiver begin.world between on.whole.world (subst (λ k. NeverRestarts k between) (ap other f.for.role) never) on.on in
-    let there : slice_get on.whole.world.history number ≡ Some s =
-    subst (λ k. slice_get k number ≡ Some s) (sym grown.history) (stays_there begin.world.history grown.sent number s
-    (subst (λ k. slice_get k number ≡ Some s) (sym one_taken.history) (stays_there r.world.history _ number s f.is))) in
-    let other_taken = taken on.whole.world number s end.world end.happens there in
+    let receiver = other found.sent.role in
+    let request : Arrival = as_it_came found.sent in
+    let begin = goes setup events first r (Deliver number) answered are.comes in
+    let on = runs_on answered between second are.goes_on setup (events ++ (Deliver number ∷ [])) (record { world = begin.world; run = begin.run; stands = begin.stands }) in
+    let end = goes setup ((events ++ (Deliver number ∷ [])) ++ between) second on.whole (Deliver second_number) again are.comes_again in
+    let g = find setup second.log.datagrams on.whole.world.history second_number found_again.sent on.whole.stands.datagrams found_again.is in
+    let one_taken = taken r.world number f.sent begin.world begin.happens f.is in
+    let other_taken = taken on.whole.world second_number g.sent end.world end.happens g.is in
+    let to_receiver : other f.sent.role ≡ receiver = ap other (sym f.for.role) in
+    let to_receiver_again : other g.sent.role ≡ receiver = ap other (sym g.for.role ∙ repeats.role) in
+    let one_steps : steps_of begin.world receiver ≡ steps_of r.world receiver ++ (one_taken.done ∷ []) =
+    subst (λ k. steps_of begin.world k ≡ steps_of r.world k ++ (one_taken.done ∷ [])) to_receiver one_taken.steps in
+    let other_steps : steps_of end.world receiver ≡ steps_of on.whole.world receiver ++ (other_taken.done ∷ []) =
+    subst (λ k. steps_of end.world k ≡ steps_of on.whole.world k ++ (other_taken.done ∷ [])) to_receiver_again other_taken.steps in
+    let grown = runs_grown receiver begin.world between on.whole.world never on.on in
     let steps = steps_of r.world receiver in
+    let until_second : steps_of on.whole.world receiver ≡ steps ++ (one_taken.done ∷ grown.steps) =
+    grown.steps_are ∙ (ap (λ k. k ++ grown.steps) one_steps ∙ append_assoc steps (one_taken.done ∷ []) grown.steps) in
     let follow : Follow (steps_of end.world receiver) one_taken.done other_taken.done =
     record {
       before = steps;
       between = grown.steps;
       after = [];
-      are = other_taken.steps
-          ∙ (ap (λ k. k ++ (other_taken.done ∷ [])) (grown.steps_are ∙ (ap (λ k. k ++ grown.steps) one_taken.steps ∙ append_assoc steps (one_taken.done ∷ []) grown.steps))
-          ∙ append_assoc steps (one_taken.done ∷ grown.steps) (other_taken.done ∷ []));
+      are = other_steps ∙ (ap (λ k. k ++ (other_taken.done ∷ [])) until_second ∙ append_assoc steps (one_taken.done ∷ grown.steps) (other_taken.done ∷ []));
     } in
-    let comes_so : coming found.sent.what.plane found.sent.what.from found.sent.what.octets ≡ delivered_on (plane_of s.what) config.own s.what =
-    (λ i. coming (f.for.plane i) (f.for.from i) (f.for.octets i)) ∙ comes config s.what f.for.reads in
-    let request = is_request (plane_of s.what) config.own s.what create.request (as_it_came found.sent) (sym comes_so ∙ create.reads) in
-    let makes : Makes receiver s.what = subst (λ k. Makes k s.what) (ap other f.for.role) (subst (λ k. Makes (other found.sent.role) k) request.1 create.makes) in
-    let takes : Takes one_taken.done (arrival config.own s.what) s.what = one_taken.input ∙ (ap (λ c. delivered_on (plane_of s.what) c.own s.what) (set_up setup events r.world r.run s.role) ∙ request.0) in
-    let takes_again : Takes other_taken.done (arrival config.own s.what) s.what = other_taken.input ∙ (ap (λ c. delivered_on (plane_of s.what) c.own s.what) (set_up setup _ on.whole.world on.whole.run s.role) ∙ request.0) in
-    let on_time = always_timely setup.serving.config setup.packet.config setup.serving_counter setup.packet_counter _ end.world end.run (sym end.stands.late ∙ timely) receiver (arrival config.own s.what) in
-    let once = always_acts_once setup.serving.config setup.packet.config setup.serving_counter setup.packet_counter _ end.world end.run receiver (arrival config.own s.what) s.what one_taken.done other_taken.done follow makes takes takes_again (inl on_time) in
-    let one_says = sent_says setup first answered receiver r.world.history begin.world.history _ one r.stands.datagrams begin.stands.datagrams one_taken.history one_sent in
-    let other_says = sent_says setup second again receiver on.whole.world.history end.world.history _ other_one on.whole.stands.datagrams end.stands.datagrams other_taken.history other_sent in
+    let takes : Takes one_taken.done request create.request =
+    one_taken.input ∙ (ap (λ c. delivered_on (plane_of f.sent.what) c.own f.sent.what) (set_up setup events r.world r.run f.sent.role)
+    ∙ (sym (as_said setup found.sent f.sent f.for) ∙ create.reads)) in
+    let takes_again : Takes other_taken.done request create.request =
+    other_taken.input ∙ (ap (λ c. delivered_on (plane_of g.sent.what) c.own g.sent.what) (set_up setup _ on.whole.world on.whole.run g.sent.role)
+    ∙ (sym (as_said setup found_again.sent g.sent g.for) ∙ ((λ i. coming (repeats.plane i) (repeats.from i) (repeats.octets i)) ∙ create.reads))) in
+    let kept : NeverForgets grown.steps request = λ done among gone.
+    timely (
+      control_plane found.sent.what.plane found.sent.what.from found.sent.what.octets request create.request create.reads,
+      subst (λ k. Among request k) (sym (half_stands setup second on.whole.world on.whole.stands receiver).forgotten) (grown.forgets done request among gone),
+    ) in
+    let once = always_acts_once setup.serving.config setup.packet.config setup.serving_counter setup.packet_counter _ end.world end.run receiver request create.request one_taken.done other_taken.done follow create.makes takes takes_again (inr kept) in
+    let one_says = sent_says setup first answered (other f.sent.role) r.world.history begin.world.history _ answer r.stands.datagrams begin.stands.datagrams one_taken.history answer_sent in
+    let other_says = sent_says setup second again (other g.sent.role) on.whole.world.history end.world.history _ second_answer on.whole.stands.datagrams end.stands.datagrams other_taken.history second_sent in
     one_says.octets ∙ (ap spelled (once.one_answer one_says.message other_says.message one_says.among other_says.among) ∙ sym other_says.octets)

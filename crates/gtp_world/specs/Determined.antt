@@ -1,4 +1,4 @@
--- What the clauses of a world's runs leave open: nothing of the log and of the nodes, but for a few forms in which the same is kept.
+-- Worlds that the same events leave: their logs are equal, and so are the nodes and timers of their gateways.
 use Rattle.std.specs.Prelude.{◌≡◌, List}
 use Rattle.gtp_machine.specs.World.{Event}
 use Rattle.gtp_gateway.specs.Determined.{AreLeftAlike}
@@ -25,8 +25,8 @@ pub record WorldsAlike (one other : Kept) : Type 0 where
   pub log : one.log ≡ other.log
 
 -- Whatever happens from whatever setup, it leaves one world: one log, and the same of both gateways.
-abbrev pub FollowOne : Type 0
-FollowOne =
+abbrev pub EventsLeaveOneWorld : Type 0
+EventsLeaveOneWorld =
     (setup : Setup) (events : List Event) (one other : Kept)
     → Follows (begun setup) events one
     → Follows (begun setup) events other

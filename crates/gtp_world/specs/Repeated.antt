@@ -8,9 +8,9 @@ use Rattle.gtp_machine.specs.Spelling.{Datagram}
 use Rattle.gtp_machine.specs.World.{By, Event, Deliver, Restart, other}
 use Rattle.gtp_machine.specs.declared.role.Role.{Role}
 use Rattle.gtp_gateway.specs.Received.{coming}
-use Rattle.gtp_world.specs.Kept.{Kept}
+use Rattle.gtp_world.specs.Kept.{Kept, half_in}
 use Rattle.gtp_world.specs.Runs.{Setup, IsRunOf}
-use Rattle.gtp_world.specs.Stepped.{Comes, Follows, IsThere}
+use Rattle.gtp_world.specs.Stepped.{Comes, Follows, IsThere, IsLate}
 use Rattle.gtp_world.specs.Views.{as_it_came}
 
 -- The datagram is a request for which its receiver makes a context: a Create Session Request to the packet gateway, or a Create Bearer Request to the serving
@@ -20,11 +20,18 @@ pub record IsCreateRequest (d : By Datagram) : Type 0 where
   pub makes : Makes (other d.role) request
   pub reads : coming d.what.plane d.what.from d.what.octets ≡ Control_came (as_it_came d) (Control_message request)
 
--- The datagram with this number is delivered, then these events happen, and then it is delivered again.
-pub record IsDeliveredTwice (number : ℕ) (between : List Event) (first answered second again : Kept) : Type 0 where
+-- the datagrams have one sender and the same octets: the one is the other, sent again
+pub record AreRepeats (one other : By Datagram) : Type 0 where
+  pub role : one.role ≡ other.role
+  pub plane : one.what.plane ≡ other.what.plane
+  pub from : one.what.from ≡ other.what.from
+  pub octets : one.what.octets ≡ other.what.octets
+
+-- The datagram with the first number is delivered, then these events happen, and then the datagram with the second number is delivered.
+pub record AreDelivered (number second_number : ℕ) (between : List Event) (first answered second again : Kept) : Type 0 where
   pub comes : Comes first (Deliver number) answered
   pub goes_on : Follows answered between second
-  pub comes_again : Comes second (Deliver number) again
+  pub comes_again : Comes second (Deliver second_number) again
 
 -- none of the events restarts the gateway
 abbrev pub NeverRestarts : Role → List Event → Type 0
@@ -36,14 +43,17 @@ pub record IsSentBetween (old new : Kept) (d : By Datagram) : Type 0 where
   pub are : new.log.datagrams ≡ old.log.datagrams ++ sent
   pub among : Among d sent
 
--- At each time in a run: if a create request is delivered twice from then on, no delivery was late, and its receiver is not restarted between the two, then all
--- that is sent at the first delivery and all that is sent at the second has the same octets.
+-- At each time in a run: if a create request is delivered from then on, and after some events it is delivered again, as the same datagram or as one that was sent
+-- again, then all that is sent at both deliveries has the same octets. The second delivery is not late, and the receiver is not restarted between the two.
 abbrev pub IsAnsweredAgainAlike : Kept → Type 0
 IsAnsweredAgainAlike first =
     (setup : Setup) (events : List Event) (r : IsRunOf setup events first)
-    → (number : ℕ) (between : List Event) (answered second again : Kept) (twice : IsDeliveredTwice number between first answered second again)
-    → again.log.late ≡ 0
-    → (found : IsThere first.log.datagrams number) → IsCreateRequest found.sent
+    → (number second_number : ℕ) (between : List Event) (answered second again : Kept)
+    → AreDelivered number second_number between first answered second again
+    → (found : IsThere first.log.datagrams number) (found_again : IsThere second.log.datagrams second_number)
+    → AreRepeats found_again.sent found.sent
+    → IsCreateRequest found.sent
+    → (IsLate (half_in second (other found.sent.role)) found.sent.what → ⊥)
     → NeverRestarts (other found.sent.role) between
-    → (one other_one : By Datagram) → IsSentBetween first answered one → IsSentBetween second again other_one
-    → one.what.octets ≡ other_one.what.octets
+    → (answer second_answer : By Datagram) → IsSentBetween first answered answer → IsSentBetween second again second_answer
+    → answer.what.octets ≡ second_answer.what.octets

@@ -105,8 +105,8 @@ impl World {
     }
 
     /// Lets an event happen. Each datagram that it sends gets the next number. A datagram that does not exist, a cut
-    /// that is not shorter than its datagram, a restart beyond the 127th and a refused command change nothing but the record of events.
-    /// `Memory` if an allocation was refused; the world is then as before.
+    /// that is not shorter than its datagram, a restart beyond the 127th and a refused command change nothing but the
+    /// record of events. `Memory` if an allocation was refused; the world is then as before.
     pub fn step(&mut self, alloc: Global, event: &Event) -> Result<EventOutcome, Memory>
         // It leaves what the definitions say, gateway by gateway and octet by octet.
         ensures comes { OnOk result (Comes self.old (event_of event.now) self.new) }

@@ -44,7 +44,7 @@ fn replay_from<I: Read, W: Write>(
         IsReplayed form octets (W.contents (inner_of writer.old))
         (W.contents (inner_of writer.new)) status)) }
     ensures small { IfOk result (λ status. status ≤ 2) }
-    // The first call of a side that fails ends it with the failure of that side, which no other end has.
+    // The failure is `Read` exactly if a call of the reader failed, and `Write` exactly if a call of the writer did.
     ensures read { result ≡ Err Failure.Read
         → failures_of reader.new ≡ failures_of reader.old + 1 }
     ensures reads_on { result ≢ Err Failure.Read

@@ -154,9 +154,9 @@ fn as_many_sessions_stand_as_can(rt: HostRuntime) -> Result<(), Fail> {
     plays(&rt, rt.alloc(), &MOST_SESSIONS)
 }
 
-/// A session draws two TEIDs, and a start has 16,777,215. One is left after the session of row 0 and 8,388,606 more. It is
-/// not enough for another session, and enough for a dedicated bearer, but not for two. As many requests have had all
-/// sequence numbers but the highest, so the next one has it, and the one after that has 0.
+/// A session draws two TEIDs, and a start has 16,777,215. One is left after the first session and 8,388,606 more. It is
+/// not enough for another session, and enough for one dedicated bearer, but not for two. 8,388,607 requests used every
+/// sequence number but the highest; the next has it, and the one after has 0.
 const TEIDS_OF_SERVING: Scene = Scene {
     rows: &[
         &OPENED,
@@ -213,7 +213,8 @@ const TEIDS_OF_SERVING: Scene = Scene {
     ..IDLE
 };
 
-/// The same at the packet gateway, where 8,388,607 sessions were made.
+/// The same at the packet gateway, where 8,388,607 sessions were made. Answers are held for one tick, so that there is
+/// room for the next ones.
 const TEIDS_OF_PACKET: Scene = Scene {
     hold: 1,
     rows: &[&[
@@ -251,11 +252,11 @@ const TEIDS_OF_PACKET: Scene = Scene {
 };
 
 #[test]
-fn as_many_teids_are_drawn_as_can(rt: HostRuntime) -> Result<(), Fail> {
+fn all_teids_are_drawn_at_the_serving_gateway(rt: HostRuntime) -> Result<(), Fail> {
     plays(&rt, rt.alloc(), &TEIDS_OF_SERVING)
 }
 
 #[test]
-fn as_many_teids_are_given_as_can(rt: HostRuntime) -> Result<(), Fail> {
+fn all_teids_are_drawn_at_the_packet_gateway(rt: HostRuntime) -> Result<(), Fail> {
     plays(&rt, rt.alloc(), &TEIDS_OF_PACKET)
 }

@@ -1,5 +1,5 @@
-//! Gateways whose own addresses are of version 6 (TS 29.274 8.22, TS 29.281 8.4). The octets are those of the second
-//! account, tests/reference.
+//! Gateways whose own addresses are of version 6 (TS 29.274 8.22, TS 29.281 8.4). The octets were made once by
+//! tests/reference, whose stored and random scenarios have IPv4 addresses alone.
 
 use super::{Act, IDLE, Row, Scene, Sends, Version, plays};
 use Act::*;
@@ -8,7 +8,8 @@ use Sends::{Nothing, Octets};
 use gtp_gateway::*;
 use std::test::Fail;
 
-/// A session and a dedicated bearer, a packet on each plane's rules, and the end of the session.
+/// A session and a dedicated bearer, packets with known and unknown TEIDs, from the peer and from a stranger, and the end
+/// of the session.
 const OVER_VERSION_6: Scene = Scene {
     transport: Version::V6,
     rows: &[&[

@@ -1,7 +1,7 @@
 -- Worlds that follow the same events from one setup are alike.
 use Rattle.std.proofs.Common.{List, [], ◌∷◌, refl, sym, subst}
 use Rattle.gtp_machine.specs.World.{Event}
-use Rattle.gtp_world.specs.Determined.{HalvesAlike, WorldsAlike, FollowOne}
+use Rattle.gtp_world.specs.Determined.{HalvesAlike, WorldsAlike, EventsLeaveOneWorld}
 use Rattle.gtp_world.specs.Kept.{Half, Kept}
 use Rattle.gtp_world.specs.Runs.{begun}
 use Rattle.gtp_world.specs.Stepped.{Follows}
@@ -24,7 +24,7 @@ follow_alike [] u v one other alike lasts lasts_too is is_too = subst (λ k. Wor
 follow_alike (event ∷ events) u v one other alike lasts lasts_too (new, comes, rest) (left, comes_too, rest_too) =
     follow_alike events new left one other (comes_alike u v alike lasts lasts_too event new left comes comes_too) (comes_last u event new lasts comes) (comes_last v event left lasts_too comes_too) rest rest_too
 
-pub follow_one : FollowOne
+pub follow_one : EventsLeaveOneWorld
 follow_one setup events one other follows also =
     follow_alike events (begun setup) (begun setup) one other
     (record { serving = half_itself (begun setup).serving; packet = half_itself (begun setup).packet; log = refl })
