@@ -414,6 +414,16 @@ static uint64_t make_sessions(uint32_t sessions, uint32_t times)
     return gtp_bench_make_sessions(copies[SESSION_REQUEST].octets[0], copies[SESSION_REQUEST].len, sessions, times);
 }
 
+/* The same for sessions of both IP versions: the PDN type, the one octet of its element, is 3. */
+static uint64_t make_sessions_of_both(uint32_t sessions, uint32_t times)
+{
+    enum { PDN_TYPE_AT = 71 };
+    uint8_t request[STRIDE];
+    memcpy(request, copies[SESSION_REQUEST].octets[0], copies[SESSION_REQUEST].len);
+    request[PDN_TYPE_AT] = 3;
+    return gtp_bench_make_sessions(request, copies[SESSION_REQUEST].len, sessions, times);
+}
+
 static uint64_t repeat_requests(uint32_t sessions, uint32_t times)
 {
     return gtp_bench_repeat_requests(copies[SESSION_REQUEST].octets[0], copies[SESSION_REQUEST].len, sessions, times);
@@ -452,6 +462,7 @@ static const struct {
     struct size few, most;
 } receives[] = {
     { "receive a Create Session Request", make_sessions, NULL, { 10, 0, 20 }, { 950, 900, 100 } },
+    { "receive a Create Session Request, IPv4v6", make_sessions_of_both, NULL, { 10, 0, 20 }, { 950, 900, 100 } },
     { "receive a Create Session Response", take_responses, wait_for_responses, { 10, 0, 10 }, { 1000, 900, 100 } },
     { "receive a request once more", repeat_requests, NULL, { 10, 10, 20000 }, { 1000, 1000, 20000 } },
     { "receive a user packet", take_packets, NULL, { 10, 10, 50000 }, { 1000, 1000, 50000 } },

@@ -101,6 +101,52 @@ def unpacked(octets):
     return "".join(f"{octet & 15:x}{octet >> 4:x}" for octet in octets).rstrip("f")
 
 
+# Addresses of sessions. PDN types (clause 8.34) and PDN Address Allocations (clause 8.14) have the same numbers.
+
+IPV4, IPV6, BOTH = 1, 2, 3
+PREFIX = 64  # the length that is stated with an address of version 6, in bits
+
+
+@dataclass(frozen=True)
+class Address:
+    """A part of version 4, one of version 6, or both."""
+
+    v4: Optional[bytes] = None
+    v6: Optional[bytes] = None
+
+    @property
+    def kind(self):
+        return IPV6 if self.v4 is None else IPV4 if self.v6 is None else BOTH
+
+
+def allocation(address, prefix):
+    network = b"" if address.v6 is None else bytes([prefix]) + address.v6
+    return element(PAA, 0, bytes([address.kind]) + network + (address.v4 or b""))
+
+
+def allocation_asked(pdn):
+    """What a request says: no address yet, in the form of the PDN type, or else in that of version 4."""
+    v4 = None if pdn == IPV6 else bytes(4)
+    v6 = bytes(16) if pdn in (IPV6, BOTH) else None
+    return allocation(Address(v4, v6), 0)
+
+
+def address_in(body):
+    """The address of an allocation, whatever its prefix; none where it is of another kind."""
+    kind = body[0] & 7
+    if kind == IPV4:
+        return Address(v4=body[1:5])
+    if kind == IPV6:
+        return Address(v6=body[2:18])
+    if kind == BOTH:
+        return Address(v4=body[18:22], v6=body[2:18])
+    return None
+
+
+def lowest_free(pool, used):
+    return next((address for address in pool if address not in used), None)
+
+
 RATES = element(AMBR, 0, (1000).to_bytes(4, "big") * 2)
 QUALITY = element(QOS, 0, bytes([0x20, 9]) + bytes(20))
 
@@ -175,7 +221,7 @@ class Session:
     identity: int
     state: str
     remote: Optional[int] = None
-    address: Optional[int] = None
+    address: Optional[Address] = None
 
 
 @dataclass
@@ -220,9 +266,23 @@ class Setup:
     access_points: list = field(default_factory=list)
     pool: int = 0
     count: int = 0
+    pool6: bytes = bytes(16)
+    count6: int = 0
     t3: int = 3
     n3: int = 3
     hold: int = 60
+
+    def addresses(self):
+        """The pool of version 4."""
+        return ((self.pool + k).to_bytes(4, "big") for k in range(self.count))
+
+    def addresses6(self):
+        """The pool of version 6: the same last eight octets in networks in a row."""
+        network, rest = int.from_bytes(self.pool6[:8], "big"), self.pool6[8:]
+        return ((network + k).to_bytes(8, "big") + rest for k in range(self.count6))
+
+    def serves(self, pdn):
+        return pdn in (IPV4, BOTH) or pdn == IPV6 and self.count6 > 0
 
 
 @dataclass
@@ -265,10 +325,15 @@ class Gateway:
         used = {b.identity for b in self.bearers_of(session).values()}
         return next((k for k in range(5, 16) if k not in used), None)
 
-    def free_address(self):
-        used = {s.address for s in self.sessions.values()}
-        pool = range(self.setup.pool, self.setup.pool + self.setup.count)
-        return next((address for address in pool if address not in used), None)
+    def free_address(self, pdn):
+        """Each part that the PDN type asks for, if one is free; none where that leaves no part."""
+        given = [s.address for s in self.sessions.values()]
+        v4 = v6 = None
+        if pdn in (IPV4, BOTH):
+            v4 = lowest_free(self.setup.addresses(), {address.v4 for address in given})
+        if pdn in (IPV6, BOTH):
+            v6 = lowest_free(self.setup.addresses6(), {address.v6 for address in given})
+        return None if v4 is None and v6 is None else Address(v4, v6)
 
     def remove_session(self, session):
         for bearer in self.bearers_of(session):
@@ -320,7 +385,7 @@ class Gateway:
         context = number_of(EBI, identity) + QUALITY + end_of(2, 4, bearer, self.setup.user)
         body = element(IMSI, 0, packed(imsi)) + number_of(RAT, 6) + element(SERVING_NETWORK, 0, bytes.fromhex("00f110"))
         body += end_of(0, 6, session, self.setup.control) + element(APN, 0, name_of(apn)) + number_of(SELECTION, 0)
-        body += number_of(PDN_TYPE, pdn) + element(PAA, 0, bytes([1, 0, 0, 0, 0])) + RATES
+        body += number_of(PDN_TYPE, pdn) + allocation_asked(pdn) + RATES
         body += element(CONTEXT, 0, context) + number_of(RECOVERY, self.counter)
         told = self.ask(CREATE_SESSION, 0, body, session, bearer)
         return replace(told, outcome=f"begun {session:08x}")
@@ -450,11 +515,11 @@ class Gateway:
             return header, 69, b""
         if apn not in self.setup.access_points:
             return header, 78, b""
-        if pdn not in (1, 3):
+        if not self.setup.serves(pdn):
             return header, 83, b""
         if len(self.sessions) >= MOST_SESSIONS or not self.has_draws(2):
             return header, 73, b""
-        address = self.free_address()
+        address = self.free_address(pdn)
         if address is None:
             return header, 84, b""
         session, bearer = self.draw(), self.draw()
@@ -463,9 +528,9 @@ class Gateway:
         self.bearers[bearer] = Bearer(session, True, ACTIVE, identity, teid_in(first(context, FTEID, 2)))
         made = number_of(EBI, identity) + cause_of(16) + end_of(2, 5, bearer, self.setup.user)
         made += element(QOS, 0, first(context, QOS, 0)) + number_of(CHARGING_ID, bearer, 4)
-        rows = end_of(1, 7, session, self.setup.control) + element(PAA, 0, b"\1" + address.to_bytes(4, "big"))
+        rows = end_of(1, 7, session, self.setup.control) + allocation(address, PREFIX)
         rows += element(AMBR, 0, first(found, AMBR, 0)) + element(CONTEXT, 0, made)
-        return header, 18 if pdn == 3 else 16, rows
+        return header, 16 if address.kind == pdn else 18, rows
 
     def session_deleted(self, message):
         session = self.sessions.get(message.teid)
@@ -544,15 +609,15 @@ class Gateway:
         if not accepts(message.cause):
             self.remove_session(pending.session)
             return f"rejected {message.cause}"
-        paa, contexts = first(message.found, PAA, 0), message.contexts
-        if len(contexts) != 1 or first(contexts[0], EBI, 0)[0] & 15 != session.identity or paa[0] & 7 != 1:
+        address, contexts = address_in(first(message.found, PAA, 0)), message.contexts
+        if len(contexts) != 1 or first(contexts[0], EBI, 0)[0] & 15 != session.identity or address is None:
             raise Refused("X4")
         cause = first(contexts[0], CAUSE, 0)[0]
         if not accepts(cause):
             self.remove_session(pending.session)
             return f"rejected {cause}"
         session.remote, session.state = teid_in(first(message.found, FTEID, 1)), ACTIVE
-        session.address = int.from_bytes(paa[1:5], "big")
+        session.address = address
         bearer = self.bearers[pending.bearer]
         bearer.remote, bearer.state = teid_in(first(contexts[0], FTEID, 2)), ACTIVE
         return "opened"

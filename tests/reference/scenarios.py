@@ -7,10 +7,18 @@ from gateways import ACTIVE, PACKET, SERVING
 from world import World
 
 
+def networks(rng):
+    """A pool of version 6: far from a carry, just before one, or up to the last network."""
+    count = rng.randint(0, 3)
+    first = rng.choice([0x20010DB800000000, 0x20010DB8FFFFFFFF, 0xFFFFFFFE, 2**64 - max(count, 1)])
+    return {"pool6": f"{first:016x}" + rng.choice(["0000000000000001", "f" * 16]), "count6": count}
+
+
 def head(rng):
     addresses = {"control": "10.0.0.1", "user": "10.0.0.3"}, {"control": "10.0.0.2", "user": "10.0.0.4"}
     serving, packet = (dict(a, counter=rng.choice([0, 1, 7, 254, 255])) for a in addresses)
     packet |= {"apns": ["internet", "ims.example"], "pool": "10.1.0.254", "count": rng.choice([0, 1, 2, 3, 5])}
+    packet |= networks(rng) if rng.random() < 0.5 else {}
     timers = {"t3": rng.randint(1, 4), "n3": rng.randint(0, 3), "hold": rng.randint(1, 20)}
     return {"serving": serving, "packet": packet, "events": []} | (timers if rng.random() < 0.8 else {})
 
@@ -27,7 +35,7 @@ def teid(rng, contexts):
 def create_session(rng, world):
     event = {"imsi": rng.choice(["001010123456789", "262019876543", "123456"])}
     event |= {"apn": rng.choice(["internet"] * 6 + ["ims.example"] * 2 + ["other"]), "ebi": rng.randint(5, 15)}
-    return event | ({"pdn": rng.choice([1, 1, 3, 2, 0])} if rng.random() < 0.3 else {})
+    return event | ({"pdn": rng.choice([1, 2, 2, 3, 3, 3, rng.randint(0, 7)])} if rng.random() < 0.5 else {})
 
 
 def of_session(role):
@@ -72,7 +80,7 @@ def deliver(rng, world):
 
 def cut(rng, world):
     count = len(world.datagrams)
-    return {"datagram": rng.randint(0, count), "length": rng.randint(0, 160)}
+    return {"datagram": rng.randint(0, count), "length": rng.randint(0, 170)}
 
 
 EVENTS = {

@@ -30,6 +30,8 @@ def setups(scenario):
         if role == PACKET:
             setup.access_points, setup.count = head["apns"], head["count"]
             setup.pool = int.from_bytes(octets_of(head["pool"]), "big")
+            if "pool6" in head:
+                setup.pool6, setup.count6 = bytes.fromhex(head["pool6"]), head["count6"]
         yield role, setup
 
 
@@ -163,7 +165,11 @@ def teid_text(teid):
 
 
 def address_text(address):
-    return "-" if address is None else ".".join(str(octet) for octet in address.to_bytes(4, "big"))
+    if address is None:
+        return "-"
+    v4 = [] if address.v4 is None else [str(ip_address(address.v4))]
+    v6 = [] if address.v6 is None else [address.v6.hex()]
+    return "+".join(v4 + v6)
 
 
 def outcome_text(told):

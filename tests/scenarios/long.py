@@ -15,8 +15,9 @@ def head():
     return {"serving": own, "packet": {**peer, "apns": ["internet"], "pool": "10.1.0.1", "count": 10}}
 
 
-def made(name, *parts):
-    return Made(name, {**head(), "events": [event for part in parts for event in part]})
+def made(name, *parts, **others):
+    """A scenario of these events. Its head has these other values."""
+    return Made(name, {**head(), **others, "events": [event for part in parts for event in part]})
 
 
 def deliver(number, expect):
@@ -87,5 +88,37 @@ def ten_thousand_events():
     return made("10,000 mixed events", OPENED, *(mixed(2 + 4 * time) for time in range(1000)))
 
 
+def asked(first, pdn, *expect):
+    """A session of this PDN type is asked for, by the datagram with this number; what that and the answer come to."""
+    yield {**CREATE, "pdn": pdn, "expect": "begun"}
+    yield from (deliver(number, word) for number, word in enumerate(expect, first))
+
+
+def given_up(times):
+    """Sessions at the packet gateway alone. The serving gateway gets no answer, and gives its requests up in one tick."""
+    for time in times:
+        yield from asked(2 * time, 1, "answered")
+    yield ticks("serving", 1)
+
+
+def most_sessions():
+    """The packet gateway has 1,000 sessions, which have all of its addresses. One more is refused with cause 83 if it is
+    of type 7, or of version 6, which has no pool. If not, it is refused with cause 73, which comes before cause 84. When
+    a session has been released, its address is given again."""
+    rounds = [given_up(range(first, first + 250)) for first in range(0, 1000, 250)]
+    more = [asked(2000 + 2 * time, pdn, "answered", "rejected") for time, pdn in enumerate([1, 2, 3, 7])]
+    release = {"do": "release_session", "teid": "01000001", "expect": "begun"}
+    return made(
+        "1,000 sessions",
+        *rounds,
+        *more,
+        [release, deliver(2008, "answered"), deliver(2009, "closed")],
+        asked(2010, 3, "answered", "opened"),
+        packet={**head()["packet"], "count": 1000},
+        t3=1,
+        n3=0,
+    )
+
+
 def scenarios():
-    return [most_pending(), ten_thousand_events()]
+    return [most_pending(), ten_thousand_events(), most_sessions()]

@@ -28,10 +28,11 @@ pub mod user {
 /// A serving gateway or a packet gateway, without sockets and clocks.
 pub mod gateway {
     pub use gtp_gateway::{
-        Accepted, Addresses, Ambr, Apn, Bearer, BearerList, Begun, CommandFault, Config, Counter,
-        DropReason, Ebi, Endpoint, FaultName, Gateway, Ip, Kind, Memory, Outcome, PdnType, Plane,
-        Plmn, Pool, Qos, Rat, Refusal, Report, Request, Role, Selection, Sent, Seq, Session,
-        SessionList, SessionSpec, State, Step, Subscriber, Teid, Tft, Ticked, Timers, ValueFault,
+        Accepted, Addr, Addresses, Ambr, Apn, Bearer, BearerList, Begun, CommandFault, Config,
+        Counter, DropReason, Ebi, Endpoint, FaultName, Gateway, Ip, Kind, Memory, Networks,
+        Outcome, PdnType, Plane, Plmn, Pool, Pools, Qos, Rat, Refusal, Report, Request, Role,
+        Selection, Sent, Seq, Session, SessionList, SessionSpec, State, Step, Subscriber, Teid,
+        Tft, Ticked, Timers, ValueFault,
     };
 }
 

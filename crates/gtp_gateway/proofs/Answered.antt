@@ -3,9 +3,10 @@ use Rattle.std.proofs.Common.{◌≡◌, ℕ, Bool, false, List, [], ◌∷◌, 
 use Rattle.std.specs.FinMap.{insert}
 use Rattle.gtp_values.specs.declared.address.Endpoint.{Endpoint}
 use Rattle.gtp_values.specs.declared.cause.Cause.{Cause}
+use Rattle.gtp_values.specs.PdnAddress.{allocation}
 use Rattle.gtp_machine.specs.Answer.{refusing}
 use Rattle.gtp_machine.specs.Config.{Config}
-use Rattle.gtp_machine.specs.Element.{Ipv4, tunnel_end, cause_of}
+use Rattle.gtp_machine.specs.Element.{tunnel_end, cause_of}
 use Rattle.gtp_machine.specs.Input.{Effect, Of_create_session}
 use Rattle.gtp_machine.specs.Message.{CreateSessionRequest, RequestedBearer, Message, Create_session_response}
 use Rattle.gtp_machine.specs.Node.{Active, Default, Node}
@@ -43,9 +44,9 @@ module _ (r : SessionRequest) (q : CreateSessionRequest) (says : SaysSession r q
     grant_same = λ i. Create_session_response (record {
       header = (sym says.control i).teid;
       number = sym says.number i;
-      cause = cause_of (session_cause (sym says.pdn i));
+      cause = cause_of (session_cause (sym says.pdn i) g.address);
       control = Some (tunnel_end 7 g.drawn.control.0 (sym (config_stays heard node) i).own.control);
-      address = Some (Ipv4 g.address);
+      address = Some (allocation 64 g.address);
       ambr = sym says.ambr i;
       contexts = record { identity = (sym says.context i).identity; cause = cause_of 16; user = Some (tunnel_end 5 g.drawn.user.0 (sym (config_stays heard node) i).own.user); qos = Some (sym says.context i).qos; charging = Some g.drawn.user.0 } ∷ [];
       recovery = Some (sym (counter_stays heard node) i);

@@ -1,7 +1,16 @@
 -- What a gateway chooses for what it makes: of what is free, the lowest.
-use Rattle.std.proofs.Common.{◌≡◌, ℕ, Bool, true, false, refl, sym, ◌∙◌}
+use Rattle.std.proofs.Common.{◌≡◌, ℕ, Bool, true, false, List, Option, Some, None, refl, sym, ◌∙◌, subst}
 use Rattle.std.specs.FinMap.{insert}
-use Rattle.gtp_machine.specs.Node.{Node}
+use Rattle.gtp_values.specs.FiniteMap.{FiniteMap}
+use Rattle.gtp_values.specs.PdnAddress.{PdnAddress}
+use Rattle.gtp_tables.specs.declared.pool.Asked.{Asked}
+use Rattle.gtp_tables.specs.declared.pool.Pools.{Pools}
+use Rattle.gtp_tables.specs.declared.pool.Version.{Version}
+use Rattle.gtp_tables.specs.declared.pool.Version.TheVariants.{V4, V6}
+use Rattle.gtp_tables.specs.Free.{IsLowestFree, IsLowestPart, IsLowestGiven}
+use Rattle.gtp_tables.specs.Part.{part_in}
+use Rattle.gtp_machine.specs.Choice.{asked_by}
+use Rattle.gtp_machine.specs.Node.{Session, Node}
 use Rattle.gtp_gateway.specs.declared.granting.BearerAnswer.{BearerAnswer}
 use Rattle.gtp_gateway.specs.declared.granting.BearerAnswer.TheVariants.{Refused, NoResources, Granted}
 use Rattle.gtp_gateway.specs.declared.granting.BearerRequest.{BearerRequest}
@@ -19,8 +28,17 @@ use Rattle.gtp_gateway.proofs.SessionGrants.{still_above, none_above}
 pub unmade : {A : Type 0} (made : Bool) → made ≡ false → made ≡ true → A
 unmade made not is = absurd (let both : false ≡ true = sym not ∙ is in cc)
 
-pub lowest_session : (identity : ℕ) (r : SessionRequest) (g : Grant) (heard : Heard) (old new : Node) → Chooses identity g heard old → new.sessions ≡ insert (node_heard heard old).sessions g.drawn.control.0 (session_of r g) → MakesLowestSession old new
-lowest_session identity r g heard old new chosen is = record {
+-- what is given is the lowest of its version
+lowest_part : (sessions : FiniteMap Session) (pools : Pools) (asked : Asked) (version : Version) (given : Option (List ℕ)) (part : List ℕ) → IsLowestPart sessions pools asked version given → given ≡ Some part → IsLowestFree version sessions pools part
+lowest_part sessions pools asked version None part lowest is = absurd cc
+lowest_part sessions pools asked version (Some given) part lowest is = let same : given ≡ part = cc in subst (λ (k : List ℕ). IsLowestFree version sessions pools k) same lowest.1
+
+each_lowest : (sessions : FiniteMap Session) (pools : Pools) (asked : Asked) (address : PdnAddress) → IsLowestGiven sessions pools asked address → (version : Version) (part : List ℕ) → part_in version address ≡ Some part → IsLowestFree version sessions pools part
+each_lowest sessions pools asked address lowest V4 part is = lowest_part sessions pools asked V4 address.v4 part lowest.v4 is
+each_lowest sessions pools asked address lowest V6 part is = lowest_part sessions pools asked V6 address.v6 part lowest.v6 is
+
+pub lowest_session : (identity pdn : ℕ) (r : SessionRequest) (g : Grant) (heard : Heard) (old new : Node) → Chooses identity pdn g heard old → new.sessions ≡ insert (node_heard heard old).sessions g.drawn.control.0 (session_of r g) → MakesLowestSession old new
+lowest_session identity pdn r g heard old new chosen is = record {
   teid = g.drawn.control.0;
   session = session_of r g;
   others = (node_heard heard old).sessions;
@@ -29,7 +47,7 @@ lowest_session identity r g heard old new chosen is = record {
   beside = none_above (node_heard heard old).sessions g.drawn.control.0 (still_above heard old g.drawn.control.0 chosen.can.control_above);
   before = none_above old.sessions g.drawn.control.0 chosen.can.control_above;
   has = refl;
-  lowest = chosen.lowest;
+  lowest = each_lowest (node_heard heard old).sessions old.config.pools (asked_by pdn) g.address chosen.lowest;
 }
 
 pub lowest_bearer : (r : BearerRequest) (a : BearerAnswer) (old new : Node) → IsChosen r.header.0 a old → new.bearers ≡ (changed_by (change_for r a) old).bearers → is_granted a ≡ true → MakesLowestBearer old new

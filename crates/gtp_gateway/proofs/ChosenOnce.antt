@@ -5,8 +5,11 @@ use Rattle.std.specs.FinMap.{get, insert, same_map, nat_cmp-IsAntisymmetric}
 use Rattle.std.specs.Cmp.{nat_cmp_total}
 use Rattle.gtp_values.specs.FiniteMap.{FiniteMap}
 use Rattle.gtp_tables.specs.Drawn.{drawn_up_to}
+use Rattle.gtp_tables.specs.declared.pool.Pools.{Pools}
+use Rattle.gtp_tables.specs.declared.pool.Version.{Version}
+use Rattle.gtp_tables.specs.Free.{address_at, IsLowestFree}
 use Rattle.gtp_tables.specs.Identity.{IsLowestUnused}
-use Rattle.gtp_tables.specs.Pool.{Range, IsLowestFree}
+use Rattle.gtp_tables.specs.Part.{part_of}
 use Rattle.gtp_reliable.specs.Pending.{numbers, is_pending, IsNextFree}
 use Rattle.gtp_reliable.specs.Waiting.{Waiting}
 use Rattle.gtp_machine.specs.Node.{Session, Bearer, Node}
@@ -17,9 +20,9 @@ use Rattle.gtp_gateway.specs.Choosing.{MakesLowestSession, MakesLowestBearer}
 
 -- ---- the lowest is one
 
-pub one_lowest_address : (sessions : FiniteMap Session) (pool : Range) (a b : ℕ) → IsLowestFree sessions pool a → IsLowestFree sessions pool b → a ≡ b
-one_lowest_address sessions pool a b l m = ⊎_elim
-    (λ same. l.is ∙ (ap (λ k. pool.start + k) same ∙ sym m.is))
+pub one_lowest_address : (version : Version) (sessions : FiniteMap Session) (pools : Pools) (a b : List ℕ) → IsLowestFree version sessions pools a → IsLowestFree version sessions pools b → a ≡ b
+one_lowest_address version sessions pools a b l m = ⊎_elim
+    (λ same. l.is ∙ (ap (λ k. address_at pools version k) same ∙ sym m.is))
     (λ apart. ⊎_elim
     (λ less. let h = m.lower l.place less in absurd (l.unused h.teid h.session h.stands (h.has ∙ ap (λ k. Some k) (sym l.is))))
     (λ more. let h = l.lower m.place more in absurd (m.unused h.teid h.session h.stands (h.has ∙ ap (λ k. Some k) (sym m.is))))
@@ -56,12 +59,12 @@ module _ {X : Type 0} (old new others mine : FiniteMap X) (t u : ℕ) (x y : X) 
   same_others : mine ≡ others
   same_others = same_beside mine others u y x lone (beside.stood u before) (sym is ∙ (beside.is ∙ ap (λ k. insert others k x) (sym same_entry.0)))
 
--- the address of a session that was made beside others
-pub lowest_address : (old new : Node) (others : FiniteMap Session) (t : ℕ) (a : Session) → MakesLowestSession old new → ComesBeside old.sessions new.sessions others t a → (address : ℕ) × (a.address ≡ Some address) × IsLowestFree others (record { start = old.config.pool_start; count = old.config.pool_count }) address
-lowest_address old new others t a l beside =
+-- each part of the address of a session that was made beside others
+pub lowest_address : (old new : Node) (others : FiniteMap Session) (t : ℕ) (a : Session) → MakesLowestSession old new → ComesBeside old.sessions new.sessions others t a → (version : Version) (part : List ℕ) → part_of version a.address ≡ Some part → IsLowestFree version others old.config.pools part
+lowest_address old new others t a l beside version part has =
     let entry = same_entry old.sessions new.sessions others l.others t l.teid a l.session beside l.sessions l.beside l.before in
     let same = same_others old.sessions new.sessions others l.others t l.teid a l.session beside l.sessions l.beside l.before in
-    (l.address, ap (λ (s : Session). s.address) entry.1 ∙ l.has, subst (λ k. IsLowestFree k (record { start = old.config.pool_start; count = old.config.pool_count }) l.address) same l.lowest)
+    subst (λ k. IsLowestFree version k old.config.pools part) same (l.lowest version part (ap (λ (s : Session). part_of version s.address) (sym entry.1) ∙ has))
 
 pub lowest_identity : (old new : Node) (others : FiniteMap Bearer) (t : ℕ) (a : Bearer) → MakesLowestBearer old new → ComesBeside old.bearers new.bearers others t a → (identity : ℕ) × (a.identity ≡ Some identity) × IsLowestUnused others a.session identity
 lowest_identity old new others t a l beside =

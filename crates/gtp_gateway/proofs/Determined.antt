@@ -133,10 +133,10 @@ module _ (plane : Plane) (source : Endpoint) (octets : List ℕ) (old : Station)
           (tied_draws new e.node m.received.becomes (keeps_tied plane source octets step old new m.timing))
           (tied_draws left f.node n.received.becomes (keeps_tied plane source octets other old left n.timing))
           both.tell.counter both.tell.draws;
-      addresses = λ request reading is packet made others t a b x y.
-          let first = lowest_address old.node e.node others t a (subst (λ k. MakesLowestSession old.node k) m.received.becomes (subst (λ r. MakesLowest r old.node new.node) packet (made_lowest made))) x in
-          let second = lowest_address old.node f.node others t b (subst (λ k. MakesLowestSession old.node k) n.received.becomes (subst (λ r. MakesLowest r old.node left.node) packet (also_lowest made))) y in
-          first.1 ∙ (ap (λ k. Some k) (one_lowest_address others (record { start = old.node.config.pool_start; count = old.node.config.pool_count }) first.0 second.0 first.2 second.2) ∙ sym second.1);
+      addresses = λ request reading is packet made others t a b x y version p q in_one in_other.
+          let first = lowest_address old.node e.node others t a (subst (λ k. MakesLowestSession old.node k) m.received.becomes (subst (λ r. MakesLowest r old.node new.node) packet (made_lowest made))) x version p in_one in
+          let second = lowest_address old.node f.node others t b (subst (λ k. MakesLowestSession old.node k) n.received.becomes (subst (λ r. MakesLowest r old.node left.node) packet (also_lowest made))) y version q in_other in
+          one_lowest_address version others old.node.config.pools p q first second;
       identities = λ request reading is serving made others t a b x y session.
           let first = lowest_identity old.node e.node others t a (subst (λ k. MakesLowestBearer old.node k) m.received.becomes (subst (λ r. MakesLowest r old.node new.node) serving (made_lowest made))) x in
           let second = lowest_identity old.node f.node others t b (subst (λ k. MakesLowestBearer old.node k) n.received.becomes (subst (λ r. MakesLowest r old.node left.node) serving (also_lowest made))) y in

@@ -17,8 +17,8 @@ use Rattle.gtp_machine.specs.declared.role.Role.{Role}
 use Rattle.gtp_machine.specs.declared.outcome.DropReason.TheVariants.{NoPending, Mismatch}
 use Rattle.gtp_machine.specs.declared.outcome.Outcome.TheVariants.{Opened, Rejected}
 use Rattle.gtp_machine.specs.Choice.{HasPending}
-use Rattle.gtp_machine.specs.Decoded.{address_of, number_at, cause_at, first_in, end_in, paa_in, created}
-use Rattle.gtp_machine.specs.Element.{IsAccepting, PdnAddress, Ipv4, Other_address, ipv4_of}
+use Rattle.gtp_machine.specs.Decoded.{number_at, cause_at, first_in, end_in, paa_in, created}
+use Rattle.gtp_machine.specs.Element.{IsAccepting}
 use Rattle.gtp_machine.specs.Input.{Came_to, Effect, nothing}
 use Rattle.gtp_machine.specs.Message.{Message, CreateSessionRequest, CreateSessionResponse, CreatedBearer, Create_session_request, Create_session_response, header_of, first_created}
 use Rattle.gtp_machine.specs.Node.{Active, Session, Bearer, Arrival, Node}
@@ -69,7 +69,7 @@ end_is [] (Some e) is = absurd cc
 end_is (v ∷ vs) None is = absurd cc
 end_is (v ∷ vs) (Some e) is = let same : v ≡ OfFTeid e = cc in ap end_in same
 
-pub paa_is : (vs : List Value) (o : Option Paa) → option_map OfPaa o ≡ front_value vs → first_in paa_in vs ≡ option_map address_of o
+pub paa_is : (vs : List Value) (o : Option Paa) → option_map OfPaa o ≡ front_value vs → first_in paa_in vs ≡ o
 paa_is [] None is = refl
 paa_is [] (Some e) is = absurd cc
 paa_is (v ∷ vs) None is = absurd cc
@@ -113,11 +113,6 @@ session_here (CreateSession session bearer) (Create_session_request q) r a meant
 session_here purpose m r a meant at fits = absurd (let asked = fits.asked in cc)
 
 module _ (n : Node) (r : SessionResponse) (a : CreateSessionResponse) (says : SaysSession r a) where
-  given_v4 : (o : Option PdnAddress) (x : ℕ) → ipv4_of o ≡ Some x → o ≡ Some (Ipv4 x)
-  given_v4 None x is = absurd cc
-  given_v4 (Some (Ipv4 y)) x is = let same : y ≡ x = cc in ap (λ (i : ℕ). Some (Ipv4 i)) same
-  given_v4 (Some (Other_address paa)) x is = absurd cc
-
   -- the one bearer context
   only_here : (c : ResponseContext) → r.context ≡ Some c → (k : CreatedBearer) × (a.contexts ≡ k ∷ []) × SaysCreated c k
   only_here c is = subst (λ (o : Option ResponseContext). SaysOnlyCreated o a.contexts) is says.contexts
@@ -131,7 +126,7 @@ module _ (n : Node) (r : SessionResponse) (a : CreateSessionResponse) (says : Sa
         alone = k.1;
         default = k.2.identity ∙ is.default;
         address = d.address;
-        given = given_v4 a.address d.address (says.address ∙ is.given);
+        given = says.address ∙ is.given;
       }
 
   describes_none : (sessions : FiniteMap Session) (session : ℕ) → sessions ≡ n.sessions → ((d : DescribedSession) → IsDescribed sessions session r d → ⊥) → DescribesSession n session a → ⊥
@@ -146,7 +141,7 @@ module _ (n : Node) (r : SessionResponse) (a : CreateSessionResponse) (says : Sa
             stands = ap (λ (s : FiniteMap Session). get s session) same ∙ new.at.stands;
             alone = is;
             default = sym said.identity ∙ (ap (λ (b : CreatedBearer). b.identity) one ∙ new.default);
-            given = sym says.address ∙ ap ipv4_of new.given;
+            given = sym says.address ∙ new.given;
           })
 
 -- ---- the column of the serving gateway

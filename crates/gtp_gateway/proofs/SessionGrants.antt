@@ -7,9 +7,13 @@ use Rattle.std.specs.FinMap.{get, insert}
 use Rattle.gtp_values.proofs.Tests.{itself}
 use Rattle.std.proofs.Math.Bool.{or-true}
 use Rattle.gtp_values.specs.FiniteMap.{FiniteMap, Among}
+use Rattle.gtp_values.specs.PdnAddress.{PdnAddress}
 use Rattle.gtp_tables.specs.Contexts.{is_opened}
-use Rattle.gtp_tables.specs.Pool.{Range, IsLowestFree, IsUsedUp}
-use Rattle.gtp_machine.specs.Choice.{IsFree, HasDraws, IsFreeAddress, HasFreeAddress}
+use Rattle.gtp_tables.specs.declared.pool.Pools.{Pools}
+use Rattle.gtp_tables.specs.declared.pool.Version.{Version}
+use Rattle.gtp_tables.specs.declared.pool.Version.TheVariants.{V4, V6}
+use Rattle.gtp_tables.specs.Free.{count_of, address_at, IsLowestFree, IsUsedUp, IsLowestPart, IsLowestGiven, AreUsedUp}
+use Rattle.gtp_machine.specs.Choice.{IsFree, HasDraws, IsFreeAddress, HasFreeAddress, asked_by, IsPart, IsGiven, CanGive}
 use Rattle.gtp_machine.specs.Node.{Session, Bearer, Node}
 use Rattle.gtp_gateway.specs.declared.hearing.Heard.{Heard}
 use Rattle.gtp_gateway.specs.declared.hearing.Heard.TheVariants as heards
@@ -62,21 +66,37 @@ heard_with (heards.Earlier counter) n t b none = refl
 
 -- ---- addresses
 
-module _ (n : Node) (sessions : FiniteMap Session) (pool : Range) (same : sessions ≡ n.sessions) (start : pool.start ≡ n.config.pool_start) (count : pool.count ≡ n.config.pool_count) where
-  pub free_address : (address : ℕ) → IsLowestFree sessions pool address → IsFreeAddress n address
-  free_address address lowest =
+module _ (n : Node) (sessions : FiniteMap Session) (pools : Pools) (same : sessions ≡ n.sessions) (of : pools ≡ n.config.pools) where
+  free_address : (version : Version) (address : List ℕ) → IsLowestFree version sessions pools address → IsFreeAddress n version address
+  free_address version address lowest =
       record {
         place = lowest.place;
-        in_pool = subst (λ (k : ℕ). lowest.place < k) count lowest.in_pool;
-        is = lowest.is ∙ ap (λ (k : ℕ). k + lowest.place) start;
+        in_pool = subst (λ (p : Pools). lowest.place < count_of p version) of lowest.in_pool;
+        is = lowest.is ∙ ap (λ (p : Pools). address_at p version lowest.place) of;
         unused = λ t s stands. lowest.unused t s (ap (λ (m : FiniteMap Session). get m t) same ∙ stands);
       }
 
-  pub no_address : IsUsedUp sessions pool → HasFreeAddress n → ⊥
-  no_address used has =
+  no_address : (version : Version) → IsUsedUp version sessions pools → HasFreeAddress n version → ⊥
+  no_address version used has =
       let free = has.free in
-      let at = used free.place (subst (λ (k : ℕ). free.place < k) (sym count) free.in_pool) in
-      free.unused at.teid at.session (ap (λ (m : FiniteMap Session). get m at.teid) (sym same) ∙ at.stands) (at.has ∙ ap Some (ap (λ (k : ℕ). k + free.place) start ∙ sym free.is))
+      let at = used free.place (subst (λ (p : Pools). free.place < count_of p version) (sym of) free.in_pool) in
+      free.unused at.teid at.session (ap (λ (m : FiniteMap Session). get m at.teid) (sym same) ∙ at.stands) (at.has ∙ ap (λ (k : List ℕ). Some k) (ap (λ (p : Pools). address_at p version free.place) of ∙ sym free.is))
+
+  -- the lowest that is free is one that may be given, and so is none where there is none
+  part_given : (pdn : ℕ) (version : Version) (part : Option (List ℕ)) → IsLowestPart sessions pools (asked_by pdn) version part → IsPart n pdn version part
+  part_given pdn version None none = λ h. no_address version (none h.0) h.1
+  part_given pdn version (Some address) lowest = (lowest.0, free_address version address lowest.1)
+
+  pub lowest_given : (pdn : ℕ) (address : PdnAddress) → IsLowestGiven sessions pools (asked_by pdn) address → IsGiven n pdn address
+  lowest_given pdn address lowest =
+      record {
+        v4 = part_given pdn V4 address.v4 lowest.v4;
+        v6 = part_given pdn V6 address.v6 lowest.v6;
+        some_part = lowest.some_part;
+      }
+
+  pub none_given : (pdn : ℕ) → AreUsedUp sessions pools (asked_by pdn) → CanGive n pdn → ⊥
+  none_given pdn used can = no_address can.version (used can.version can.asked) can.free
 
 -- ---- access points
 

@@ -1,26 +1,29 @@
 -- What a gateway chooses for what it makes on a request: of what is free, the lowest.
-use Rattle.std.specs.Prelude.{◌≡◌, ℕ, Bool, true, false, Some, None}
+use Rattle.std.specs.Prelude.{◌≡◌, ℕ, List, Bool, true, false, Some, None}
 use Rattle.std.specs.FinMap.{get, insert}
 use Rattle.gtp_values.specs.FiniteMap.{FiniteMap}
+use Rattle.gtp_values.specs.PdnAddress.{PdnAddress}
+use Rattle.gtp_tables.specs.declared.pool.Version.{Version}
+use Rattle.gtp_tables.specs.Free.{IsLowestFree}
 use Rattle.gtp_tables.specs.Identity.{IsLowestUnused}
-use Rattle.gtp_tables.specs.Pool.{IsLowestFree}
+use Rattle.gtp_tables.specs.Part.{part_of}
 use Rattle.gtp_machine.specs.Node.{Session, Bearer, Node}
 use Rattle.gtp_machine.specs.declared.role.Role.{Role}
 use Rattle.gtp_machine.specs.declared.role.Role.TheVariants.{Serving, Packet}
 use Rattle.gtp_gateway.specs.declared.receive.Entrance.{Entrance}
 use Rattle.gtp_gateway.specs.declared.receive.Entrance.TheVariants.{Settled, New}
 
--- a session was made, beside all the others: it has the lowest address of the pool that none of them has
+-- a session was made, beside all the others: it has an address, and of each version that this has, the lowest address of the pool that none of them has
 pub record MakesLowestSession (old new : Node) : Type 0 where
   pub teid : ℕ
   pub session : Session
   pub others : FiniteMap Session
-  pub address : ℕ
+  pub address : PdnAddress
   pub sessions : new.sessions ≡ insert others teid session
   pub beside : get others teid ≡ None
   pub before : get old.sessions teid ≡ None
   pub has : session.address ≡ Some address
-  pub lowest : IsLowestFree others (record { start = old.config.pool_start; count = old.config.pool_count }) address
+  pub lowest : (version : Version) (part : List ℕ) → part_of version session.address ≡ Some part → IsLowestFree version others old.config.pools part
 
 -- a bearer was made, beside all the others: it has the lowest identity that none of its session has
 pub record MakesLowestBearer (old new : Node) : Type 0 where

@@ -1,11 +1,11 @@
 -- Create Session Requests, as the packet gateway answers them.
-use Rattle.std.specs.Prelude.{◌≡◌, ◌⊎◌, ℕ, Bool, true, false, List, Some}
+use Rattle.std.specs.Prelude.{◌≡◌, ℕ, Bool, true, false, List, Some}
 use Rattle.gtp_values.specs.declared.address.Endpoint.{Endpoint}
 use Rattle.gtp_values.specs.declared.cause.Cause.{Cause}
 use Rattle.gtp_values.specs.Cause.{is_accepting_value}
-use Rattle.gtp_tables.specs.Pool.{IsLowestFree}
+use Rattle.gtp_tables.specs.Free.{IsLowestGiven}
 use Rattle.gtp_machine.specs.declared.outcome.Outcome.TheVariants.{Answered}
-use Rattle.gtp_machine.specs.Choice.{HasDraws, HasFreeAddress, HasSessionRoom}
+use Rattle.gtp_machine.specs.Choice.{HasDraws, HasSessionRoom, asked_by, CanGive}
 use Rattle.gtp_machine.specs.Element.{cause_of, tunnel_end}
 use Rattle.gtp_machine.specs.Input.{Effect, Of_create_session}
 use Rattle.gtp_machine.specs.Message.{Message, Create_session_response}
@@ -38,10 +38,6 @@ use Rattle.gtp_gateway.specs.Taken.{plain_report}
 abbrev pub refused_with : ℕ → SessionVerdict
 refused_with cause = Refused (cause_of cause)
 
--- an IPv4 address is asked for, alone or with one of IPv6
-abbrev pub IsIpv4 : ℕ → Type 0
-IsIpv4 pdn = (pdn ≡ 1) ⊎ (pdn ≡ 3)
-
 -- the session that is granted, active at once
 abbrev pub session_of : SessionRequest → Grant → Session
 session_of r g = record { remote = Some r.control.teid; subscriber = record { imsi = r.imsi; access_point = r.access_point; identity = g.identity }; address = Some g.address; state = Active }
@@ -61,38 +57,39 @@ grants r g node = Create_session_response (granted r (tunnel_end 7 g.drawn.contr
 -- the effect that a verdict stands for, at a gateway that has heard the counter
 abbrev pub session_effect : Arrival → messages.CreateSessionRequest → SessionVerdict → Node → Effect
 session_effect request q (Refused cause) n = session_refused request q cause n
-session_effect request q (Granted g) n = making request (Create_session_response (session_response n q g.drawn.control.0 g.drawn.user.0 g.address)) (session_cause q.pdn) (session_made n q g.drawn.control.0 g.drawn.user.0 g.address)
+session_effect request q (Granted g) n = making request (Create_session_response (session_response n q g.drawn.control.0 g.drawn.user.0 g.address)) (session_cause q.pdn g.address) (session_made n q g.drawn.control.0 g.drawn.user.0 g.address)
 
 -- the TEIDs may be drawn
 abbrev pub CanGrant : Grant → Node → Type 0
 CanGrant g node = AreTwoDrawn g.drawn node
 
--- what the verdict needs: a cause that refuses; or the next two TEIDs, the lowest free address, and the identity that is asked for
-pub record Chooses (identity : ℕ) (g : Grant) (heard : Heard) (node : Node) : Type 0 where
+-- what the verdict needs: a cause that refuses; or the next two TEIDs, the lowest free address of each version that is asked for, where there is one, and
+-- the identity that is asked for
+pub record Chooses (identity pdn : ℕ) (g : Grant) (heard : Heard) (node : Node) : Type 0 where
   pub can : CanGrant g node
-  pub lowest : IsLowestFree (node_heard heard node).sessions (record { start = node.config.pool_start; count = node.config.pool_count }) g.address
+  pub lowest : IsLowestGiven (node_heard heard node).sessions node.config.pools (asked_by pdn) g.address
   pub identity_is : g.identity ≡ identity
 
-abbrev pub IsVerdict : ℕ → SessionVerdict → Heard → Node → Type 0
-IsVerdict identity (Refused cause) heard node = is_accepting_value cause.value ≡ false
-IsVerdict identity (Granted g) heard node = Chooses identity g heard node
+abbrev pub IsVerdict : ℕ → ℕ → SessionVerdict → Heard → Node → Type 0
+IsVerdict identity pdn (Refused cause) heard node = is_accepting_value cause.value ≡ false
+IsVerdict identity pdn (Granted g) heard node = Chooses identity pdn g heard node
 
 -- the last rules, which look at what is free
 abbrev pub RoomJudged : Arrival → messages.CreateSessionRequest → Node → Effect → Type 0
 RoomJudged request q old e =
     Unless (HasSessionRoom old × HasDraws old 2) (e ≡ session_refused request q (cause_of 73) old) (λ few.
-    Unless (HasFreeAddress old) (e ≡ session_refused request q (cause_of 84) old) (λ address.
+    Unless (CanGive old q.pdn) (e ≡ session_refused request q (cause_of 84) old) (λ can.
     MakesSession request old q e))
 
--- the verdict is the machine's by the last rules
-pub record JudgesRoom (identity : ℕ) (heard : Heard) (node : Node) (v : SessionVerdict) : Type 0 where
-  pub judged : (request : Arrival) (q : messages.CreateSessionRequest) → RoomJudged request q (node_heard heard node) (session_effect request q v (node_heard heard node))
-  pub is : IsVerdict identity v heard node
+-- the verdict is the machine's by the last rules, for a request of this PDN type
+pub record JudgesRoom (identity pdn : ℕ) (heard : Heard) (node : Node) (v : SessionVerdict) : Type 0 where
+  pub judged : (request : Arrival) (q : messages.CreateSessionRequest) → q.pdn ≡ pdn → RoomJudged request q (node_heard heard node) (session_effect request q v (node_heard heard node))
+  pub is : IsVerdict identity pdn v heard node
 
 -- the verdict is the machine's
 pub record JudgesSession (r : SessionRequest) (heard : Heard) (node : Node) (v : SessionVerdict) : Type 0 where
   pub judged : (request : Arrival) (q : messages.CreateSessionRequest) → SaysSession r q → SessionJudged request q (node_heard heard node) (session_effect request q v (node_heard heard node))
-  pub is : IsVerdict r.default.identity v heard node
+  pub is : IsVerdict r.default.identity r.pdn.0 v heard node
 
 -- a request was answered with this message, which is held, and left this node; a context was made for it, or not
 pub record IsAnsweredSo (source : Endpoint) (octets : List ℕ) (m : Message) (cause : ℕ) (made : Bool) (left : Node) (old : Station) (step : ControlStep) (new : Station) : Type 0 where
@@ -109,7 +106,7 @@ IsRefusedSession source octets r cause heard old step new = IsAnsweredSo source 
 
 -- it was granted
 abbrev pub IsGrantedSession : Endpoint → List ℕ → SessionRequest → Grant → Heard → Station → ControlStep → Station → Type 0
-IsGrantedSession source octets r g heard old step new = IsAnsweredSo source octets (grants r g old.node) (session_cause r.pdn.0) true (changed_by (change_of r g) (node_heard heard old.node)) old step new
+IsGrantedSession source octets r g heard old step new = IsAnsweredSo source octets (grants r g old.node) (session_cause r.pdn.0 g.address) true (changed_by (change_of r g) (node_heard heard old.node)) old step new
 
 -- a Create Session Request was taken
 abbrev pub TakesSessionRequest : Endpoint → List ℕ → SessionRequest → Heard → Station → ControlStep → Station → Type 0

@@ -4,7 +4,7 @@ use Rattle.std.specs.FinMap.{get}
 use Rattle.gtp_values.specs.FiniteMap.{FiniteMap}
 use Rattle.gtp_v2.specs.Message.{MessageValue}
 use Rattle.gtp_machine.specs.Decoded.{message_of}
-use Rattle.gtp_machine.specs.Element.{ipv4_of, teid_in}
+use Rattle.gtp_machine.specs.Element.{address_of, teid_in}
 use Rattle.gtp_machine.specs.Message.{CreatedBearer, Create_session_response}
 use Rattle.gtp_machine.specs.Message as messages
 use Rattle.gtp_machine.specs.Node.{Session, Arrival, Node}
@@ -41,7 +41,7 @@ pub record SaysSession (r : SessionResponse) (a : messages.CreateSessionResponse
   pub header : a.header ≡ r.response.header.0
   pub cause : a.cause ≡ r.response.cause
   pub control : teid_in a.control ≡ r.control
-  pub address : ipv4_of a.address ≡ r.address
+  pub address : address_of a.address ≡ r.address
   pub contexts : SaysOnlyCreated r.context a.contexts
 
 -- the message is a Create Session Response that says what was read
@@ -60,7 +60,7 @@ pub record IsAskedSession (purpose : Purpose) (r : Response) (k : AskedSession) 
   pub is : purpose ≡ CreateSession k.session k.bearer
   pub named : k.session.0 ≡ r.header.0
 
--- the session stands, and the response has one bearer context, of its default identity, and an IPv4 address
+-- the session stands, and the response has one bearer context, of its default identity, and an address
 pub record IsDescribed (sessions : FiniteMap Session) (session : ℕ) (r : SessionResponse) (d : DescribedSession) : Type 0 where
   pub stands : get sessions session ≡ Some d.session
   pub alone : r.context ≡ Some d.context

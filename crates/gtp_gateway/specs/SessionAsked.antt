@@ -5,8 +5,9 @@ use Rattle.gtp_ie.specs.Value.{Value, OfEbi, OfQos, OfFTeid}
 use Rattle.gtp_v2.specs.CreateSessionRequest.{session_request_context_rows}
 use Rattle.gtp_v2.specs.Message.{MessageValue}
 use Rattle.gtp_v2.specs.Viewed.{in_groups}
+use Rattle.gtp_values.specs.PdnAddress.{PdnAddress, allocation}
 use Rattle.gtp_values.specs.TunnelEnd.{TunnelEnd}
-use Rattle.gtp_machine.specs.Element.{Ipv4, cause_of}
+use Rattle.gtp_machine.specs.Element.{cause_of}
 use Rattle.gtp_machine.specs.Message as messages
 use Rattle.gtp_machine.specs.Packet.{session_cause}
 use Rattle.gtp_gateway.specs.declared.session_request.RequestedDefault.{RequestedDefault}
@@ -33,15 +34,15 @@ pub record SaysSession (r : SessionRequest) (q : messages.CreateSessionRequest) 
   pub context : q.context ≡ record { identity = r.default.identity; qos = r.default.qos; user = r.default.user }
   pub alone : (r.default.is_alone ≡ true) ↔ (q.further ≡ [])
 
--- the answer that grants the session, with these F-TEIDs of the packet gateway
-abbrev pub granted : SessionRequest → TunnelEnd → TunnelEnd → ℕ → ℕ → messages.CreateSessionResponse
+-- the answer that grants the session, with these F-TEIDs of the packet gateway and this address
+abbrev pub granted : SessionRequest → TunnelEnd → TunnelEnd → PdnAddress → ℕ → messages.CreateSessionResponse
 granted r control user address counter =
     record {
       header = r.control.teid;
       number = r.seq;
-      cause = cause_of (session_cause r.pdn.0);
+      cause = cause_of (session_cause r.pdn.0 address);
       control = Some control;
-      address = Some (Ipv4 address);
+      address = Some (allocation 64 address);
       ambr = r.ambr;
       contexts = record { identity = r.default.identity; cause = cause_of 16; user = Some user; qos = Some r.default.qos; charging = Some user.teid } ∷ [];
       recovery = Some counter;

@@ -1,6 +1,7 @@
 -- What a gateway is set up with.
 use Rattle.std.specs.Prelude.{ℕ, ◌≤◌, List, length}
-use Rattle.gtp_tables.specs.Pool.{Range}
+use Rattle.gtp_tables.specs.Pool.{Networks}
+use Rattle.gtp_tables.specs.declared.pool.Pools.{Pools}
 use Rattle.gtp_reliable.specs.Pending.{AreLimits}
 use Rattle.gtp_reliable.specs.Held.{IsHold}
 use Rattle.gtp_machine.specs.Config as machine
@@ -15,12 +16,16 @@ pub record Settings : Type 0 where
 abbrev pub addresses_of : Addresses → machine.Addresses
 addresses_of a = record { control = a.control; user = a.user }
 
-abbrev pub settings_of : Addresses → Addresses → List (List ℕ) → Range → Timers → Settings
-settings_of own peer access_points pool timers =
+abbrev pub settings_of : Addresses → Addresses → List (List ℕ) → Pools → Timers → Settings
+settings_of own peer access_points pools timers =
     record {
-      config = record { own = addresses_of own; peer = addresses_of peer; access_points = access_points; pool_start = pool.start; pool_count = pool.count };
+      config = record { own = addresses_of own; peer = addresses_of peer; access_points = access_points; pools = pools };
       timers = timers;
     }
+
+-- the same, with this pool of IPv6 addresses
+abbrev pub with_networks : Networks → Settings → Settings
+with_networks pool s = record s { config = record s.config { pools = record s.config.pools { v6 = pool } } }
 
 -- at most 16 access points, and each time in its range
 pub record AreSettings (access_points : List (List ℕ)) (timers : Timers) : Type 0 where

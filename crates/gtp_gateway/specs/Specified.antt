@@ -1,7 +1,7 @@
 -- What a session is to be made with.
 use Rattle.std.specs.Prelude.{ℕ, [], Some}
 use Rattle.gtp_values.specs.TunnelEnd.{TunnelEnd}
-use Rattle.gtp_machine.specs.Element.{Ipv4}
+use Rattle.gtp_machine.specs.Command.{asked_allocation}
 use Rattle.gtp_machine.specs.Input.{Specification}
 use Rattle.gtp_machine.specs.Message.{CreateSessionRequest}
 use Rattle.gtp_gateway.specs.declared.session.SessionSpec.{SessionSpec}
@@ -23,7 +23,7 @@ requested s number control user counter =
       access_point = s.subscriber.access_point;
       selection = Some s.selection.0;
       pdn = s.pdn.0;
-      address = Some (Ipv4 0);
+      address = Some (asked_allocation s.pdn.0);
       ambr = Some s.ambr;
       context = record { identity = s.subscriber.identity; qos = s.qos; user = user };
       further = [];

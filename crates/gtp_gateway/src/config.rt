@@ -2,9 +2,10 @@
 
 ghost use Rattle.std.specs.Prelude.{◌≡◌, ◌↔◌, IsTrue, IsOk, IfOk, IfErr};
 ghost use Rattle.gtp_values.specs.declared.fault.ValueFault.TheVariants.{OutOfRange};
-ghost use Rattle.gtp_gateway.specs.Settings.{settings_of, AreSettings};
+ghost use Rattle.gtp_tables.specs.Pool.{AreNetworks, no_networks};
+ghost use Rattle.gtp_gateway.specs.Settings.{settings_of, with_networks, AreSettings};
 
-use gtp_tables::Pool;
+use gtp_tables::{Networks, Pool, Pools};
 use gtp_values::{Apn, Ip, Memory, ValueFault};
 use std::alloc::Global;
 use std::marker::Model;
@@ -43,14 +44,14 @@ impl Default for Timers {
     }
 }
 
-/// The addresses of both gateways, the access points that the packet gateway serves, the pool of addresses that it
-/// gives to sessions, and the timers. A serving gateway uses neither access points nor pool.
+/// The addresses of both gateways, the access points that the packet gateway serves, the pools of addresses that it
+/// gives to sessions, and the timers. A serving gateway uses neither access points nor pools.
 #[derive(Debug, Drop)]
 pub struct Config {
     own: Addresses,
     peer: Addresses,
     access_points: Vec<Apn>,
-    pool: Pool,
+    pools: Pools,
     timers: Timers,
 }
 
@@ -59,14 +60,14 @@ impl Model for Config {
 
     ghost Value = { Settings };
 
-    ghost view = { λ c. settings_of c.own c.peer c.access_points.items c.pool c.timers };
+    ghost view = { λ c. settings_of c.own c.peer c.access_points.items c.pools c.timers };
 
     ghost invariant = { λ c. AreSettings c.access_points.items c.timers };
 }
 
 impl Config {
-    /// The settings of a gateway: `OutOfRange` if there are more than 16 access points, or a timer is out of its range.
-    /// Allocates nothing.
+    /// The settings of a gateway, with no IPv6 addresses to give: `OutOfRange` if there are more than 16 access points,
+    /// or a timer is out of its range. Allocates nothing.
     pub fn try_new(
         own: Addresses,
         peer: Addresses,
@@ -76,7 +77,8 @@ impl Config {
     ) -> Result<Config, ValueFault>
         ensures ok { IsOk result ↔ AreSettings access_points.items timers }
         ensures value { IfOk result (λ config.
-            config ≡ settings_of own peer access_points.items pool timers) }
+            config ≡ settings_of own peer access_points.items
+            (record { v4 = pool; v6 = no_networks }) timers) }
         ensures fault { IfErr result (λ f. f ≡ OutOfRange) }
     {
         let are_few = access_points.len() <= MOST_ACCESS_POINTS;
@@ -90,9 +92,25 @@ impl Config {
             own,
             peer,
             access_points,
-            pool,
+            pools: Pools {
+                v4: pool,
+                v6: Networks::none(),
+            },
             timers,
         })
+    }
+
+    /// The same settings, with so many IPv6 addresses to give, each in a network of its own: `start`, and its last eight
+    /// octets in each of the networks after it. They take the place of those before. `OutOfRange` for more than 65,536,
+    /// and where they go past the last network. Allocates nothing.
+    pub fn with_pool6(mut self, start: [u8; 16], count: u32) -> Result<Config, ValueFault>
+        ensures ok { IsOk result ↔ AreNetworks (record { start = start; count = count }) }
+        ensures value { IfOk result (λ config.
+            config ≡ with_networks (record { start = start; count = count }) self) }
+        ensures fault { IfErr result (λ f. f ≡ OutOfRange) }
+    {
+        self.pools.v6 = Networks::try_new(start, count)?;
+        Ok(self)
     }
 
     /// A copy of the settings. `Memory` if the allocation of the list of access points was refused.
@@ -104,7 +122,7 @@ impl Config {
             own: self.own,
             peer: self.peer,
             access_points,
-            pool: self.pool,
+            pools: self.pools,
             timers: self.timers,
         })
     }
@@ -140,11 +158,10 @@ impl Config {
     }
 
     /// The addresses that the packet gateway gives to sessions.
-    pub fn pool(&self) -> Pool
-        ensures start { result.start ≡ self.now.config.pool_start }
-        ensures count { result.count ≡ self.now.config.pool_count }
+    pub fn pools(&self) -> Pools
+        ensures { result ≡ self.now.config.pools }
     {
-        self.pool
+        self.pools
     }
 
     /// The timers, which are in their ranges.

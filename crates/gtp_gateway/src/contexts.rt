@@ -3,16 +3,15 @@
 
 ghost use Rattle.gtp_ie.specs.Form.{number_of};
 ghost use Rattle.gtp_ie.specs.declared.form.Form.TheVariants as forms;
-ghost use Rattle.std.specs.Prelude.{◌≡◌, ◌↔◌, IsTrue, List, is_some, option_map};
+ghost use Rattle.std.specs.Prelude.{◌≡◌, ◌↔◌, IsTrue, List, is_some};
 ghost use Rattle.gtp_ie.specs.Element.{Element};
 ghost use Rattle.gtp_ie.specs.Value.{Value};
 ghost use Rattle.gtp_v2.specs.Viewed.{optional_at};
-ghost use Rattle.gtp_machine.specs.Element.{IsAccepting, ipv4_of, teid_in};
-ghost use Rattle.gtp_machine.specs.Decoded.{address_of, number_from};
+ghost use Rattle.gtp_machine.specs.Element.{IsAccepting, address_of, teid_in};
 ghost use Rattle.gtp_gateway.specs.Contexts.{AreContexts, ReadsContext, ReadsOnly};
 
 use gtp_v2::{ContextView, DatagramView, EbiValue};
-use gtp_values::{Below, Cause, FTeid, Paa};
+use gtp_values::{Addr, Below, Cause, FTeid, Paa};
 
 /// What a bearer context of a response says.
 #[derive(Clone, Copy)]
@@ -43,20 +42,13 @@ pub fn teid_of(end: Option<FTeid>) -> Option<u32>
     }
 }
 
-/// The number that the octets of an IPv4 address stand for.
-fn number_of_address(octets: [u8; 4]) -> u32
-    ensures { result ≡ number_from 0 octets }
+/// The address of a PDN Address Allocation (TS 29.274 8.14) that may be absent.
+pub fn address_of(allocation: Option<Paa>) -> Option<Addr>
+    ensures { result ≡ address_of allocation }
 {
-    u32::from_be_bytes(octets)
-}
-
-/// The IPv4 address of a PDN Address Allocation (TS 29.274 8.14), as a number.
-pub fn ipv4_in(address: Option<Paa>) -> Option<u32>
-    ensures { result ≡ ipv4_of (option_map address_of address) }
-{
-    match address {
-        Some(Paa::V4(octets)) => Some(number_of_address(octets)),
-        _ => None,
+    match allocation {
+        Some(allocation) => allocation.address(),
+        None => None,
     }
 }
 

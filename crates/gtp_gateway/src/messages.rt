@@ -2,10 +2,9 @@
 
 ghost use Rattle.std.specs.Prelude.{◌≡◌, ◌∷◌, false, [], Some, None, IfOk};
 ghost use Rattle.gtp_machine.specs.Message.{Echo_request, Echo_response, Create_session_request, Create_session_response, Delete_session_request, Delete_session_response, Create_bearer_request, Delete_bearer_request};
-ghost use Rattle.gtp_machine.specs.Decoded.{address_of};
-ghost use Rattle.gtp_machine.specs.Element.{Ipv4, cause_of, cause_at, tunnel_end};
+ghost use Rattle.gtp_machine.specs.Command.{asked_allocation};
+ghost use Rattle.gtp_machine.specs.Element.{cause_of, cause_at, tunnel_end};
 ghost use Rattle.gtp_machine.specs.Packet.{session_cause};
-ghost use Rattle.gtp_machine.specs.Spelling.{paa_of};
 ghost use Rattle.gtp_gateway.specs.SessionAsked.{granted};
 ghost use Rattle.gtp_machine.specs.Answer.{refusing};
 ghost use Rattle.gtp_machine.specs.Input.{Of_create_session, Of_delete_session, Of_create_bearer, Of_delete_bearer};
@@ -24,8 +23,13 @@ use gtp_v2::{
     DeleteSessionRequest, DeleteSessionResponse, EbiValue, EchoRequest, EchoResponse, Listed,
     Message, Paa, PdnType, Recovery, SessionRequestContext, SessionResponseContext,
 };
-use gtp_values::{Below, Cause, Counter, Ebi, FTeid, Ip, Memory, Offending, Qos, Seq, Teid, Tft};
+use gtp_values::{
+    Addr, Below, Cause, Counter, Ebi, FTeid, Ip, Memory, Offending, Qos, Seq, Teid, Tft,
+};
 use std::alloc::Global;
+
+/// The length in bits of the prefix of an IPv6 address that is given (TS 23.401 5.3.1.1).
+const PREFIX: u8 = 64;
 
 /// An Echo Request (TS 29.274 7.1.1).
 #[tactic(auto, unfolding(gtp_machine::specs::Decoded::row_in, gtp_machine::specs::Decoded::list_in, gtp_machine::specs::Decoded::contexts_in))]
@@ -338,6 +342,25 @@ pub fn bearer_request(
     })
 }
 
+/// The PDN Address Allocation (TS 29.274 8.14) that is asked for, with no address yet: of the PDN type, and
+/// as of version 4 for a type that is none of the three.
+fn asked_allocation(pdn: PdnType) -> Paa
+    ensures { result ≡ asked_allocation pdn.0 }
+{
+    match pdn.0.number() {
+        2 => Paa::V6 {
+            prefix: 0,
+            address: [0; 16],
+        },
+        3 => Paa::V4V6 {
+            prefix: 0,
+            v6: [0; 16],
+            v4: [0; 4],
+        },
+        _ => Paa::V4([0; 4]),
+    }
+}
+
 /// A Create Session Request (TS 29.274 7.2.1), with the serving gateway's F-TEIDs.
 #[tactic(auto, unfolding(gtp_machine::specs::Decoded::row_in, gtp_machine::specs::Decoded::list_in, gtp_machine::specs::Decoded::contexts_in))]
 pub fn session_request(
@@ -370,7 +393,7 @@ pub fn session_request(
             apn: spec.subscriber.access_point,
             selection: Some(spec.selection),
             pdn_type: spec.pdn,
-            paa: Some(Paa::V4([0; 4])),
+            paa: Some(asked_allocation(spec.pdn)),
             ambr: Some(spec.ambr),
             contexts: Listed::of(contexts),
             recovery: Some(Recovery(counter)),
@@ -379,19 +402,17 @@ pub fn session_request(
 }
 
 /// The number of the answer to a session that is granted: 18 (new PDN type due to network preference)
-/// where IPv4v6 was asked for, else 16 (TS 29.274 8.4).
-pub fn session_cause(pdn: PdnType) -> u8
-    ensures { result ≡ session_cause pdn.0 }
+/// where IPv4v6 was asked for and one version is given, else 16 (TS 29.274 8.4).
+pub fn session_cause(pdn: PdnType, address: Addr) -> u8
+    ensures { result ≡ session_cause pdn.0 address }
 {
-    if pdn.0.number() == 3 { 18 } else { 16 }
-}
-
-/// An IPv4 address that is a number, as a PDN Address Allocation (TS 29.274 8.14).
-fn paa_of(address: u32) -> Paa
-    ensures octets { result ≡ paa_of (Ipv4 address) }
-    ensures back { address_of result ≡ Ipv4 address }
-{
-    Paa::V4(address.to_be_bytes())
+    if pdn.0.number() != 3 {
+        return 16;
+    }
+    match (address.v4(), address.v6()) {
+        (Some(_), Some(_)) => 16,
+        _ => 18,
+    }
 }
 
 /// A Create Session Response (TS 29.274 7.2.2) that grants a session, with the packet gateway's F-TEIDs.
@@ -401,7 +422,7 @@ pub fn session_response(
     request: &SessionRequest,
     control: FTeid,
     user: FTeid,
-    address: u32,
+    address: Addr,
     counter: Counter,
 ) -> Result<Message, Memory>
     ensures says { IfOk result (λ message. control_message message
@@ -421,9 +442,9 @@ pub fn session_response(
         seq: request.seq,
         priority: None,
         body: Body::CreateSessionResponse(CreateSessionResponse {
-            cause: plain_cause(session_cause(request.pdn)),
+            cause: plain_cause(session_cause(request.pdn, address)),
             control: Some(control),
-            paa: Some(paa_of(address)),
+            paa: Some(address.allocated(PREFIX)),
             ambr: request.ambr,
             contexts: Listed::of(contexts),
             recovery: Some(Recovery(counter)),

@@ -28,7 +28,8 @@ pub struct SessionSpec {
     pub rat: Rat,
     /// How the access point was selected (8.58).
     pub selection: Selection,
-    /// The PDN type (8.34): 1 is IPv4; 3, IPv4v6, is answered with IPv4 and cause 18; others are refused with cause 83.
+    /// The PDN type (8.34): 1 is IPv4, 2 IPv6, and 3 both, of which one may be given, with cause 18. Others are refused with
+    /// cause 83, and so is 2 where the packet gateway has no IPv6 addresses.
     pub pdn: PdnType,
     /// The aggregate maximum bit rate, in kilobits a second (8.7).
     pub ambr: Ambr,

@@ -7,7 +7,8 @@ ghost use Rattle.gtp_values.specs.declared.counter.Counter.{Counter as AnyCounte
 ghost use Rattle.gtp_gateway.specs.Change.{changed_by};
 ghost use Rattle.gtp_gateway.specs.Choosing.{MakesLowestSession};
 ghost use Rattle.gtp_gateway.specs.Grant.{refused_with, session_of, bearer_of, change_of, grants};
-ghost use Rattle.gtp_gateway.specs.Grant.{JudgesRoom, JudgesSession, CanGrant, IsIpv4};
+ghost use Rattle.gtp_gateway.specs.Grant.{JudgesRoom, JudgesSession, CanGrant};
+ghost use Rattle.gtp_machine.specs.Choice.{asked_by, IsServed};
 ghost use Rattle.gtp_machine.specs.Message as messages;
 ghost use Rattle.gtp_machine.specs.Node.{Arrival};
 ghost use Rattle.gtp_machine.specs.Packet.{SessionAsked};
@@ -33,9 +34,9 @@ use crate::messages::{
 use crate::parts::Parts;
 use crate::session_request::SessionRequest;
 use gtp_machine::DropReason;
-use gtp_tables::{Bearer, Kind, Session, State, Subscriber};
+use gtp_tables::{Asked, Bearer, Kind, Session, State, Subscriber};
 use gtp_v2::{Message, PdnType};
-use gtp_values::{Apn, Below, Cause, Ebi, Endpoint, Memory};
+use gtp_values::{Addr, Apn, Below, Cause, Ebi, Endpoint, Memory};
 use std::alloc::Global;
 
 /// What a Create Session Request comes to.
@@ -50,8 +51,7 @@ pub enum SessionVerdict {
 #[derive(Clone, Copy)]
 pub struct Grant {
     pub drawn: TwoDrawn,
-    /// The IPv4 address, as a number.
-    pub address: u32,
+    pub address: Addr,
     /// The identity of the default bearer.
     pub identity: Ebi,
 }
@@ -63,11 +63,25 @@ fn refused(cause: u8) -> SessionVerdict
     SessionVerdict::Refused(plain_cause(cause))
 }
 
-/// Whether an IPv4 address is asked for, alone or with one of IPv6.
-fn is_ipv4(pdn: PdnType) -> bool
-    ensures { IsTrue result ↔ IsIpv4 pdn.0 }
+/// Which versions of an address a PDN type (TS 29.274 8.34) asks for.
+fn asked_by(pdn: PdnType) -> Asked
+    ensures { result ≡ asked_by pdn.0 }
 {
-    matches!(pdn.0.number(), 1 | 3)
+    match pdn.0.number() {
+        1 => Asked {
+            v4: true,
+            v6: false,
+        },
+        2 => Asked {
+            v4: false,
+            v6: true,
+        },
+        3 => Asked { v4: true, v6: true },
+        _ => Asked {
+            v4: false,
+            v6: false,
+        },
+    }
 }
 
 /// The session that is granted, active at once.
@@ -109,11 +123,23 @@ impl Parts {
         self.config.access_points().contains(access_point)
     }
 
-    /// Whether there is room for a session with this identity, at a gateway that has heard this
-    /// counter. Nothing changes.
-    fn judge_room(&self, identity: Ebi, heard: Heard) -> SessionVerdict
+    /// Whether sessions of this PDN type are served: those of IPv6 alone where there are addresses for
+    /// them.
+    fn serves_type(&self, pdn: PdnType) -> bool
+        ensures { IsTrue result ↔ IsServed (node_of self.now).config pdn.0 }
+    {
+        match pdn.0.number() {
+            1 | 3 => true,
+            2 => self.config.pools().v6.count() > 0,
+            _ => false,
+        }
+    }
+
+    /// Whether there is room for a session with this identity and an address of this PDN type, at a
+    /// gateway that has heard this counter. Nothing changes.
+    fn judge_room(&self, identity: Ebi, pdn: PdnType, heard: Heard) -> SessionVerdict
         requires whole { IsWhole (station_of self.now) }
-        ensures { JudgesRoom identity heard (node_of self.now) result }
+        ensures { JudgesRoom identity pdn.0 heard (node_of self.now) result }
     {
         let view = self.view_after(heard);
         let Some(drawn) = self.draw_two() else {
@@ -122,7 +148,7 @@ impl Parts {
         if view.is_full() {
             return refused(73);
         }
-        match view.lowest_free_address(self.config.pool()) {
+        match view.lowest_free_address(&self.config.pools(), asked_by(pdn)) {
             Ok(address) => SessionVerdict::Granted(Grant {
                 drawn,
                 address,
@@ -147,10 +173,10 @@ impl Parts {
         if !self.serves(&request.access_point) {
             return refused(78);
         }
-        if !is_ipv4(request.pdn) {
+        if !self.serves_type(request.pdn) {
             return refused(83);
         }
-        self.judge_room(identity, heard)
+        self.judge_room(identity, request.pdn, heard)
     }
 
     /// A session is made with its default bearer, once a counter was heard: `Memory` where an
@@ -271,7 +297,7 @@ impl Parts {
         let ready = self.ready_answer(alloc, octets, &message)?;
         self.make_granted(request, grant, heard)?;
         let out = self.give(source, ready);
-        Ok(ControlStep::answered(out, session_cause(request.pdn), true))
+        Ok(ControlStep::answered(out, session_cause(request.pdn, grant.address), true))
     }
 
     /// Takes a Create Session Request, with the counter that it brought.

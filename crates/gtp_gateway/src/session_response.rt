@@ -15,7 +15,7 @@ ghost use Rattle.gtp_gateway.specs.Procedure.{procedure_at};
 ghost use Rattle.gtp_gateway.specs.SessionAnswer.{ReadsSession, FitsSessionOf, IsAskedSession, IsDescribed, SaysSession, JudgesSession, TakesSession};
 ghost use Rattle.gtp_gateway.specs.Station.{IsWhole, station_of};
 
-use crate::contexts::{ResponseContext, accepts, ipv4_in, only_context_in, teid_of};
+use crate::contexts::{ResponseContext, accepts, address_of, only_context_in, teid_of};
 use crate::control_step::ControlStep;
 use crate::hearing::Heard;
 use crate::parts::Parts;
@@ -25,7 +25,7 @@ use crate::settle::Verdict;
 use gtp_machine::DropReason;
 use gtp_tables::{Bearer, Session, State, View};
 use gtp_v2::DatagramView;
-use gtp_values::{Below, Memory, Teid};
+use gtp_values::{Addr, Below, Memory, Teid};
 
 /// What a Create Session Response says.
 #[derive(Clone, Copy)]
@@ -33,8 +33,8 @@ pub struct SessionResponse {
     pub response: Response,
     /// The TEID of the packet gateway's F-TEID for the control plane.
     pub control: Option<u32>,
-    /// The IPv4 address that the session is given, as a number.
-    pub address: Option<u32>,
+    /// The address that the session is given.
+    pub address: Option<Addr>,
     /// The bearer context, where it is the only one.
     pub context: Option<ResponseContext>,
 }
@@ -51,7 +51,7 @@ pub struct AskedSession {
 pub struct DescribedSession {
     pub session: Session,
     pub context: ResponseContext,
-    pub address: u32,
+    pub address: Addr,
 }
 
 /// What a Create Session Response says.
@@ -63,7 +63,7 @@ pub fn session_response_in(view: &DatagramView<'_>) -> SessionResponse
     SessionResponse {
         response: response_in(view),
         control: teid_of(view.value(1)),
-        address: ipv4_in(view.value(0)),
+        address: address_of(view.value(0)),
         context: only_context_in(view),
     }
 }
@@ -90,7 +90,7 @@ fn is_default(identity: Below<16>, session: &Session) -> bool
 }
 
 /// What an accepting response describes: one bearer context, of the session's default identity, and
-/// an IPv4 address.
+/// an address.
 fn described(view: &View<'_>, session: Teid, answer: &SessionResponse) -> Option<DescribedSession>
     ensures some { IfSome result (IsDescribed view.now.sessions session.0 answer.now) }
     ensures none { IfNone result ((d : _)

@@ -1,10 +1,13 @@
 -- What a gateway is told to do; the refusals stand in their order.
-use Rattle.std.specs.Prelude.{◌≡◌, ◌≢◌, ℕ, ◌≤◌, List, [], ◌∷◌, Option, Some, None, false, length}
+use Rattle.std.specs.Prelude.{◌≡◌, ◌≢◌, ℕ, ◌≤◌, ◌==◌, if◌then◌else◌, List, [], ◌∷◌, Option, Some, None, false, length}
+use Rattle.std.proofs.Math.ListN.{replicate}
 use Rattle.std.specs.FinMap.{insert}
+use Rattle.gtp_values.specs.declared.paa.Paa.{Paa}
+use Rattle.gtp_values.specs.declared.paa.Paa.TheVariants as paas
 use Rattle.gtp_values.specs.declared.qos.Qos.{Qos}
 use Rattle.gtp_machine.specs.Ordered.{Unless}
 use Rattle.gtp_machine.specs.Config.{control_end, user_end}
-use Rattle.gtp_machine.specs.Element.{Ipv4, tunnel_end}
+use Rattle.gtp_machine.specs.Element.{tunnel_end}
 use Rattle.gtp_machine.specs.Message.{CreateSessionRequest, CreateBearerRequest, Echo_request, Create_session_request, Delete_session_request, Create_bearer_request, Delete_bearer_request, Packet_data, End_marker, subscriber_of}
 use Rattle.gtp_machine.specs.Node.{Role, Serving, Packet, Pending, Active, Closing, Session, Default, Dedicated, Bearer, PendingRequest, Node, written}
 use Rattle.gtp_machine.specs.Input.{Came_to, Specification, Command, Create_session, Delete_session, Create_bearer, Delete_bearer, Release_session, Mark_end, Send_echo, Send_user, Effect, Begun, GoneOut, entry_for, says, refused, NoSuchContext, NotActive, WrongRole, SessionsFull, TeidsUsed, PendingFull, BearerEnded, PacketTooLong}
@@ -15,6 +18,10 @@ use Rattle.gtp_machine.specs.User.{ended_bearer}
 -- a request is sent to the peer, and waits for its answer
 abbrev pub asks : Node → ℕ → PendingRequest → Option ℕ → Node → Effect
 asks old number pending teid new = record { out = says (control_end old.config.peer.control) pending.request; outcome = Came_to (Begun teid); node = record new { pending = insert old.pending number pending } }
+
+-- The PDN Address Allocation (8.14) that is asked for, with no address yet: of the PDN type, and as of version 4 for a type that is none of the three.
+abbrev pub asked_allocation : ℕ → Paa
+asked_allocation pdn = if pdn == 2 then paas.V6 0 (replicate 16 0) else (if pdn == 3 then paas.V4V6 0 (replicate 16 0) (replicate 4 0) else paas.V4 (replicate 4 0))
 
 -- the Create Session Request for a specification, with these TEIDs and this number
 abbrev pub session_request : Node → Specification → ℕ → ℕ → ℕ → CreateSessionRequest
@@ -29,7 +36,7 @@ session_request node spec control user number =
       access_point = spec.subscriber.access_point;
       selection = Some spec.selection;
       pdn = spec.pdn;
-      address = Some (Ipv4 0);
+      address = Some (asked_allocation spec.pdn);
       ambr = Some spec.ambr;
       context = record { identity = spec.subscriber.identity; qos = spec.qos; user = tunnel_end 4 user node.config.own.user };
       further = [];

@@ -4,19 +4,19 @@ use Rattle.gtp_values.specs.declared.address.Ip.{Ip}
 use Rattle.gtp_values.specs.declared.address.Endpoint.{Endpoint}
 use Rattle.gtp_values.specs.declared.plane.Plane.{Plane}
 use Rattle.gtp_values.specs.declared.plane.Plane.TheVariants.{Control, User}
+use Rattle.gtp_tables.specs.declared.pool.Pools.{Pools}
 
 -- the address of each plane
 pub record Addresses : Type 0 where
   pub control : Ip
   pub user : Ip
 
--- the two ends of the path, the access points, and the pool of IPv4 addresses
+-- the two ends of the path, the access points, and the pools of addresses
 pub record Config : Type 0 where
   pub own : Addresses
   pub peer : Addresses
   pub access_points : List (List ℕ)
-  pub pool_start : ℕ  -- the first address, as a number
-  pub pool_count : ℕ
+  pub pools : Pools
 
 -- where control requests go: UDP port 2123 (TS 29.274, 4.2.1.1)
 abbrev pub control_end : Ip → Endpoint

@@ -1,6 +1,6 @@
 -- What a control message reads as, by its type (TS 29.274, 6.1) and the rows of its table. What octets spell has a value in each
 -- row that its table needs; in lists that no octets spell, a number that is not there is 0, and so on.
-use Rattle.std.specs.Prelude.{ℕ, zero, suc, ◌+◌, ◌*◌, ◌==◌, ◌&&◌, List, [], ◌∷◌, map, Option, Some, None, false, unwrap_or, if◌then◌else◌}
+use Rattle.std.specs.Prelude.{ℕ, zero, suc, ◌==◌, ◌&&◌, List, [], ◌∷◌, map, Option, Some, None, false, unwrap_or, if◌then◌else◌}
 use Rattle.gtp_values.specs.Plmn.{Network}
 use Rattle.gtp_values.specs.TunnelEnd.{TunnelEnd}
 use Rattle.gtp_values.specs.declared.cause.Cause.{Cause}
@@ -8,7 +8,6 @@ use Rattle.gtp_values.specs.declared.qos.Ambr.{Ambr}
 use Rattle.gtp_values.specs.declared.qos.Qos.{Qos}
 use Rattle.gtp_values.specs.declared.qos.Rates.{Rates}
 use Rattle.gtp_values.specs.declared.paa.Paa.{Paa}
-use Rattle.gtp_values.specs.declared.paa.Paa.TheVariants as paas
 use Rattle.gtp_ie.specs.Form.{number_of as number_of_form, bearer_context}
 use Rattle.gtp_ie.specs.declared.form.Form.{Form}
 use Rattle.gtp_ie.specs.declared.form.Form.TheVariants as forms
@@ -27,21 +26,9 @@ use Rattle.gtp_v2.specs.declared.table.Row.{Row}
 use Rattle.gtp_v2.specs.Table.{kind_of, instance_of, Field, Plain, Groups, Table}
 use Rattle.gtp_v2.specs.Viewed.{values_by, list_by, groups_by}
 use Rattle.gtp_v2.specs.Message.{Content, Fields, Raw, MessageValue}
-use Rattle.gtp_machine.specs.Element.{PdnAddress, Ipv4, Other_address, cause_of}
+use Rattle.gtp_machine.specs.Element.{cause_of}
 use Rattle.gtp_machine.specs.Message.{RequestedBearer, CreatedBearer, WantedBearer, GivenBearer, RemovedBearer, Message, Echo_request, Echo_response, Create_session_request, Create_session_response, Delete_session_request, Delete_session_response, Create_bearer_request, Create_bearer_response, Delete_bearer_request, Delete_bearer_response, Other_control}
 use Rattle.gtp_machine.specs.Node.{written}
-
--- the number that octets stand for, the highest first, after what stands before them
-abbrev pub number_from : ℕ → List ℕ → ℕ
-number_from before [] = before
-number_from before (octet ∷ octets) = number_from (256 * before + octet) octets
-
--- a PDN Address Allocation (8.14): an IPv4 address as a number, another one as it is
-abbrev pub address_of : Paa → PdnAddress
-address_of (paas.V4 octets) = Ipv4 (number_from 0 octets)
-address_of (paas.V6 prefix octets) = Other_address (paas.V6 prefix octets)
-address_of (paas.V4V6 prefix v6 v4) = Other_address (paas.V4V6 prefix v6 v4)
-address_of (paas.Other number) = Other_address (paas.Other number)
 
 -- the number that a value is
 abbrev pub number_of : Value → Option ℕ
@@ -87,8 +74,8 @@ network_in (OfPlmn network) = Some network
 network_in _ = None
 
 -- the PDN Address Allocation that a value is
-abbrev pub paa_in : Value → Option PdnAddress
-paa_in (OfPaa paa) = Some (address_of paa)
+abbrev pub paa_in : Value → Option Paa
+paa_in (OfPaa paa) = Some paa
 paa_in _ = None
 
 -- what a row has, where it has a value

@@ -5,18 +5,14 @@ use Rattle.gtp_values.specs.declared.address.Ip.{Ip}
 use Rattle.gtp_values.specs.declared.address.Ip.TheVariants.{V4, V6}
 use Rattle.gtp_values.specs.declared.cause.Cause.{Cause}
 use Rattle.gtp_values.specs.declared.paa.Paa.{Paa}
+use Rattle.gtp_values.specs.PdnAddress.{address_in}
+pub use Rattle.gtp_values.specs.PdnAddress.{PdnAddress}
 pub use Rattle.gtp_tables.specs.declared.context.Subscriber.{Subscriber}
 
--- a PDN Address Allocation (8.14): an IPv4 address as a number, or one of another type, at which no gateway looks
-pub data PdnAddress : Type 0 where
-  Ipv4 : ℕ → PdnAddress
-  Other_address : Paa → PdnAddress
-
--- the IPv4 address, where there is one
-abbrev pub ipv4_of : Option PdnAddress → Option ℕ
-ipv4_of None = None
-ipv4_of (Some (Ipv4 address)) = Some address
-ipv4_of (Some (Other_address paa)) = None
+-- the address that a PDN Address Allocation (8.14) says, where there is one that says any
+abbrev pub address_of : Option Paa → Option PdnAddress
+address_of None = None
+address_of (Some paa) = address_in paa
 
 -- a Cause (8.4) accepts where its value is 16 to 63
 pub record IsAccepting (cause : Cause) : Type 0 where

@@ -1,5 +1,5 @@
 -- The exchange that makes a session (TS 29.274, 7.2.1 and 7.2.2), on a path that brings each datagram at once.
-use Rattle.std.specs.Prelude.{◌≡◌, ◌⊎◌, ℕ, ◌+◌, ◌≤◌, ◌<◌, ◌^◌, List, [], ◌∷◌, ◌++◌, Some, length}
+use Rattle.std.specs.Prelude.{◌≡◌, ◌⊎◌, ℕ, ◌+◌, ◌≤◌, ◌<◌, ◌^◌, List, All, [], ◌∷◌, ◌++◌, Some, length}
 use Rattle.std.specs.FinMap.{get}
 use Rattle.gtp_values.specs.Address.{IsIp}
 use Rattle.gtp_values.specs.Apn.{IsApn}
@@ -9,12 +9,15 @@ use Rattle.gtp_values.specs.Plmn.{IsNetwork}
 use Rattle.gtp_values.specs.declared.qos.Ambr.{Ambr}
 use Rattle.gtp_values.specs.declared.qos.Qos.{Qos}
 use Rattle.gtp_ie.specs.Value.{AreRates}
-use Rattle.gtp_tables.specs.Pool.{IsPool}
+use Rattle.gtp_tables.specs.Pool.{IsPool, AreNetworks}
 use Rattle.gtp_machine.specs.Config.{Config}
+use Rattle.gtp_machine.specs.Element.{PdnAddress}
 use Rattle.gtp_machine.specs.Message.{CreateSessionResponse, Message, Create_session_response, plane_of}
 use Rattle.gtp_machine.specs.Node.{Role, Serving, Packet, Session, Bearer, Default}
 use Rattle.gtp_machine.specs.Input.{Entry, Specification, Create_session, Send_user, Begun, Answered, Opened, Accepted}
-use Rattle.gtp_machine.specs.Choice.{HasDraws, HasFreeAddress, IsIdentity, HasSessionRoom, HasPendingRoom, HasHeldRoom}
+use Rattle.gtp_machine.specs.Choice.{HasDraws, IsGiven, CanGive, IsIdentity, HasSessionRoom, HasPendingRoom, HasHeldRoom}
+use Rattle.gtp_machine.specs.Packet.{session_cause}
+use Rattle.gtp_machine.specs.Recovery.{heard_by}
 use Rattle.gtp_machine.specs.Spelling.{ReadsAs, spelled, IsSendable}
 use Rattle.gtp_machine.specs.World.{World, Event, Does, Deliver, Happens, Run, EventOutcome, Came_to, Note, HasSent, signed, other, start}
 use Rattle.gtp_machine.specs.Laws.{EachSendable}
@@ -25,11 +28,13 @@ pub record IsOnePath (serving packet : Config) : Type 0 where
   pub there : serving.peer ≡ packet.own
   pub back : packet.peer ≡ serving.own
 
--- the gateway's own addresses are addresses, and its pool is a pool
+-- the gateway's own addresses are addresses, and its pools are pools
 pub record IsConfigured (config : Config) : Type 0 where
   pub control : IsIp config.own.control
   pub user : IsIp config.own.user
-  pub pool : IsPool (record { start = config.pool_start; count = config.pool_count })
+  pub v4 : IsPool config.pools.v4
+  pub v6 : AreNetworks config.pools.v6
+  pub octets : All (λ octet. octet < 256) config.pools.v6.start
 
 -- bit rates that have room in an AMBR (8.7)
 pub record IsAmbr (ambr : Ambr) : Type 0 where
@@ -61,14 +66,13 @@ AllRead w = (role : Role) (m : Message) → HasSent w.history role m → ReadsAs
 pub record CanExchange (w : World) (spec : Specification) : Type 0 where
   pub identity : IsIdentity spec.subscriber.identity
   pub configured : Among spec.subscriber.access_point w.packet.node.config.access_points
-  pub pdn : (spec.pdn ≡ 1) ⊎ (spec.pdn ≡ 3)
   pub serving_room : HasSessionRoom w.serving.node
   pub packet_room : HasSessionRoom w.packet.node
   pub serving_draws : HasDraws w.serving.node 2
   pub packet_draws : HasDraws w.packet.node 2
   pub pending_room : HasPendingRoom w.serving.node
   pub held_room : HasHeldRoom w.packet.node
-  pub address : HasFreeAddress w.packet.node
+  pub give : CanGive w.packet.node spec.pdn
 
 -- the latest event came to this
 pub record CameTo (w : World) (outcome : EventOutcome) : Type 0 where
@@ -118,7 +122,8 @@ pub record IsNewIn (w opened : World) (spec : Specification) (made : IsMade open
   pub bearer : (b : Bearer) → get w.serving.node.bearers made.bearer ≡ Some b → ⊥
   pub bearer_there : (b : Bearer) → get w.packet.node.bearers made.bearer_there ≡ Some b → ⊥
 
--- the three events come to these outcomes, and a new session is made: the one that was begun; the answer has cause 16, or 18 for type 3 (8.4)
+-- the three events come to these outcomes, and a new session is made: the one that was begun. Its address is one that the packet gateway may give, and the answer has
+-- the cause that goes with it (8.4): 18 where both versions were asked for and one is given, else 16
 pub record Exchanged (spec : Specification) (w begun answered opened : World) : Type 0 where
   pub made : IsMade opened spec
   pub new : IsNewIn w opened spec made
@@ -128,8 +133,10 @@ pub record Exchanged (spec : Specification) (w begun answered opened : World) : 
   pub answer : CreateSessionResponse
   pub told : answered.history ≡ begun.history ++ signed Packet (Create_session_response answer ∷ [])
   pub says : answer.cause.value ≡ cause
-  pub one_version : spec.pdn ≡ 1 → cause ≡ 16
-  pub both_versions : spec.pdn ≡ 3 → cause ≡ 18
+  pub address : PdnAddress
+  pub given : IsGiven (heard_by w.packet.node w.serving.node.counter) spec.pdn address  -- by the rules, once the request's counter is heard
+  pub has : made.at_packet.address ≡ Some address
+  pub for_address : cause ≡ session_cause spec.pdn address
   pub third : CameTo opened (Came_to Opened)
 
 -- The three events of an exchange for the specification, on one path, where nothing stands in the way and all that is to be written has room.
@@ -156,9 +163,9 @@ ExchangeSendable =
 abbrev pub SendableRead : Type 0
 SendableRead = (w : World) → EachSendable w → AllRead w
 
--- An exchange for a session of this type, right after a start: two configurations, a specification and its three events, with all that `FairExchange` asks of them.
--- And each message that is sent in it can be sent.
-pub record AnExchange (pdn : ℕ) : Type 0 where
+-- An exchange for a session of this type, which is answered with this cause, right after a start: two configurations, a specification and its three events, with all
+-- that `FairExchange` asks of them. And each message that is sent in it can be sent.
+pub record AnExchange (pdn cause : ℕ) : Type 0 where
   pub serving : Config
   pub packet : Config
   pub serving_counter : ℕ
@@ -171,7 +178,11 @@ pub record AnExchange (pdn : ℕ) : Type 0 where
   pub is : IsExchange (start serving packet serving_counter packet_counter) begun answered opened spec
   pub sendable : EachSendable opened
   pub made : Exchanged spec (start serving packet serving_counter packet_counter) begun answered opened
+  pub answers : made.cause ≡ cause
 
--- There is such an exchange for each of the two types.
-abbrev pub ExchangesArePossible : Type 0
-ExchangesArePossible = (pdn : ℕ) → (pdn ≡ 1) ⊎ (pdn ≡ 3) → AnExchange pdn
+-- There is such an exchange for each of the three types, and for type 3 one of each cause.
+pub record ExchangesArePossible : Type 0 where
+  pub v4 : AnExchange 1 16
+  pub v6 : AnExchange 2 16
+  pub both : AnExchange 3 16
+  pub one_of_both : AnExchange 3 18

@@ -6,7 +6,7 @@ use Rattle.gtp_values.specs.declared.counter.Age.TheVariants.{Later}
 use Rattle.gtp_values.specs.FiniteMap.{FiniteMap, Among}
 use Rattle.gtp_machine.specs.Config.{Config, control_end}
 use Rattle.gtp_machine.specs.Message.{Plane, Control, User, first_created, created_identity, CreateSessionRequest, CreateSessionResponse, CreateBearerRequest, CreateBearerResponse, Message, Create_session_request, Create_session_response, Create_bearer_request, Create_bearer_response, Packet_data, End_marker, Error_indication, Owns, header_of, recovery_of, first_given, first_returned, first_identity}
-use Rattle.gtp_machine.specs.Element.{IsAccepting, Ipv4, teid_in}
+use Rattle.gtp_machine.specs.Element.{IsAccepting, PdnAddress, address_of, teid_in}
 use Rattle.gtp_machine.specs.Node.{Node, fresh_node, Arrival, Role, Serving, Packet, Pending, Active, Closing, Session, Bearer, Dedicated}
 use Rattle.gtp_machine.specs.Input.{Entry, Effect, Repeated, messages}
 use Rattle.gtp_machine.specs.Choice.{counter_of}
@@ -128,10 +128,10 @@ pub record GoesBackTo (first : World) (events : List Event) (last : World) (numb
 pub record IsMadeFor (node : Node) (request : CreateSessionRequest) (a : CreateSessionResponse) : Type 0 where
   pub control : ℕ
   pub user : ℕ
-  pub address : ℕ
+  pub address : PdnAddress
   pub names_control : teid_in a.control ≡ Some control
   pub names_user : first_created a.contexts ≡ Some user
-  pub names_address : a.address ≡ Some (Ipv4 address)
+  pub names_address : address_of a.address ≡ Some address
   pub names_identity : created_identity a.contexts ≡ Some request.context.identity
   pub session : get node.sessions control ≡ Some (made_session request address)
   pub bearer : get node.bearers user ≡ Some (made_bearer request control)

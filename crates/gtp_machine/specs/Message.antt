@@ -5,11 +5,12 @@ use Rattle.gtp_values.specs.Plmn.{Network}
 use Rattle.gtp_values.specs.TunnelEnd.{TunnelEnd}
 use Rattle.gtp_values.specs.declared.address.Ip.{Ip}
 use Rattle.gtp_values.specs.declared.cause.Cause.{Cause}
+use Rattle.gtp_values.specs.declared.paa.Paa.{Paa}
 use Rattle.gtp_values.specs.declared.qos.Ambr.{Ambr}
 use Rattle.gtp_values.specs.declared.qos.Qos.{Qos}
 pub use Rattle.gtp_values.specs.declared.plane.Plane.{Plane}
 pub use Rattle.gtp_values.specs.declared.plane.Plane.TheVariants.{Control, User}
-use Rattle.gtp_machine.specs.Element.{Subscriber, PdnAddress, teid_in}
+use Rattle.gtp_machine.specs.Element.{Subscriber, teid_in}
 
 -- Echo Request and Echo Response (7.1.1, 7.1.2)
 pub record Echo : Type 0 where
@@ -33,7 +34,7 @@ pub record CreateSessionRequest : Type 0 where
   pub access_point : List ℕ
   pub selection : Option ℕ
   pub pdn : ℕ  -- the PDN type
-  pub address : Option PdnAddress
+  pub address : Option Paa  -- the PDN Address Allocation (8.14)
   pub ambr : Option Ambr
   pub context : RequestedBearer  -- the first bearer context
   pub further : List RequestedBearer
@@ -53,7 +54,7 @@ pub record CreateSessionResponse : Type 0 where
   pub number : ℕ
   pub cause : Cause
   pub control : Option TunnelEnd  -- the sender's for the control plane
-  pub address : Option PdnAddress
+  pub address : Option Paa  -- the PDN Address Allocation (8.14)
   pub ambr : Option Ambr
   pub contexts : List CreatedBearer
   pub recovery : Option ℕ

@@ -1,38 +1,39 @@
 -- The control plane of the packet gateway.
-use Rattle.std.specs.Prelude.{◌≡◌, ◌≢◌, ◌⊎◌, ℕ, ◌==◌, [], ◌∷◌, Option, Some, None, Bool, true, false, if◌then◌else◌}
+use Rattle.std.specs.Prelude.{◌≡◌, ◌≢◌, ℕ, ◌==◌, ◌&&◌, not, [], ◌∷◌, Option, Some, None, is_some, Bool, true, false, if◌then◌else◌}
 use Rattle.std.specs.FinMap.{insert, remove}
 use Rattle.gtp_values.specs.declared.cause.Cause.{Cause}
+use Rattle.gtp_values.specs.PdnAddress.{allocation}
 use Rattle.gtp_machine.specs.Ordered.{Unless}
 use Rattle.gtp_values.specs.FiniteMap.{Among}
-use Rattle.gtp_machine.specs.Element.{IsAccepting, Ipv4, cause_of, cause_at, teid_in, tunnel_end}
+use Rattle.gtp_machine.specs.Element.{IsAccepting, PdnAddress, cause_of, cause_at, teid_in, tunnel_end}
 use Rattle.gtp_machine.specs.Message.{CreateSessionRequest, CreateSessionResponse, DeleteSessionRequest, CreateBearerRequest, GivenBearer, CreateBearerResponse, DeleteBearerRequest, DeleteBearerResponse, Message, Control, Echo_request, Echo_response, Create_session_request, Create_session_response, Delete_session_request, Delete_session_response, Create_bearer_request, Create_bearer_response, Delete_bearer_request, Delete_bearer_response, subscriber_of, first_given, first_identity}
 use Rattle.gtp_machine.specs.Node.{Active, Closing, Session, Bearer, Default, PendingRequest, Arrival, Node, written}
 use Rattle.gtp_machine.specs.Input.{Came_to, ControlReading, RequestKind, Of_create_session, Of_delete_session, Of_create_bearer, Of_delete_bearer, FaultyRequest, Effect, Opened, Closed, Clash, Rejected, nothing, dropped, undecodable, NoPending, Mismatch, Unexpected}
-use Rattle.gtp_machine.specs.Choice.{IsFree, HasDraws, IsFreeAddress, HasFreeAddress, IsIdentity, IsUnused, HasSessionRoom, HasSession, HasBearer, HasPending}
+use Rattle.gtp_machine.specs.Choice.{IsFree, HasDraws, IsGiven, CanGive, IsServed, IsIdentity, IsUnused, HasSessionRoom, HasSession, HasBearer, HasPending}
 use Rattle.gtp_machine.specs.Removal.{without_session}
 use Rattle.gtp_machine.specs.Response.{Named, finishing, EchoAnswered}
 use Rattle.gtp_machine.specs.Answer.{UnlessFull, answered, making, echoed, refusing, faulted, fault_number, TakesReading}
 
--- 18 (new PDN type due to network preference) where IPv4v6 was asked for, else 16
-abbrev pub session_cause : ℕ → ℕ
-session_cause pdn = if pdn == 3 then 18 else 16
+-- 18 (new PDN type due to network preference) where both versions were asked for and one is given, else 16 (8.4)
+abbrev pub session_cause : ℕ → PdnAddress → ℕ
+session_cause pdn address = if (pdn == 3) && not (is_some address.v4 && is_some address.v6) then 18 else 16
 
--- the answer that makes a session: any two free TEIDs and any free address
-abbrev pub session_response : Node → CreateSessionRequest → ℕ → ℕ → ℕ → CreateSessionResponse
+-- the answer that makes a session: any two free TEIDs and any free address, its part of version 6 under a prefix of 64 bits
+abbrev pub session_response : Node → CreateSessionRequest → ℕ → ℕ → PdnAddress → CreateSessionResponse
 session_response node q control user address =
     record {
       header = q.control.teid;
       number = q.number;
-      cause = cause_of (session_cause q.pdn);
+      cause = cause_of (session_cause q.pdn address);
       control = Some (tunnel_end 7 control node.config.own.control);
-      address = Some (Ipv4 address);
+      address = Some (allocation 64 address);
       ambr = q.ambr;
       contexts = record { identity = q.context.identity; cause = cause_of 16; user = Some (tunnel_end 5 user node.config.own.user); qos = Some q.context.qos; charging = Some user } ∷ [];
       recovery = Some node.counter;
     }
 
 -- a session of the packet gateway, active at once
-abbrev pub made_session : CreateSessionRequest → ℕ → Session
+abbrev pub made_session : CreateSessionRequest → PdnAddress → Session
 made_session q address = record { remote = Some q.control.teid; subscriber = subscriber_of q; address = Some address; state = Active }
 
 -- its default bearer
@@ -40,7 +41,7 @@ abbrev pub made_bearer : CreateSessionRequest → ℕ → Bearer
 made_bearer q control = record { remote = Some q.context.user.teid; session = control; identity = Some q.context.identity; kind = Default; state = Active; ended = false }
 
 -- two draws, and an active session with its default bearer
-abbrev pub session_made : Node → CreateSessionRequest → ℕ → ℕ → ℕ → Node
+abbrev pub session_made : Node → CreateSessionRequest → ℕ → ℕ → PdnAddress → Node
 session_made old q control user address =
     record old {
       drawn = user ∷ control ∷ old.drawn;
@@ -52,12 +53,12 @@ session_made old q control user address =
 pub record MakesSession (request : Arrival) (old : Node) (q : CreateSessionRequest) (e : Effect) : Type 0 where
   pub control : ℕ
   pub user : ℕ
-  pub address : ℕ
+  pub address : PdnAddress
   pub control_free : IsFree old control
   pub user_free : IsFree old user
   pub apart : control ≢ user
-  pub address_free : IsFreeAddress old address
-  pub gives : e ≡ making request (Create_session_response (session_response old q control user address)) (session_cause q.pdn) (session_made old q control user address)
+  pub given : IsGiven old q.pdn address
+  pub gives : e ≡ making request (Create_session_response (session_response old q control user address)) (session_cause q.pdn address) (session_made old q control user address)
 
 -- a refusal of a Create Session Request goes to the sender's control plane TEID
 abbrev pub session_refused : Arrival → CreateSessionRequest → Cause → Node → Effect
@@ -69,9 +70,9 @@ SessionJudged request q old e =
     Unless (q.further ≡ []) (e ≡ session_refused request q (cause_of 94) old) (λ one.
     Unless (IsIdentity q.context.identity) (e ≡ session_refused request q (cause_at 69 73 0) old) (λ identity.
     Unless (Among q.access_point old.config.access_points) (e ≡ session_refused request q (cause_of 78) old) (λ configured.
-    Unless ((q.pdn ≡ 1) ⊎ (q.pdn ≡ 3)) (e ≡ session_refused request q (cause_of 83) old) (λ pdn.
+    Unless (IsServed old.config q.pdn) (e ≡ session_refused request q (cause_of 83) old) (λ served.
     Unless (HasSessionRoom old × HasDraws old 2) (e ≡ session_refused request q (cause_of 73) old) (λ few.
-    Unless (HasFreeAddress old) (e ≡ session_refused request q (cause_of 84) old) (λ address.
+    Unless (CanGive old q.pdn) (e ≡ session_refused request q (cause_of 84) old) (λ can.
     MakesSession request old q e))))))
 
 -- A Create Session Request.

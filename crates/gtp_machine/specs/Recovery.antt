@@ -38,3 +38,17 @@ learned_by (Some known) counter = later_only (age_of known counter) counter
 abbrev pub Hears : (Node → Effect → Type 0) → Node → Option ℕ → Effect → Type 0
 Hears Takes old None e = Takes old e
 Hears Takes old (Some counter) e = (taken : Effect) × Weighs Takes old counter old.known taken × (e ≡ record taken { out = record taken.out { heard = Some counter; learned = learned_by old.known counter } })
+
+-- the gateway once it has heard a counter of this age
+abbrev pub heard_at_age : Node → ℕ → Age → Node
+heard_at_age node counter Same = node
+heard_at_age node counter Later = peer_restarted node counter
+heard_at_age node counter Earlier = node
+
+abbrev pub heard_from : Node → ℕ → Option ℕ → Node
+heard_from node counter None = record node { known = Some counter }
+heard_from node counter (Some known) = heard_at_age node counter (age_of known counter)
+
+-- the gateway once it has heard this counter
+abbrev pub heard_by : Node → ℕ → Node
+heard_by node counter = heard_from node counter node.known

@@ -2,7 +2,7 @@
 use Rattle.std.specs.Prelude.{◌≡◌, ◌≢◌, ℕ, ◌≤◌, ◌==◌, ◌&&◌, ◌||◌, List, [], ◌∷◌, Option, Some, None, Bool, true, false, length, if◌then◌else◌}
 use Rattle.std.specs.FinMap.{insert, remove}
 use Rattle.gtp_machine.specs.Ordered.{Unless}
-use Rattle.gtp_machine.specs.Element.{IsAccepting, Ipv4, cause_of, teid_in, tunnel_end}
+use Rattle.gtp_machine.specs.Element.{IsAccepting, PdnAddress, address_of, cause_of, teid_in, tunnel_end}
 use Rattle.gtp_machine.specs.Message.{CreateSessionRequest, CreatedBearer, CreateSessionResponse, DeleteSessionRequest, DeleteSessionResponse, CreateBearerRequest, CreateBearerResponse, DeleteBearerRequest, RemovedBearer, Message, Control, Echo_request, Echo_response, Create_session_request, Create_session_response, Delete_session_request, Delete_session_response, Create_bearer_request, Create_bearer_response, Delete_bearer_request, Delete_bearer_response, first_created}
 use Rattle.gtp_machine.specs.Node.{Pending, Active, Session, Bearer, Dedicated, PendingRequest, Arrival, Node, written}
 use Rattle.gtp_machine.specs.Input.{Came_to, ControlReading, RequestKind, Of_create_session, Of_delete_session, Of_create_bearer, Of_delete_bearer, FaultyRequest, Effect, Opened, Closed, Rejected, nothing, dropped, undecodable, NoPending, Mismatch, ContextNotActive, Unexpected}
@@ -20,17 +20,17 @@ pub record FitsSession (p : PendingRequest) (a : CreateSessionResponse) : Type 0
   pub about : p.session ≡ Some session
   pub named : Named p a.header a.cause
 
--- an accepting response has one bearer context, of the session's default identity, and an IPv4 address
+-- an accepting response has one bearer context, of the session's default identity, and an address
 pub record DescribesSession (old : Node) (session : ℕ) (a : CreateSessionResponse) : Type 0 where
   pub at : HasSession old session
   pub context : CreatedBearer
   pub alone : a.contexts ≡ context ∷ []
   pub default : context.identity ≡ at.session.subscriber.identity
-  pub address : ℕ
-  pub given : a.address ≡ Some (Ipv4 address)
+  pub address : PdnAddress
+  pub given : address_of a.address ≡ Some address
 
 -- the session, opened by the response
-abbrev pub opened_session : Session → CreateSessionResponse → ℕ → Session
+abbrev pub opened_session : Session → CreateSessionResponse → PdnAddress → Session
 opened_session s a address = record s { remote = teid_in a.control; address = Some address; state = Active }
 
 -- its default bearer
@@ -38,7 +38,7 @@ abbrev pub opened_bearer : Bearer → CreateSessionResponse → Bearer
 opened_bearer b a = record b { remote = first_created a.contexts; state = Active }
 
 -- The session and its default bearer are active, with their remotes and the address.
-pub record OpensSession (old : Node) (a : CreateSessionResponse) (q : CreateSessionRequest) (session : ℕ) (s : Session) (address : ℕ) (e : Effect) : Type 0 where
+pub record OpensSession (old : Node) (a : CreateSessionResponse) (q : CreateSessionRequest) (session : ℕ) (s : Session) (address : PdnAddress) (e : Effect) : Type 0 where
   pub default : HasBearer old q.context.user.teid
   pub gives : e ≡ record {
     out = nothing;

@@ -1,9 +1,6 @@
 -- The octets that a gateway sends for a message: the canonical encoding of what it says, field by field (TS 29.274, 5 to 8; TS 29.281, 5, 7 and 8).
-use Rattle.std.specs.Prelude.{◌≡◌, ℕ, ◌<◌, ◌^◌, List, [], ◌∷◌, All, map, Option, Some, None, option_map, option_to_list}
-use Rattle.gtp_values.specs.Numbers.{four}
+use Rattle.std.specs.Prelude.{◌≡◌, ℕ, ◌<◌, List, [], ◌∷◌, All, map, Option, Some, None, option_map, option_to_list}
 use Rattle.gtp_values.specs.declared.address.Endpoint.{Endpoint}
-use Rattle.gtp_values.specs.declared.paa.Paa.{Paa}
-use Rattle.gtp_values.specs.declared.paa.Paa.TheVariants as paas
 use Rattle.gtp_ie.specs.Value.{Value, OfImsi, OfCause, OfRecovery, OfApn, OfAmbr, OfEbi, OfPaa, OfQos, OfRat, OfPlmn, OfTft, OfFTeid, OfChargingId, OfPdnType, OfPti, OfSelection}
 use Rattle.gtp_v2.specs.EchoRequest.{echo_request}
 use Rattle.gtp_v2.specs.EchoResponse.{echo_response}
@@ -20,7 +17,6 @@ use Rattle.gtp_v2.specs.Message.{Fields, Raw, MessageValue}
 use Rattle.gtp_v2.specs.Encoding.{canonical_encoding, Meets}
 use Rattle.gtp_user.specs.Message as user_messages
 use Rattle.gtp_user.specs.Encoding as user_encodings
-use Rattle.gtp_machine.specs.Element.{PdnAddress, Ipv4, Other_address}
 use Rattle.gtp_machine.specs.Message.{RequestedBearer, CreatedBearer, WantedBearer, GivenBearer, RemovedBearer, Message, Echo_request, Echo_response, Create_session_request, Create_session_response, Delete_session_request, Delete_session_response, Create_bearer_request, Create_bearer_response, Delete_bearer_request, Delete_bearer_response, Other_control, Packet_data, End_marker, Error_indication, User_echo_request, User_echo_response, Supported_extensions, Other_user, Plane, Control, User, plane_of}
 use Rattle.gtp_machine.specs.Config.{Config, own_end}
 use Rattle.gtp_machine.specs.Input.{Control_message, User_message, Sending}
@@ -29,11 +25,6 @@ use Rattle.gtp_machine.specs.Reading.{ControlReads, UserReads}
 -- the value of a row that may be absent
 abbrev pub where_there : {X : Type 0} → (X → Value) → Option X → List Value
 where_there is value = option_to_list (option_map is value)
-
--- an address as a PDN Address Allocation (8.14)
-abbrev pub paa_of : PdnAddress → Paa
-paa_of (Ipv4 address) = paas.V4 (four address [])
-paa_of (Other_address paa) = paa
 
 -- the rows of a bearer context of a Create Session Request (table 7.2.1-2)
 abbrev pub requested_rows : RequestedBearer → List (List Value)
@@ -72,7 +63,7 @@ control_value (Create_session_request q) =
     ∷ Plain (OfApn q.access_point ∷ [])
     ∷ Plain (where_there OfSelection q.selection)
     ∷ Plain (OfPdnType q.pdn ∷ [])
-    ∷ Plain (where_there (λ a. OfPaa (paa_of a)) q.address)
+    ∷ Plain (where_there OfPaa q.address)
     ∷ Plain (where_there OfAmbr q.ambr)
     ∷ Groups (map requested_rows (q.context ∷ q.further))
     ∷ Plain (where_there OfRecovery q.recovery)
@@ -82,7 +73,7 @@ control_value (Create_session_response a) =
     typed create_session_response.kind (Some a.header) a.number (
     Plain (OfCause a.cause ∷ [])
     ∷ Plain (where_there OfFTeid a.control)
-    ∷ Plain (where_there (λ p. OfPaa (paa_of p)) a.address)
+    ∷ Plain (where_there OfPaa a.address)
     ∷ Plain (where_there OfAmbr a.ambr)
     ∷ Groups (map created_rows a.contexts)
     ∷ Plain (where_there OfRecovery a.recovery)
@@ -134,16 +125,8 @@ pub record Datagram : Type 0 where
 abbrev pub datagram_of : Config → Sending → Datagram
 datagram_of config s = record { plane = plane_of s.message; from = own_end config (plane_of s.message); to = s.destination; octets = spelled s.message }
 
--- an IPv4 address is below 2^32, and stands as one
-abbrev pub IsAddress : Option PdnAddress → Type 0
-IsAddress (Some (Ipv4 address)) = address < 2 ^ 32
-IsAddress (Some (Other_address (paas.V4 octets))) = ⊥
-IsAddress address = Unit {0}
-
--- a kind that a gateway sends, with an address that reads again
+-- a kind that a gateway sends
 abbrev pub IsOfOwnKind : Message → Type 0
-IsOfOwnKind (Create_session_request q) = IsAddress q.address
-IsOfOwnKind (Create_session_response a) = IsAddress a.address
 IsOfOwnKind (Other_control kind) = ⊥
 IsOfOwnKind (Other_user kind) = ⊥
 IsOfOwnKind m = Unit {0}

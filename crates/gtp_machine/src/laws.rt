@@ -235,7 +235,8 @@ pub fn fair_exchange()
     // Each message that is sent in it can be sent.
     ensures sendable { ExchangeSendable }
 
-    // There is such an exchange, with all that is asked of one, for each of the two types.
+    // There is such an exchange, with all that is asked of one, for each of the three types, and for
+    // type 3 one that is answered with cause 16 and one with 18.
     ensures possible { ExchangesArePossible }
 
     // Where each message that was sent can be sent, each reads as itself.

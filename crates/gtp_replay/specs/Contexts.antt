@@ -1,11 +1,10 @@
 -- The lines of the contexts of a gateway.
 use Rattle.std.specs.Prelude.{ℕ, List, [], ◌++◌, Bool, true, false, Option, Some, None, codes, decimal}
 use Rattle.std.specs.FinMap.{entries}
-use Rattle.std.specs.Int.{w32, to_be_bytes}
 use Rattle.std.specs.List.{flat_map}
-use Rattle.std.specs.Net.Text.{ipv4_text}
 use Rattle.gtp_values.specs.Apn.{apn_text}
 use Rattle.gtp_values.specs.Imsi.{digits_text}
+use Rattle.gtp_values.specs.PdnAddress.{address_text}
 use Rattle.gtp_values.specs.Teid.{teid_text}
 use Rattle.gtp_machine.specs.declared.role.Role.{Role}
 use Rattle.gtp_tables.specs.declared.context.State.{State}
@@ -18,10 +17,6 @@ use Rattle.gtp_scenario.specs.Words.{role_text}
 abbrev pub or_dash : {X : Type 0} → (X → List ℕ) → Option X → List ℕ
 or_dash text None = codes "-"
 or_dash text (Some x) = text x
-
--- an IPv4 address that is kept as a number
-abbrev pub address_text : ℕ → List ℕ
-address_text address = ipv4_text (to_be_bytes w32 address)
 
 abbrev pub state_word : State → List ℕ
 state_word Pending = codes "pending"

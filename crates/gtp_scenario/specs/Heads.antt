@@ -1,11 +1,12 @@
 -- Which JSON data are which two gateways.
-use Rattle.std.specs.Prelude.{ℕ, ◌+◌, ◌^◌, List, [], ◌∷◌, codes, nat_le, if◌then◌else◌, Option, Some, None, option_map}
+use Rattle.std.specs.Prelude.{ℕ, ◌+◌, ◌^◌, List, [], ◌∷◌, codes, ◌||◌, nat_le, if◌then◌else◌, Option, Some, None, is_some, option_map}
 use Rattle.std.specs.Int.{w32, from_be_bytes}
 use Rattle.serde_json.specs.Data.{Data, Items, no_items, item}
 use Rattle.serde_json.specs.Find.{get, as_str, as_array}
 use Rattle.gtp_values.specs.declared.address.Ip.{Ip}
 use Rattle.gtp_values.specs.declared.address.Ip.TheVariants.{V4}
-use Rattle.gtp_tables.specs.Pool.{Range}
+use Rattle.gtp_tables.specs.Pool.{Range, Networks, network_of, no_networks}
+use Rattle.gtp_tables.specs.declared.pool.Pools.{Pools}
 use Rattle.gtp_reliable.specs.Pending.{AreLimits}
 use Rattle.gtp_reliable.specs.Held.{IsHold}
 use Rattle.gtp_gateway.specs.declared.config.Addresses.{Addresses}
@@ -14,7 +15,7 @@ use Rattle.gtp_gateway.specs.Settings.{settings_of}
 use Rattle.gtp_world.specs.Runs.{Setup}
 use Rattle.gtp_scenario.specs.Steps.{◌>>=◌}
 use Rattle.gtp_scenario.specs.Json.{text_at, number_at, number_or, within, has_only, count_of}
-use Rattle.gtp_scenario.specs.Texts.{apn_of, address_of}
+use Rattle.gtp_scenario.specs.Texts.{apn_of, address_of, ipv6_of}
 
 -- ---- values of keys
 
@@ -61,6 +62,27 @@ pool_at d = do
   count ← number_at (codes "count") d >>= within 0 65536
   pool_from start count
 
+-- IPv6 addresses, one in each of some networks in a row, up to the last network at the latest
+abbrev pub networks_from : List ℕ → ℕ → Option Networks
+networks_from start count = if nat_le (network_of start + count) (2 ^ 64) then Some (record { start = start; count = count }) else None
+
+-- 0 to 65,536 of them; none where the scenario has neither key
+unfoldable pub networks_at : Data → Option Networks
+networks_at d =
+    if is_some (get (codes "pool6") d) || is_some (get (codes "count6") d)
+    then (do
+      start ← text_at (codes "pool6") d >>= ipv6_of
+      count ← number_at (codes "count6") d >>= within 0 65536
+      networks_from start count)
+    else Some no_networks
+
+-- the addresses of each version
+unfoldable pub pools_at : Data → Option Pools
+pools_at d = do
+  v4 ← pool_at d
+  v6 ← networks_at d
+  Some (record { v4 = v4; v6 = v6 })
+
 -- each time is in its range
 pub record AreTimers (timers : Timers) : Type 0 where
   pub requests : AreLimits timers.t3 timers.n3
@@ -97,29 +119,37 @@ pub record PacketHead : Type 0 where
   pub own : Addresses
   pub counter : ℕ
   pub access_points : List (List ℕ)
-  pub pool : Range
+  pub pools : Pools
+
+abbrev pub packet_keys : List (List ℕ)
+packet_keys =
+    codes "control" ∷ codes "user" ∷ codes "counter" ∷ codes "apns" ∷
+    codes "pool" ∷ codes "count" ∷ codes "pool6" ∷ codes "count6" ∷ []
 
 unfoldable pub packet_of : Data → Option PacketHead
 packet_of d =
-    if has_only (codes "control" ∷ codes "user" ∷ codes "counter" ∷ codes "apns" ∷ codes "pool" ∷ codes "count" ∷ []) d
+    if has_only packet_keys d
     then (do
       own ← addresses_at d
       counter ← counter_at d
       access_points ← access_points_at d
-      pool ← pool_at d
-      Some (record { own = own; counter = counter; access_points = access_points; pool = pool }))
+      pools ← pools_at d
+      Some (record { own = own; counter = counter; access_points = access_points; pools = pools }))
     else None
 
 -- no addresses
 abbrev pub no_pool : Range
 no_pool = record { start = 0; count = 0 }
 
--- the two gateways as each other's peers: the access points and the pool are the packet gateway's alone
+abbrev pub no_pools : Pools
+no_pools = record { v4 = no_pool; v6 = no_networks }
+
+-- the two gateways as each other's peers: the access points and the pools are the packet gateway's alone
 abbrev pub set_up : Timers → ServingHead → PacketHead → Setup
 set_up timers serving packet =
     record {
-      serving = settings_of serving.own packet.own [] no_pool timers;
-      packet = settings_of packet.own serving.own packet.access_points packet.pool timers;
+      serving = settings_of serving.own packet.own [] no_pools timers;
+      packet = settings_of packet.own serving.own packet.access_points packet.pools timers;
       serving_counter = serving.counter;
       packet_counter = packet.counter;
     }

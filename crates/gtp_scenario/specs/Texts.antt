@@ -37,3 +37,7 @@ octets_of text = result_ok (decode_of text)
 -- the four octets of an IPv4 address: four decimal numbers from 0 to 255 without leading zeros, with dots between them
 unfoldable pub address_of : List ℕ → Option (List ℕ)
 address_of text = whole_value (read_ipv4 text)
+
+-- the sixteen octets of an IPv6 address: 32 hexadecimal digits of either case
+unfoldable pub ipv6_of : List ℕ → Option (List ℕ)
+ipv6_of text = result_ok (decode_sized text 16)

@@ -17,7 +17,7 @@ abbrev pub serving_head : serving.ServingHead → ServingHead
 serving_head h = record { own = h.own; counter = h.counter.0 }
 
 abbrev pub packet_head : packet.PacketHead → PacketHead
-packet_head h = record { own = h.own; counter = h.counter.0; access_points = h.access_points.items; pool = h.pool }
+packet_head h = record { own = h.own; counter = h.counter.0; access_points = h.access_points.items; pools = h.pools }
 
 abbrev pub scenario : whole.Scenario → Scenario
 scenario s = record { setup = s.config; entries = map entry s.entries.items }

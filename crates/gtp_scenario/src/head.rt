@@ -5,17 +5,18 @@ ghost use Rattle.std.specs.Int.{from_be_bytes};
 ghost use Rattle.gtp_scenario.specs.Steps.{Gives};
 ghost use Rattle.gtp_scenario.specs.Json.{count_of};
 ghost use Rattle.gtp_scenario.specs.Heads.{AreTimers, address_at, addresses_at, counter_at, access_point_of, access_points_in, access_points_at};
-ghost use Rattle.gtp_scenario.specs.Heads.{pool_from, pool_at, no_pool, time_at, timers_at, serving_of, packet_of, set_up, setup_of, events_at};
+ghost use Rattle.gtp_scenario.specs.Heads.{pool_from, pool_at, networks_from, networks_at, pools_at, no_pool, time_at, timers_at};
+ghost use Rattle.gtp_scenario.specs.Heads.{serving_of, packet_of, set_up, setup_of, events_at};
 ghost use Rattle.gtp_scenario.specs.Trees.{view, items_view};
 ghost use Rattle.gtp_scenario.specs.Views.{serving_head, packet_head};
 
 use crate::fault::Fault;
 use crate::members::{
-    Items, as_list, as_text, has_only, number_at, number_or, text_at, value_at, within,
+    Items, as_list, as_text, has, has_only, number_at, number_or, text_at, value_at, within,
 };
-use crate::text::{address_of, apn_of};
+use crate::text::{address_of, apn_of, ipv6_of};
 use crate::tree::Tree;
-use gtp_gateway::{Addresses, Apn, Config, Counter, Ip, Pool, Timers};
+use gtp_gateway::{Addresses, Apn, Config, Counter, Ip, Networks, Pool, Pools, Timers};
 use gtp_world::WorldConfig;
 use std::alloc::Global;
 
@@ -35,7 +36,7 @@ struct PacketHead {
     own: Addresses,
     counter: Counter,
     access_points: Vec<Apn>,
-    pool: Pool,
+    pools: Pools,
 }
 
 #[tactic(auto, unfolding(crate::specs::Heads::address_at))]
@@ -116,6 +117,37 @@ fn pool_at(value: &Tree<'_, '_>) -> Option<Pool>
     pool_from(u32::from_be_bytes(start.octets()), count)
 }
 
+/// IPv6 addresses, one in each of some networks in a row.
+fn networks_from(start: [u8; 16], count: u32) -> Option<Networks>
+    requires { count ≤ 65536 }
+    ensures { result ≡ networks_from start count }
+{
+    Networks::try_new(start, count).ok()
+}
+
+#[tactic(auto, unfolding(crate::specs::Heads::networks_at))]
+fn networks_at(value: &Tree<'_, '_>) -> Option<Networks>
+    ensures { result ≡ networks_at (view value.now) }
+{
+    if !has(value, "pool6") && !has(value, "count6") {
+        return Some(Networks::none());
+    }
+    let start = ipv6_of(text_at(value, "pool6")?)?;
+    let count = within(0, 65_536, number_at(value, "count6")?)?;
+    networks_from(start, count)
+}
+
+/// The addresses of each version.
+#[tactic(auto, unfolding(crate::specs::Heads::pools_at))]
+fn pools_at(value: &Tree<'_, '_>) -> Option<Pools>
+    ensures { result ≡ pools_at (view value.now) }
+{
+    Some(Pools {
+        v4: pool_at(value)?,
+        v6: networks_at(value)?,
+    })
+}
+
 /// A time in ticks, which may be absent.
 fn time_at(value: &Tree<'_, '_>, key: &str, absent: u32, low: u32, high: u32) -> Option<u32>
     ensures read { result ≡ time_at key.now absent low high (view value.now) }
@@ -157,19 +189,21 @@ fn packet_of(alloc: Global, value: &Tree<'_, '_>) -> Result<PacketHead, Fault>
 {
     if !has_only(
         value,
-        &["control", "user", "counter", "apns", "pool", "count"],
+        &[
+            "control", "user", "counter", "apns", "pool", "count", "pool6", "count6",
+        ],
     ) {
         return Err(Fault::Wrong);
     }
     let own = addresses_at(value).ok_or(Fault::Wrong)?;
     let counter = counter_at(value).ok_or(Fault::Wrong)?;
     let access_points = access_points_at(alloc, value)?;
-    let pool = pool_at(value).ok_or(Fault::Wrong)?;
+    let pools = pools_at(value).ok_or(Fault::Wrong)?;
     Ok(PacketHead {
         own,
         counter,
         access_points,
-        pool,
+        pools,
     })
 }
 
@@ -194,12 +228,15 @@ fn set_up(alloc: Global, timers: Timers, serving: ServingHead, packet: PacketHea
         own,
         counter,
         access_points,
-        pool,
+        pools,
     } = packet;
     let Ok(from_serving) = Config::try_new(serving.own, own, none, no_pool(), timers) else {
         unreachable!()
     };
-    let Ok(from_packet) = Config::try_new(own, serving.own, access_points, pool, timers) else {
+    let Ok(from_packet) = Config::try_new(own, serving.own, access_points, pools.v4, timers) else {
+        unreachable!()
+    };
+    let Ok(from_packet) = from_packet.with_pool6(pools.v6.start(), pools.v6.count()) else {
         unreachable!()
     };
     match WorldConfig::try_new(from_serving, from_packet, [serving.counter, counter]) {

@@ -1,6 +1,6 @@
 //! Members of a JSON object.
 
-ghost use Rattle.std.specs.Prelude.{◌≡◌, ◌≤◌, ◌<◌, map, length, IfSome, OnSome, option_map};
+ghost use Rattle.std.specs.Prelude.{◌≡◌, ◌≤◌, ◌<◌, map, length, IfSome, OnSome, option_map, is_some};
 ghost use Rattle.json.specs.Json as json;
 ghost use Rattle.json.specs.Find.{InMembers};
 ghost use Rattle.serde_json.specs.Data.{no_members};
@@ -53,6 +53,13 @@ pub(crate) fn value_at<'t, 'a>(value: &Tree<'t, 'a>, key: &str) -> Option<Tree<'
     Some(Tree {
         element: value.element.get(key)?,
     })
+}
+
+/// Whether there is a value of this key.
+pub(crate) fn has(value: &Tree<'_, '_>, key: &str) -> bool
+    ensures { result ≡ is_some (get key.now (view value.now)) }
+{
+    value_at(value, key).is_some()
 }
 
 /// The text that a value is.

@@ -2,11 +2,11 @@
 
 ghost use Rattle.std.specs.Prelude.{◌≡◌, option_map};
 ghost use Rattle.gtp_scenario.specs.Steps.{Gives};
-ghost use Rattle.gtp_scenario.specs.Texts.{imsi_of, apn_of, teid_of, octets_of, address_of};
+ghost use Rattle.gtp_scenario.specs.Texts.{imsi_of, apn_of, teid_of, octets_of, address_of, ipv6_of};
 
 use crate::fault::Fault;
 use gtp_values::{Apn, Imsi, Teid};
-use hex::FromHexError;
+use hex::{FromHex, FromHexError};
 use std::alloc::Global;
 use std::net::Ipv4Addr;
 
@@ -43,6 +43,14 @@ pub(crate) fn address_of(text: &str) -> Option<Ipv4Addr>
     ensures { option_map (λ address. address.octets) result ≡ address_of text.now }
 {
     text.parse().ok()
+}
+
+/// An IPv6 address, as hexadecimal digits.
+#[tactic(auto, unfolding(crate::specs::Texts::ipv6_of))]
+pub(crate) fn ipv6_of(text: &str) -> Option<[u8; 16]>
+    ensures { result ≡ ipv6_of text.now }
+{
+    <[u8; 16] as FromHex>::from_hex(text).ok()
 }
 
 /// Octets in hexadecimal digits.

@@ -8,4 +8,5 @@ pub mod Rows
 pub mod Ordered
 pub mod Seen
 pub mod Undrawn
+pub mod Places
 pub mod Windows

@@ -1,5 +1,5 @@
 -- Sessions and bearers, and what a restart of the peer leaves of them (TS 23.007 18).
-use Rattle.std.specs.Prelude.{ℕ, Bool, true, false, not, ◌&&◌, ◌||◌, Option, Some, None, if◌then◌else◌, refl}
+use Rattle.std.specs.Prelude.{ℕ, Bool, true, false, not, ◌&&◌, ◌||◌, List, Option, Some, None, if◌then◌else◌, refl}
 use Rattle.std.specs.FinMap as map
 use Rattle.std.specs.FinMap.{get}
 use Rattle.std.specs.Coded.{Coded, code_by, coded×, coded_ℕ}
@@ -8,7 +8,8 @@ use Rattle.gtp_tables.specs.declared.context.Session.{Session}
 use Rattle.gtp_tables.specs.declared.context.State.{State}
 use Rattle.gtp_tables.specs.declared.context.State.TheVariants.{Pending, Active, Closing}
 use Rattle.gtp_values.specs.FiniteMap.{FiniteMap, kept}
-use Rattle.gtp_values.specs.Number.{is_number}
+use Rattle.gtp_tables.specs.declared.pool.Version.{Version}
+use Rattle.gtp_tables.specs.Part.{part_of, are_octets}
 
 -- sessions and bearers, each by own TEID
 pub record Contexts : Type 0 where
@@ -45,9 +46,9 @@ seen restarted c = if restarted then left c else c
 abbrev pub is_seen : Bool → Session → Bool
 is_seen restarted s = not restarted || is_pending s.state
 
--- whether a session is seen that has the address
-abbrev pub takes : Bool → ℕ → Session → Bool
-takes restarted address s = is_seen restarted s && is_number address s.address
+-- whether a session is seen that has the address, as its part of this version
+abbrev pub takes : Bool → Version → List ℕ → Session → Bool
+takes restarted version address s = is_seen restarted s && are_octets address (part_of version s.address)
 
 -- whether the bearers of what stands there are seen: those of an opened session not after a restart
 abbrev pub are_seen : Bool → Option Session → Bool

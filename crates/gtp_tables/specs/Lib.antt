@@ -1,8 +1,10 @@
 pub mod Contexts
 pub mod Deciding
+pub mod Free
 pub mod Drawn
 pub mod Heard
 pub mod Identity
 pub mod Index
+pub mod Part
 pub mod Pool
 pub mod Rows

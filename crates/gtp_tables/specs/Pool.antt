@@ -1,8 +1,7 @@
--- Addresses of a pool, and the sessions that have them.
-use Rattle.std.specs.Prelude.{◌≡◌, ◌≢◌, ℕ, ◌+◌, ◌<◌, ◌≤◌, ◌^◌, Some}
-use Rattle.std.specs.FinMap.{get}
-use Rattle.gtp_tables.specs.declared.context.Session.{Session}
-use Rattle.gtp_values.specs.FiniteMap.{FiniteMap}
+-- Pools of addresses.
+use Rattle.std.specs.Prelude.{◌≡◌, ℕ, ◌+◌, ◌≤◌, ◌^◌, List, length, take}
+use Rattle.std.proofs.Math.ListN.{replicate}
+use Rattle.std.specs.Int.{w64, from_be_bytes}
 
 -- IPv4 addresses in a row, as numbers: the first, and how many
 pub record Range : Type 0 where
@@ -14,25 +13,21 @@ pub record IsPool (pool : Range) : Type 0 where
   pub few : pool.count ≤ 65536
   pub within : pool.start + pool.count ≤ 2 ^ 32
 
--- a session has the address
-pub record HasAddress (sessions : FiniteMap Session) (address : ℕ) : Type 0 where
-  pub teid : ℕ
-  pub session : Session
-  pub stands : get sessions teid ≡ Some session
-  pub has : session.address ≡ Some address
+-- IPv6 addresses, one in each of some networks in a row: the octets of the first, and how many
+pub record Networks : Type 0 where
+  pub start : List ℕ
+  pub count : ℕ
 
--- no session has the address
-abbrev pub IsUnusedAddress : FiniteMap Session → ℕ → Type 0
-IsUnusedAddress sessions address = (t : ℕ) (s : Session) → get sessions t ≡ Some s → s.address ≢ Some address
+-- the network of an address: the number that its first eight octets stand for
+abbrev pub network_of : List ℕ → ℕ
+network_of octets = from_be_bytes w64 (take 8 octets)
 
--- an address of the pool that no session has, and sessions have all lower ones
-pub record IsLowestFree (sessions : FiniteMap Session) (pool : Range) (address : ℕ) : Type 0 where
-  pub place : ℕ
-  pub in_pool : place < pool.count
-  pub is : address ≡ pool.start + place
-  pub unused : IsUnusedAddress sessions address
-  pub lower : (p : ℕ) → p < place → HasAddress sessions (pool.start + p)
+-- at most 65,536 of them, up to the last network that there is
+pub record AreNetworks (pool : Networks) : Type 0 where
+  pub long : length pool.start ≡ 16
+  pub few : pool.count ≤ 65536
+  pub within : network_of pool.start + pool.count ≤ 2 ^ 64
 
--- sessions have all addresses of the pool
-abbrev pub IsUsedUp : FiniteMap Session → Range → Type 0
-IsUsedUp sessions pool = (p : ℕ) → p < pool.count → HasAddress sessions (pool.start + p)
+-- none
+abbrev pub no_networks : Networks
+no_networks = record { start = replicate 16 0; count = 0 }

@@ -1,6 +1,6 @@
 //! Sessions and bearers.
 
-use gtp_values::{Apn, Ebi, Imsi};
+use gtp_values::{Addr, Apn, Ebi, Imsi};
 
 /// A context is pending until it is opened, then active; it is closing while the peer is asked to
 /// end it.
@@ -27,8 +27,7 @@ pub struct Session {
     /// The peer's control plane TEID.
     pub remote: Option<u32>,
     pub subscriber: Subscriber,
-    /// The IPv4 address, as a number.
-    pub address: Option<u32>,
+    pub address: Option<Addr>,
     pub state: State,
 }
 

@@ -18,10 +18,10 @@ pub use context::{Bearer, Kind, Session, State, Subscriber};
 pub use draws::Draws;
 pub use fault::TablesFault;
 pub use peer::Peer;
-pub use pool::Pool;
+pub use pool::{Asked, Networks, Pool, Pools, Version};
 pub use sessions::Sessions;
 pub use table::Table;
 pub use view::{View, end_opened};
 
 /// What the signatures and contracts here name of the crate below.
-pub use gtp_values::{Age, Apn, Counter, Ebi, Imsi, Teid, ValueFault};
+pub use gtp_values::{Addr, Age, Apn, Counter, Ebi, Imsi, Teid, ValueFault};

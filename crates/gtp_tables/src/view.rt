@@ -5,14 +5,15 @@ ghost use Rattle.std.specs.Prelude.{IsTrue, IfOk, IfErr, IfSome, IfNone};
 ghost use Rattle.std.specs.FinMap as map;
 ghost use Rattle.gtp_tables.specs.Contexts.{left, is_pending, is_opened, is_seen, are_seen};
 ghost use Rattle.gtp_tables.specs.Identity.{IsUnused, IsLowestUnused, IsBearerWith, HasAll};
-ghost use Rattle.gtp_tables.specs.Pool.{IsLowestFree, IsUsedUp};
+ghost use Rattle.gtp_tables.specs.Free.{IsLowestPart, IsLowestGiven, AreUsedUp};
+ghost use Rattle.gtp_tables.specs.declared.pool.Version.TheVariants as versions;
 
 use crate::bearers::Bearers;
 use crate::context::{Bearer, Session, State};
 use crate::fault::TablesFault;
-use crate::pool::{Pool, is_seen};
+use crate::pool::{Asked, Pools, Version, is_seen};
 use crate::sessions::{MOST, Sessions};
-use gtp_values::{Ebi, Teid};
+use gtp_values::{Addr, Ebi, Teid};
 use std::marker::Model;
 
 /// Sessions and bearers that a message is judged by: all, or what a restart of the peer leaves,
@@ -87,15 +88,43 @@ impl<'a> View<'a> {
         self.session_count() >= MOST
     }
 
-    /// The lowest address of the pool that no session has, `PoolEmpty` where there is none.
-    pub fn lowest_free_address(&self, pool: Pool) -> Result<u32, TablesFault>
-        ensures free { IfOk result (λ address. IsLowestFree self.now.sessions pool address) }
-        ensures none { IfErr result (λ _. IsUsedUp self.now.sessions pool) }
+    /// The lowest address of version 4 that no session has, where one is asked for and there is one.
+    fn lowest_v4(&self, pools: &Pools, asked: Asked) -> Option<[u8; 4]>
+        ensures { IsLowestPart self.now.sessions pools.now asked versions.V4 result }
+    {
+        if !asked.v4 {
+            return None;
+        }
+        match pools.lowest_place(Version::V4, self.sessions.values(), self.restarted) {
+            Some(place) => Some(pools.v4.at(place)),
+            None => None,
+        }
+    }
+
+    /// The lowest address of version 6 that no session has, where one is asked for and there is one.
+    fn lowest_v6(&self, pools: &Pools, asked: Asked) -> Option<[u8; 16]>
+        ensures { IsLowestPart self.now.sessions pools.now asked versions.V6 result }
+    {
+        if !asked.v6 {
+            return None;
+        }
+        match pools.lowest_place(Version::V6, self.sessions.values(), self.restarted) {
+            Some(place) => Some(pools.v6.at(place)),
+            None => None,
+        }
+    }
+
+    /// An address of the versions that are asked for: of each the lowest that no session has. A version
+    /// of which there is none is left out; `PoolEmpty` where none is left.
+    pub fn lowest_free_address(&self, pools: &Pools, asked: Asked) -> Result<Addr, TablesFault>
+        ensures free { IfOk result (λ address.
+            IsLowestGiven self.now.sessions pools.now asked address) }
+        ensures none { IfErr result (λ _. AreUsedUp self.now.sessions pools.now asked) }
         ensures fault { IfErr result (λ fault. fault ≡ TablesFault.PoolEmpty) }
     {
-        match pool.lowest_place(self.sessions.values(), self.restarted) {
-            Some(place) => Ok(pool.start() + place),
-            None => Err(TablesFault::PoolEmpty),
+        match (self.lowest_v4(pools, asked), self.lowest_v6(pools, asked)) {
+            (None, None) => Err(TablesFault::PoolEmpty),
+            (v4, v6) => Ok(Addr::of(v4, v6)),
         }
     }
 

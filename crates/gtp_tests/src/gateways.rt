@@ -3,6 +3,7 @@
 //! outcome. A test is a scene. Its rows say what is done, what it comes to and what is sent for it; they, and the
 //! octets where a row has them, come from outside.
 
+mod addresses;
 mod faulty;
 mod full;
 mod hostile;
@@ -71,6 +72,8 @@ enum Row {
     Does(Act, Outcome, Sends),
     /// The last datagram that came told this.
     Told(Tells),
+    /// The first session of a gateway has this address, as a text that is empty where it has none.
+    Has(Role, &'static str),
     /// So many ticks pass, in which so many answers are forgotten, and nothing is sent again or given up.
     Ticks(Role, u32, usize),
     /// So many sessions are opened.
@@ -586,6 +589,7 @@ impl Path {
                 self.tells(rt, &tells);
                 Ok(())
             }
+            Row::Has(role, address) => has_address(rt, alloc, self.gateway(role), address),
             Row::Ticks(role, times, count) => self.ticks(rt, alloc, role, times, count),
             Row::Opens(sessions) => self.opens(rt, alloc, sessions),
             Row::Refuses(from, to) => refuses(rt, alloc, &mut self.serving, from..to),
@@ -747,6 +751,27 @@ fn first_session(gateway: &Gateway) -> Option<(Teid, Session)> {
 /// The first bearer of a gateway, in order of TEIDs.
 fn first_bearer(gateway: &Gateway) -> Option<(Teid, Bearer)> {
     gateway.bearers().next()
+}
+
+/// The address of a session as a text, which is empty where it has none.
+fn address_text(alloc: Global, session: &Session) -> Result<String, Fail> {
+    match session.address {
+        Some(address) => Ok(format!(in alloc; "{address}")?),
+        None => Ok(String::new(alloc)),
+    }
+}
+
+/// The first session of a gateway has this address.
+fn has_address(
+    rt: &impl Abort,
+    alloc: Global,
+    gateway: &Gateway,
+    address: &str,
+) -> Result<(), Fail> {
+    let (_, session) = first_session(gateway).expect(rt, "a session");
+    let text = address_text(alloc, &session)?;
+    assert!(rt; text.as_str() == address, "{text}");
+    Ok(())
 }
 
 /// A session is found by its TEID.

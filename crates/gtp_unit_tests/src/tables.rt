@@ -5,14 +5,30 @@ mod lists;
 mod many;
 
 use gtp_tables::{
-    Age, Apn, Bearer, Bearers, Counter, Draws, Ebi, Imsi, Kind, Peer, Pool, Session, Sessions,
-    State, Subscriber, Table, TablesFault, Teid, ValueFault, View, end_opened,
+    Addr, Age, Apn, Asked, Bearer, Bearers, Counter, Draws, Ebi, Imsi, Kind, Networks, Peer, Pool,
+    Pools, Session, Sessions, State, Subscriber, Table, TablesFault, Teid, ValueFault, View,
+    end_opened,
 };
 use std::process::Abort;
 use std::test::Fail;
 
-/// A session of a subscriber, with an address.
-pub(crate) fn session(address: u32) -> Result<Session, Fail> {
+/// Addresses of version 4.
+const V4: Asked = Asked {
+    v4: true,
+    v6: false,
+};
+
+/// Addresses of version 6.
+const V6: Asked = Asked {
+    v4: false,
+    v6: true,
+};
+
+/// Addresses of both versions.
+const BOTH: Asked = Asked { v4: true, v6: true };
+
+/// A session of a subscriber, perhaps with an address.
+pub(crate) fn session(address: Option<Addr>) -> Result<Session, Fail> {
     Ok(Session {
         remote: Some(0x0100_0001),
         subscriber: Subscriber {
@@ -20,7 +36,7 @@ pub(crate) fn session(address: u32) -> Result<Session, Fail> {
             access_point: Apn::from_text("internet")?,
             identity: Ebi::try_new(5)?,
         },
-        address: Some(address),
+        address,
         state: State::Active,
     })
 }

@@ -1,4 +1,5 @@
 pub mod Addresses
+pub mod Allocations
 pub mod NamesAsText
 pub mod TeidsAsText
 pub mod Same

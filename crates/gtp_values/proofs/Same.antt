@@ -17,6 +17,7 @@ use Rattle.gtp_values.specs.declared.qos.Ambr.{Ambr}
 use Rattle.gtp_values.specs.declared.qos.Rates.{Rates}
 use Rattle.gtp_values.specs.declared.qos.Qos.{Qos}
 use Rattle.gtp_values.specs.TunnelEnd.{TunnelEnd}
+use Rattle.gtp_values.specs.PdnAddress.{PdnAddress}
 use Rattle.gtp_values.specs.Plmn.{Network}
 use Rattle.gtp_values.specs.contracts.address.IpPartialEq.TheImpl as ips
 use Rattle.gtp_values.specs.contracts.address.EndpointPartialEq.TheImpl as endpoints
@@ -25,6 +26,7 @@ use Rattle.gtp_values.specs.contracts.apn.ApnPartialEq.TheImpl as apns
 use Rattle.gtp_values.specs.contracts.tft.TftPartialEq.TheImpl as tfts
 use Rattle.gtp_values.specs.contracts.plmn.PlmnPartialEq.TheImpl as plmns
 use Rattle.gtp_values.specs.contracts.fteid.FTeidPartialEq.TheImpl as fteids
+use Rattle.gtp_values.specs.contracts.addr.AddrPartialEq.TheImpl as addrs
 use Rattle.gtp_values.specs.contracts.cause.CausePartialEq.TheImpl as causes
 use Rattle.gtp_values.specs.contracts.cause.OffendingPartialEq.TheImpl as offendings
 use Rattle.gtp_values.specs.contracts.paa.PaaPartialEq.TheImpl as allocations
@@ -87,6 +89,12 @@ pub fteid_same : (a b : TunnelEnd) → Decides ((fteids.ghosts).eq a b) (a ≡ b
 fteid_same a b =
     whole_by (λ e. app (app (app (ap end_with e.0) e.1.0) e.1.1.0) e.1.1.1) (λ e. (ap (λ t. t.interface) e, (ap (λ t. t.teid) e, (ap (λ t. t.v4) e, ap (λ t. t.v6) e))))
     (and_then (Decides-eqb a.interface b.interface) (and_then (Decides-eqb a.teid b.teid) (and_then (options_same (pointwise nat_eq) bytes_decides a.v4 b.v4) (options_same (pointwise nat_eq) bytes_decides a.v6 b.v6))))
+
+abbrev pub address_with : Option (List ℕ) → Option (List ℕ) → PdnAddress
+address_with v4 v6 = record { v4 = v4; v6 = v6 }
+
+pub addr_same : (a b : PdnAddress) → Decides ((addrs.ghosts).eq a b) (a ≡ b)
+addr_same a b = whole_by (λ e. app (ap address_with e.0) e.1) (λ e. (ap (λ k. k.v4) e, ap (λ k. k.v6) e)) (and_then (options_same (pointwise nat_eq) bytes_decides a.v4 b.v4) (options_same (pointwise nat_eq) bytes_decides a.v6 b.v6))
 
 abbrev pub offending_with : ℕ → ℕ → Offending
 offending_with kind instance = record { kind = kind; instance = instance }

@@ -9,6 +9,7 @@ pub mod Number
 pub mod Numbers
 pub mod Padded
 pub mod Paa
+pub mod PdnAddress
 pub mod Plmn
 pub mod Teid
 pub mod TunnelEnd

@@ -1,6 +1,7 @@
 //! Identifiers, names and addresses of GTP: values of a fixed size, none of which takes memory.
 #![tactic(auto)]
 
+mod addr;
 mod address;
 mod apn;
 mod below;
@@ -20,6 +21,7 @@ mod plmn;
 mod qos;
 mod tft;
 
+pub use addr::Addr;
 pub use address::{Endpoint, Ip};
 pub use apn::Apn;
 pub use below::Below;

@@ -1,9 +1,11 @@
-//! Addresses of subscribers.
+//! Allocations of addresses.
 
 ghost use Rattle.std.specs.Prelude.{◌≡◌, ◌↔◌, IsOk, IfOk, IfErr};
 ghost use Rattle.gtp_values.specs.declared.fault.ValueFault.TheVariants.{OutOfRange};
 ghost use Rattle.gtp_values.specs.Paa.{IsOtherPdnType};
+ghost use Rattle.gtp_values.specs.PdnAddress.{address_in};
 
+use crate::addr::Addr;
 use crate::fault::ValueFault;
 use std::marker::Model;
 
@@ -27,6 +29,20 @@ pub enum Paa {
     },
     /// Another PDN type, after which nothing is read.
     Other(OtherPdnType),
+}
+
+impl Paa {
+    /// The address that it says, whatever the length of its prefix.
+    pub fn address(self) -> Option<Addr>
+        ensures { result ≡ address_in self }
+    {
+        match self {
+            Paa::V4(v4) => Some(Addr::of(Some(v4), None)),
+            Paa::V6 { address, .. } => Some(Addr::of(None, Some(address))),
+            Paa::V4V6 { v6, v4, .. } => Some(Addr::of(Some(v4), Some(v6))),
+            Paa::Other(_) => None,
+        }
+    }
 }
 
 /// A PDN type that is none of IPv4, IPv6 and IPv4v6: 0 or 4 to 7 (TS 29.274 8.14). Contracts see the

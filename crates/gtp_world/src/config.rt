@@ -1,6 +1,6 @@
 //! The settings of a world.
 
-ghost use Rattle.std.specs.Prelude.{◌≡◌, ◌↔◌, [], ◌∷◌, map, IsTrue, IsOk, IfOk, IfErr};
+ghost use Rattle.std.specs.Prelude.{◌≡◌, ◌↔◌, ◌<◌, [], ◌∷◌, map, IsTrue, IsOk, IfOk, IfErr};
 ghost use Rattle.gtp_values.specs.declared.fault.ValueFault.TheVariants.{OutOfRange};
 ghost use Rattle.gtp_world.specs.Runs.{AreFacing};
 
@@ -40,6 +40,15 @@ fn are_facing(serving: &Config, packet: &Config) -> bool
     serving.own() == packet.peer() && packet.own() == serving.peer()
 }
 
+/// The counters, each of one octet.
+fn each_of(counters: [Counter; 2]) -> (Counter, Counter)
+    ensures values { map (λ k. k.0) counters ≡ result.0.0 ∷ result.1.0 ∷ [] }
+    ensures range { (result.0.0 < 256) × (result.1.0 < 256) }
+{
+    let [serving, packet] = counters;
+    (serving, packet)
+}
+
 impl WorldConfig {
     /// The settings of the serving and of the packet gateway, and their restart counters in this order: `OutOfRange`
     /// unless the peer addresses of each gateway are the own addresses of the other.
@@ -58,7 +67,7 @@ impl WorldConfig {
         if !are_facing(&serving, &packet) {
             return Err(ValueFault::OutOfRange);
         }
-        let [serving_counter, packet_counter] = counters;
+        let (serving_counter, packet_counter) = each_of(counters);
         Ok(WorldConfig {
             serving,
             packet,

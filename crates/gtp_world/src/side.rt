@@ -3,6 +3,7 @@
 ghost use Rattle.std.specs.Prelude.{◌≡◌, ◌↔◌, ◌+◌, ◌<◌, ◌≤◌, ◌++◌, Some, None, true, length};
 ghost use Rattle.std.specs.Prelude.{option_map, option_to_list, vec_len, vec_capacity};
 ghost use Rattle.std.specs.Prelude.{IsTrue, IsSome, IfOk, IfErr, OnOk, OnErr};
+ghost use Rattle.std.specs.FinMap.{get};
 ghost use Rattle.gtp_machine.specs.Input.{Commanded};
 ghost use Rattle.gtp_gateway.specs.Parts.{arrival_of};
 ghost use Rattle.gtp_gateway.specs.Received.{coming};
@@ -25,7 +26,7 @@ use crate::remembered::Remembered;
 use crate::room::keep;
 use gtp_gateway::{
     Accepted, Begun, CommandFault, Config, Counter, Endpoint, Gateway, Memory, Outcome, Plane,
-    Refusal, Request, Role, Sent, Teid, Ticked,
+    Refusal, Request, Role, Sent, Subscriber, Teid, Ticked,
 };
 use std::alloc::Global;
 
@@ -80,6 +81,17 @@ impl Side {
         })
     }
 
+    /// The subscriber of a session that stands.
+    fn subscriber(&self, session: Teid) -> Option<Subscriber>
+        ensures { result
+            ≡ option_map (λ s. s.subscriber) (get self.now.gateway.node.sessions session.0) }
+    {
+        match self.gateway.session(session) {
+            Some(found) => Some(found.subscriber),
+            None => None,
+        }
+    }
+
     /// The entry of a packet on a bearer, if that and its session stand, under the TEID that the
     /// packet names.
     fn entry(
@@ -93,13 +105,13 @@ impl Side {
             (option_map entry_by result) }
     {
         let at = self.gateway.bearer(bearer)?;
-        let of = self.gateway.session(Teid(at.session))?;
+        let of = self.subscriber(Teid(at.session))?;
         Some(Entry {
             node,
             teid: names.unwrap_or(Teid(at.remote.unwrap_or(0))),
             payload,
-            imsi: of.subscriber.imsi,
-            apn: of.subscriber.access_point,
+            imsi: of.imsi,
+            apn: of.access_point,
             ebi: at.identity,
         })
     }

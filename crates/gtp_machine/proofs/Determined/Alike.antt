@@ -1,7 +1,9 @@
 -- Two effects of one rule: how they are alike, and how rules that are tried in order keep that.
-use Rattle.std.proofs.Common.{◌≡◌, ◌≢◌, inl, inr, ℕ, [], length, Some, None, sym, ◌∙◌, ap, subst}
+use Rattle.std.proofs.Common.{◌≡◌, ◌≢◌, inl, inr, ℕ, List, [], length, Some, None, sym, ◌∙◌, ap, subst}
 use Rattle.std.specs.FinMap.{get, insert}
 use Rattle.gtp_values.specs.FiniteMap.{FiniteMap, Among}
+use Rattle.gtp_tables.specs.declared.pool.Version.{Version}
+use Rattle.gtp_tables.specs.Part.{part_of}
 use Rattle.gtp_machine.specs.Ordered.{Unless}
 use Rattle.gtp_machine.specs.Node.{Role, Serving, Packet, Session, Bearer, Arrival, Node}
 use Rattle.gtp_machine.specs.Input.{Command, ControlReading, Commanded, Control_came, Input, Effect}
@@ -28,11 +30,11 @@ pub record ComesBeside {X : Type 0} (old new others : FiniteMap X) (t : ℕ) (x 
   pub stood : (key : ℕ) → get old key ≡ None → get others key ≡ None
   pub is : new ≡ insert others t x
 
--- The same was chosen: the TEIDs; where a request came, and a context was made for it, the address of a packet gateway's session and the identity of a serving
--- gateway's bearer; and for a command the number of a new request.
+-- The same was chosen: the TEIDs; where a request came, and a context was made for it, each part of the address of a packet gateway's session that both
+-- gave, and the identity of a serving gateway's bearer; and for a command the number of a new request.
 pub record PickAlike (role : Role) (old : Node) (input : Input) (e f : Effect) : Type 0 where
   pub drawn : e.node.drawn ≡ f.node.drawn
-  pub addresses : (request : Arrival) (reading : ControlReading) → input ≡ Control_came request reading → role ≡ Packet → e.out.made ≢ [] → (others : FiniteMap Session) (t : ℕ) (a b : Session) → ComesBeside old.sessions e.node.sessions others t a → ComesBeside old.sessions f.node.sessions others t b → a.address ≡ b.address
+  pub addresses : (request : Arrival) (reading : ControlReading) → input ≡ Control_came request reading → role ≡ Packet → e.out.made ≢ [] → (others : FiniteMap Session) (t : ℕ) (a b : Session) → ComesBeside old.sessions e.node.sessions others t a → ComesBeside old.sessions f.node.sessions others t b → (version : Version) (x y : List ℕ) → part_of version a.address ≡ Some x → part_of version b.address ≡ Some y → x ≡ y
   pub identities : (request : Arrival) (reading : ControlReading) → input ≡ Control_came request reading → role ≡ Serving → e.out.made ≢ [] → (others : FiniteMap Bearer) (t : ℕ) (a b : Bearer) → ComesBeside old.bearers e.node.bearers others t a → ComesBeside old.bearers f.node.bearers others t b → a.session ≡ b.session → a.identity ≡ b.identity
   pub numbers : (command : Command) → input ≡ Commanded command → (number : ℕ) → get old.pending number ≡ None → HasPending e.node number → HasPending f.node number
 

@@ -3,7 +3,7 @@ use Rattle.std.proofs.Common.{◌≡◌, inl, inr, ℕ, ◌==◌, false, List, �
 use Rattle.gtp_machine.specs.Element.{cause_of}
 use Rattle.gtp_machine.specs.Message.{CreateSessionRequest, DeleteSessionRequest, CreateBearerRequest, DeleteBearerRequest, RemovedBearer}
 use Rattle.gtp_machine.specs.Node.{Role, Serving, Packet, Session, Arrival, Node}
-use Rattle.gtp_machine.specs.Input.{ControlReading, Control_came, Input, RequestKind, Of_create_session, Of_delete_session, Of_create_bearer, Of_delete_bearer, FaultyRequest}
+use Rattle.gtp_machine.specs.Input.{Answered, Came_to, ControlReading, Control_came, Input, RequestKind, Of_create_session, Of_delete_session, Of_create_bearer, Of_delete_bearer, FaultyRequest}
 use Rattle.gtp_machine.specs.Removal.{without_bearer}
 use Rattle.gtp_machine.specs.Serving.{MakesBearer, BearerAsked, RemovesEach, RemovesBearers, RemovalTaken, RemovalAsked, ServingFaulted}
 use Rattle.gtp_machine.specs.Packet.{MakesSession, SessionAsked, DeletionAsked, PacketFaulted}
@@ -11,7 +11,7 @@ use Rattle.gtp_machine.specs.Sound.{AreApart}
 use Rattle.gtp_machine.proofs.Determined.Alike.{Fits, Alike, Determines, the_same, says_it, by_effects, unless_plain, unless_one}
 use Rattle.gtp_machine.proofs.Determined.Witnesses.{IsLeft, was_session, was_bearer, undrawn_before, apart_left, one_session, one_named}
 use Rattle.gtp_machine.proofs.Changes.Shrinking.{Shrinks-without}
-use Rattle.gtp_machine.proofs.Determined.Chosen.{last_drawn, second_drawn, comes_beside}
+use Rattle.gtp_machine.proofs.Determined.Chosen.{last_drawn, second_drawn, comes_beside, one_cause, one_address}
 
 same_some : {X : Type 0} (x y : X) → ◌≡◌ {A = Option X} (Some x) (Some y) → x ≡ y
 same_some x y e = cc
@@ -32,12 +32,12 @@ removes_one session (identity ∷ rest) old contexts others left right apart (cs
 module _ {first : Node} {reading : ControlReading} (request : Arrival) (old : Node) (fits : Fits first) (left : IsLeft first old) where
   makes_session : (q : CreateSessionRequest) → Determines (Alike Packet first (Control_came request reading)) (MakesSession request old q)
   makes_session q e f r s = by_effects _ _ e f r.gives s.gives (record {
-    tell = record { outcome = refl; told = refl; places = refl; known = refl; counter = refl; draws = refl };
+    tell = record { outcome = ap (λ cause. Came_to (Answered cause)) (one_cause old q.pdn r.address s.address r.given s.given); told = refl; places = refl; known = refl; counter = refl; draws = refl };
     one = λ alike.
         let user : r.user ≡ s.user = last_drawn r.user s.user _ _ alike.drawn in
         let control : r.control ≡ s.control = second_drawn r.user r.control s.user s.control old.drawn alike.drawn in
         let address : r.address ≡ s.address =
-        same_some r.address s.address (alike.addresses request reading refl refl (λ none. cc none) old.sessions r.control _ _
+        one_address old q.pdn r.address s.address r.given s.given (alike.addresses request reading refl refl (λ none. cc none) old.sessions r.control _ _
         (comes_beside first.sessions old.sessions first.drawn (was_session first old left) fits.sessions r.control r.control _ refl (undrawn_before first old r.control left r.control_free))
         (comes_beside first.sessions old.sessions first.drawn (was_session first old left) fits.sessions r.control s.control _ control (undrawn_before first old r.control left r.control_free))) in
         cc;

@@ -1,9 +1,15 @@
 -- What was chosen alike.
 use Rattle.std.proofs.Common.{◌≡◌, ℕ, List, ◌∷◌, Option, Some, None, refl, sym, ◌∙◌, ap, ⊎_elim}
 use Rattle.std.specs.FinMap.{get, insert}
+use Rattle.std.specs.Prelude.{is_some, not, ◌&&◌, ◌==◌, if◌then◌else◌}
 use Rattle.gtp_values.specs.FiniteMap.{FiniteMap, Among}
+use Rattle.gtp_tables.specs.declared.pool.Version.{Version}
+use Rattle.gtp_tables.specs.declared.pool.Version.TheVariants.{V4, V6}
+use Rattle.gtp_tables.specs.Part.{part_in}
 use Rattle.gtp_machine.specs.Node.{PendingRequest, Node}
-use Rattle.gtp_machine.specs.Choice.{HasPending}
+use Rattle.gtp_machine.specs.Choice.{HasPending, IsPart, IsGiven}
+use Rattle.gtp_machine.specs.Element.{PdnAddress}
+use Rattle.gtp_machine.specs.Packet.{session_cause}
 use Rattle.gtp_machine.proofs.Basics.FiniteMaps.{found-insert, get-insert_same}
 use Rattle.gtp_machine.proofs.Determined.Alike.{ComesBeside}
 
@@ -23,6 +29,36 @@ one_number one other pending m n p q is_one is_other free alike =
   where
     never : {x : PendingRequest} → get pending m ≡ Some x → ⊥
     never {x} e = cc
+
+-- whether a part of an address is given is no choice
+one_side : (node : Node) (pdn : ℕ) (version : Version) (x y : Option (List ℕ)) → IsPart node pdn version x → IsPart node pdn version y → is_some x ≡ is_some y
+one_side node pdn version None None r s = refl
+one_side node pdn version None (Some b) r s = absurd (r (s.0, record { address = b; free = s.1 }))
+one_side node pdn version (Some a) None r s = absurd (s (r.0, record { address = a; free = r.1 }))
+one_side node pdn version (Some a) (Some b) r s = refl
+
+-- so two addresses have parts of the same versions
+pub one_shape : (node : Node) (pdn : ℕ) (a b : PdnAddress) → IsGiven node pdn a → IsGiven node pdn b → (version : Version) → is_some (part_in version a) ≡ is_some (part_in version b)
+one_shape node pdn a b r s V4 = one_side node pdn V4 a.v4 b.v4 r.v4 s.v4
+one_shape node pdn a b r s V6 = one_side node pdn V6 a.v6 b.v6 r.v6 s.v6
+
+-- and one cause
+pub one_cause : (node : Node) (pdn : ℕ) (a b : PdnAddress) → IsGiven node pdn a → IsGiven node pdn b → session_cause pdn a ≡ session_cause pdn b
+one_cause node pdn a b r s = λ i. if (pdn == 3) && not (one_shape node pdn a b r s V4 i && one_shape node pdn a b r s V6 i) then 18 else 16
+
+-- parts that are there alike, and are one where they are
+one_part : (x y : Option (List ℕ)) → is_some x ≡ is_some y → ((a b : List ℕ) → x ≡ Some a → y ≡ Some b → a ≡ b) → x ≡ y
+one_part None None alike same = refl
+one_part None (Some b) alike same = absurd (cc alike)
+one_part (Some a) None alike same = absurd (cc alike)
+one_part (Some a) (Some b) alike same = ap (λ k. Some k) (same a b refl refl)
+
+-- addresses whose parts are one
+pub one_address : (node : Node) (pdn : ℕ) (a b : PdnAddress) → IsGiven node pdn a → IsGiven node pdn b → ((version : Version) (x y : List ℕ) → part_in version a ≡ Some x → part_in version b ≡ Some y → x ≡ y) → a ≡ b
+one_address node pdn a b r s same =
+    let v4 : a.v4 ≡ b.v4 = one_part a.v4 b.v4 (one_shape node pdn a b r s V4) (same V4) in
+    let v6 : a.v6 ≡ b.v6 = one_part a.v6 b.v6 (one_shape node pdn a b r s V6) (same V6) in
+    λ i. record { v4 = v4 i; v6 = v6 i }
 
 -- where nothing is found
 none_found : {X : Type 0} (o : Option X) → ((x : X) → o ≡ Some x → ⊥) → o ≡ None

@@ -1,5 +1,6 @@
 -- Responses.
 use Rattle.std.proofs.Common.{◌≡◌, ℕ}
+use Rattle.gtp_machine.specs.Element.{PdnAddress}
 use Rattle.gtp_machine.specs.Message.{Echo, CreateSessionRequest, CreateSessionResponse, DeleteSessionResponse, CreateBearerResponse, DeleteBearerResponse}
 use Rattle.gtp_machine.specs.Node.{Role, Session, Node}
 use Rattle.gtp_machine.specs.Input.{Input}
@@ -14,7 +15,7 @@ module _ {role : Role} {first : Node} {input : Input} (old : Node) where
   pub echo_answered : (a : Echo) → Determines (Alike role first input) (EchoAnswered a old)
   echo_answered a = unless_one (one_pending old a.number) says_it (λ at. unless_plain says_it says_it)
 
-  opens_session : (a : CreateSessionResponse) (q : CreateSessionRequest) (session : ℕ) (s : Session) (address : ℕ) → Determines (Alike role first input) (OpensSession old a q session s address)
+  opens_session : (a : CreateSessionResponse) (q : CreateSessionRequest) (session : ℕ) (s : Session) (address : PdnAddress) → Determines (Alike role first input) (OpensSession old a q session s address)
   opens_session a q session at address e f r s =
       let bearer : r.default.bearer ≡ s.default.bearer = one_value _ _ _ r.default.stands s.default.stands in
       the_same e f cc

@@ -1,18 +1,20 @@
 -- The command, the delivery of its request and the delivery of its answer make the session.
 use Rattle.std.proofs.Common.{◌≡◌, ◌≢◌, ◌⊎◌, inl, inr, ⊎_elim, ℕ, ◌+◌, ◌%◌, ◌^◌, ◌≤◌, ◌<◌, ◌==◌, length, List, [], ◌∷◌, ◌++◌, Option, Some, Bool, true, false, if◌then◌else◌, slice_get, refl, sym, ◌∙◌, ap, subst, arith}
+use Rattle.std.specs.Prelude.{◌&&◌, not, is_some}
 use Rattle.std.specs.FinMap.{get}
 use Rattle.std.proofs.lemmas.List.{append-nil}
 use Rattle.std.proofs.lemmas.Option.{same_Some}
+use Rattle.gtp_values.proofs.Allocations.{address_back}
 use Rattle.gtp_values.specs.Counter.{age_of}
 use Rattle.gtp_values.specs.FiniteMap.{Among}
 use Rattle.gtp_values.specs.declared.address.Endpoint.{Endpoint}
 use Rattle.gtp_values.specs.declared.counter.Age.TheVariants.{Earlier}
 use Rattle.gtp_machine.specs.Config.{Addresses, Config, user_end}
-use Rattle.gtp_machine.specs.Element.{IsAccepting, cause_of, tunnel_end, teid_in}
+use Rattle.gtp_machine.specs.Element.{IsAccepting, PdnAddress, cause_of, tunnel_end, teid_in}
 use Rattle.gtp_machine.specs.Message.{CreateSessionRequest, CreateSessionResponse, Message, Create_session_request, Create_session_response, Packet_data, plane_of, Control, User, Create_bearer_request, Create_bearer_response, Owns}
 use Rattle.gtp_machine.specs.Node.{Role, Serving, Packet, Active, Session, Bearer, Arrival, Node, holding, written}
 use Rattle.gtp_machine.specs.Input.{Entry, Specification, Create_session, Send_user, entry_for, Input, Commanded, Control_came, User_came, Control_message, User_message, Effect, messages}
-use Rattle.gtp_machine.specs.Choice.{IsFree, counter_of}
+use Rattle.gtp_machine.specs.Choice.{IsFree, IsGiven, counter_of}
 use Rattle.gtp_machine.specs.Command.{BeginsSession, MayGo, SendsPacket, PacketSent, asks, session_request, session_begun, pending_session, pending_bearer}
 use Rattle.gtp_machine.specs.User.{MayCome, Accepts, UserStep}
 use Rattle.gtp_machine.specs.Answer.{IsNew}
@@ -29,9 +31,9 @@ use Rattle.gtp_machine.proofs.Origins.Drawing.{Drawing, unowned, by_cases}
 use Rattle.gtp_machine.proofs.Worlds.Hearing.{Hearing}
 use Rattle.gtp_machine.proofs.Worlds.Runs.{Invariant, always}
 use Rattle.gtp_machine.proofs.Exchange.Held.{HeldOfSent, always_held}
-use Rattle.gtp_machine.proofs.Exchange.Nodes.{pass, begins, CanMake, IsAnswered, answers, opening, waiting_for, Waits, OpensBy, IsOpened, is_opened_by}
+use Rattle.gtp_machine.proofs.Exchange.Nodes.{pass, type_is as asked_type, begins, CanMake, IsAnswered, answers, opening, waiting_for, Waits, OpensBy, IsOpened, is_opened_by}
 use Rattle.gtp_machine.proofs.Exchange.Texts.{request_like, response_like, same_request_teid, same_response_teid}
-use Rattle.gtp_machine.proofs.Exchange.Ranges.{request_sendable, request_short, response_sendable, response_short}
+use Rattle.gtp_machine.proofs.Exchange.Ranges.{IsWritten, given_written, request_sendable, request_short, response_sendable, response_short}
 use Rattle.gtp_machine.specs.Laws.{OwnsOn, IsFromOn}
 use Rattle.gtp_machine.proofs.Changes.After.{Knows}
 use Rattle.gtp_machine.proofs.Worlds.Safety.{bearer_goes_back}
@@ -84,8 +86,8 @@ not_earlier peer role history known seen counter draws hearing same k is early =
     let before = earlier_start peer.first l.start peer.restarts k counter (omega (arith, l.by_now, draws.few)) draws.few l.is (same ∙ draws.counter) early in
     omega (arith, before, l.by_now)
 
-pub accepts_cause : (pdn : ℕ) → IsAccepting (cause_of (session_cause pdn))
-accepts_cause pdn = by (pdn == 3)
+pub accepts_cause : (pdn : ℕ) (address : PdnAddress) → IsAccepting (cause_of (session_cause pdn address))
+accepts_cause pdn address = by ((pdn == 3) && not (is_some address.v4 && is_some address.v6))
   where
     by : (b : Bool) → IsAccepting (cause_of (if b then 18 else 16))
     by true = record { low = omega arith; high = omega arith }
@@ -269,9 +271,9 @@ module _ (serving packet : Config) (serving_counter packet_counter : ℕ) (event
         request_new s.message s.sent s.control (ap (λ (a : Arrival). a.octets) octets)
 
     can_make : CanMake w.packet.node q
-    can_make = record { room = can.held_room; one = refl; identity = can.identity; configured = can.configured; pdn = can.pdn; few = can.packet_room; draws = can.packet_draws; address = can.address }
+    can_make = record { room = can.held_room; one = refl; identity = can.identity; configured = can.configured; few = can.packet_room; draws = can.packet_draws; give = can.give }
 
-    a2 : IsAnswered asked q w.packet.node d2.moves.effect
+    a2 : IsAnswered asked q w.serving.node.counter w.packet.node d2.moves.effect
     a2 = answers asked q w.serving.node.counter w.packet.node d2.moves.effect (ap (λ (k : Addresses). k.control) (serving_own ∙ sym path.back)) new2 refl (not_earlier w.serving Serving w.history w.packet.node.known w.packet.seen w.serving.node.counter inv.serving.draws inv.packet.hearing refl) can_make (subst (λ n. Step Packet n (Control_came asked (Control_message (Create_session_request q))) d2.moves.effect) same2 d2.moves.step)
 
     abbrev a : CreateSessionResponse
@@ -315,7 +317,7 @@ module _ (serving packet : Config) (serving_counter packet_counter : ℕ) (event
       waits = record { request = get-insert_same w.serving.node.pending r1.number (waiting_for q); session = get-insert_same w.serving.node.sessions r1.control (pending_session q); bearer = get-insert_same w.serving.node.bearers r1.user (pending_bearer r1.control q) }
 
       opens_by : OpensBy a q a2.made.address
-      opens_by = record { number = refl; header = refl; accepts = accepts_cause spec.pdn; context = record { identity = q.context.identity; cause = cause_of 16; user = Some (tunnel_end 5 a2.made.user a2.mid.config.own.user); qos = Some q.context.qos; charging = Some a2.made.user }; alone = refl; default = refl; both = record { low = omega arith; high = omega arith }; given = refl }
+      opens_by = record { number = refl; header = refl; accepts = accepts_cause spec.pdn a2.made.address; context = record { identity = q.context.identity; cause = cause_of 16; user = Some (tunnel_end 5 a2.made.user a2.mid.config.own.user); qos = Some q.context.qos; charging = Some a2.made.user }; alone = refl; default = refl; both = record { low = omega arith; high = omega arith }; given = address_back 64 a2.made.address a2.made.given.some_part }
 
       o3 : IsOpened a q a2.made.address e1.node d3.moves.effect
       o3 = is_opened_by told a q a2.made.address a2.mid.counter e1.node d3.moves.effect (ap (λ (k : Addresses). k.control) (packet_own ∙ sym path.there)) new3 refl (not_earlier w.packet Packet w.history w.serving.node.known w.serving.seen a2.mid.counter inv.packet.draws inv.serving.hearing a2.ready.counter) waits opens_by (subst (λ n. Step Serving n (Control_came told (Control_message (Create_session_response a))) d3.moves.effect) same3 d3.moves.step)
@@ -401,9 +403,11 @@ module _ (serving packet : Config) (serving_counter packet_counter : ℕ) (event
           bearer = no_bearer Serving r1.user r1.user_free;
           bearer_there = no_bearer Packet a2.made.user (free_before a2.made.user a2.made.user_free);
         };
-        cause = session_cause spec.pdn;
-        one_version = λ one. ap session_cause one;
-        both_versions = λ both. ap session_cause both;
+        cause = session_cause spec.pdn a2.made.address;
+        address = a2.made.address;
+        given = subst (λ n. IsGiven n spec.pdn a2.made.address) a2.heard a2.made.given;
+        has = refl;
+        for_address = refl;
         first = record { note = f1.note.note; before = f1.note.before; notes = f1.note.notes; is = f1.note.is ∙ ap (λ (f : Effect). f.outcome) r1.gives };
         second = record { note = f2.note.note; before = f2.note.before; notes = f2.note.notes; is = f2.note.is ∙ (a2.outcome ∙ ap (λ (f : Effect). f.outcome) a2.made.gives) };
         answer = a;
@@ -473,14 +477,17 @@ module _ (serving packet : Config) (serving_counter packet_counter : ℕ) (event
     counter_small : (side : Side) (role : Role) (history : List Sent) → Drawing side role history → side.node.counter < 256
     counter_small side role history draws = omega (arith, draws.counter)
 
+    type_is : (spec.pdn ≡ 1) ⊎ ((spec.pdn ≡ 2) ⊎ (spec.pdn ≡ 3))
+    type_is = asked_type w.packet.node spec.pdn can.give
+
     request_is : IsSendable (Create_session_request q)
-    request_is = request_sendable w.serving.node spec r1.control r1.user r1.number serving_is specified can.identity can.pdn (counter_small w.serving Serving w.history inv.serving.draws) control_small user_small number_small
+    request_is = request_sendable w.serving.node spec r1.control r1.user r1.number serving_is specified can.identity type_is (counter_small w.serving Serving w.history inv.serving.draws) control_small user_small number_small
 
     request_differs : IsUnsent Serving (Create_session_request q)
     request_differs m sent control text =
         let like = request_like m q control text in
         let was = subst (λ k. HasSent w.history Serving k) like.is sent in
-        let short = request_short w.serving.node spec r1.control r1.user r1.number serving_is specified can.identity can.pdn (counter_small w.serving Serving w.history inv.serving.draws) control_small user_small number_small in
+        let short = request_short w.serving.node spec r1.control r1.user r1.number serving_is specified can.identity type_is (counter_small w.serving Serving w.history inv.serving.draws) control_small user_small number_small in
         let small = owned_small w.serving Serving w.history inv.serving.draws (Create_session_request like.request) like.request.control.teid was (inl refl) in
         let same = same_request_teid like.request q (omega (arith, short)) small control_small like.after in
         unowned w.serving Serving w.history inv.serving.draws (Create_session_request like.request) r1.control was (inl (sym same)) r1.control_free
@@ -488,7 +495,7 @@ module _ (serving packet : Config) (serving_counter packet_counter : ℕ) (event
     abbrev now : CreateSessionResponse
     now = a request_differs
 
-    abbrev at : IsAnswered asked q w.packet.node d2.moves.effect
+    abbrev at : IsAnswered asked q w.serving.node.counter w.packet.node d2.moves.effect
     at = a2 request_differs
 
     mid_is : IsConfigured at.mid.config
@@ -506,17 +513,17 @@ module _ (serving packet : Config) (serving_counter packet_counter : ℕ) (event
     user_there_small : at.made.user < 2 ^ 32
     user_there_small = free_small w.packet Packet w.history inv.packet.draws at.made.user (free_before request_differs at.made.user at.made.user_free)
 
-    address_small : at.made.address < 2 ^ 32
-    address_small = omega (arith, at.made.address_free.is, at.made.address_free.in_pool, mid_is.pool.within)
+    address_is : IsWritten at.made.address
+    address_is = given_written at.mid mid_is spec.pdn at.made.address at.made.given
 
     response_is : IsSendable (Create_session_response now)
-    response_is = response_sendable w.serving.node spec r1.control r1.user r1.number serving_is specified can.identity can.pdn (counter_small w.serving Serving w.history inv.serving.draws) control_small user_small number_small at.mid at.made.control at.made.user at.made.address mid_is mid_counter_small control_there_small user_there_small address_small
+    response_is = response_sendable w.serving.node spec r1.control r1.user r1.number serving_is specified can.identity type_is (counter_small w.serving Serving w.history inv.serving.draws) control_small user_small number_small at.mid at.made.control at.made.user at.made.address mid_is mid_counter_small control_there_small user_there_small address_is
 
     response_differs : IsUnsent Packet (Create_session_response now)
     response_differs m sent control text =
         let like = response_like m now control text in
         let was = subst (λ k. HasSent w.history Packet k) like.is sent in
-        let short = response_short w.serving.node spec r1.control r1.user r1.number serving_is specified can.identity can.pdn (counter_small w.serving Serving w.history inv.serving.draws) control_small user_small number_small at.mid at.made.control at.made.user at.made.address mid_is mid_counter_small control_there_small user_there_small address_small in
+        let short = response_short w.serving.node spec r1.control r1.user r1.number serving_is specified can.identity type_is (counter_small w.serving Serving w.history inv.serving.draws) control_small user_small number_small at.mid at.made.control at.made.user at.made.address mid_is mid_counter_small control_there_small user_there_small address_is in
         let names = same_response_teid like.response now (tunnel_end 7 at.made.control at.mid.config.own.control) refl (omega (arith, short)) control_there_small like.after in
         let owns = ap teid_in names.control in
         let small = owned_small w.packet Packet w.history inv.packet.draws (Create_session_response like.response) names.end.teid was (inl owns) in

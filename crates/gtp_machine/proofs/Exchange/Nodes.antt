@@ -1,20 +1,25 @@
 -- What the rows of each gateway give where nothing stands in the way.
-use Rattle.std.proofs.Common.{◌≡◌, ◌≢◌, ◌⊎◌, inl, inr, ℕ, ◌+◌, ◌<◌, ◌≤◌, length, List, [], ◌∷◌, Option, Some, None, false, not, ◌||◌, refl, sym, ◌∙◌, ap, subst, arith}
+use Rattle.std.proofs.Common.{◌≡◌, ◌≢◌, ◌⊎◌, inl, inr, ⊎_elim, ℕ, ◌+◌, ◌<◌, ◌≤◌, length, List, [], ◌∷◌, Option, Some, None, true, false, not, ◌||◌, refl, sym, ◌∙◌, ap, subst, arith}
+use Rattle.std.specs.Prelude.{IsTrue, is_some}
 use Rattle.std.specs.FinMap.{get, insert, remove, len}
+use Rattle.std.proofs.lemmas.Bool.Decides.{nat_tests}
 use Rattle.std.proofs.lemmas.Option.{same_Some}
 use Rattle.gtp_values.specs.Counter.{age_of}
 use Rattle.gtp_values.specs.FiniteMap.{Among}
 use Rattle.gtp_values.specs.declared.counter.Age.{Age}
 use Rattle.gtp_values.specs.declared.counter.Age.TheVariants.{Same, Later, Earlier}
+use Rattle.gtp_tables.specs.declared.pool.Version.{Version}
+use Rattle.gtp_tables.specs.declared.pool.Version.TheVariants.{V4, V6}
+use Rattle.gtp_tables.specs.Free.{count_of, address_at}
 use Rattle.gtp_machine.specs.Ordered.{Unless}
 use Rattle.gtp_machine.specs.Config.{Config}
-use Rattle.gtp_machine.specs.Element.{IsAccepting, Ipv4}
+use Rattle.gtp_machine.specs.Element.{IsAccepting, PdnAddress, address_of}
 use Rattle.gtp_machine.specs.Message.{CreateSessionRequest, CreatedBearer, CreateSessionResponse, Create_session_request, Create_session_response}
 use Rattle.gtp_machine.specs.Node.{Serving, Packet, State, Pending, Session, Bearer, PendingRequest, Arrival, Held, Node}
 use Rattle.gtp_machine.specs.Input.{Came_to, Specification, Control_came, Control_message, Opened, Effect, nothing, messages}
-use Rattle.gtp_machine.specs.Choice.{HasDraws, IsFreeAddress, HasFreeAddress, IsIdentity, HasSessionRoom, HasPendingRoom, HasHeldRoom}
+use Rattle.gtp_machine.specs.Choice.{HasDraws, IsFreeAddress, HasFreeAddress, AsksFor, IsPart, IsGiven, CanGive, IsServed, IsIdentity, HasSessionRoom, HasPendingRoom, HasHeldRoom}
 use Rattle.gtp_machine.specs.Removal.{on, is_pending, is_opened}
-use Rattle.gtp_machine.specs.Recovery.{peer_restarted, Judges, Weighs, learned_by, Hears}
+use Rattle.gtp_machine.specs.Recovery.{peer_restarted, Judges, Weighs, learned_by, Hears, heard_at_age, heard_from, heard_by}
 use Rattle.gtp_machine.specs.Command.{BeginsSession, SessionBegun, pending_session, pending_bearer}
 use Rattle.gtp_machine.specs.Answer.{IsNew}
 use Rattle.gtp_machine.specs.Serving.{opened_session, opened_bearer, SessionAnswered, ServingTakes}
@@ -70,6 +75,7 @@ ready_restarted old counter = record {
 -- what a message gives once its counter was heard, which is not an earlier one
 pub record IsHeard (Takes : Node → Effect → Type 0) (old : Node) (counter : ℕ) (e : Effect) : Type 0 where
   pub mid : Node
+  pub heard : mid ≡ heard_by old counter
   pub ready : IsReady old mid
   pub taken : Effect
   pub takes : Takes mid taken
@@ -79,13 +85,22 @@ pub heard_so : (Takes : Node → Effect → Type 0) (old : Node) (counter : ℕ)
 heard_so Takes old counter e not_earlier (taken, weighs, is) = by_known old.known refl weighs
   where
     by_age : (k : ℕ) → old.known ≡ Some k → (age : Age) → age_of k counter ≡ age → Judges Takes old counter age taken → IsHeard Takes old counter e
-    by_age k known Same age takes = record { mid = old; ready = ready_itself old; taken = taken; takes = takes; is = is }
-    by_age k known Later age takes = record { mid = peer_restarted old counter; ready = ready_restarted old counter; taken = taken; takes = takes; is = is }
+    by_age k known Same age takes = record { mid = old; heard = sym (ap (heard_from old counter) known ∙ ap (heard_at_age old counter) age); ready = ready_itself old; taken = taken; takes = takes; is = is }
+    by_age k known Later age takes = record { mid = peer_restarted old counter; heard = sym (ap (heard_from old counter) known ∙ ap (heard_at_age old counter) age); ready = ready_restarted old counter; taken = taken; takes = takes; is = is }
     by_age k known Earlier age takes = absurd (not_earlier k known age)
 
     by_known : (known : Option ℕ) → old.known ≡ known → Weighs Takes old counter known taken → IsHeard Takes old counter e
-    by_known None none takes = record { mid = record old { known = Some counter }; ready = ready_known old (Some counter); taken = taken; takes = takes; is = is }
+    by_known None none takes = record { mid = record old { known = Some counter }; heard = sym (ap (heard_from old counter) none); ready = ready_known old (Some counter); taken = taken; takes = takes; is = is }
     by_known (Some k) some takes = by_age k some (age_of k counter) refl takes
+
+-- what is given can be had
+pub can_be_had : (node : Node) (pdn : ℕ) (address : PdnAddress) → IsGiven node pdn address → CanGive node pdn
+can_be_had node pdn address given = by address.v4 address.v6 given.v4 given.v6 given.some_part
+  where
+    by : (v4 v6 : Option (List ℕ)) → IsPart node pdn V4 v4 → IsPart node pdn V6 v6 → IsTrue (is_some v4 || is_some v6) → CanGive node pdn
+    by (Some octets) v6 r s some = record { version = V4; asked = r.0; free = record { address = octets; free = r.1 } }
+    by None (Some octets) r s some = record { version = V6; asked = s.0; free = record { address = octets; free = s.1 } }
+    by None None r s some = let no : false ≡ true = some in absurd cc
 
 -- a Create Session Request that can be taken
 pub record CanMake (old : Node) (q : CreateSessionRequest) : Type 0 where
@@ -93,18 +108,35 @@ pub record CanMake (old : Node) (q : CreateSessionRequest) : Type 0 where
   pub one : q.further ≡ []
   pub identity : IsIdentity q.context.identity
   pub configured : Among q.access_point old.config.access_points
-  pub pdn : (q.pdn ≡ 1) ⊎ (q.pdn ≡ 3)
   pub few : HasSessionRoom old
   pub draws : HasDraws old 2
-  pub address : HasFreeAddress old
+  pub give : CanGive old q.pdn
 
-still_free : (old mid : Node) → IsReady old mid → (address : ℕ) → IsFreeAddress old address → IsFreeAddress mid address
-still_free old mid ready address free = record {
+still_free : (old mid : Node) → IsReady old mid → (version : Version) (address : List ℕ) → IsFreeAddress old version address → IsFreeAddress mid version address
+still_free old mid ready version address free = record {
   place = free.place;
-  in_pool = subst (λ n. free.place < n) (ap (λ (c : Config). c.pool_count) (sym ready.config)) free.in_pool;
-  is = free.is ∙ ap (λ (c : Config). c.pool_start + free.place) (sym ready.config);
+  in_pool = subst (λ n. free.place < n) (ap (λ (c : Config). count_of c.pools version) (sym ready.config)) free.in_pool;
+  is = free.is ∙ ap (λ (c : Config). address_at c.pools version free.place) (sym ready.config);
   unused = λ t s e. free.unused t s (ready.sessions t s e);
 }
+
+-- the type of which an address can be had: one of three, and one that is served
+module _ (node : Node) (pdn : ℕ) (can : CanGive node pdn) where
+  asked_is : (version : Version) → AsksFor pdn version → (pdn ≡ 1) ⊎ ((pdn ≡ 2) ⊎ (pdn ≡ 3))
+  asked_is V4 asked = grind (arith, nat_tests)
+  asked_is V6 asked = grind (arith, nat_tests)
+
+  pub type_is : (pdn ≡ 1) ⊎ ((pdn ≡ 2) ⊎ (pdn ≡ 3))
+  type_is = asked_is can.version can.asked
+
+  pub served : IsServed node.config pdn
+  served = by can.version can.asked can.free
+    where
+      by : (version : Version) → AsksFor pdn version → HasFreeAddress node version → IsServed node.config pdn
+      by V4 asked has = let is : (pdn ≡ 1) ⊎ (pdn ≡ 3) = grind (arith, nat_tests) in ⊎_elim (λ one. inl one) (λ three. inr (inl three)) is
+      by V6 asked has =
+          let is : (pdn ≡ 2) ⊎ (pdn ≡ 3) = grind (arith, nat_tests) in
+          ⊎_elim (λ two. inr (inr (two, omega (arith, has.free.in_pool)))) (λ three. inr (inl three)) is
 
 can_still : (old mid : Node) → IsReady old mid → (q : CreateSessionRequest) → CanMake old q → CanMake mid q
 can_still old mid ready q can = record {
@@ -112,18 +144,18 @@ can_still old mid ready q can = record {
   one = can.one;
   identity = can.identity;
   configured = subst (λ (c : Config). Among q.access_point c.access_points) (sym ready.config) can.configured;
-  pdn = can.pdn;
   few = record { few = omega (arith, ready.few, can.few.few) };
   draws = record { left = subst (λ (l : List ℕ). length l + 2 ≤ 16777215) (sym ready.drawn) can.draws.left };
-  address = record { address = can.address.address; free = still_free old mid ready can.address.address can.address.free };
+  give = record { version = can.give.version; asked = can.give.asked; free = record { address = can.give.free.address; free = still_free old mid ready can.give.version can.give.free.address can.give.free.free } };
 }
 
 makes : (request : Arrival) (q : CreateSessionRequest) (old : Node) (e : Effect) → CanMake old q → SessionAsked request q old e → MakesSession request old q e
-makes request q old e can r = (pass can.address (pass (can.few, can.draws) (pass can.pdn (pass can.configured (pass can.identity (pass can.one (pass can.room r).1).1).1).1).1).1).1
+makes request q old e can r = (pass can.give (pass (can.few, can.draws) (pass (served old q.pdn can.give) (pass can.configured (pass can.identity (pass can.one (pass can.room r).1).1).1).1).1).1).1
 
 -- what the packet gateway makes of the request
-pub record IsAnswered (request : Arrival) (q : CreateSessionRequest) (old : Node) (e : Effect) : Type 0 where
+pub record IsAnswered (request : Arrival) (q : CreateSessionRequest) (counter : ℕ) (old : Node) (e : Effect) : Type 0 where
   pub mid : Node
+  pub heard : mid ≡ heard_by old counter
   pub ready : IsReady old mid
   pub taken : Effect
   pub made : MakesSession request mid q taken
@@ -131,16 +163,16 @@ pub record IsAnswered (request : Arrival) (q : CreateSessionRequest) (old : Node
   pub sent : messages e.out.sent ≡ messages taken.out.sent
   pub outcome : e.outcome ≡ taken.outcome
 
-pub answers : (request : Arrival) (q : CreateSessionRequest) (counter : ℕ) (old : Node) (e : Effect) → request.source.ip ≡ old.config.peer.control → IsNew old request → q.recovery ≡ Some counter → ((k : ℕ) → old.known ≡ Some k → age_of k counter ≢ Earlier) → CanMake old q → Step Packet old (Control_came request (Control_message (Create_session_request q))) e → IsAnswered request q old e
+pub answers : (request : Arrival) (q : CreateSessionRequest) (counter : ℕ) (old : Node) (e : Effect) → request.source.ip ≡ old.config.peer.control → IsNew old request → q.recovery ≡ Some counter → ((k : ℕ) → old.known ≡ Some k → age_of k counter ≢ Earlier) → CanMake old q → Step Packet old (Control_came request (Control_message (Create_session_request q))) e → IsAnswered request q counter old e
 answers request q counter old e peer new tells not_earlier can (inl f) = absurd (f.0 peer)
 answers request q counter old e peer new tells not_earlier can (inr (from, inl again)) = absurd (new again.held again.stands again.same)
 answers request q counter old e peer new tells not_earlier can (inr (from, inr (is_new, inl f))) = absurd (f.0 refl)
 answers request q counter old e peer new tells not_earlier can (inr (from, inr (is_new, inr (kind, hears)))) =
     let h = heard_so (PacketTakes request (Create_session_request q)) old counter e not_earlier (subst (λ o. Hears (PacketTakes request (Create_session_request q)) old o e) tells hears) in
-    record { mid = h.mid; ready = h.ready; taken = h.taken; made = makes request q h.mid h.taken (can_still old h.mid h.ready q can) h.takes; node = ap (λ (f : Effect). f.node) h.is; sent = ap (λ (f : Effect). messages f.out.sent) h.is; outcome = ap (λ (f : Effect). f.outcome) h.is }
+    record { mid = h.mid; heard = h.heard; ready = h.ready; taken = h.taken; made = makes request q h.mid h.taken (can_still old h.mid h.ready q can) h.takes; node = ap (λ (f : Effect). f.node) h.is; sent = ap (λ (f : Effect). messages f.out.sent) h.is; outcome = ap (λ (f : Effect). f.outcome) h.is }
 
 -- the session and its default bearer, opened
-abbrev pub opening : CreateSessionResponse → CreateSessionRequest → Node → ℕ → Effect
+abbrev pub opening : CreateSessionResponse → CreateSessionRequest → Node → PdnAddress → Effect
 opening a q mid address =
     record {
       out = nothing;
@@ -162,7 +194,7 @@ pub record Waits (node : Node) (q : CreateSessionRequest) : Type 0 where
   pub bearer : get node.bearers q.context.user.teid ≡ Some (pending_bearer q.control.teid q)
 
 -- an answer that opens it
-pub record OpensBy (a : CreateSessionResponse) (q : CreateSessionRequest) (address : ℕ) : Type 0 where
+pub record OpensBy (a : CreateSessionResponse) (q : CreateSessionRequest) (address : PdnAddress) : Type 0 where
   pub number : a.number ≡ q.number
   pub header : a.header ≡ q.control.teid
   pub accepts : IsAccepting a.cause
@@ -170,9 +202,9 @@ pub record OpensBy (a : CreateSessionResponse) (q : CreateSessionRequest) (addre
   pub alone : a.contexts ≡ context ∷ []
   pub default : context.identity ≡ q.context.identity
   pub both : IsAccepting context.cause
-  pub given : a.address ≡ Some (Ipv4 address)
+  pub given : address_of a.address ≡ Some address
 
-opens : (a : CreateSessionResponse) (q : CreateSessionRequest) (mid : Node) (e : Effect) (address : ℕ) → Waits mid q → OpensBy a q address → SessionAnswered a mid e → e ≡ opening a q mid address
+opens : (a : CreateSessionResponse) (q : CreateSessionRequest) (mid : Node) (e : Effect) (address : PdnAddress) → Waits mid q → OpensBy a q address → SessionAnswered a mid e → e ≡ opening a q mid address
 opens a q mid e address waits by r =
     let at = pass (record { pending = waiting_for q; waits = ap (λ n. get mid.pending n) by.number ∙ waits.request }) r in
     let same_p : waiting_for q ≡ at.0.pending = same_Some _ _ (sym (ap (λ n. get mid.pending n) by.number ∙ waits.request) ∙ at.0.waits) in
@@ -183,7 +215,7 @@ opens a q mid e address waits by r =
     let new = pass (record { at = record { session = pending_session q; stands = ap (λ t. get mid.sessions t) (sym same_s) ∙ waits.session }; context = by.context; alone = by.alone; default = by.default; address = address; given = by.given }) accepts.1 in
     let same_c : by.context ≡ new.0.context = context_same by.context new.0.context (sym by.alone ∙ new.0.alone) in
     let same_at : pending_session q ≡ new.0.at.session = same_Some _ _ (sym waits.session ∙ ap (λ t. get mid.sessions t) same_s ∙ new.0.at.stands) in
-    let same_a : address ≡ new.0.address = address_same address new.0.address (sym by.given ∙ new.0.given) in
+    let same_a : address ≡ new.0.address = same_Some address new.0.address (sym by.given ∙ new.0.given) in
     let both = pass (subst (λ (c : CreatedBearer). IsAccepting c.cause) same_c by.both) new.1 in
     let same_b : pending_bearer q.control.teid q ≡ both.1.default.bearer = same_Some _ _ (sym waits.bearer ∙ ap (λ (k : CreateSessionRequest). get mid.bearers k.context.user.teid) same_q ∙ both.1.default.stands) in
     both.1.gives
@@ -203,18 +235,15 @@ opens a q mid e address waits by r =
     context_same : (x y : CreatedBearer) → ◌≡◌ {A = List CreatedBearer} (x ∷ []) (y ∷ []) → x ≡ y
     context_same x y e = cc e
 
-    address_same : (x y : ℕ) → Some (Ipv4 x) ≡ Some (Ipv4 y) → x ≡ y
-    address_same x y e = cc e
-
 -- what the serving gateway makes of the answer
-pub record IsOpened (a : CreateSessionResponse) (q : CreateSessionRequest) (address : ℕ) (old : Node) (e : Effect) : Type 0 where
+pub record IsOpened (a : CreateSessionResponse) (q : CreateSessionRequest) (address : PdnAddress) (old : Node) (e : Effect) : Type 0 where
   pub mid : Node
   pub ready : IsReady old mid
   pub node : e.node ≡ (opening a q mid address).node
   pub sent : messages e.out.sent ≡ []
   pub outcome : e.outcome ≡ Came_to Opened
 
-pub is_opened_by : (request : Arrival) (a : CreateSessionResponse) (q : CreateSessionRequest) (address counter : ℕ) (old : Node) (e : Effect) → request.source.ip ≡ old.config.peer.control → IsNew old request → a.recovery ≡ Some counter → ((k : ℕ) → old.known ≡ Some k → age_of k counter ≢ Earlier) → Waits old q → OpensBy a q address → Step Serving old (Control_came request (Control_message (Create_session_response a))) e → IsOpened a q address old e
+pub is_opened_by : (request : Arrival) (a : CreateSessionResponse) (q : CreateSessionRequest) (address : PdnAddress) (counter : ℕ) (old : Node) (e : Effect) → request.source.ip ≡ old.config.peer.control → IsNew old request → a.recovery ≡ Some counter → ((k : ℕ) → old.known ≡ Some k → age_of k counter ≢ Earlier) → Waits old q → OpensBy a q address → Step Serving old (Control_came request (Control_message (Create_session_response a))) e → IsOpened a q address old e
 is_opened_by request a q address counter old e peer new tells not_earlier waits by (inl f) = absurd (f.0 peer)
 is_opened_by request a q address counter old e peer new tells not_earlier waits by (inr (from, inl again)) = absurd (new again.held again.stands again.same)
 is_opened_by request a q address counter old e peer new tells not_earlier waits by (inr (from, inr (is_new, inl f))) = absurd (f.0 refl)

@@ -3,6 +3,7 @@ use Rattle.std.proofs.Common.{◌≡◌, ℕ, ◌/◌, ◌%◌, ◌^◌, ◌<◌
 use Rattle.std.proofs.lemmas.List.{length-append}
 use Rattle.gtp_values.specs.Plmn.{Network}
 use Rattle.gtp_values.specs.TunnelEnd.{TunnelEnd}
+use Rattle.gtp_values.specs.declared.paa.Paa.{Paa}
 use Rattle.gtp_values.specs.declared.qos.Ambr.{Ambr}
 use Rattle.gtp_ie.specs.Text.{element_encoding}
 use Rattle.gtp_ie.specs.Spelling.{Says}
@@ -11,9 +12,8 @@ use Rattle.gtp_ie.proofs.Again.{charging_id_again}
 use Rattle.gtp_v2.specs.Encoding.{carried}
 use Rattle.gtp_v2.specs.CreateSessionResponse.{session_response_context_rows}
 use Rattle.gtp_v2.specs.Text.{value_encoding, groups_encoding}
-use Rattle.gtp_machine.specs.Element.{PdnAddress}
 use Rattle.gtp_machine.specs.Message.{CreateSessionRequest, CreateSessionResponse, CreatedBearer, Message, Echo_request, Echo_response, Create_session_request, Create_session_response, Delete_session_request, Delete_session_response, Create_bearer_request, Create_bearer_response, Delete_bearer_request, Delete_bearer_response, Other_control, Control, plane_of}
-use Rattle.gtp_machine.specs.Spelling.{control_value, created_rows, paa_of, spelled, where_there}
+use Rattle.gtp_machine.specs.Spelling.{control_value, created_rows, spelled, where_there}
 
 -- lists that begin with parts of one length
 same_parts : (b c r s : List ℕ) → length b ≡ length c → b ++ r ≡ c ++ s → (b ≡ c) × (r ≡ s)
@@ -129,12 +129,12 @@ module _ (p q : CreateSessionRequest) (short : length (after_request q) < 65536)
       after_network p.network q.network _ _ (left_short (element_encoding 82 0 (encoding_of (OfRat q.rat))) _ room) second.1
 
 -- what an answer says after its F-TEID of the control plane
-abbrev after_end : Option PdnAddress → Option Ambr → List CreatedBearer → Option ℕ → List ℕ
+abbrev after_end : Option Paa → Option Ambr → List CreatedBearer → Option ℕ → List ℕ
 after_end address ambr contexts recovery =
-    value_encoding 79 0 (where_there (λ p. OfPaa (paa_of p)) address) ++ (value_encoding 72 0 (where_there OfAmbr ambr) ++ (groups_encoding 93 0 session_response_context_rows (map created_rows contexts) ++ (value_encoding 3 0 (where_there OfRecovery recovery) ++ [])))
+    value_encoding 79 0 (where_there OfPaa address) ++ (value_encoding 72 0 (where_there OfAmbr ambr) ++ (groups_encoding 93 0 session_response_context_rows (map created_rows contexts) ++ (value_encoding 3 0 (where_there OfRecovery recovery) ++ [])))
 
 -- that is no F-TEID
-no_end : (address : Option PdnAddress) (ambr : Option Ambr) (contexts : List CreatedBearer) (recovery : Option ℕ) (body s : List ℕ) → after_end address ambr contexts recovery ≡ element_encoding 87 1 body ++ s → ⊥
+no_end : (address : Option Paa) (ambr : Option Ambr) (contexts : List CreatedBearer) (recovery : Option ℕ) (body s : List ℕ) → after_end address ambr contexts recovery ≡ element_encoding 87 1 body ++ s → ⊥
 unfolding value_encoding groups_encoding
 no_end (Some address) ambr contexts recovery body s is = let kind : 79 ≡ 87 = ap opens_with is in omega (arith, kind)
 no_end None (Some ambr) contexts recovery body s is = let kind : 72 ≡ 87 = ap opens_with is in omega (arith, kind)

@@ -1,7 +1,5 @@
 -- What a gateway sends for a message reads as that message.
-use Rattle.std.proofs.Common.{◌≡◌, inl, inr, ℕ, ◌+◌, ◌*◌, ◌≤◌, ◌<◌, ◌^◌, false, List, [], ◌∷◌, map, Option, Some, None, unwrap_or, refl, sym, ◌∙◌, ap, subst, arith}
-use Rattle.gtp_values.specs.Numbers.{four}
-use Rattle.gtp_values.specs.declared.paa.Paa.TheVariants as paas
+use Rattle.std.proofs.Common.{◌≡◌, inl, inr, ℕ, ◌+◌, ◌*◌, ◌≤◌, ◌<◌, false, List, [], ◌∷◌, map, Option, Some, None, unwrap_or, refl, sym, ◌∙◌, ap, subst, arith}
 use Rattle.gtp_ie.specs.Value.{Value, OfRecovery, OfAmbr, OfEbi, OfPaa, OfQos, OfPlmn, OfFTeid, OfChargingId, OfPti, OfSelection}
 use Rattle.gtp_v2.specs.Headed as headers
 use Rattle.gtp_v2.specs.Header as control_headers
@@ -17,12 +15,11 @@ use Rattle.gtp_user.specs.Message as user_messages
 use Rattle.gtp_user.specs.Datagram.{IsUserMessage}
 use Rattle.gtp_user.proofs.Again.{encoding_again}
 use Rattle.gtp_user.proofs.Messages as user
-use Rattle.gtp_machine.specs.Element.{PdnAddress, Ipv4, Other_address}
 use Rattle.gtp_machine.specs.Message.{CreatedBearer, WantedBearer, GivenBearer, Message, Echo_request, Echo_response, Create_session_request, Create_session_response, Delete_session_request, Delete_session_response, Create_bearer_request, Create_bearer_response, Delete_bearer_request, Delete_bearer_response, Other_control, Packet_data, End_marker, Error_indication, User_echo_request, User_echo_response, Supported_extensions, Other_user, Plane, Control, User, plane_of}
 use Rattle.gtp_machine.specs.Input.{ControlReading, Control_message, UserReading, User_message}
-use Rattle.gtp_machine.specs.Decoded.{row_in, list_in, contexts_in, number_from, number_of, end_in, qos_in, ambr_in, network_in, paa_in, first_in, requested, created, wanted, given, removed, message_of}
+use Rattle.gtp_machine.specs.Decoded.{row_in, list_in, contexts_in, number_of, end_in, qos_in, ambr_in, network_in, paa_in, first_in, requested, created, wanted, given, removed, message_of}
 use Rattle.gtp_machine.specs.Reading.{control_reading_of, user_message_of, user_reading_of}
-use Rattle.gtp_machine.specs.Spelling.{paa_of, where_there, requested_rows, created_rows, wanted_rows, given_rows, removed_rows, control_value, user_value, spelled_on, spelled, IsAddress, IsOfOwnKind, MeetsOn, IsSendable, ReadsAs, SpelledReads, SpelledApart}
+use Rattle.gtp_machine.specs.Spelling.{where_there, requested_rows, created_rows, wanted_rows, given_rows, removed_rows, control_value, user_value, spelled_on, spelled, IsOfOwnKind, MeetsOn, IsSendable, ReadsAs, SpelledReads, SpelledApart}
 
 -- a row that may be absent is read again
 back : {X : Type 0} (is : X → Value) (out : Value → Option X) → ((x : X) → out (is x) ≡ Some x) → (o : Option X) → first_in out (where_there is o) ≡ o
@@ -33,17 +30,6 @@ back is out each (Some x) = each x
 each_back : {X V : Type 0} (values : X → V) (read : V → X) → ((x : X) → read (values x) ≡ x) → (xs : List X) → map read (map values xs) ≡ xs
 each_back values read each [] = refl
 each_back values read each (x ∷ xs) = λ i. each x i ∷ each_back values read each xs i
-
-four_back : (n : ℕ) → n < 2 ^ 32 → number_from 0 (four n []) ≡ n
-four_back n small = omega arith
-
-address_back : (o : Option PdnAddress) → IsAddress o → first_in paa_in (where_there (λ a. OfPaa (paa_of a)) o) ≡ o
-address_back None fits = refl
-address_back (Some (Ipv4 n)) fits = ap (λ k. Some (Ipv4 k)) (four_back n fits)
-address_back (Some (Other_address (paas.V4 octets))) fits = absurd fits
-address_back (Some (Other_address (paas.V6 prefix octets))) fits = refl
-address_back (Some (Other_address (paas.V4V6 prefix v6 v4))) fits = refl
-address_back (Some (Other_address (paas.Other number))) fits = refl
 
 created_back : (c : CreatedBearer) → created (created_rows c) ≡ c
 created_back c = λ i. record { identity = c.identity; cause = c.cause; user = back OfFTeid end_in (λ e. refl) c.user i; qos = back OfQos qos_in (λ q. refl) c.qos i; charging = back OfChargingId number_of (λ n. refl) c.charging i }
@@ -76,7 +62,7 @@ control_back (Create_session_request q) plane own =
       access_point = q.access_point;
       selection = back OfSelection number_of (λ n. refl) q.selection i;
       pdn = q.pdn;
-      address = address_back q.address own i;
+      address = back OfPaa paa_in (λ p. refl) q.address i;
       ambr = back OfAmbr ambr_in (λ a. refl) q.ambr i;
       context = q.context;
       further = each_back requested_rows requested (λ c. refl) q.further i;
@@ -88,7 +74,7 @@ control_back (Create_session_response a) plane own =
       number = a.number;
       cause = a.cause;
       control = back OfFTeid end_in (λ e. refl) a.control i;
-      address = address_back a.address own i;
+      address = back OfPaa paa_in (λ p. refl) a.address i;
       ambr = back OfAmbr ambr_in (λ x. refl) a.ambr i;
       contexts = each_back created_rows created created_back a.contexts i;
       recovery = recovery_back a.recovery i;

@@ -2,7 +2,7 @@
 use Rattle.std.proofs.Common.{◌≡◌, ◌≢◌, ◌⊎◌, inl, inr, ⊎_elim, ℕ, List, Some, refl, sym, ◌∙◌, ap, arith}
 use Rattle.std.specs.FinMap.{get, insert}
 use Rattle.gtp_values.specs.FiniteMap.{FiniteMap, Each}
-use Rattle.gtp_machine.specs.Element.{teid_in, ipv4_of}
+use Rattle.gtp_machine.specs.Element.{teid_in, address_of}
 use Rattle.gtp_machine.specs.Message.{CreateSessionRequest, CreateSessionResponse, CreateBearerRequest, CreateBearerResponse, Create_session_request, Create_session_response, Create_bearer_request, Create_bearer_response, subscriber_of, first_created, first_given, first_returned, first_identity}
 use Rattle.gtp_machine.specs.Node.{Serving, Packet, Pending, Active, Closing, Session, Bearer, Default, Dedicated}
 use Rattle.gtp_machine.specs.World.{Sent, HasSent}
@@ -16,7 +16,7 @@ pub record IsOpened (history : List Sent) (t : ℕ) (s : Session) : Type 0 where
   pub sent : HasSent history Packet (Create_session_response answer)
   pub header : answer.header ≡ t
   pub remote : s.remote ≡ teid_in answer.control
-  pub address : s.address ≡ ipv4_of answer.address
+  pub address : s.address ≡ address_of answer.address
 
 -- a session of the serving gateway
 pub record IsAsked (history : List Sent) (t : ℕ) (s : Session) : Type 0 where
@@ -80,7 +80,7 @@ pub record IsMade (history : List Sent) (t : ℕ) (s : Session) : Type 0 where
   pub header : answer.header ≡ request.control.teid
   pub remote : s.remote ≡ Some request.control.teid
   pub subscriber : s.subscriber ≡ subscriber_of request
-  pub address : s.address ≡ ipv4_of answer.address
+  pub address : s.address ≡ address_of answer.address
 
 -- a default bearer of the packet gateway
 pub record IsMadeWith (history : List Sent) (t : ℕ) (b : Bearer) : Type 0 where

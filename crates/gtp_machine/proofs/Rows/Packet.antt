@@ -13,6 +13,7 @@ use Rattle.gtp_machine.specs.Choice.{IsFree, HasPending, counter_of}
 use Rattle.gtp_machine.specs.Removal.{without_session}
 use Rattle.gtp_machine.specs.Command.{bearer_request, pending_dedicated, BeginsBearer, BearerBegun}
 use Rattle.gtp_machine.specs.Answer.{answered}
+use Rattle.gtp_values.proofs.Allocations.{address_back}
 use Rattle.gtp_machine.specs.Packet.{session_cause, session_response, made_session, made_bearer, session_made, MakesSession, session_refused, SessionAsked, DeletionAsked, FitsBearer, DescribesBearer, CanOpen, opened_dedicated, OpensBearer, BearerAnswered, RemovalAnswered, PacketTakes}
 use Rattle.gtp_machine.specs.World.{Sent, HasSent, signed}
 use Rattle.gtp_machine.proofs.Basics.FiniteMaps.{Each-insert, Each-remove, found-remove, get-insert_same, Among-left, Among-last}
@@ -107,7 +108,7 @@ module _ (history : List Sent) (taken : Arrival → Message → Type 0) (serving
         took Packet history taken old knows e _ r.gives refl (record {
           knows = held_now Packet history taken old knows request m new (record {
             contexts = record {
-              sessions_made = Each-insert (IsMade after) old.sessions r.control s (record { request = q; asked = asked; answer = a; answered = now; control = refl; header = refl; remote = refl; subscriber = refl; address = refl }) was.contexts.sessions_made;
+              sessions_made = Each-insert (IsMade after) old.sessions r.control s (record { request = q; asked = asked; answer = a; answered = now; control = refl; header = refl; remote = refl; subscriber = refl; address = sym (address_back 64 r.address r.given.some_part) }) was.contexts.sessions_made;
               bearers_made = Each-insert (IsAtPacket after (insert old.sessions r.control s)) old.bearers r.user b
                   (record { session = s; stands = get-insert_same old.sessions r.control s; origin = inl (record { kind = refl; request = q; asked = asked; answer = a; answered = now; user = refl; control = refl; header = refl; remote = refl; identity = refl }) })
                   (with_new_session history Packet old knows _ r.control s r.control_free.undrawn was.contexts.bearers_made);
@@ -124,7 +125,7 @@ module _ (history : List Sent) (taken : Arrival → Message → Type 0) (serving
           told = nothing_told history Serving;
           draws = Draws-new history Packet old (holding request m new) m refl refl (λ t stood. inr (inr stood)) (two_more_drawn old.counter r.user r.control old.drawn r.user_free.counted r.control_free.counted) (record { free = free; drawn = drawn; told = λ c e. cc e; tells = λ t is owns. refl; proper = record { control = λ accepts. (r.control, refl); user = λ accepts. (r.user, refl); apart = λ t control user. r.apart (same_Some r.control t control ∙ sym (same_Some r.user t user)) } });
           logs =
-              let l = Logs-plain history Packet taken old (holding request m new) (Came_to (Answered (session_cause q.pdn))) (λ h stood. Among-left h old.held _ stood) request.source m tt in record {
+              let l = Logs-plain history Packet taken old (holding request m new) (Came_to (Answered (session_cause q.pdn r.address))) (λ h stood. Among-left h old.held _ stood) request.source m tt in record {
                 held_stays = l.held_stays;
                 packets = λ t p among. absurd (no_packet a t p among);
                 handed = l.handed;

@@ -3,7 +3,7 @@ use Rattle.std.proofs.Common.{◌≡◌, ◌≢◌, ◌⊎◌, inl, inr, ⊎_eli
 use Rattle.std.proofs.lemmas.Bool.{cases_eq}
 use Rattle.std.specs.FinMap.{get, insert, remove}
 use Rattle.gtp_values.specs.FiniteMap.{Each, Among}
-use Rattle.gtp_machine.specs.Element.{IsAccepting, cause_of, ipv4_of}
+use Rattle.gtp_machine.specs.Element.{IsAccepting, cause_of}
 use Rattle.gtp_machine.specs.Message.{CreateSessionRequest, CreateSessionResponse, DeleteSessionResponse, CreateBearerRequest, GivenBearer, CreateBearerResponse, DeleteBearerRequest, DeleteBearerResponse, Message, Create_session_request, Create_session_response, Create_bearer_request, Create_bearer_response, Delete_bearer_response, Packet_data, Owns, recovery_of, first_given}
 use Rattle.gtp_machine.specs.Node.{Serving, Packet, Pending, Active, Closing, Session, Bearer, PendingRequest, Arrival, Held, Node, holding, written}
 use Rattle.gtp_machine.specs.Input.{Came_to, Specification, Of_create_bearer, Begun, Opened, Effect}
@@ -155,7 +155,7 @@ module _ (history : List Sent) (taken : Arrival → Message → Type 0) (serving
             knows = record {
               contexts = record {
                 sessions_asked = Each-insert (IsAsked after) old.sessions fits.session now
-                    (record { request = asked.request; sent = asked.sent; control = asked.control; subscriber = asked.subscriber; opened = λ x is. record { answer = a; sent = came_after; header = header; remote = refl; address = sym (ap ipv4_of new.given) } })
+                    (record { request = asked.request; sent = asked.sent; control = asked.control; subscriber = asked.subscriber; opened = λ x is. record { answer = a; sent = came_after; header = header; remote = refl; address = sym new.given } })
                     was.contexts.sessions_asked;
                 bearers_asked = Each-insert (IsAtServing after (insert old.sessions fits.session now)) old.bearers q.context.user.teid opened (first_bearer came_after) rest_bearers;
               };

@@ -276,9 +276,9 @@ module _ (old : Node) where
     session_asked request q e (inr (room, inr (one, inl f))) = by_row Packet e _ f.1 (holding_sound Packet old sound request _ room.few)
     session_asked request q e (inr (room, inr (one, inr (identity, inl f)))) = by_row Packet e _ f.1 (holding_sound Packet old sound request _ room.few)
     session_asked request q e (inr (room, inr (one, inr (identity, inr (configured, inl f))))) = by_row Packet e _ f.1 (holding_sound Packet old sound request _ room.few)
-    session_asked request q e (inr (room, inr (one, inr (identity, inr (configured, inr (pdn, inl f)))))) = by_row Packet e _ f.1 (holding_sound Packet old sound request _ room.few)
-    session_asked request q e (inr (room, inr (one, inr (identity, inr (configured, inr (pdn, inr (few, inl f))))))) = by_row Packet e _ f.1 (holding_sound Packet old sound request _ room.few)
-    session_asked request q e (inr (room, inr (one, inr (identity, inr (configured, inr (pdn, inr (few, inr (address, r)))))))) =
+    session_asked request q e (inr (room, inr (one, inr (identity, inr (configured, inr (served, inl f)))))) = by_row Packet e _ f.1 (holding_sound Packet old sound request _ room.few)
+    session_asked request q e (inr (room, inr (one, inr (identity, inr (configured, inr (served, inr (few, inl f))))))) = by_row Packet e _ f.1 (holding_sound Packet old sound request _ room.few)
+    session_asked request q e (inr (room, inr (one, inr (identity, inr (configured, inr (served, inr (few, inr (can, r)))))))) =
         by_row Packet e _ r.gives (holding_sound Packet (session_made old q r.control r.user r.address)
         (session_comes Packet old sound r.control r.user (made_session q r.address) (made_bearer q r.control) r.control_free r.user_free refl few.0.few few.1.left
         (record { own = inr (inl refl); named = λ n. (q.control.teid, refl); blank = λ w. absurd (cc w) })

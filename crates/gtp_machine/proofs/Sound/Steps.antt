@@ -1,5 +1,6 @@
 -- Whatever comes to a sound node, there is an effect.
 use Rattle.std.proofs.Common.{◌≡◌, ◌≢◌, inl, inr, ⊎_elim, ℕ, ◌+◌, ◌≤◌, ◌<◌, Bool, List, [], ◌∷◌, length, Option, Some, None, refl, sym, ◌∙◌, ap, arith}
+use Rattle.std.specs.Prelude.{IsTrue, is_some, ◌||◌}
 use Rattle.std.specs.FinMap.{get, len}
 use Rattle.gtp_values.specs.Counter.{age_of}
 use Rattle.gtp_values.specs.declared.counter.Age.{Age}
@@ -9,7 +10,9 @@ use Rattle.gtp_machine.specs.Ordered.{Unless}
 use Rattle.gtp_machine.specs.Message.{Echo, CreateSessionRequest, CreateSessionResponse, CreateBearerRequest, CreateBearerResponse, DeleteBearerRequest, RemovedBearer, Message, Packet_data, End_marker, Error_indication, recovery_of}
 use Rattle.gtp_machine.specs.Node.{Role, Serving, Packet, Session, Arrival, Held, Node}
 use Rattle.gtp_machine.specs.Input.{ControlReading, Control_message, Faulty, Control_fault, FaultyRequest, RequestKind, Of_create_session, Of_delete_session, Of_create_bearer, Of_delete_bearer, UserReading, User_message, Extension_needed, User_fault, Command, Create_session, Delete_session, Create_bearer, Delete_bearer, Release_session, Mark_end, Send_echo, Send_user, Move, Resend, Give_up, Forget, Commanded, Control_came, User_came, Moves_on, Effect}
-use Rattle.gtp_machine.specs.Choice.{IsFree, IsFreeNumber, HasBearer}
+use Rattle.gtp_tables.specs.declared.pool.Version.{Version}
+use Rattle.gtp_tables.specs.declared.pool.Version.TheVariants.{V4, V6}
+use Rattle.gtp_machine.specs.Choice.{IsFree, IsFreeNumber, HasFreeAddress, AsksFor, IsPart, CanGive, HasBearer}
 use Rattle.gtp_machine.specs.Removal.{without_bearer}
 use Rattle.gtp_machine.specs.Recovery.{peer_restarted, Judges, Weighs, Hears}
 use Rattle.gtp_machine.specs.Move.{MoveStep, AreLeft}
@@ -121,11 +124,26 @@ module _ (old : Node) where
       let t = one_free old free.1.left in
       none _ (record { user = t.0; identity = free.0.identity; user_free = t.1; identity_free = free.0.free; gives = refl })))))))
 
+  -- of each version an address is given, or none
+  part_given : (pdn : ℕ) (version : Version) → ((o : Option (List ℕ)) → IsPart old pdn version o → ⊥) → ⊥
+  part_given pdn version none = none None (λ h. none (Some h.1.address) (h.0, h.1.free))
+
+  -- and of one of them, where one can be
+  some_given : (pdn : ℕ) (v4 v6 : Option (List ℕ)) → IsPart old pdn V4 v4 → IsPart old pdn V6 v6 → CanGive old pdn → IsTrue (is_some v4 || is_some v6)
+  some_given pdn (Some x) v6 r s can = refl
+  some_given pdn None (Some y) r s can = refl
+  some_given pdn None None r s can = absurd (by can.version can.asked can.free)
+    where
+      by : (version : Version) → AsksFor pdn version → HasFreeAddress old version → ⊥
+      by V4 asked free = r (asked, free)
+      by V6 asked free = s (asked, free)
+
   session_asked : (request : Arrival) (q : CreateSessionRequest) → IsNotEmpty (λ e. SessionAsked request q old e)
   session_asked request q =
-      tries _ _ _ (gives _) (λ room. tries _ _ _ (gives _) (λ one. tries _ _ _ (gives _) (λ identity. tries _ _ _ (gives _) (λ configured. tries _ _ _ (gives _) (λ pdn. tries _ _ _ (gives _) (λ few. tries _ _ _ (gives _) (λ address none.
+      tries _ _ _ (gives _) (λ room. tries _ _ _ (gives _) (λ one. tries _ _ _ (gives _) (λ identity. tries _ _ _ (gives _) (λ configured. tries _ _ _ (gives _) (λ served. tries _ _ _ (gives _) (λ few. tries _ _ _ (gives _) (λ can none.
       let t = two_free old few.1.left in
-      none _ (record { control = t.0; user = t.1; address = address.address; control_free = t.2; user_free = t.3; apart = t.4; address_free = address.free; gives = refl }))))))))
+      part_given q.pdn V4 (λ v4 v4_given. part_given q.pdn V6 (λ v6 v6_given.
+      none _ (record { control = t.0; user = t.1; address = record { v4 = v4; v6 = v6 }; control_free = t.2; user_free = t.3; apart = t.4; given = record { v4 = v4_given; v6 = v6_given; some_part = some_given q.pdn v4 v6 v4_given v6_given can }; gives = refl }))))))))))
 
 removes_each : (session : ℕ) (identities : List ℕ) (from : Node) → ((contexts : List RemovedBearer) (new : Node) → RemovesEach session identities from contexts new → ⊥) → ⊥
 removes_each session [] from none = none [] from (refl, refl)

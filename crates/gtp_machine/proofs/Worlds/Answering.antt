@@ -1,6 +1,7 @@
 -- Each response to a create request goes back to the moment at which its gateway gave it.
 use Rattle.std.proofs.Common.{◌≡◌, ◌⊎◌, inl, inr, ⊎_elim, ℕ, zero, suc, ◌+◌, ◌≤◌, Bool, true, false, not, List, [], ◌∷◌, ◌++◌, length, length-append, take, Option, Some, None, refl, sym, ◌∙◌, ap, subst, append_assoc, append-nil, arith, slice_get}
 use Rattle.std.proofs.lemmas.Bool.{not-true}
+use Rattle.gtp_values.proofs.Allocations.{address_back}
 use Rattle.gtp_values.specs.Counter.{age_of}
 use Rattle.gtp_values.specs.declared.counter.Age.{Age}
 use Rattle.gtp_values.specs.declared.counter.Age.TheVariants.{Same, Later, Earlier}
@@ -386,12 +387,12 @@ module _ (request : Arrival) (q : CreateSessionRequest) (a : CreateSessionRespon
       address = r.address;
       names_control = refl;
       names_user = refl;
-      names_address = refl;
+      names_address = address_back 64 r.address r.given.some_part;
       names_identity = refl;
       session = get-insert_same old.sessions r.control (made_session q r.address);
       bearer = get-insert_same old.bearers r.user (made_bearer q r.control);
     };
-    refused = λ no. absurd (no (accepts_cause q.pdn));
+    refused = λ no. absurd (no (accepts_cause q.pdn r.address));
   })
 
   judged : (old : Node) (c : ℕ) (age : Age) (e : Effect) → messages e.out.sent ≡ Create_session_response a ∷ [] → Judges (SessionAsked request q) old c age e → NamesSession request q e a

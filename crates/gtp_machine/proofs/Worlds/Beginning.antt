@@ -1,22 +1,28 @@
--- The exchange that makes a session, from a start, for either of the two types that are taken.
-use Rattle.std.proofs.Common.{◌≡◌, ◌≢◌, ◌<◌, ◌⊎◌, inl, inr, ℕ, [], ◌∷◌, Some, None, false, refl, sym, subst, arith}
+-- The exchange that makes a session, from a start, for a type of which an address can be had.
+use Rattle.std.proofs.Common.{◌≡◌, ◌≢◌, ◌<◌, inl, inr, ℕ, List, [], ◌∷◌, Option, Some, None, true, false, refl, sym, subst, arith}
+use Rattle.std.proofs.Math.ListN.{replicate}
 use Rattle.std.specs.FinMap.{insert, remove, empty, get-empty, len, len-empty}
 use Rattle.std.specs.Ordering.{nat_cmp}
 use Rattle.gtp_values.specs.declared.address.Ip.{Ip}
 use Rattle.gtp_values.specs.declared.address.Ip.TheVariants.{V4}
 use Rattle.gtp_values.specs.declared.qos.Qos.{Qos}
 use Rattle.gtp_values.specs.declared.qos.Rates.{Rates}
+use Rattle.gtp_values.proofs.Allocations.{address_back}
+use Rattle.gtp_tables.specs.declared.pool.Version.TheVariants.{V4 as Version_4, V6 as Version_6}
+use Rattle.gtp_tables.specs.Free.{address_at}
+use Rattle.gtp_tables.specs.Pool.{no_networks}
 use Rattle.gtp_machine.specs.Config.{Config}
-use Rattle.gtp_machine.specs.Element.{cause_of, tunnel_end}
+use Rattle.gtp_machine.specs.Element.{PdnAddress, cause_of, tunnel_end}
 use Rattle.gtp_machine.specs.Message.{Message, plane_of, CreateSessionRequest, CreateSessionResponse, Create_session_request, Create_session_response}
 use Rattle.gtp_machine.specs.Node.{Role, Serving, Packet, Session, PendingRequest, Arrival, Node}
 use Rattle.gtp_machine.specs.Input.{Input, Specification, Create_session, Commanded, Opened, Effect, nothing}
-use Rattle.gtp_machine.specs.Choice.{IsFreeAddress}
+use Rattle.gtp_machine.specs.Choice.{IsFreeAddress, HasFreeAddress, IsGiven, CanGive}
 use Rattle.gtp_machine.specs.Command.{asks, session_request, session_begun, pending_session, pending_bearer}
 use Rattle.gtp_machine.specs.Answer.{making}
 use Rattle.gtp_machine.specs.Serving.{opened_session, opened_bearer}
 use Rattle.gtp_machine.specs.Packet.{session_cause, session_response, session_made}
 use Rattle.gtp_machine.specs.World.{logged, side_of, delivered_on, World, Moves, Delivers, moved, noted, note_of, Came_to, start, arrival}
+use Rattle.gtp_machine.proofs.Exchange.Nodes.{can_be_had, served}
 use Rattle.gtp_machine.proofs.Exchange.Made.{accepts_cause}
 use Rattle.gtp_machine.proofs.Basics.FiniteMaps.{get-insert_same, found-empty}
 
@@ -27,10 +33,27 @@ abbrev pub packet_ip : Ip
 packet_ip = V4 (10 ∷ 0 ∷ 0 ∷ 2 ∷ [])
 
 abbrev pub serving_config : Config
-serving_config = record { own = record { control = serving_ip; user = serving_ip }; peer = record { control = packet_ip; user = packet_ip }; access_points = []; pool_start = 0; pool_count = 0 }
+serving_config = record { own = record { control = serving_ip; user = serving_ip }; peer = record { control = packet_ip; user = packet_ip }; access_points = []; pools = record { v4 = record { start = 0; count = 0 }; v6 = no_networks } }
 
-abbrev pub packet_config : Config
-packet_config = record { own = record { control = packet_ip; user = packet_ip }; peer = record { control = serving_ip; user = serving_ip }; access_points = (1 ∷ 97 ∷ []) ∷ []; pool_start = 7; pool_count = 1 }
+-- a packet gateway with one address of version 4, and so many of version 6
+abbrev pub packet_config : ℕ → Config
+packet_config count = record { own = record { control = packet_ip; user = packet_ip }; peer = record { control = serving_ip; user = serving_ip }; access_points = (1 ∷ 97 ∷ []) ∷ []; pools = record { v4 = record { start = 7; count = 1 }; v6 = record { start = replicate 16 0; count = count } } }
+
+-- its addresses
+abbrev pub first_v4 : List ℕ
+first_v4 = address_at (packet_config 1).pools Version_4 0
+
+abbrev pub first_v6 : List ℕ
+first_v6 = address_at (packet_config 1).pools Version_6 0
+
+abbrev pub only_v4 : PdnAddress
+only_v4 = record { v4 = Some first_v4; v6 = None }
+
+abbrev pub only_v6 : PdnAddress
+only_v6 = record { v4 = None; v6 = Some first_v6 }
+
+abbrev pub both_versions : PdnAddress
+both_versions = record { v4 = Some first_v4; v6 = Some first_v6 }
 
 abbrev pub no_rates : Rates
 no_rates = record { up = 0; down = 0 }
@@ -62,41 +85,71 @@ abbrev pub from_serving : Message → Input
 from_serving m = delivered_on (plane_of m) serving_config.own m
 
 abbrev pub from_packet : Message → Input
-from_packet m = delivered_on (plane_of m) packet_config.own m
+from_packet m = delivered_on (plane_of m) (packet_config 0).own m
 
 -- an effect, once the first counter was heard, and once the same was heard again
 abbrev pub heard : Effect → Effect
 heard e = record e { out = record e.out { heard = Some 1; learned = None } }
 
-abbrev pub w0 : World
-w0 = start serving_config packet_config 1 1
+abbrev pub w0 : ℕ → World
+w0 count = start serving_config (packet_config count) 1 1
 
-module _ (pdn : ℕ) where
-  abbrev pub spec : Specification
-  spec = record { subscriber = record { imsi = 0 ∷ 0 ∷ 1 ∷ 0 ∷ 1 ∷ 1 ∷ []; access_point = 1 ∷ 97 ∷ []; identity = 5 }; rat = 6; network = record { mcc = 0 ∷ 0 ∷ 1 ∷ []; mnc = 0 ∷ 1 ∷ [] }; selection = 0; pdn = pdn; ambr = record { up = 1000; down = 1000 }; qos = plain_qos }
+-- the packet gateway, after a start or once a counter was heard
+abbrev pub at_start : ℕ → Option ℕ → Node
+at_start count known = record (w0 count).packet.node { known = known }
 
+-- what is given for each type: type 3 has both parts, or that of version 4 where there is no other
+module _ (known : Option ℕ) where
+  free_v4 : (count : ℕ) → IsFreeAddress (at_start count known) Version_4 first_v4
+  free_v4 count = record { place = 0; in_pool = omega arith; is = refl; unused = λ t s e. absurd (found-empty t s e) }
+
+  free_v6 : IsFreeAddress (at_start 1 known) Version_6 first_v6
+  free_v6 = record { place = 0; in_pool = omega arith; is = refl; unused = λ t s e. absurd (found-empty t s e) }
+
+  unasked : false ≡ true → ⊥
+  unasked e = cc
+
+  no_v6 : HasFreeAddress (at_start 0 known) Version_6 → ⊥
+  no_v6 has = omega (arith, has.free.in_pool)
+
+  pub gives_v4 : IsGiven (at_start 0 known) 1 only_v4
+  gives_v4 = record { v4 = (refl, free_v4 0); v6 = λ h. unasked h.0; some_part = refl }
+
+  pub gives_v6 : IsGiven (at_start 1 known) 2 only_v6
+  gives_v6 = record { v4 = λ h. unasked h.0; v6 = (refl, free_v6); some_part = refl }
+
+  pub gives_both : IsGiven (at_start 1 known) 3 both_versions
+  gives_both = record { v4 = (refl, free_v4 1); v6 = (refl, free_v6); some_part = refl }
+
+  pub gives_one_of_both : IsGiven (at_start 0 known) 3 only_v4
+  gives_one_of_both = record { v4 = (refl, free_v4 0); v6 = λ h. no_v6 h.1; some_part = refl }
+
+abbrev pub spec : ℕ → Specification
+spec pdn = record { subscriber = record { imsi = 0 ∷ 0 ∷ 1 ∷ 0 ∷ 1 ∷ 1 ∷ []; access_point = 1 ∷ 97 ∷ []; identity = 5 }; rat = 6; network = record { mcc = 0 ∷ 0 ∷ 1 ∷ []; mnc = 0 ∷ 1 ∷ [] }; selection = 0; pdn = pdn; ambr = record { up = 1000; down = 1000 }; qos = plain_qos }
+
+module _ (pdn count : ℕ) (address : PdnAddress) where
   -- create_session
   abbrev pub q : CreateSessionRequest
-  q = session_request w0.serving.node spec control user 0
+  q = session_request (w0 count).serving.node (spec pdn) control user 0
 
   abbrev pub e1 : Effect
-  e1 = asks w0.serving.node 0 (record { session = Some control; bearer = None; request = Create_session_request q }) (Some control) (session_begun w0.serving.node control user q)
+  e1 = asks (w0 count).serving.node 0 (record { session = Some control; bearer = None; request = Create_session_request q }) (Some control) (session_begun (w0 count).serving.node control user q)
 
   abbrev pub w1 : World
-  w1 = after w0 Serving (Commanded (Create_session spec)) e1
+  w1 = after (w0 count) Serving (Commanded (Create_session (spec pdn))) e1
 
   -- the Create Session Request comes
   abbrev pub packet_heard : Node
   packet_heard = record w1.packet.node { known = Some 1 }
 
   abbrev pub a : CreateSessionResponse
-  a = session_response packet_heard q control user 7
+  a = session_response packet_heard q control user address
 
   abbrev pub asked : Arrival
   asked = arrival serving_config.own (Create_session_request q)
 
   abbrev pub made : Effect
-  made = making asked (Create_session_response a) (session_cause pdn) (session_made packet_heard q control user 7)
+  made = making asked (Create_session_response a) (session_cause pdn address) (session_made packet_heard q control user address)
 
   abbrev pub w2 : World
   w2 = after w1 Packet (from_serving (Create_session_request q)) (heard made)
@@ -106,7 +159,7 @@ module _ (pdn : ℕ) where
   serving_heard = record w2.serving.node { known = Some 1 }
 
   abbrev pub at_serving : Session
-  at_serving = opened_session (pending_session q) a 7
+  at_serving = opened_session (pending_session q) a address
 
   abbrev pub opened : Effect
   opened = record { out = nothing; outcome = Came_to Opened; node = record serving_heard { sessions = insert serving_heard.sessions control at_serving; bearers = insert serving_heard.bearers user (opened_bearer (pending_bearer control q) a); pending = remove serving_heard.pending 0 } }
@@ -114,11 +167,7 @@ module _ (pdn : ℕ) where
   abbrev pub w3 : World
   w3 = after w2 Serving (from_packet (Create_session_response a)) (heard opened)
 
-  -- an address of the pool
-  pub free_address : IsFreeAddress packet_heard 7
-  free_address = record { place = 0; in_pool = omega arith; is = refl; unused = λ t s e. absurd (found-empty t s e) }
-
-  pub step1 : Moves w0 Serving (Commanded (Create_session spec)) w1
+  pub step1 : Moves (w0 count) Serving (Commanded (Create_session (spec pdn))) w1
   step1 = record {
     effect = e1;
     step = inr (
@@ -143,7 +192,10 @@ module _ (pdn : ℕ) where
     becomes = refl;
   }
 
-  module _ (known : (pdn ≡ 1) ⊎ (pdn ≡ 3)) where
+  module _ (given : IsGiven packet_heard pdn address) where
+    can : CanGive packet_heard pdn
+    can = can_be_had packet_heard pdn address given
+
     pub step2 : Delivers w1 Serving (Create_session_request q) w2
     step2 = inl (
       λ none. none,
@@ -166,19 +218,19 @@ module _ (pdn : ℕ) where
                       inr (
                         inl refl,
                         inr (
-                          known,
+                          served packet_heard pdn can,
                           inr (
                             (record { few = no_sessions }, record { left = omega arith }),
                             inr (
-                              record { address = 7; free = free_address },
+                              can,
                               record {
                                 control = control;
                                 user = user;
-                                address = 7;
+                                address = address;
                                 control_free = record { counted = refl; numbered = omega arith; undrawn = λ none. none };
                                 user_free = record { counted = refl; numbered = omega arith; undrawn = λ none. none };
                                 apart = control_not_user;
-                                address_free = free_address;
+                                given = given;
                                 gives = refl;
                               },
                             ),
@@ -215,9 +267,9 @@ module _ (pdn : ℕ) where
                   inr (
                     record { request = q; asked = refl; session = control; about = refl; named = inl refl },
                     inr (
-                      accepts_cause pdn,
+                      accepts_cause pdn address,
                       inr (
-                        record { at = record { session = pending_session q; stands = get-insert_same empty control (pending_session q) }; context = record { identity = 5; cause = cause_of 16; user = Some (tunnel_end 5 user packet_ip); qos = Some plain_qos; charging = Some user }; alone = refl; default = refl; address = 7; given = refl },
+                        record { at = record { session = pending_session q; stands = get-insert_same empty control (pending_session q) }; context = record { identity = 5; cause = cause_of 16; user = Some (tunnel_end 5 user packet_ip); qos = Some plain_qos; charging = Some user }; alone = refl; default = refl; address = address; given = address_back 64 address given.some_part },
                         inr (
                           record { low = omega arith; high = omega arith },
                           record {

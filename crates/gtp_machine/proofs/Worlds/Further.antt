@@ -15,7 +15,7 @@ use Rattle.gtp_machine.specs.World.{with_steps, World, Does, Deliver, Moves, Del
 use Rattle.gtp_machine.proofs.Basics.FiniteMaps.{get-insert_same, get-kept, found-kept}
 use Rattle.gtp_machine.specs.Laws.{GetsThrough, GoesOn, ARunIsPossible, HearsRestart}
 use Rattle.gtp_machine.proofs.Basics.Counting.{len-insert_most, len-remove_most}
-use Rattle.gtp_machine.proofs.Worlds.Beginning.{serving_ip, packet_ip, serving_config, packet_config, plain_qos, control, none_pending, after, from_serving, from_packet, heard}
+use Rattle.gtp_machine.proofs.Worlds.Beginning.{serving_ip, packet_ip, serving_config, packet_config, only_v4, gives_v4, plain_qos, control, none_pending, after, from_serving, from_packet, heard}
 use Rattle.gtp_machine.proofs.Worlds.Possible.{spec, dedicated, q, asked, a, at_serving, at_packet, r, at_packet_bearer, entry, w1, w2, w3, w4, w5, w6, w7, w8, second, serving_stands, step1, step2, step3, step4, step5, step6, step7, step8}
 use Rattle.gtp_machine.proofs.Worlds.Sendable.{session_request, session_response, bearer_request, bearer_response, removal_request, removal_response, echo_request, echo_response, packet, AllSendable, among_sendable}
 use Rattle.gtp_values.specs.FiniteMap.{Among, FiniteMap, kept}
@@ -134,7 +134,7 @@ abbrev answer : DeleteBearerResponse
 answer = record { header = control; number = 0; cause = cause_of 16; linked = None; contexts = record { identity = 6; cause = cause_of 16 } ∷ []; recovery = Some 1 }
 
 abbrev to_delete : Arrival
-to_delete = arrival packet_config.own (Delete_bearer_request d)
+to_delete = arrival (packet_config 0).own (Delete_bearer_request d)
 
 abbrev e15 : Effect
 e15 = answered to_delete (Delete_bearer_response answer) 16 (without_bearer w14.serving.node dedicated)
@@ -299,14 +299,14 @@ hears_restart = record {
   where
     all : AllSendable w19.history
     all = (
-      session_request 1 (inl refl),
+      session_request 1 0 only_v4 (omega arith) (gives_v4 (Some 1)),
       (
-        session_response 1 (inl refl),
+        session_response 1 0 only_v4 (omega arith) (gives_v4 (Some 1)),
         (
           bearer_request,
           (
             bearer_response,
-            (packet 120 (omega arith), (session_response 1 (inl refl), (packet 121 (omega arith), (packet 122 (omega arith), (removal_request, (removal_response, (echo_request 2 (omega arith), (echo_response 1 (omega arith), tt)))))))),
+            (packet 120 (omega arith), (session_response 1 0 only_v4 (omega arith) (gives_v4 (Some 1)), (packet 121 (omega arith), (packet 122 (omega arith), (removal_request, (removal_response, (echo_request 2 (omega arith), (echo_response 1 (omega arith), tt)))))))),
           ),
         ),
       ),
@@ -386,7 +386,7 @@ goes_on = record {
 gets_through : GetsThrough
 gets_through = record {
   serving = serving_config;
-  packet = packet_config;
+  packet = packet_config 0;
   events = Does Serving (Create_session spec) ∷ Deliver 0 ∷ Deliver 1 ∷ Does Packet (Create_bearer control (33 ∷ []) plain_qos) ∷ Deliver 2 ∷ Deliver 3 ∷ Does Serving (Send_user dedicated (120 ∷ [])) ∷ Deliver 4 ∷ [];
   world = w8;
   run = (w1, step1, (w2, inr (record { sent = _; is = refl }, step2), (w3, inr (record { sent = _; is = refl }, step3), (w4, step4, (w5, inr (record { sent = _; is = refl }, step5), (w6, inr (record { sent = _; is = refl }, step6), (w7, step7, (w8, inr (record { sent = _; is = refl }, step8), refl))))))));

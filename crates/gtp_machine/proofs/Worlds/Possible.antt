@@ -15,32 +15,32 @@ use Rattle.gtp_machine.specs.Packet.{made_session, made_bearer, opened_dedicated
 use Rattle.gtp_machine.specs.World.{World, Moves, Delivers, arrival}
 use Rattle.gtp_machine.proofs.Basics.FiniteMaps.{get-insert_same, found-insert, found-empty}
 use Rattle.gtp_machine.proofs.Worlds.Beginning as first
-use Rattle.gtp_machine.proofs.Worlds.Beginning.{serving_ip, packet_ip, serving_config, packet_config, plain_qos, control, user, none_pending, after, from_serving, from_packet, heard, w0}
+use Rattle.gtp_machine.proofs.Worlds.Beginning.{serving_ip, packet_ip, serving_config, packet_config, plain_qos, control, user, none_pending, after, from_serving, from_packet, heard, w0, only_v4, gives_v4}
 
 -- the exchange for an address of IPv4
 abbrev pub spec : Specification
 spec = first.spec 1
 
 abbrev pub q : CreateSessionRequest
-q = first.q 1
+q = first.q 1 0 only_v4
 
 abbrev pub w1 : World
-w1 = first.w1 1
+w1 = first.w1 1 0 only_v4
 
 abbrev pub a : CreateSessionResponse
-a = first.a 1
+a = first.a 1 0 only_v4
 
 abbrev pub asked : Arrival
-asked = first.asked 1
+asked = first.asked 1 0 only_v4
 
 abbrev pub w2 : World
-w2 = first.w2 1
+w2 = first.w2 1 0 only_v4
 
 abbrev pub at_serving : Session
-at_serving = first.at_serving 1
+at_serving = first.at_serving 1 0 only_v4
 
 abbrev pub w3 : World
-w3 = first.w3 1
+w3 = first.w3 1 0 only_v4
 
 abbrev pub dedicated : ℕ
 dedicated = 16777219
@@ -67,7 +67,7 @@ none_not_six e = cc
 
 -- create_bearer
 abbrev pub at_packet : Session
-at_packet = made_session q 7
+at_packet = made_session q only_v4
 
 abbrev pub r : CreateBearerRequest
 r = bearer_request w3.packet.node at_packet (33 ∷ []) plain_qos dedicated 0
@@ -83,7 +83,7 @@ abbrev pub x : CreateBearerResponse
 x = bearer_response w4.serving.node r at_serving dedicated 6
 
 abbrev pub wanted : Arrival
-wanted = arrival packet_config.own (Create_bearer_request r)
+wanted = arrival (packet_config 0).own (Create_bearer_request r)
 
 abbrev pub e5 : Effect
 e5 = making wanted (Create_bearer_response x) 16 (record w4.serving.node { drawn = dedicated ∷ w4.serving.node.drawn; bearers = insert w4.serving.node.bearers dedicated (granted_bearer r 6) })
@@ -117,14 +117,14 @@ e8 = record { out = record nothing { accepted = entry ∷ [] }; outcome = Came_t
 abbrev pub w8 : World
 w8 = after w7 Packet (from_serving (Packet_data dedicated (120 ∷ []))) e8
 
-pub step1 : Moves w0 Serving (Commanded (Create_session spec)) w1
-step1 = first.step1 1
+pub step1 : Moves (w0 0) Serving (Commanded (Create_session spec)) w1
+step1 = first.step1 1 0 only_v4
 
 pub step2 : Delivers w1 Serving (Create_session_request q) w2
-step2 = first.step2 1 (inl refl)
+step2 = first.step2 1 0 only_v4 (gives_v4 (Some 1))
 
 pub step3 : Delivers w2 Packet (Create_session_response a) w3
-step3 = first.step3 1 (inl refl)
+step3 = first.step3 1 0 only_v4 (gives_v4 (Some 1))
 
 pub step4 : Moves w3 Packet (Commanded (Create_bearer control (33 ∷ []) plain_qos)) w4
 step4 = record {

@@ -1,7 +1,7 @@
 -- The laws that hold at the end of each run.
 use Rattle.std.proofs.Common.{◌≡◌, ◌≢◌, ⊎_elim, ℕ, ◌≤◌, List, Option, Some, None, sym, ◌∙◌, ap, arith}
 use Rattle.std.specs.FinMap.{get}
-use Rattle.gtp_machine.specs.Element.{Subscriber, ipv4_of, teid_in}
+use Rattle.gtp_machine.specs.Element.{Subscriber, address_of, teid_in}
 use Rattle.gtp_machine.specs.Message.{Control, User, CreateSessionRequest, CreateSessionResponse, CreateBearerResponse, Message, Create_session_request, Create_session_response, Create_bearer_request, Create_bearer_response, Owns, recovery_of, subscriber_of, first_identity}
 use Rattle.gtp_machine.specs.Node.{Role, Serving, Packet, Pending, Active, Session, Bearer}
 use Rattle.gtp_machine.specs.Config.{Addresses}
@@ -36,7 +36,7 @@ module _ (own : Addresses) (w : World) (inv : Invariant own w) where
       let made = inv.packet.knows.contexts.sessions_made d n n_stands in
       let answers = same_answer w.history po opened.answer made.answer opened.sent made.answered d (sym opened.remote ∙ there) made.control in
       let requests = same_request w.history so asked.request made.request asked.sent made.asked (asked.control ∙ sym opened.header ∙ ap (λ (a : CreateSessionResponse). a.header) answers ∙ made.header) in
-      same_subscriber s n asked.request made.request asked.subscriber made.subscriber requests (opened.address ∙ ap (λ (a : CreateSessionResponse). ipv4_of a.address) answers ∙ sym made.address)
+      same_subscriber s n asked.request made.request asked.subscriber made.subscriber requests (opened.address ∙ ap (λ (a : CreateSessionResponse). address_of a.address) answers ∙ sym made.address)
 
   sessions_agree : SessionsAgree w.serving.node w.packet.node
   sessions_agree c d s n m = linked c d s n m.serving m.packet m.there

@@ -1,5 +1,5 @@
 -- The messages of the possible run can be sent.
-use Rattle.std.proofs.Common.{◌≡◌, ◌⊎◌, inl, inr, ℕ, ◌<◌, ◌^◌, true, List, [], ◌∷◌, ◌++◌, Some, None, refl, sym, subst, arith, rules}
+use Rattle.std.proofs.Common.{◌≡◌, ◌⊎◌, inl, inr, ℕ, ◌≤◌, ◌<◌, ◌^◌, true, List, [], ◌∷◌, ◌++◌, Some, None, refl, sym, subst, arith, rules}
 use Rattle.std.specs.Prelude.{nat_lt}
 use Rattle.std.specs.List.{list_all}
 use Rattle.std.proofs.lemmas.List.Elements.{All-from_recursion}
@@ -12,16 +12,17 @@ use Rattle.gtp_v2.specs.CreateBearerRequest.{bearer_request_context_rows}
 use Rattle.gtp_v2.specs.CreateBearerResponse.{bearer_response_context_rows}
 use Rattle.gtp_v2.specs.DeleteBearerResponse.{removal_response_context_rows}
 use Rattle.gtp_user.specs.Encoding.{content_encoding, options_encoding}
-use Rattle.gtp_machine.specs.Element.{cause_of, tunnel_end}
+use Rattle.gtp_machine.specs.Element.{PdnAddress, cause_of, tunnel_end}
 use Rattle.gtp_machine.specs.Message.{Message, Echo_request, Echo_response, Create_session_request, Create_session_response, Create_bearer_request, Create_bearer_response, Delete_bearer_request, Delete_bearer_response, Packet_data}
 use Rattle.gtp_machine.specs.Node.{Role}
 use Rattle.gtp_machine.specs.Spelling.{AreOctets, IsSendable}
 use Rattle.gtp_machine.specs.World.{Sent, HasSent}
 use Rattle.gtp_machine.proofs.Worlds.Beginning as first
 use Rattle.gtp_machine.proofs.Worlds.Beginning.{plain_qos, control, user, serving_ip, packet_ip, serving_config, packet_config, packet_heard, w0}
-use Rattle.gtp_machine.proofs.Exchange.Ranges.{alone, spelled_cause as cause, spelled_end, spelled_qos, request_sendable, response_sendable}
+use Rattle.gtp_machine.proofs.Exchange.Ranges.{alone, spelled_cause as cause, spelled_end, spelled_qos, zeros, given_written, request_sendable, response_sendable}
+use Rattle.gtp_machine.proofs.Exchange.Nodes.{type_is, can_be_had}
 use Rattle.gtp_machine.specs.Exchange.{IsConfigured, IsQos, IsSpecified}
-use Rattle.gtp_machine.specs.Choice.{IsIdentity}
+use Rattle.gtp_machine.specs.Choice.{IsGiven, IsIdentity}
 use Rattle.gtp_values.specs.Address.{IsIp}
 use Rattle.gtp_values.specs.declared.address.Ip.TheVariants.{V4}
 use Rattle.gtp_machine.proofs.Worlds.Possible.{dedicated, r, x}
@@ -36,10 +37,10 @@ ip : (last : ℕ) → last < 256 → IsIp (V4 (10 ∷ 0 ∷ 0 ∷ last ∷ []))
 ip last small = (refl, All-from_recursion (λ octet. octet < 256) (10 ∷ 0 ∷ 0 ∷ last ∷ []) (omega arith, (omega arith, (omega arith, (small, tt)))))
 
 pub serving_is : IsConfigured serving_config
-serving_is = record { control = ip 1 (omega arith); user = ip 1 (omega arith); pool = record { few = omega arith; within = omega arith } }
+serving_is = record { control = ip 1 (omega arith); user = ip 1 (omega arith); v4 = record { few = omega arith; within = omega arith }; v6 = record { long = refl; few = omega arith; within = omega arith }; octets = (zeros 16).each }
 
-pub packet_is : IsConfigured packet_config
-packet_is = record { control = ip 2 (omega arith); user = ip 2 (omega arith); pool = record { few = omega arith; within = omega arith } }
+pub packet_is : (count : ℕ) → count ≤ 65536 → IsConfigured (packet_config count)
+packet_is count few = record { control = ip 2 (omega arith); user = ip 2 (omega arith); v4 = record { few = omega arith; within = omega arith }; v6 = record { long = refl; few = few; within = omega (arith, few) }; octets = (zeros 16).each }
 
 quality : IsQos plain_qos
 quality = record { class = omega arith; level = omega arith; most = record { up = omega arith; down = omega arith }; guaranteed = record { up = omega arith; down = omega arith } }
@@ -70,17 +71,20 @@ at_serving : (interface teid : ℕ) → interface < 64 → teid < 2 ^ 32 → Has
 at_serving interface teid low small = spelled_end interface teid serving_ip serving_is.user low small
 
 at_packet : (interface teid : ℕ) → interface < 64 → teid < 2 ^ 32 → HasKind 87 (OfFTeid (tunnel_end interface teid packet_ip))
-at_packet interface teid low small = spelled_end interface teid packet_ip packet_is.user low small
+at_packet interface teid low small = spelled_end interface teid packet_ip (packet_is 0 (omega arith)).user low small
 
-module _ (pdn : ℕ) (known : (pdn ≡ 1) ⊎ (pdn ≡ 3)) where
+module _ (pdn count : ℕ) (address : PdnAddress) (few : count ≤ 65536) (given : IsGiven (packet_heard pdn count address) pdn address) where
   identity : IsIdentity 5
   identity = record { low = omega arith; high = omega arith }
 
-  pub session_request : IsSendable (Create_session_request (first.q pdn))
-  session_request = request_sendable w0.serving.node (first.spec pdn) control user 0 serving_is (specified pdn) identity known (omega arith) (omega arith) (omega arith) (omega arith)
+  known : (pdn ≡ 1) ⊎ ((pdn ≡ 2) ⊎ (pdn ≡ 3))
+  known = type_is (packet_heard pdn count address) pdn (can_be_had (packet_heard pdn count address) pdn address given)
 
-  pub session_response : IsSendable (Create_session_response (first.a pdn))
-  session_response = response_sendable w0.serving.node (first.spec pdn) control user 0 serving_is (specified pdn) identity known (omega arith) (omega arith) (omega arith) (omega arith) (packet_heard pdn) control user 7 packet_is (omega arith) (omega arith) (omega arith) (omega arith)
+  pub session_request : IsSendable (Create_session_request (first.q pdn count address))
+  session_request = request_sendable (w0 count).serving.node (first.spec pdn) control user 0 serving_is (specified pdn) identity known (omega arith) (omega arith) (omega arith) (omega arith)
+
+  pub session_response : IsSendable (Create_session_response (first.a pdn count address))
+  session_response = response_sendable (w0 count).serving.node (first.spec pdn) control user 0 serving_is (specified pdn) identity known (omega arith) (omega arith) (omega arith) (omega arith) (packet_heard pdn count address) control user address (packet_is count few) (omega arith) (omega arith) (omega arith) (given_written (packet_heard pdn count address) (packet_is count few) pdn address given)
 
 pub bearer_request : IsSendable (Create_bearer_request r)
 unfolding encoding_of value_encoding groups_encoding several_encoding

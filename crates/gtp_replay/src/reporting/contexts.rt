@@ -3,10 +3,11 @@
 ghost use Rattle.std.specs.Prelude.{◌≡◌, ◌++◌, OnOk, decimal};
 ghost use Rattle.std.specs.FinMap.{entries};
 ghost use Rattle.std.specs.List.{flat_map};
+ghost use Rattle.gtp_values.specs.PdnAddress.{address_text};
 ghost use Rattle.gtp_values.specs.Teid.{teid_text};
-ghost use Rattle.gtp_replay.specs.Contexts.{or_dash, address_text, state_word, ended_text, ends_text, bearer_state, session_line, bearer_line, node_text};
+ghost use Rattle.gtp_replay.specs.Contexts.{or_dash, state_word, ended_text, ends_text, bearer_state, session_line, bearer_line, node_text};
 
-use gtp_gateway::{Bearer, Ebi, Gateway, Ip, Role, Session, State};
+use gtp_gateway::{Addr, Bearer, Ebi, Gateway, Role, Session, State};
 use gtp_lines::text::{put, put_display, put_number, put_teid};
 use gtp_scenario::name_of;
 use gtp_values::Teid;
@@ -41,11 +42,11 @@ fn put_some_teid(out: &mut Vec<u8>, teid: Option<u32>) -> Result<(), AllocError>
 }
 
 /// Appends an address, or a mark that there is none.
-fn put_some_address(out: &mut Vec<u8>, address: Option<u32>) -> Result<(), AllocError>
+fn put_some_address(out: &mut Vec<u8>, address: Option<Addr>) -> Result<(), AllocError>
     ensures ok { OnOk result (out.new.items ≡ out.old.items ++ or_dash address_text address) }
 {
     match address {
-        Some(address) => put_display(out, &Ip::V4(address.to_be_bytes())),
+        Some(address) => put_display(out, &address),
         None => put(out, b"-"),
     }
 }

@@ -8,32 +8,41 @@ use std::alloc::Global;
 use std::process::Abort;
 use std::test::Fail;
 
-const START: u32 = 0x0a01_0000;
+/// What can be asked for.
+const ASKED: [Asked; 3] = [V4, V6, BOTH];
 
-const COUNT: u32 = 60;
+/// 30 addresses of version 4, and 20 of version 6, which are used up first. The ninth network carries into the sixth
+/// octet.
+fn pools() -> Result<Pools, Fail> {
+    let start = [0x20, 1, 0xd, 0xb8, 0, 0, 0xff, 0xf8, 0, 0, 0, 0, 0, 0, 0, 1];
+    Ok(Pools {
+        v4: Pool::try_new(0x0a01_0000, 30)?,
+        v6: Networks::try_new(start, 20)?,
+    })
+}
 
 /// The maps with their draws, the lists beside them, and how often each kind of call was met.
 #[derive(Drop)]
 struct Both {
     draws: Draws,
-    pool: Pool,
+    pools: Pools,
     sessions: Sessions,
     bearers: Bearers,
     lists: Lists,
     seed: u64,
-    met: [u32; 17],
+    met: [u32; 19],
 }
 
 impl Both {
     fn new(alloc: Global, seed: u64) -> Result<Both, Fail> {
         Ok(Both {
             draws: Draws::new(Counter(7)),
-            pool: Pool::try_new(START, COUNT)?,
+            pools: pools()?,
             sessions: Table::new(alloc),
             bearers: Bearers::new(alloc),
             lists: Lists::new(alloc),
             seed,
-            met: [0; 17],
+            met: [0; 19],
         })
     }
 
@@ -47,7 +56,7 @@ impl Both {
     }
 
     fn met(&mut self, kind: usize) {
-        if kind < 17 {
+        if kind < 19 {
             self.met[kind] = self.met[kind].wrapping_add(1);
         }
     }
@@ -81,26 +90,47 @@ impl Both {
     }
 }
 
-/// A session: pending without an address, or active with the lowest free one.
-fn some_new_session(both: &mut Both, free: Result<u32, TablesFault>) -> Result<Session, Fail> {
-    let mut made = session(0)?;
-    made.address = None;
+/// The kind of a call that is given an address: where both versions are asked for, it may have one alone.
+fn kind_of(asked: Asked, address: Addr) -> usize {
+    match (asked == BOTH, address.v4(), address.v6()) {
+        (true, Some(_), None) => 17,
+        (true, None, Some(_)) => 18,
+        _ => 2,
+    }
+}
+
+/// A session: pending without an address, or active with the lowest free one, where there is one.
+fn some_new_session(
+    both: &mut Both,
+    asked: Asked,
+    free: Result<Addr, TablesFault>,
+) -> Result<Session, Fail> {
+    let mut made = session(None)?;
     if both.next() % 2 == 0 {
         made.state = State::Pending;
         made.remote = None;
         both.met(1);
     } else if let Ok(address) = free {
         made.address = Some(address);
-        both.met(2);
+        both.met(kind_of(asked, address));
     } else {
         both.met(3);
     }
     Ok(made)
 }
 
-fn free_address(both: &Both) -> Result<u32, TablesFault> {
+/// One of what can be asked for.
+fn some_asked(both: &mut Both) -> Asked {
+    match both.next() % 3 {
+        0 => V4,
+        1 => V6,
+        _ => BOTH,
+    }
+}
+
+fn free_address(both: &Both, asked: Asked) -> Result<Addr, TablesFault> {
     let view = View::new(&both.sessions, &both.bearers);
-    view.lowest_free_address(both.pool)
+    view.lowest_free_address(&both.pools, asked)
 }
 
 fn free_identity(both: &Both, session: Teid) -> Result<Ebi, TablesFault> {
@@ -117,9 +147,10 @@ fn add_session(both: &mut Both, rt: &impl Abort) -> Result<(), Fail> {
         both.met(0);
         return Ok(());
     }
-    let free = free_address(both);
-    assert!(rt; free == both.lists.lowest_free_address(START, COUNT));
-    let made = some_new_session(both, free)?;
+    let asked = some_asked(both);
+    let free = free_address(both, asked);
+    assert!(rt; free == both.lists.lowest_free_address(&both.pools, asked));
+    let made = some_new_session(both, asked, free)?;
     let teid = put_session(rt, &mut both.draws, &mut both.sessions, &made)?;
     both.lists.add_session(teid, &made)?;
     Ok(())
@@ -294,12 +325,20 @@ fn ask_of_remote(both: &mut Both, rt: &impl Abort) {
     assert!(rt; has == both.lists.has_default(remote, session));
 }
 
+/// The addresses that are free by a view, and by the lists that it stands for.
+fn ask_for_addresses(rt: &impl Abort, view: &View<'_>, lists: &Lists, pools: &Pools) {
+    for asked in ASKED {
+        let free = lists.lowest_free_address(pools, asked);
+        assert!(rt; view.lowest_free_address(pools, asked) == free);
+    }
+}
+
 /// What is asked of a view, and of the lists that it stands for.
 fn ask(
     rt: &impl Abort,
     view: &View<'_>,
     lists: &Lists,
-    pool: Pool,
+    pools: &Pools,
     session: Teid,
     bearer: Teid,
 ) -> Result<(), Fail> {
@@ -310,8 +349,7 @@ fn ask(
     assert!(rt; view.is_full() == (lists.sessions.len() >= 1000));
     assert!(rt; view.with_identity(session, identity) == lists.with_identity(session, identity));
     assert!(rt; view.lowest_free_identity(session) == lists.lowest_free_identity(session));
-    let free = lists.lowest_free_address(pool.start(), pool.count());
-    assert!(rt; view.lowest_free_address(pool) == free);
+    ask_for_addresses(rt, view, lists, pools);
     Ok(())
 }
 
@@ -323,11 +361,11 @@ fn ask_of_both(both: &mut Both, rt: &impl Abort, alloc: Global) -> Result<(), Fa
     if both.next() % 10 == 0 {
         let left = both.lists.left(alloc)?;
         let view = View::after_restart(&both.sessions, &both.bearers);
-        ask(rt, &view, &left, both.pool, session, bearer)?;
+        ask(rt, &view, &left, &both.pools, session, bearer)?;
         both.met(13);
     } else {
         let view = View::new(&both.sessions, &both.bearers);
-        ask(rt, &view, &both.lists, both.pool, session, bearer)?;
+        ask(rt, &view, &both.lists, &both.pools, session, bearer)?;
         both.met(14);
     }
     Ok(())

@@ -10,6 +10,18 @@ pub struct Lists {
     pub bearers: Vec<(Teid, Bearer)>,
 }
 
+/// The address of version 4 with this place.
+fn address_v4(pool: Pool, place: u32) -> [u8; 4] {
+    pool.start().wrapping_add(place).to_be_bytes()
+}
+
+/// The address of version 6 with this place: the first one as a number of 128 bits, and 2^64 more for each
+/// place.
+fn address_v6(pool: Networks, place: u32) -> [u8; 16] {
+    let first = u128::from_be_bytes(pool.start());
+    first.wrapping_add(u128::from(place) << 64).to_be_bytes()
+}
+
 impl Lists {
     pub fn new(alloc: Global) -> Lists {
         Lists {
@@ -87,27 +99,69 @@ impl Lists {
         Err(TablesFault::NoBearerIdentity)
     }
 
-    fn has_address(&self, address: u32) -> bool {
+    fn has_v4(&self, part: [u8; 4]) -> bool {
         for entry in &self.sessions {
-            if entry.1.address == Some(address) {
+            if let Some(address) = entry.1.address
+                && address.v4() == Some(part)
+            {
                 return true;
             }
         }
         false
     }
 
-    pub fn lowest_free_address(&self, start: u32, count: u32) -> Result<u32, TablesFault> {
-        for place in 0..count {
-            let address = start.wrapping_add(place);
-            if !self.has_address(address) {
-                return Ok(address);
+    fn has_v6(&self, part: [u8; 16]) -> bool {
+        for entry in &self.sessions {
+            if let Some(address) = entry.1.address
+                && address.v6() == Some(part)
+            {
+                return true;
             }
         }
-        Err(TablesFault::PoolEmpty)
+        false
     }
 
+    fn lowest_v4(&self, pool: Pool) -> Option<[u8; 4]> {
+        for place in 0..pool.count() {
+            let part = address_v4(pool, place);
+            if !self.has_v4(part) {
+                return Some(part);
+            }
+        }
+        None
+    }
+
+    fn lowest_v6(&self, pool: Networks) -> Option<[u8; 16]> {
+        for place in 0..pool.count() {
+            let part = address_v6(pool, place);
+            if !self.has_v6(part) {
+                return Some(part);
+            }
+        }
+        None
+    }
+
+    pub fn lowest_free_address(&self, pools: &Pools, asked: Asked) -> Result<Addr, TablesFault> {
+        let v4 = if asked.v4 {
+            self.lowest_v4(pools.v4)
+        } else {
+            None
+        };
+        let v6 = if asked.v6 {
+            self.lowest_v6(pools.v6)
+        } else {
+            None
+        };
+        Addr::try_new(v4, v6).map_err(|_| TablesFault::PoolEmpty)
+    }
+
+    /// Adds a session. Its address is read by itself, since the checker does not follow a copy of the whole.
     pub fn add_session(&mut self, teid: Teid, session: &Session) -> Result<(), TablesFault> {
-        self.sessions.push((teid, *session))?;
+        let copy = Session {
+            address: session.address,
+            ..*session
+        };
+        self.sessions.push((teid, copy))?;
         Ok(())
     }
 

@@ -10,10 +10,34 @@ fn teid(number: u32) -> Teid {
     Teid(0x0700_0000 | number)
 }
 
-/// Adds a thousand sessions under the TEIDs from 1 on, with the addresses from 10.1.0.1 on.
+/// The address of version 4 with this place, from 10.1.0.1 on.
+fn part_v4(place: u32) -> [u8; 4] {
+    0x0a01_0001u32.wrapping_add(place).to_be_bytes()
+}
+
+/// The address of version 6 with this place, from 2001:db8::1 on, one a network of 64 bits.
+fn part_v6(place: u32) -> [u8; 16] {
+    let [a, b, c, d] = place.to_be_bytes();
+    [0x20, 1, 0xd, 0xb8, a, b, c, d, 0, 0, 0, 0, 0, 0, 0, 1]
+}
+
+/// The address of both versions with this place.
+fn address(place: u32) -> Addr {
+    Addr::of(Some(part_v4(place)), Some(part_v6(place)))
+}
+
+/// So many addresses of each version, from those with the place 0 on.
+fn pools(v4: u32, v6: u32) -> Result<Pools, Fail> {
+    Ok(Pools {
+        v4: Pool::try_new(0x0a01_0001, v4)?,
+        v6: Networks::try_new(part_v6(0), v6)?,
+    })
+}
+
+/// Adds a thousand sessions under the TEIDs from 1 on, with the addresses of both versions from the place 0 on.
 fn add_thousand(rt: &impl Abort, draws: &mut Draws, sessions: &mut Sessions) -> Result<(), Fail> {
     for place in 0..1000u32 {
-        let made = session(0x0a01_0001 + place)?;
+        let made = session(Some(address(place)))?;
         put_session(rt, draws, sessions, &made)?;
     }
     Ok(())
@@ -24,7 +48,7 @@ fn room_for_one(rt: &impl Abort, sessions: &mut Sessions) {
     assert!(rt; sessions.is_full());
     assert!(rt; sessions.prepare() == Err(TablesFault::SessionsFull));
     let tenth = sessions.get(teid(10)).expect(rt, "the tenth session");
-    assert!(rt; tenth.address == Some(0x0a01_000a));
+    assert!(rt; tenth.address == Some(address(9)));
     sessions.remove(teid(10));
     assert!(rt; sessions.get(teid(10)).is_none());
     assert!(rt; sessions.prepare().is_ok());
@@ -40,31 +64,144 @@ fn the_limits_of_a_pool(rt: HostRuntime) -> Result<(), Fail> {
     Ok(())
 }
 
-/// The lowest address that is free of so many from 10.1.0.1 on, where all sessions stand.
-fn lowest_free_of(sessions: &Sessions, bearers: &Bearers, count: u32) -> Result<u32, Fail> {
-    let pool = Pool::try_new(0x0a01_0001, count)?;
-    Ok(View::new(sessions, bearers).lowest_free_address(pool)?)
+/// The last network, and the one before it.
+const LAST: [u8; 16] = [0xff; 16];
+
+const LAST_BUT_ONE: [u8; 16] = [
+    0xff, 0xff, 0xff, 0xff, 0xff, 0xff, 0xff, 0xfe, 0, 0, 0, 0, 0, 0, 0, 1,
+];
+
+#[test]
+fn the_limits_of_networks(rt: HostRuntime) -> Result<(), Fail> {
+    assert!(rt; Networks::try_new(LAST_BUT_ONE, 2).is_ok());
+    assert!(rt; Networks::try_new(LAST_BUT_ONE, 3) == Err(ValueFault::OutOfRange));
+    assert!(rt; Networks::try_new(LAST, 1).is_ok());
+    assert!(rt; Networks::try_new(LAST, 0).is_ok());
+    assert!(rt; Networks::try_new(part_v6(0), 65_536)?.count() == 65_536);
+    assert!(rt; Networks::try_new(part_v6(0), 65_537) == Err(ValueFault::OutOfRange));
+    Ok(())
 }
 
-/// No address of a pool is free.
-fn is_used_up(rt: &impl Abort, sessions: &Sessions, bearers: &Bearers, pool: Pool) {
-    let free = View::new(sessions, bearers).lowest_free_address(pool);
-    assert!(rt; free == Err(TablesFault::PoolEmpty));
+/// What is free has these places: one of each version that it has, and none where all are taken.
+fn is_free(
+    rt: &impl Abort,
+    view: &View<'_>,
+    pools: &Pools,
+    asked: Asked,
+    v4: Option<u32>,
+    v6: Option<u32>,
+) {
+    let wanted = Addr::try_new(v4.map(part_v4), v6.map(part_v6));
+    let free = view.lowest_free_address(pools, asked);
+    assert!(rt;
+        free.ok() == wanted.ok(),
+        "{asked:?} of {pools:?}: {free:?}"
+    );
 }
 
-/// The free addresses beside those of a thousand sessions: of a pool of as many, of the largest, of an empty
-/// one, of what a restart leaves, and where one session is removed.
+/// How many addresses there are of each version, what is asked for, and the place of what is free of each version.
+const BESIDE_A_THOUSAND: [(u32, u32, Asked, Option<u32>, Option<u32>); 8] = [
+    (1000, 1000, V4, None, None),
+    (1000, 1000, V6, None, None),
+    (1000, 1000, BOTH, None, None),
+    (1001, 1000, BOTH, Some(1000), None),
+    (1000, 1001, BOTH, None, Some(1000)),
+    (65_536, 65_536, BOTH, Some(1000), Some(1000)),
+    (65_536, 0, V6, None, None),
+    (0, 0, BOTH, None, None),
+];
+
+/// Where pools begin that have a free address at their first place: 1,024 places below the addresses of the sessions,
+/// and with their networks, but other last octets.
+const FREE_AT_FIRST: [(u32, [u8; 16]); 2] = [
+    (
+        0x0a00_fc01,
+        [
+            0x20, 1, 0xd, 0xb7, 0xff, 0xff, 0xfc, 0, 0, 0, 0, 0, 0, 0, 0, 1,
+        ],
+    ),
+    (
+        0x0a01_03e9,
+        [0x20, 1, 0xd, 0xb8, 0, 0, 0, 0, 0, 0, 0, 0, 0, 0, 0, 2],
+    ),
+];
+
+/// The first addresses are free, of as many as there can be.
+fn first_are_free(
+    rt: &impl Abort,
+    view: &View<'_>,
+    start_v4: u32,
+    start_v6: [u8; 16],
+) -> Result<(), Fail> {
+    let pools = Pools {
+        v4: Pool::try_new(start_v4, 65_536)?,
+        v6: Networks::try_new(start_v6, 65_536)?,
+    };
+    let first = Addr::of(Some(start_v4.to_be_bytes()), Some(start_v6));
+    assert!(rt; view.lowest_free_address(&pools, BOTH) == Ok(first));
+    Ok(())
+}
+
+/// What is free beside a thousand sessions.
+fn beside_a_thousand(rt: &impl Abort, view: &View<'_>) -> Result<(), Fail> {
+    for (count_v4, count_v6, asked, v4, v6) in BESIDE_A_THOUSAND {
+        is_free(rt, view, &pools(count_v4, count_v6)?, asked, v4, v6);
+    }
+    for (start_v4, start_v6) in FREE_AT_FIRST {
+        first_are_free(rt, view, start_v4, start_v6)?;
+    }
+    Ok(())
+}
+
+/// The free addresses beside those of a thousand sessions, those of what a restart leaves, and those where one
+/// session is removed.
 fn addresses(rt: &impl Abort, sessions: &mut Sessions, bearers: &Bearers) -> Result<(), Fail> {
     add_thousand(rt, &mut Draws::new(Counter(7)), sessions)?;
-    let just_used_up = Pool::try_new(0x0a01_0001, 1000)?;
-    is_used_up(rt, sessions, bearers, just_used_up);
-    is_used_up(rt, sessions, bearers, Pool::try_new(1, 0)?);
-    assert!(rt; lowest_free_of(sessions, bearers, 65_536)? == 0x0a01_03e9);
+    beside_a_thousand(rt, &View::new(sessions, bearers))?;
+    let just_used_up = pools(1000, 1000)?;
     let left = View::after_restart(sessions, bearers);
-    assert!(rt; left.lowest_free_address(just_used_up) == Ok(0x0a01_0001));
+    is_free(rt, &left, &just_used_up, BOTH, Some(0), Some(0));
     sessions.remove(teid(300));
-    assert!(rt; lowest_free_of(sessions, bearers, 1000)? == 0x0a01_012c);
+    let view = View::new(sessions, bearers);
+    is_free(rt, &view, &just_used_up, BOTH, Some(299), Some(299));
     Ok(())
+}
+
+/// Adds a session with each part at the place 0, and one with both at the place 1.
+fn add_three(rt: &impl Abort, sessions: &mut Sessions) -> Result<(), Fail> {
+    let mut draws = Draws::new(Counter(7));
+    let alone_v4 = Addr::of(Some(part_v4(0)), None);
+    let alone_v6 = Addr::of(None, Some(part_v6(0)));
+    for own in [alone_v4, alone_v6, address(1)] {
+        put_session(rt, &mut draws, sessions, &session(Some(own))?)?;
+    }
+    Ok(())
+}
+
+/// The parts of addresses are free again apart.
+fn parts(rt: &impl Abort, sessions: &mut Sessions, bearers: &Bearers) -> Result<(), Fail> {
+    let two = pools(2, 2)?;
+    add_three(rt, sessions)?;
+    is_free(rt, &View::new(sessions, bearers), &two, BOTH, None, None);
+    sessions.remove(teid(1));
+    is_free(rt, &View::new(sessions, bearers), &two, BOTH, Some(0), None);
+    sessions.remove(teid(2));
+    is_free(
+        rt,
+        &View::new(sessions, bearers),
+        &two,
+        BOTH,
+        Some(0),
+        Some(0),
+    );
+    Ok(())
+}
+
+#[test]
+fn parts_of_addresses(rt: HostRuntime) -> Result<(), Fail> {
+    let bearers = Bearers::new(rt.alloc());
+    let mut sessions: Sessions = Table::new(rt.alloc());
+    parts(&rt, &mut sessions, &bearers)
 }
 
 #[test]

@@ -11,6 +11,7 @@ use Rattle.gtp_values.specs.FiniteMap.{FiniteMap, Each, Among}
 use Rattle.gtp_values.proofs.Outcomes.{none_some}
 use Rattle.gtp_tables.specs.Index.{names}
 use Rattle.gtp_machine.specs.Config.{Config}
+use Rattle.gtp_machine.specs.Element.{PdnAddress}
 use Rattle.gtp_machine.specs.Message.{Echo, CreateSessionRequest, CreateSessionResponse, DeleteSessionRequest, DeleteSessionResponse, CreateBearerRequest, CreateBearerResponse, DeleteBearerRequest, DeleteBearerResponse, Message, Echo_request, Echo_response, Create_session_request, Create_session_response, Delete_session_request, Delete_session_response, Create_bearer_request, Create_bearer_response, Delete_bearer_request, Delete_bearer_response, Packet_data, End_marker, Error_indication, User_echo_request, recovery_of, first_identity}
 use Rattle.gtp_machine.specs.declared.role.Role.{Role}
 use Rattle.gtp_machine.specs.declared.role.Role.TheVariants.{Serving, Packet}
@@ -299,7 +300,7 @@ module _ (old : Node) (p : IsPlaced old) where
   echo_answered : (a : Echo) → Leaves (EchoAnswered a old)
   echo_answered a = unless (says p) (λ at. unless (says p) (λ fits. says (finished_placed a.number at.pending)))
 
-  opens_session : (a : CreateSessionResponse) (q : CreateSessionRequest) (session : ℕ) (at : HasSession old session) (address : ℕ) → Leaves (OpensSession old a q session at.session address)
+  opens_session : (a : CreateSessionResponse) (q : CreateSessionRequest) (session : ℕ) (at : HasSession old session) (address : PdnAddress) → Leaves (OpensSession old a q session at.session address)
   opens_session a q session at address e r =
       let key = q.context.user.teid in
       let b = r.default.bearer in

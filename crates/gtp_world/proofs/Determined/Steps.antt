@@ -60,10 +60,10 @@ module _ (one other : Station) (alike : AreLeftAlike one other) (l : Lasts one) 
     one_effect : ((command : Command) → input ≡ Commanded command → (number : ℕ) → get one.node.pending number ≡ None → HasPending e.node number → HasPending f.node number) → e ≡ f
     one_effect numbers = both.one (record {
       drawn = one_drawn e.node f.node (tied_draws new e.node new_is new_tied) (tied_draws left f.node left_is left_tied) both.tell.counter both.tell.draws;
-      addresses = λ request reading is packet made others t a b x y.
-          let first_lowest = lowest_address one.node e.node others t a (subst (λ k. MakesLowestSession one.node k) new_is (subst (λ r. MakesLowest r one.node new.node) packet (made_lowest made))) x in
-          let second_lowest = lowest_address one.node f.node others t b (subst (λ k. MakesLowestSession one.node k) left_is (subst (λ r. MakesLowest r one.node left.node) packet (also_lowest made))) y in
-          first_lowest.1 ∙ (ap (λ k. Some k) (one_lowest_address others (record { start = one.node.config.pool_start; count = one.node.config.pool_count }) first_lowest.0 second_lowest.0 first_lowest.2 second_lowest.2) ∙ sym second_lowest.1);
+      addresses = λ request reading is packet made others t a b x y version p q in_one in_other.
+          let first_lowest = lowest_address one.node e.node others t a (subst (λ k. MakesLowestSession one.node k) new_is (subst (λ r. MakesLowest r one.node new.node) packet (made_lowest made))) x version p in_one in
+          let second_lowest = lowest_address one.node f.node others t b (subst (λ k. MakesLowestSession one.node k) left_is (subst (λ r. MakesLowest r one.node left.node) packet (also_lowest made))) y version q in_other in
+          one_lowest_address version others one.node.config.pools p q first_lowest second_lowest;
       identities = λ request reading is serving made others t a b x y session.
           let first_lowest = lowest_identity one.node e.node others t a (subst (λ k. MakesLowestBearer one.node k) new_is (subst (λ r. MakesLowest r one.node new.node) serving (made_lowest made))) x in
           let second_lowest = lowest_identity one.node f.node others t b (subst (λ k. MakesLowestBearer one.node k) left_is (subst (λ r. MakesLowest r one.node left.node) serving (also_lowest made))) y in

@@ -1,6 +1,6 @@
 use Rattle.std.proofs.Common.{ℕ, [], ◌∷◌, Some, sym, ◌∙◌, ap}
 use Rattle.gtp_machine.specs.Decoded.{row_in, contexts_in}
-use Rattle.gtp_machine.specs.Element.{ipv4_of, teid_in}
+use Rattle.gtp_machine.specs.Element.{address_of, teid_in}
 use Rattle.gtp_v2.specs.Viewed.{always_has}
 use Rattle.gtp_gateway.specs.declared.procedure.Procedure.TheVariants.{SessionAnswered}
 use Rattle.gtp_gateway.proofs.ByProcedure.{cause_is}
@@ -28,7 +28,7 @@ returns c =
         header = sym r.ensures.header;
         cause = cause_is (Some (a.cause ∷ [])) r.result.cause (sym (row_so 33 2 0 _ m a.says) ∙ r.ensures.cause);
         control = ap teid_in (end_is a.control c.value.result (c.value.ensures.field a.control (row_so 33 87 1 _ m a.says))) ∙ sym c.teid_of.ensures;
-        address = ap ipv4_of (paa_is a.address c.value-2.result (c.value-2.ensures.field a.address (row_so 33 79 0 _ m a.says))) ∙ sym c.ipv4_in.ensures;
+        address = ap address_of (paa_is a.address c.value-2.result (c.value-2.ensures.field a.address (row_so 33 79 0 _ m a.says))) ∙ sym c.address_of.ensures;
         contexts = created_only a.groups c.only_context_in.result (c.only_context_in.ensures created_others a.groups (created_contexts c.requires.spelled.0 m c.requires.spelled.1 c.requires.of));
       };
     }

@@ -1,14 +1,14 @@
 use Rattle.std.proofs.Common.{◌≡◌, ℕ, List, inl, inr, refl, sym, ◌∙◌, ap, subst}
 use Rattle.gtp_values.specs.Ebi.{IsEbi}
 use Rattle.gtp_values.specs.FiniteMap.{Among}
-use Rattle.gtp_machine.specs.Choice.{IsIdentity}
+use Rattle.gtp_machine.specs.Choice.{IsServed, IsIdentity}
 use Rattle.gtp_machine.specs.Config.{Config}
 use Rattle.gtp_machine.specs.Message.{CreateSessionRequest, RequestedBearer}
 use Rattle.gtp_machine.specs.Node.{Node}
 use Rattle.gtp_gateway.specs.declared.hearing.Heard.{Heard}
 use Rattle.gtp_gateway.specs.declared.session_grant.SessionVerdict.{SessionVerdict}
 use Rattle.gtp_gateway.specs.declared.session_request.SessionRequest.{SessionRequest}
-use Rattle.gtp_gateway.specs.Grant.{JudgesSession, IsIpv4, IsVerdict}
+use Rattle.gtp_gateway.specs.Grant.{JudgesSession, IsVerdict}
 use Rattle.gtp_gateway.specs.Hearing.{node_heard}
 use Rattle.gtp_gateway.specs.Parts.{node_of}
 use Rattle.gtp_gateway.specs.SessionAsked.{SaysSession}
@@ -36,6 +36,12 @@ module _ (r : SessionRequest) (q : CreateSessionRequest) (says : SaysSession r q
     served : configured → Among r.access_point node.config.access_points
     served among = subst (λ (p : List ℕ). Among p node.config.access_points) says.access_point (subst (λ (ps : List (List ℕ)). Among q.access_point ps) (ap points (config_stays heard node)) among)
 
+    serves_type : IsServed node.config r.pdn.0 → IsServed (node_heard heard node).config q.pdn
+    serves_type is = subst (λ (k : Config). IsServed k q.pdn) (sym (config_stays heard node)) (subst (λ (k : ℕ). IsServed node.config k) (sym says.pdn) is)
+
+    type_served : IsServed (node_heard heard node).config q.pdn → IsServed node.config r.pdn.0
+    type_served is = subst (λ (k : ℕ). IsServed node.config k) says.pdn (subst (λ (k : Config). IsServed k q.pdn) (config_stays heard node) is)
+
 pub returns-then-not-serves : goal.returns-then-not-serves
 returns-then-not-serves c =
     let r = c.args.request.now in
@@ -52,11 +58,11 @@ returns-then-not-serves c =
       is = refl;
     })
 
-pub returns-then-not-is_ipv4 : goal.returns-then-not-is_ipv4
-returns-then-not-is_ipv4 c =
+pub returns-then-not-serves_type : goal.returns-then-not-serves_type
+returns-then-not-serves_type c =
     let r = c.args.request.now in
     let node = node_of c.args.self.now in
-    subst (λ (v : SessionVerdict). JudgesSession r c.args.heard node v) (sym c.refused-then-not-is_ipv4.ensures)
+    subst (λ (v : SessionVerdict). JudgesSession r c.args.heard node v) (sym c.refused-then-not-serves_type.ensures)
     (record {
       judged = λ request q says. inr (
         says.alone.0 c.if-not-request.false,
@@ -64,7 +70,7 @@ returns-then-not-is_ipv4 c =
           identity r q says _ c.number.ensures.value (c.in-Ok.ensures.ok.0 refl),
           inr (
             serves r q says c.args.heard node (yes c.serves.ensures c.if-not-serves.false),
-            inl (λ is. no c.is_ipv4.ensures c.if-not-is_ipv4.true (subst IsIpv4 says.pdn is), refl),
+            inl (λ is. no c.serves_type.ensures c.if-not-serves_type.true (type_served r q says c.args.heard node is), refl),
           ),
         ),
       );
@@ -83,11 +89,11 @@ returns c =
           inr (
             serves r q says c.args.heard node (yes c.serves.ensures c.if-not-serves.false),
             inr (
-              subst IsIpv4 (sym says.pdn) (yes c.is_ipv4.ensures c.if-not-is_ipv4.false),
-              c.judge_room.ensures.judged request q,
+              serves_type r q says c.args.heard node (yes c.serves_type.ensures c.if-not-serves_type.false),
+              c.judge_room.ensures.judged request q says.pdn,
             ),
           ),
         ),
       );
-      is = subst (λ (n : ℕ). IsVerdict n c.judge_room.result c.args.heard node) (c.in-Ok.ensures.value ∙ c.number.ensures.value) c.judge_room.ensures.is;
+      is = subst (λ (n : ℕ). IsVerdict n r.pdn.0 c.judge_room.result c.args.heard node) (c.in-Ok.ensures.value ∙ c.number.ensures.value) c.judge_room.ensures.is;
     }

@@ -56,12 +56,12 @@ returns-in-Granted-clause-taken c =
     let r = c.args.request.now in
     let g = c.in-Granted.grant in
     let room : HasHeldRoom left = record { few = subst (λ (held : List Held). length held < 4096) (sym (held_stays c.args.heard old.node)) (held_few c.args.self.now.held.pairs (no c.is_full.ensures.full c.if-is_full.false)) } in
-    let chosen = subst (λ (v : SessionVerdict). IsVerdict r.default.identity v c.args.heard old.node) c.in-Granted.is c.judge_session.ensures.is in
+    let chosen = subst (λ (v : SessionVerdict). IsVerdict r.default.identity r.pdn.0 v c.args.heard old.node) c.in-Granted.is c.judge_session.ensures.is in
     IfOk-weaker c.grant_session.result _ _ (λ step a q says.
-    answered_so (SessionAsked request q) c.args.source c.args.octets.now _ (session_cause r.pdn.0) true _ left old step (station_of c.grant_session.new.self) (config_stays c.args.heard old.node) a
+    answered_so (SessionAsked request q) c.args.source c.args.octets.now _ (session_cause r.pdn.0 g.address) true _ left old step (station_of c.grant_session.new.self) (config_stays c.args.heard old.node) a
     (inr (
       room,
-      subst (λ (e : Effect). SessionJudged request q left e) (λ i. making request (sym (grant_same r q says c.args.heard old.node g chosen.identity_is) i) (session_cause (says.pdn i)) (sym (made_same r q says c.args.heard old.node g chosen.identity_is) i))
+      subst (λ (e : Effect). SessionJudged request q left e) (λ i. making request (sym (grant_same r q says c.args.heard old.node g chosen.identity_is) i) (session_cause (says.pdn i) g.address) (sym (made_same r q says c.args.heard old.node g chosen.identity_is) i))
           (subst (λ (v : SessionVerdict). SessionJudged request q left (session_effect request q v left)) c.in-Granted.is (c.judge_session.ensures.judged request q says)),
     )))
     c.grant_session.ensures.granted
@@ -85,8 +85,8 @@ pub returns-in-Granted-clause-choices : goal.returns-in-Granted-clause-choices
 returns-in-Granted-clause-choices c =
     let r = c.args.request.now in
     let old = node_of c.args.self.now in
-    let chosen = subst (λ (v : SessionVerdict). IsVerdict r.default.identity v c.args.heard old) c.in-Granted.is c.judge_session.ensures.is in
-    IfOk-weaker c.grant_session.result _ _ (λ step a made. lowest_session r.default.identity r c.in-Granted.grant c.args.heard old (node_of c.grant_session.new.self) chosen (ap (λ (n : Node). n.sessions) a.becomes)) c.grant_session.ensures.granted
+    let chosen = subst (λ (v : SessionVerdict). IsVerdict r.default.identity r.pdn.0 v c.args.heard old) c.in-Granted.is c.judge_session.ensures.is in
+    IfOk-weaker c.grant_session.result _ _ (λ step a made. lowest_session r.default.identity r.pdn.0 r c.in-Granted.grant c.args.heard old (node_of c.grant_session.new.self) chosen (ap (λ (n : Node). n.sessions) a.becomes)) c.grant_session.ensures.granted
 
 pub returns-then-is_full-clause-choices : goal.returns-then-is_full-clause-choices
 returns-then-is_full-clause-choices c = unmade c.dropped.result.report.made (ap (λ (s : ControlStep). s.report.made) c.dropped.ensures)

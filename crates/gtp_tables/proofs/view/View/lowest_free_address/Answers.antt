@@ -1,31 +1,9 @@
-use Rattle.std.proofs.Common.{◌+◌, ◌∙◌, ℕ, Bool, List, ap, sym, subst}
-use Rattle.std.specs.FinMap.{values}
-use Rattle.std.specs.List.{list_any}
-use Rattle.gtp_tables.specs.declared.context.Session.{Session}
-use Rattle.gtp_tables.specs.Contexts.{Contexts, takes}
-use Rattle.gtp_tables.specs.Pool.{IsLowestFree, IsUsedUp}
-use Rattle.gtp_tables.proofs.Seen.{address_taken, address_free}
+use Rattle.std.proofs.Common.{Option, List, ℕ, subst}
+use Rattle.gtp_tables.specs.Free.{IsLowestPart, V4, V6}
+use Rattle.gtp_tables.proofs.Places.{both_used}
 use Rattle.gtp_tables.proofs.view.View.lowest_free_address.Goals as goal
 
-pub returns-in-Some-clause-free : goal.returns-in-Some-clause-free
-returns-in-Some-clause-free c =
-    let all : Contexts = record { sessions = c.self.inside.sessions.now.table; bearers = c.self.inside.bearers.now } in
-    let restarted = c.self.inside.restarted in
-    let place = c.in-Some.place in
-    let taken : ℕ → List Session → Bool = λ a l. list_any (takes restarted a) l in
-    subst (λ (k : Contexts). IsLowestFree k.sessions c.args.pool (c.start.result + place)) c.self.view_is
-    (record {
-      place = place;
-      in_pool = c.in-Some.ensures.within;
-      is = ap (λ (n : ℕ). n + place) c.start.ensures;
-      unused = address_free restarted all (c.start.result + place) (ap (λ (n : ℕ). taken (n + place) (values all.sessions)) c.start.ensures ∙ (sym (c.values.ensures.any (takes restarted (c.args.pool.start + place))) ∙ c.in-Some.ensures.free));
-      lower = λ p lt. address_taken restarted all (c.args.pool.start + p) (sym (c.values.ensures.any (takes restarted (c.args.pool.start + p))) ∙ c.in-Some.ensures.lower p lt);
-    })
-
-pub returns-in-None-clause-none : goal.returns-in-None-clause-none
-returns-in-None-clause-none c =
-    let all : Contexts = record { sessions = c.self.inside.sessions.now.table; bearers = c.self.inside.bearers.now } in
-    let restarted = c.self.inside.restarted in
-    let taken : ℕ → List Session → Bool = λ a l. list_any (takes restarted a) l in
-    subst (λ (k : Contexts). IsUsedUp k.sessions c.args.pool) c.self.view_is
-    (λ p lt. address_taken restarted all (c.args.pool.start + p) (sym (c.values.ensures.any (takes restarted (c.args.pool.start + p))) ∙ c.in-None.ensures.none p lt))
+pub returns-in-None-None-clause-none : goal.returns-in-None-None-clause-none
+returns-in-None-None-clause-none c = both_used c.args.self.now.sessions c.args.pools.now c.args.asked
+    (subst (λ (o : Option (List ℕ)). IsLowestPart c.args.self.now.sessions c.args.pools.now c.args.asked V4 o) c.in-None-None.is-0 c.lowest_v4.ensures)
+    (subst (λ (o : Option (List ℕ)). IsLowestPart c.args.self.now.sessions c.args.pools.now c.args.asked V6 o) c.in-None-None.is-1 c.lowest_v6.ensures)

@@ -1,7 +1,0 @@
-use Rattle.std.proofs.Common.{◌≡◌, ◌+◌, ◌<◌, ℕ, false, get_or, take}
-use Rattle.std.specs.List.{list_any}
-use Rattle.gtp_tables.specs.Contexts.{takes}
-use Rattle.gtp_tables.proofs.pool.taken_from.Given as goal
-
-abbrev pub invariant-loop-session : goal.invariant-loop-session
-invariant-loop-session l = (i : ℕ) → i < 1024 → get_or l.taken i false ≡ list_any (takes l.restarted (l.first + i)) (take l.session-index l.sessions)
