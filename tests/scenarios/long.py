@@ -97,14 +97,14 @@ def asked(first, pdn, *expect):
 def given_up(times):
     """Sessions at the packet gateway alone. The serving gateway gets no answer, and gives its requests up in one tick."""
     for time in times:
-        yield from asked(2 * time, 1, "answered")
+        yield from asked(2 * time, 3 if time == 0 else 1, "answered")
     yield ticks("serving", 1)
 
 
 def most_sessions():
-    """The packet gateway has 1,000 sessions, which have all of its addresses. One more is refused with cause 83 if it is
-    of type 7, or of version 6, which has no pool. If not, it is refused with cause 73, which comes before cause 84. When
-    a session has been released, its address is given again."""
+    """The packet gateway has 1,000 sessions, which have all of its addresses, the first one the only one of version 6. One
+    more is refused with cause 83 if it is of type 7. If not, it is refused with cause 73, which comes before cause 84.
+    When a session has been released, its address is given again."""
     rounds = [given_up(range(first, first + 250)) for first in range(0, 1000, 250)]
     more = [asked(2000 + 2 * time, pdn, "answered", "rejected") for time, pdn in enumerate([1, 2, 3, 7])]
     release = {"do": "release_session", "teid": "01000001", "expect": "begun"}
@@ -114,7 +114,7 @@ def most_sessions():
         *more,
         [release, deliver(2008, "answered"), deliver(2009, "closed")],
         asked(2010, 3, "answered", "opened"),
-        packet={**head()["packet"], "count": 1000},
+        packet={**head()["packet"], "count": 1000, "pool6": "20010db8000000000000000000000001", "count6": 1},
         t3=1,
         n3=0,
     )

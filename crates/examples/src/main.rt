@@ -19,6 +19,9 @@ const REQUEST: &str = concat!(
     "0a0000010300010001",
 );
 
+/// The first IPv6 address of the packet gateway, 2001:db8::1.
+const FIRST: [u8; 16] = [0x20, 1, 0xd, 0xb8, 0, 0, 0, 0, 0, 0, 0, 0, 0, 0, 0, 1];
+
 /// The subscriber of a Create Session Request; nothing if the datagram holds another message.
 fn subscriber(octets: &[u8]) -> anyhow::Result<Option<Imsi>> {
     let message = view(octets)?; // allocates nothing; an error is the first fault
@@ -40,7 +43,7 @@ fn echo_response(alloc: Global, seq: Seq, counter: u8) -> anyhow::Result<Vec<u8>
     Ok(encode(alloc, &message)?)
 }
 
-/// A packet gateway that has just started, for one access point and ten addresses.
+/// A packet gateway that has just started, for one access point and ten addresses of each IP version.
 fn packet_gateway(alloc: Global, own: Ip, peer: Ip) -> anyhow::Result<Gateway> {
     let config = Config::try_new(
         Addresses {
@@ -55,6 +58,8 @@ fn packet_gateway(alloc: Global, own: Ip, peer: Ip) -> anyhow::Result<Gateway> {
         Pool::try_new(0x0a01_0001, 10)?, // 10.1.0.1 and the nine after it
         Timers::default(),
     )?;
+    // FIRST, and its last eight octets under each of the nine prefixes after it
+    let config = config.with_pool6(FIRST, 10)?;
     Ok(Gateway::start(alloc, Role::Packet, &config, Counter(1))?)
 }
 
@@ -74,6 +79,9 @@ fn exchange(rt: &impl Print, alloc: Global, request: &[u8]) -> anyhow::Result<()
     }
     for (teid, session) in gateway.sessions() {
         println!(rt; "session {teid} {}", session.subscriber.imsi)?;
+        if let Some(address) = session.address {
+            println!(rt; "address {address}")?;
+        }
     }
     Ok(())
 }

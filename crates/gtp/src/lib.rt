@@ -29,10 +29,10 @@ pub mod user {
 pub mod gateway {
     pub use gtp_gateway::{
         Accepted, Addr, Addresses, Ambr, Apn, Bearer, BearerList, Begun, CommandFault, Config,
-        Counter, DropReason, Ebi, Endpoint, FaultName, Gateway, Ip, Kind, Memory, Networks,
-        Outcome, PdnType, Plane, Plmn, Pool, Pools, Qos, Rat, Refusal, Report, Request, Role,
-        Selection, Sent, Seq, Session, SessionList, SessionSpec, State, Step, Subscriber, Teid,
-        Tft, Ticked, Timers, ValueFault,
+        Counter, DropReason, Ebi, Endpoint, FaultName, Gateway, Ip, Kind, Memory, Outcome, PdnType,
+        Plane, Plmn, Pool, Pools, Prefixes, Qos, Rat, Refusal, Report, Request, Role, Selection,
+        Sent, Seq, Session, SessionList, SessionSpec, State, Step, Subscriber, Teid, Tft, Ticked,
+        Timers, ValueFault,
     };
 }
 

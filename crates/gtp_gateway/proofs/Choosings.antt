@@ -5,8 +5,8 @@ use Rattle.gtp_values.specs.FiniteMap.{FiniteMap}
 use Rattle.gtp_values.specs.PdnAddress.{PdnAddress}
 use Rattle.gtp_tables.specs.declared.pool.Asked.{Asked}
 use Rattle.gtp_tables.specs.declared.pool.Pools.{Pools}
-use Rattle.gtp_tables.specs.declared.pool.Version.{Version}
-use Rattle.gtp_tables.specs.declared.pool.Version.TheVariants.{V4, V6}
+use Rattle.gtp_tables.specs.declared.pool.IpVersion.{IpVersion}
+use Rattle.gtp_tables.specs.declared.pool.IpVersion.TheVariants.{V4, V6}
 use Rattle.gtp_tables.specs.Free.{IsLowestFree, IsLowestPart, IsLowestGiven}
 use Rattle.gtp_tables.specs.Part.{part_in}
 use Rattle.gtp_machine.specs.Choice.{asked_by}
@@ -29,11 +29,11 @@ pub unmade : {A : Type 0} (made : Bool) → made ≡ false → made ≡ true →
 unmade made not is = absurd (let both : false ≡ true = sym not ∙ is in cc)
 
 -- what is given is the lowest of its version
-lowest_part : (sessions : FiniteMap Session) (pools : Pools) (asked : Asked) (version : Version) (given : Option (List ℕ)) (part : List ℕ) → IsLowestPart sessions pools asked version given → given ≡ Some part → IsLowestFree version sessions pools part
+lowest_part : (sessions : FiniteMap Session) (pools : Pools) (asked : Asked) (version : IpVersion) (given : Option (List ℕ)) (part : List ℕ) → IsLowestPart sessions pools asked version given → given ≡ Some part → IsLowestFree version sessions pools part
 lowest_part sessions pools asked version None part lowest is = absurd cc
 lowest_part sessions pools asked version (Some given) part lowest is = let same : given ≡ part = cc in subst (λ (k : List ℕ). IsLowestFree version sessions pools k) same lowest.1
 
-each_lowest : (sessions : FiniteMap Session) (pools : Pools) (asked : Asked) (address : PdnAddress) → IsLowestGiven sessions pools asked address → (version : Version) (part : List ℕ) → part_in version address ≡ Some part → IsLowestFree version sessions pools part
+each_lowest : (sessions : FiniteMap Session) (pools : Pools) (asked : Asked) (address : PdnAddress) → IsLowestGiven sessions pools asked address → (version : IpVersion) (part : List ℕ) → part_in version address ≡ Some part → IsLowestFree version sessions pools part
 each_lowest sessions pools asked address lowest V4 part is = lowest_part sessions pools asked V4 address.v4 part lowest.v4 is
 each_lowest sessions pools asked address lowest V6 part is = lowest_part sessions pools asked V6 address.v6 part lowest.v6 is
 

@@ -6,7 +6,7 @@ use Rattle.std.specs.Cmp.{nat_cmp_total}
 use Rattle.gtp_values.specs.FiniteMap.{FiniteMap}
 use Rattle.gtp_tables.specs.Drawn.{drawn_up_to}
 use Rattle.gtp_tables.specs.declared.pool.Pools.{Pools}
-use Rattle.gtp_tables.specs.declared.pool.Version.{Version}
+use Rattle.gtp_tables.specs.declared.pool.IpVersion.{IpVersion}
 use Rattle.gtp_tables.specs.Free.{address_at, IsLowestFree}
 use Rattle.gtp_tables.specs.Identity.{IsLowestUnused}
 use Rattle.gtp_tables.specs.Part.{part_of}
@@ -20,7 +20,7 @@ use Rattle.gtp_gateway.specs.Choosing.{MakesLowestSession, MakesLowestBearer}
 
 -- ---- the lowest is one
 
-pub one_lowest_address : (version : Version) (sessions : FiniteMap Session) (pools : Pools) (a b : List ℕ) → IsLowestFree version sessions pools a → IsLowestFree version sessions pools b → a ≡ b
+pub one_lowest_address : (version : IpVersion) (sessions : FiniteMap Session) (pools : Pools) (a b : List ℕ) → IsLowestFree version sessions pools a → IsLowestFree version sessions pools b → a ≡ b
 one_lowest_address version sessions pools a b l m = ⊎_elim
     (λ same. l.is ∙ (ap (λ k. address_at pools version k) same ∙ sym m.is))
     (λ apart. ⊎_elim
@@ -60,7 +60,7 @@ module _ {X : Type 0} (old new others mine : FiniteMap X) (t u : ℕ) (x y : X) 
   same_others = same_beside mine others u y x lone (beside.stood u before) (sym is ∙ (beside.is ∙ ap (λ k. insert others k x) (sym same_entry.0)))
 
 -- each part of the address of a session that was made beside others
-pub lowest_address : (old new : Node) (others : FiniteMap Session) (t : ℕ) (a : Session) → MakesLowestSession old new → ComesBeside old.sessions new.sessions others t a → (version : Version) (part : List ℕ) → part_of version a.address ≡ Some part → IsLowestFree version others old.config.pools part
+pub lowest_address : (old new : Node) (others : FiniteMap Session) (t : ℕ) (a : Session) → MakesLowestSession old new → ComesBeside old.sessions new.sessions others t a → (version : IpVersion) (part : List ℕ) → part_of version a.address ≡ Some part → IsLowestFree version others old.config.pools part
 lowest_address old new others t a l beside version part has =
     let entry = same_entry old.sessions new.sessions others l.others t l.teid a l.session beside l.sessions l.beside l.before in
     let same = same_others old.sessions new.sessions others l.others t l.teid a l.session beside l.sessions l.beside l.before in

@@ -10,8 +10,8 @@ use Rattle.gtp_values.specs.FiniteMap.{FiniteMap, Among}
 use Rattle.gtp_values.specs.PdnAddress.{PdnAddress}
 use Rattle.gtp_tables.specs.Contexts.{is_opened}
 use Rattle.gtp_tables.specs.declared.pool.Pools.{Pools}
-use Rattle.gtp_tables.specs.declared.pool.Version.{Version}
-use Rattle.gtp_tables.specs.declared.pool.Version.TheVariants.{V4, V6}
+use Rattle.gtp_tables.specs.declared.pool.IpVersion.{IpVersion}
+use Rattle.gtp_tables.specs.declared.pool.IpVersion.TheVariants.{V4, V6}
 use Rattle.gtp_tables.specs.Free.{count_of, address_at, IsLowestFree, IsUsedUp, IsLowestPart, IsLowestGiven, AreUsedUp}
 use Rattle.gtp_machine.specs.Choice.{IsFree, HasDraws, IsFreeAddress, HasFreeAddress, asked_by, IsPart, IsGiven, CanGive}
 use Rattle.gtp_machine.specs.Node.{Session, Bearer, Node}
@@ -67,7 +67,7 @@ heard_with (heards.Earlier counter) n t b none = refl
 -- ---- addresses
 
 module _ (n : Node) (sessions : FiniteMap Session) (pools : Pools) (same : sessions ≡ n.sessions) (of : pools ≡ n.config.pools) where
-  free_address : (version : Version) (address : List ℕ) → IsLowestFree version sessions pools address → IsFreeAddress n version address
+  free_address : (version : IpVersion) (address : List ℕ) → IsLowestFree version sessions pools address → IsFreeAddress n version address
   free_address version address lowest =
       record {
         place = lowest.place;
@@ -76,14 +76,14 @@ module _ (n : Node) (sessions : FiniteMap Session) (pools : Pools) (same : sessi
         unused = λ t s stands. lowest.unused t s (ap (λ (m : FiniteMap Session). get m t) same ∙ stands);
       }
 
-  no_address : (version : Version) → IsUsedUp version sessions pools → HasFreeAddress n version → ⊥
+  no_address : (version : IpVersion) → IsUsedUp version sessions pools → HasFreeAddress n version → ⊥
   no_address version used has =
       let free = has.free in
       let at = used free.place (subst (λ (p : Pools). free.place < count_of p version) (sym of) free.in_pool) in
       free.unused at.teid at.session (ap (λ (m : FiniteMap Session). get m at.teid) (sym same) ∙ at.stands) (at.has ∙ ap (λ (k : List ℕ). Some k) (ap (λ (p : Pools). address_at p version free.place) of ∙ sym free.is))
 
   -- the lowest that is free is one that may be given, and so is none where there is none
-  part_given : (pdn : ℕ) (version : Version) (part : Option (List ℕ)) → IsLowestPart sessions pools (asked_by pdn) version part → IsPart n pdn version part
+  part_given : (pdn : ℕ) (version : IpVersion) (part : Option (List ℕ)) → IsLowestPart sessions pools (asked_by pdn) version part → IsPart n pdn version part
   part_given pdn version None none = λ h. no_address version (none h.0) h.1
   part_given pdn version (Some address) lowest = (lowest.0, free_address version address lowest.1)
 

@@ -3,7 +3,7 @@ use Rattle.std.specs.Prelude.{◌≡◌, ℕ, List, Bool, true, false, Some, Non
 use Rattle.std.specs.FinMap.{get, insert}
 use Rattle.gtp_values.specs.FiniteMap.{FiniteMap}
 use Rattle.gtp_values.specs.PdnAddress.{PdnAddress}
-use Rattle.gtp_tables.specs.declared.pool.Version.{Version}
+use Rattle.gtp_tables.specs.declared.pool.IpVersion.{IpVersion}
 use Rattle.gtp_tables.specs.Free.{IsLowestFree}
 use Rattle.gtp_tables.specs.Identity.{IsLowestUnused}
 use Rattle.gtp_tables.specs.Part.{part_of}
@@ -23,7 +23,7 @@ pub record MakesLowestSession (old new : Node) : Type 0 where
   pub beside : get others teid ≡ None
   pub before : get old.sessions teid ≡ None
   pub has : session.address ≡ Some address
-  pub lowest : (version : Version) (part : List ℕ) → part_of version session.address ≡ Some part → IsLowestFree version others old.config.pools part
+  pub lowest : (version : IpVersion) (part : List ℕ) → part_of version session.address ≡ Some part → IsLowestFree version others old.config.pools part
 
 -- a bearer was made, beside all the others: it has the lowest identity that none of its session has
 pub record MakesLowestBearer (old new : Node) : Type 0 where

@@ -1,6 +1,6 @@
 -- What a gateway is set up with.
 use Rattle.std.specs.Prelude.{ℕ, ◌≤◌, List, length}
-use Rattle.gtp_tables.specs.Pool.{Networks}
+use Rattle.gtp_tables.specs.Pool.{Prefixes}
 use Rattle.gtp_tables.specs.declared.pool.Pools.{Pools}
 use Rattle.gtp_reliable.specs.Pending.{AreLimits}
 use Rattle.gtp_reliable.specs.Held.{IsHold}
@@ -24,8 +24,8 @@ settings_of own peer access_points pools timers =
     }
 
 -- the same, with this pool of IPv6 addresses
-abbrev pub with_networks : Networks → Settings → Settings
-with_networks pool s = record s { config = record s.config { pools = record s.config.pools { v6 = pool } } }
+abbrev pub with_prefixes : Prefixes → Settings → Settings
+with_prefixes pool s = record s { config = record s.config { pools = record s.config.pools { v6 = pool } } }
 
 -- at most 16 access points, and each time in its range
 pub record AreSettings (access_points : List (List ℕ)) (timers : Timers) : Type 0 where

@@ -2,10 +2,10 @@
 
 ghost use Rattle.std.specs.Prelude.{◌≡◌, ◌↔◌, IsTrue, IsOk, IfOk, IfErr};
 ghost use Rattle.gtp_values.specs.declared.fault.ValueFault.TheVariants.{OutOfRange};
-ghost use Rattle.gtp_tables.specs.Pool.{AreNetworks, no_networks};
-ghost use Rattle.gtp_gateway.specs.Settings.{settings_of, with_networks, AreSettings};
+ghost use Rattle.gtp_tables.specs.Pool.{ArePrefixes, no_prefixes};
+ghost use Rattle.gtp_gateway.specs.Settings.{settings_of, with_prefixes, AreSettings};
 
-use gtp_tables::{Networks, Pool, Pools};
+use gtp_tables::{Pool, Pools, Prefixes};
 use gtp_values::{Apn, Ip, Memory, ValueFault};
 use std::alloc::Global;
 use std::marker::Model;
@@ -78,7 +78,7 @@ impl Config {
         ensures ok { IsOk result ↔ AreSettings access_points.items timers }
         ensures value { IfOk result (λ config.
             config ≡ settings_of own peer access_points.items
-            (record { v4 = pool; v6 = no_networks }) timers) }
+            (record { v4 = pool; v6 = no_prefixes }) timers) }
         ensures fault { IfErr result (λ f. f ≡ OutOfRange) }
     {
         let are_few = access_points.len() <= MOST_ACCESS_POINTS;
@@ -94,22 +94,23 @@ impl Config {
             access_points,
             pools: Pools {
                 v4: pool,
-                v6: Networks::none(),
+                v6: Prefixes::none(),
             },
             timers,
         })
     }
 
-    /// The same settings, with so many IPv6 addresses to give, each in a network of its own: `start`, and its last eight
-    /// octets in each of the networks after it. They take the place of those before. `OutOfRange` for more than 65,536,
-    /// and where they go past the last network. Allocates nothing.
+    /// The same settings, with `count` IPv6 addresses to give, each under a prefix of 64 bits of its own: address k, from
+    /// 0, has the first eight octets of `start`, read as a number, plus k, and its last eight octets. They take the place
+    /// of those before; with `count` 0 there are none. `OutOfRange` for more than 65,536, and where the number of a prefix
+    /// passes 2^64 - 1. Allocates nothing.
     pub fn with_pool6(mut self, start: [u8; 16], count: u32) -> Result<Config, ValueFault>
-        ensures ok { IsOk result ↔ AreNetworks (record { start = start; count = count }) }
+        ensures ok { IsOk result ↔ ArePrefixes (record { start = start; count = count }) }
         ensures value { IfOk result (λ config.
-            config ≡ with_networks (record { start = start; count = count }) self) }
+            config ≡ with_prefixes (record { start = start; count = count }) self) }
         ensures fault { IfErr result (λ f. f ≡ OutOfRange) }
     {
-        self.pools.v6 = Networks::try_new(start, count)?;
+        self.pools.v6 = Prefixes::try_new(start, count)?;
         Ok(self)
     }
 

@@ -58,7 +58,7 @@ pub use tick::Ticked;
 /// What the signatures and contracts here name of the crates below.
 pub use gtp_machine::{DropReason, FaultName, Outcome, Plane, Refusal, Role};
 pub use gtp_reliable::Request;
-pub use gtp_tables::{Bearer, Kind, Networks, Pool, Pools, Session, State, Subscriber};
+pub use gtp_tables::{Bearer, Kind, Pool, Pools, Prefixes, Session, State, Subscriber};
 pub use gtp_v2::{PdnType, Rat, Selection};
 pub use gtp_values::{
     Addr, Ambr, Apn, Counter, Ebi, Endpoint, Ip, Memory, Plmn, Qos, Seq, Teid, Tft, ValueFault,

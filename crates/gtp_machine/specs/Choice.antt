@@ -3,8 +3,8 @@ use Rattle.std.specs.Prelude.{◌≡◌, ◌≢◌, ◌⊎◌, ℕ, ◌+◌, ◌
 use Rattle.std.specs.FinMap.{get, len}
 use Rattle.gtp_values.specs.FiniteMap.{Among}
 use Rattle.gtp_tables.specs.declared.pool.Asked.{Asked}
-use Rattle.gtp_tables.specs.declared.pool.Version.{Version}
-use Rattle.gtp_tables.specs.declared.pool.Version.TheVariants.{V4, V6}
+use Rattle.gtp_tables.specs.declared.pool.IpVersion.{IpVersion}
+use Rattle.gtp_tables.specs.declared.pool.IpVersion.TheVariants.{V4, V6}
 use Rattle.gtp_tables.specs.Free.{count_of, address_at, IsUnusedAddress, asks_for}
 use Rattle.gtp_machine.specs.Config.{Config}
 use Rattle.gtp_machine.specs.Element.{PdnAddress}
@@ -30,14 +30,14 @@ pub record IsFreeNumber (node : Node) (number : ℕ) : Type 0 where
   pub small : number ≤ 8388607
 
 -- an address of the pool of this version that no session has
-pub record IsFreeAddress (node : Node) (version : Version) (address : List ℕ) : Type 0 where
+pub record IsFreeAddress (node : Node) (version : IpVersion) (address : List ℕ) : Type 0 where
   pub place : ℕ
   pub in_pool : place < count_of node.config.pools version
   pub is : address ≡ address_at node.config.pools version place
   pub unused : IsUnusedAddress version node.sessions address
 
 -- the pool of this version has a free address
-pub record HasFreeAddress (node : Node) (version : Version) : Type 0 where
+pub record HasFreeAddress (node : Node) (version : IpVersion) : Type 0 where
   pub address : List ℕ
   pub free : IsFreeAddress node version address
 
@@ -46,11 +46,11 @@ abbrev pub asked_by : ℕ → Asked
 asked_by pdn = record { v4 = (pdn == 1) || (pdn == 3); v6 = (pdn == 2) || (pdn == 3) }
 
 -- the PDN type asks for an address of this version
-abbrev pub AsksFor : ℕ → Version → Type 0
+abbrev pub AsksFor : ℕ → IpVersion → Type 0
 AsksFor pdn version = asks_for (asked_by pdn) version ≡ true
 
 -- What is given of this version (TS 23.401, 5.3.1.1): a free address where it is asked for and there is one, and else none.
-abbrev pub IsPart : Node → ℕ → Version → Option (List ℕ) → Type 0
+abbrev pub IsPart : Node → ℕ → IpVersion → Option (List ℕ) → Type 0
 IsPart node pdn version None = AsksFor pdn version × HasFreeAddress node version → ⊥
 IsPart node pdn version (Some address) = AsksFor pdn version × IsFreeAddress node version address
 
@@ -62,7 +62,7 @@ pub record IsGiven (node : Node) (pdn : ℕ) (address : PdnAddress) : Type 0 whe
 
 -- an address of the PDN type can be had
 pub record CanGive (node : Node) (pdn : ℕ) : Type 0 where
-  pub version : Version
+  pub version : IpVersion
   pub asked : AsksFor pdn version
   pub free : HasFreeAddress node version
 

@@ -3,7 +3,7 @@ use Rattle.std.specs.Prelude.{◌≡◌, ℕ, List, [], ◌∷◌, length, Some,
 use Rattle.std.specs.FinMap.{get}
 use Rattle.gtp_values.specs.declared.address.Endpoint.{Endpoint}
 use Rattle.gtp_values.specs.FiniteMap.{Among}
-use Rattle.gtp_tables.specs.declared.pool.Version.{Version}
+use Rattle.gtp_tables.specs.declared.pool.IpVersion.{IpVersion}
 use Rattle.gtp_tables.specs.Part.{part_of}
 use Rattle.gtp_machine.specs.Config.{Config}
 use Rattle.gtp_machine.specs.Node.{Role, Session, Bearer, Held, Node, fresh_node}
@@ -52,7 +52,7 @@ pub record TellAlike (input : Input) (e f : Effect) : Type 0 where
 -- has the same identity; and a request that is new after the one waits under the same number after the other.
 pub record ChooseAlike (old one other : Node) : Type 0 where
   pub drawn : one.drawn ≡ other.drawn
-  pub addresses : (t : ℕ) (a b : Session) → get old.sessions t ≡ None → get one.sessions t ≡ Some a → get other.sessions t ≡ Some b → (version : Version) (x y : List ℕ) → part_of version a.address ≡ Some x → part_of version b.address ≡ Some y → x ≡ y
+  pub addresses : (t : ℕ) (a b : Session) → get old.sessions t ≡ None → get one.sessions t ≡ Some a → get other.sessions t ≡ Some b → (version : IpVersion) (x y : List ℕ) → part_of version a.address ≡ Some x → part_of version b.address ≡ Some y → x ≡ y
   pub identities : (t : ℕ) (a b : Bearer) → get old.bearers t ≡ None → get one.bearers t ≡ Some a → get other.bearers t ≡ Some b → a.identity ≡ b.identity
   pub numbers : (number : ℕ) → get old.pending number ≡ None → HasPending one number → HasPending other number
 

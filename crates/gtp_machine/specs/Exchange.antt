@@ -1,5 +1,5 @@
 -- The exchange that makes a session (TS 29.274, 7.2.1 and 7.2.2), on a path that brings each datagram at once.
-use Rattle.std.specs.Prelude.{◌≡◌, ◌⊎◌, ℕ, ◌+◌, ◌≤◌, ◌<◌, ◌^◌, List, All, [], ◌∷◌, ◌++◌, Some, length}
+use Rattle.std.specs.Prelude.{◌≡◌, ◌⊎◌, ℕ, ◌+◌, ◌≤◌, ◌<◌, ◌^◌, List, All, [], ◌∷◌, ◌++◌, Some, is_some, IsTrue, length}
 use Rattle.std.specs.FinMap.{get}
 use Rattle.gtp_values.specs.Address.{IsIp}
 use Rattle.gtp_values.specs.Apn.{IsApn}
@@ -9,7 +9,7 @@ use Rattle.gtp_values.specs.Plmn.{IsNetwork}
 use Rattle.gtp_values.specs.declared.qos.Ambr.{Ambr}
 use Rattle.gtp_values.specs.declared.qos.Qos.{Qos}
 use Rattle.gtp_ie.specs.Value.{AreRates}
-use Rattle.gtp_tables.specs.Pool.{IsPool, AreNetworks}
+use Rattle.gtp_tables.specs.Pool.{IsPool, ArePrefixes}
 use Rattle.gtp_machine.specs.Config.{Config}
 use Rattle.gtp_machine.specs.Element.{PdnAddress}
 use Rattle.gtp_machine.specs.Message.{CreateSessionResponse, Message, Create_session_response, plane_of}
@@ -33,7 +33,7 @@ pub record IsConfigured (config : Config) : Type 0 where
   pub control : IsIp config.own.control
   pub user : IsIp config.own.user
   pub v4 : IsPool config.pools.v4
-  pub v6 : AreNetworks config.pools.v6
+  pub v6 : ArePrefixes config.pools.v6
   pub octets : All (λ octet. octet < 256) config.pools.v6.start
 
 -- bit rates that have room in an AMBR (8.7)
@@ -72,7 +72,7 @@ pub record CanExchange (w : World) (spec : Specification) : Type 0 where
   pub packet_draws : HasDraws w.packet.node 2
   pub pending_room : HasPendingRoom w.serving.node
   pub held_room : HasHeldRoom w.packet.node
-  pub give : CanGive w.packet.node spec.pdn
+  pub give : CanGive (heard_by w.packet.node w.serving.node.counter) spec.pdn  -- once the request's counter is heard
 
 -- the latest event came to this
 pub record CameTo (w : World) (outcome : EventOutcome) : Type 0 where
@@ -122,8 +122,9 @@ pub record IsNewIn (w opened : World) (spec : Specification) (made : IsMade open
   pub bearer : (b : Bearer) → get w.serving.node.bearers made.bearer ≡ Some b → ⊥
   pub bearer_there : (b : Bearer) → get w.packet.node.bearers made.bearer_there ≡ Some b → ⊥
 
--- the three events come to these outcomes, and a new session is made: the one that was begun. Its address is one that the packet gateway may give, and the answer has
--- the cause that goes with it (8.4): 18 where both versions were asked for and one is given, else 16
+-- the three events come to these outcomes, and a new session is made: the one that was begun. Its address, the same at both gateways, is one that the packet gateway
+-- may give, of versions that the PDN type asks for, and the answer has the cause that goes with it (8.4): 18 where both versions were asked for and one is given,
+-- else 16
 pub record Exchanged (spec : Specification) (w begun answered opened : World) : Type 0 where
   pub made : IsMade opened spec
   pub new : IsNewIn w opened spec made
@@ -135,7 +136,10 @@ pub record Exchanged (spec : Specification) (w begun answered opened : World) : 
   pub says : answer.cause.value ≡ cause
   pub address : PdnAddress
   pub given : IsGiven (heard_by w.packet.node w.serving.node.counter) spec.pdn address  -- by the rules, once the request's counter is heard
-  pub has : made.at_packet.address ≡ Some address
+  pub v4_asked : IsTrue (is_some address.v4) → (spec.pdn ≡ 1) ⊎ (spec.pdn ≡ 3)  -- an IPv4 address only for the PDN types IPv4 (1) and IPv4v6 (3), 8.34
+  pub v6_asked : IsTrue (is_some address.v6) → (spec.pdn ≡ 2) ⊎ (spec.pdn ≡ 3)  -- an IPv6 address only for the PDN types IPv6 (2) and IPv4v6 (3)
+  pub has : made.at_serving.address ≡ Some address
+  pub has_there : made.at_packet.address ≡ Some address
   pub for_address : cause ≡ session_cause spec.pdn address
   pub third : CameTo opened (Came_to Opened)
 

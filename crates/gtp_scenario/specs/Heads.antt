@@ -5,7 +5,7 @@ use Rattle.serde_json.specs.Data.{Data, Items, no_items, item}
 use Rattle.serde_json.specs.Find.{get, as_str, as_array}
 use Rattle.gtp_values.specs.declared.address.Ip.{Ip}
 use Rattle.gtp_values.specs.declared.address.Ip.TheVariants.{V4}
-use Rattle.gtp_tables.specs.Pool.{Range, Networks, network_of, no_networks}
+use Rattle.gtp_tables.specs.Pool.{Range, Prefixes, prefix_of, no_prefixes}
 use Rattle.gtp_tables.specs.declared.pool.Pools.{Pools}
 use Rattle.gtp_reliable.specs.Pending.{AreLimits}
 use Rattle.gtp_reliable.specs.Held.{IsHold}
@@ -62,25 +62,25 @@ pool_at d = do
   count ← number_at (codes "count") d >>= within 0 65536
   pool_from start count
 
--- IPv6 addresses, one in each of some networks in a row, up to the last network at the latest
-abbrev pub networks_from : List ℕ → ℕ → Option Networks
-networks_from start count = if nat_le (network_of start + count) (2 ^ 64) then Some (record { start = start; count = count }) else None
+-- IPv6 addresses, one under each of some prefixes in a row, up to the last prefix at the latest
+abbrev pub prefixes_from : List ℕ → ℕ → Option Prefixes
+prefixes_from start count = if nat_le (prefix_of start + count) (2 ^ 64) then Some (record { start = start; count = count }) else None
 
 -- 0 to 65,536 of them; none where the scenario has neither key
-unfoldable pub networks_at : Data → Option Networks
-networks_at d =
+unfoldable pub prefixes_at : Data → Option Prefixes
+prefixes_at d =
     if is_some (get (codes "pool6") d) || is_some (get (codes "count6") d)
     then (do
       start ← text_at (codes "pool6") d >>= ipv6_of
       count ← number_at (codes "count6") d >>= within 0 65536
-      networks_from start count)
-    else Some no_networks
+      prefixes_from start count)
+    else Some no_prefixes
 
 -- the addresses of each version
 unfoldable pub pools_at : Data → Option Pools
 pools_at d = do
   v4 ← pool_at d
-  v6 ← networks_at d
+  v6 ← prefixes_at d
   Some (record { v4 = v4; v6 = v6 })
 
 -- each time is in its range
@@ -142,7 +142,7 @@ abbrev pub no_pool : Range
 no_pool = record { start = 0; count = 0 }
 
 abbrev pub no_pools : Pools
-no_pools = record { v4 = no_pool; v6 = no_networks }
+no_pools = record { v4 = no_pool; v6 = no_prefixes }
 
 -- the two gateways as each other's peers: the access points and the pools are the packet gateway's alone
 abbrev pub set_up : Timers → ServingHead → PacketHead → Setup

@@ -5,7 +5,7 @@ ghost use Rattle.std.specs.Int.{from_be_bytes};
 ghost use Rattle.gtp_scenario.specs.Steps.{Gives};
 ghost use Rattle.gtp_scenario.specs.Json.{count_of};
 ghost use Rattle.gtp_scenario.specs.Heads.{AreTimers, address_at, addresses_at, counter_at, access_point_of, access_points_in, access_points_at};
-ghost use Rattle.gtp_scenario.specs.Heads.{pool_from, pool_at, networks_from, networks_at, pools_at, no_pool, time_at, timers_at};
+ghost use Rattle.gtp_scenario.specs.Heads.{pool_from, pool_at, prefixes_from, prefixes_at, pools_at, no_pool, time_at, timers_at};
 ghost use Rattle.gtp_scenario.specs.Heads.{serving_of, packet_of, set_up, setup_of, events_at};
 ghost use Rattle.gtp_scenario.specs.Trees.{view, items_view};
 ghost use Rattle.gtp_scenario.specs.Views.{serving_head, packet_head};
@@ -16,7 +16,7 @@ use crate::members::{
 };
 use crate::text::{address_of, apn_of, ipv6_of};
 use crate::tree::Tree;
-use gtp_gateway::{Addresses, Apn, Config, Counter, Ip, Networks, Pool, Pools, Timers};
+use gtp_gateway::{Addresses, Apn, Config, Counter, Ip, Pool, Pools, Prefixes, Timers};
 use gtp_world::WorldConfig;
 use std::alloc::Global;
 
@@ -117,24 +117,24 @@ fn pool_at(value: &Tree<'_, '_>) -> Option<Pool>
     pool_from(u32::from_be_bytes(start.octets()), count)
 }
 
-/// IPv6 addresses, one in each of some networks in a row.
-fn networks_from(start: [u8; 16], count: u32) -> Option<Networks>
+/// IPv6 addresses, one under each of some prefixes in a row.
+fn prefixes_from(start: [u8; 16], count: u32) -> Option<Prefixes>
     requires { count ≤ 65536 }
-    ensures { result ≡ networks_from start count }
+    ensures { result ≡ prefixes_from start count }
 {
-    Networks::try_new(start, count).ok()
+    Prefixes::try_new(start, count).ok()
 }
 
-#[tactic(auto, unfolding(crate::specs::Heads::networks_at))]
-fn networks_at(value: &Tree<'_, '_>) -> Option<Networks>
-    ensures { result ≡ networks_at (view value.now) }
+#[tactic(auto, unfolding(crate::specs::Heads::prefixes_at))]
+fn prefixes_at(value: &Tree<'_, '_>) -> Option<Prefixes>
+    ensures { result ≡ prefixes_at (view value.now) }
 {
     if !has(value, "pool6") && !has(value, "count6") {
-        return Some(Networks::none());
+        return Some(Prefixes::none());
     }
     let start = ipv6_of(text_at(value, "pool6")?)?;
     let count = within(0, 65_536, number_at(value, "count6")?)?;
-    networks_from(start, count)
+    prefixes_from(start, count)
 }
 
 /// The addresses of each version.
@@ -144,7 +144,7 @@ fn pools_at(value: &Tree<'_, '_>) -> Option<Pools>
 {
     Some(Pools {
         v4: pool_at(value)?,
-        v6: networks_at(value)?,
+        v6: prefixes_at(value)?,
     })
 }
 

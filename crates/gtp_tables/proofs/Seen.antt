@@ -1,9 +1,7 @@
 -- Sessions and bearers that are seen.
-use Rattle.std.proofs.Common.{◌≡◌, ◌≢◌, ◌<◌, ◌≤◌, ◌+◌, ◌-◌, ℕ, Bool, true, false, cond, List, length, Option, Some, None, ⊎_elim, refl, sym, ap, ◌∙◌, nat_eq, arith}
-use Rattle.std.specs.Prelude.{not, ◌&&◌, ◌||◌, IfSome, IfNone, slice_index_or, slice_set}
-use Rattle.std.proofs.Math.Bool.{or-true}
-use Rattle.std.proofs.lemmas.Bool.{cases_eq, eqb-true}
-use Rattle.std.proofs.lemmas.List.{get_or-set_same, get_or-set_other}
+use Rattle.std.proofs.Common.{◌≡◌, ◌≢◌, ◌<◌, ℕ, Bool, true, false, cond, List, Option, Some, None, refl, sym, ap, ◌∙◌, nat_eq}
+use Rattle.std.specs.Prelude.{not, ◌&&◌, IfSome, IfNone}
+use Rattle.std.proofs.lemmas.Bool.{eqb-true}
 use Rattle.std.specs.List.{list_any}
 use Rattle.std.specs.Cmp.{nat_cmp_total}
 use Rattle.std.specs.Cmp.Lexicographic.{bytes_decides}
@@ -13,7 +11,7 @@ use Rattle.gtp_tables.specs.declared.context.Bearer.{Bearer}
 use Rattle.gtp_tables.specs.declared.context.Session.{Session}
 use Rattle.gtp_tables.specs.Contexts.{Contexts, is_pending, is_opened, left, seen, is_seen, are_seen, takes}
 use Rattle.gtp_tables.specs.Identity.{IsUnused, IsBearerWith}
-use Rattle.gtp_tables.specs.Free.{Pools, Version, count_of, address_at, IsPlaceOf, HasAddress, IsUnusedAddress}
+use Rattle.gtp_tables.specs.Free.{Pools, IpVersion, count_of, address_at, IsPlaceOf, HasAddress, IsUnusedAddress}
 use Rattle.gtp_tables.specs.Part.{part_of, are_octets}
 use Rattle.gtp_tables.proofs.Found.{meets, meets_not}
 use Rattle.gtp_values.proofs.Tests.{both, itself}
@@ -116,7 +114,7 @@ octets_are octets (Some others) is = ap Some ((bytes_decides others octets).0 is
 are_itself : (octets : List ℕ) → are_octets octets (Some octets) ≡ true
 are_itself octets = (bytes_decides octets octets).1 refl
 
-pub address_taken : (restarted : Bool) (version : Version) (c : Contexts) (a : List ℕ) → list_any (takes restarted version a) (values c.sessions) ≡ true → HasAddress version (seen restarted c).sessions a
+pub address_taken : (restarted : Bool) (version : IpVersion) (c : Contexts) (a : List ℕ) → list_any (takes restarted version a) (values c.sessions) ≡ true → HasAddress version (seen restarted c).sessions a
 address_taken restarted version c a any =
     let r = meets (takes restarted version a) c.sessions any in
     let is = both (is_seen restarted r.value) (are_octets a (part_of version r.value.address)) r.meets in
@@ -127,7 +125,7 @@ address_taken restarted version c a any =
       has = octets_are a (part_of version r.value.address) is.right;
     }
 
-pub address_free : (restarted : Bool) (version : Version) (c : Contexts) (a : List ℕ) → list_any (takes restarted version a) (values c.sessions) ≡ false → IsUnusedAddress version (seen restarted c).sessions a
+pub address_free : (restarted : Bool) (version : IpVersion) (c : Contexts) (a : List ℕ) → list_any (takes restarted version a) (values c.sessions) ≡ false → IsUnusedAddress version (seen restarted c).sessions a
 address_free restarted version c a none t s stands has =
     let p = kept_stands (is_seen restarted) c.sessions t s (ap (λ (m : FiniteMap Session). get m t) (sym (seen_sessions restarted c)) ∙ stands) in
     let not_it : takes restarted version a s ≡ false = meets_not (takes restarted version a) c.sessions none t s p.stands in
@@ -138,7 +136,7 @@ address_free restarted version c a none t s stands has =
 -- ---- places
 
 -- a session that is not seen with these octets does not take them
-pub untaken : (restarted : Bool) (version : Version) (octets : List ℕ) (s : Session) → (is_seen restarted s ≡ true → part_of version s.address ≡ Some octets → ⊥) → takes restarted version octets s ≡ false
+pub untaken : (restarted : Bool) (version : IpVersion) (octets : List ℕ) (s : Session) → (is_seen restarted s ≡ true → part_of version s.address ≡ Some octets → ⊥) → takes restarted version octets s ≡ false
 untaken restarted version octets s none = by (is_seen restarted s) (are_octets octets (part_of version s.address)) refl refl
   where
     by : (a b : Bool) → is_seen restarted s ≡ a → are_octets octets (part_of version s.address) ≡ b → (is_seen restarted s && are_octets octets (part_of version s.address)) ≡ false
@@ -146,11 +144,11 @@ untaken restarted version octets s none = by (is_seen restarted s) (are_octets o
     by true false p q = rw (p, q) refl
     by false b p q = rw p refl
 
-pub taken : (restarted : Bool) (version : Version) (octets : List ℕ) (s : Session) → is_seen restarted s ≡ true → part_of version s.address ≡ Some octets → takes restarted version octets s ≡ true
+pub taken : (restarted : Bool) (version : IpVersion) (octets : List ℕ) (s : Session) → is_seen restarted s ≡ true → part_of version s.address ≡ Some octets → takes restarted version octets s ≡ true
 taken restarted version octets s seen has = rw (seen, has) (are_itself octets)
 
 -- the place of a session that is seen
-pub seen_at : (pools : Pools) (restarted : Bool) (version : Version) (s : Session) → is_seen restarted s ≡ true → (o : Option ℕ) → IfSome o (IsPlaceOf pools version (part_of version s.address)) → IfSome o (λ place. (p : ℕ) → p < count_of pools version → takes restarted version (address_at pools version p) s ≡ nat_eq p place)
+pub seen_at : (pools : Pools) (restarted : Bool) (version : IpVersion) (s : Session) → is_seen restarted s ≡ true → (o : Option ℕ) → IfSome o (IsPlaceOf pools version (part_of version s.address)) → IfSome o (λ place. (p : ℕ) → p < count_of pools version → takes restarted version (address_at pools version p) s ≡ nat_eq p place)
 seen_at pools restarted version s seen None none = tt
 seen_at pools restarted version s seen (Some place) is = λ p lt. by p lt (nat_eq p place) refl
   where
@@ -158,26 +156,10 @@ seen_at pools restarted version s seen (Some place) is = λ p lt. by p lt (nat_e
     by p lt true same = let at : p ≡ place = eqb-true p place same in taken restarted version (address_at pools version p) s seen (is.has ∙ ap (λ k. Some (address_at pools version k)) (sym at))
     by p lt false other = untaken restarted version (address_at pools version p) s (λ _ has. let at : p ≡ place = is.one p lt has in let no : true ≡ false = sym (itself place) ∙ (ap (λ k. nat_eq k place) (sym at) ∙ other) in cc no)
 
-pub seen_nowhere : (pools : Pools) (restarted : Bool) (version : Version) (s : Session) → (o : Option ℕ) → IfNone o ((p : ℕ) → p < count_of pools version → part_of version s.address ≢ Some (address_at pools version p)) → IfNone o ((p : ℕ) → p < count_of pools version → takes restarted version (address_at pools version p) s ≡ false)
+pub seen_within : (pools : Pools) (version : IpVersion) (part : Option (List ℕ)) (o : Option ℕ) → IfSome o (IsPlaceOf pools version part) → IfSome o (λ place. place < count_of pools version)
+seen_within pools version part None none = tt
+seen_within pools version part (Some place) is = is.in_pool
+
+pub seen_nowhere : (pools : Pools) (restarted : Bool) (version : IpVersion) (s : Session) → (o : Option ℕ) → IfNone o ((p : ℕ) → p < count_of pools version → part_of version s.address ≢ Some (address_at pools version p)) → IfNone o ((p : ℕ) → p < count_of pools version → takes restarted version (address_at pools version p) s ≡ false)
 seen_nowhere pools restarted version s None none = λ p lt. untaken restarted version (address_at pools version p) s (λ _ has. none p lt has)
 seen_nowhere pools restarted version s (Some place) some = tt
-
--- the marks of a window after one more is set, or after none
-pub marked : (taken : List Bool) (takes : ℕ → Bool) (first place count : ℕ) → length taken ≡ 1024 → ((p : ℕ) → p < count → takes p ≡ nat_eq p place) → first ≤ place → place - first < 1024 → (i : ℕ) → i < 1024 → first + i < count → slice_index_or (slice_set taken (place - first) true) i false ≡ (slice_index_or taken i false || takes (first + i))
-marked taken takes first place count long is low high i small in_pool = ⊎_elim
-    (λ (same : i ≡ place - first).
-    let at : first + i ≡ place = omega (arith, same, low) in
-    let told : takes (first + i) ≡ true = is (first + i) in_pool ∙ (ap (λ k. nat_eq k place) at ∙ itself place) in
-    ap (λ k. slice_index_or (slice_set taken (place - first) true) k false) same
-    ∙ (get_or-set_same taken (place - first) true false (omega (arith, long, high))
-    ∙ sym (ap (λ b. slice_index_or taken i false || b) told ∙ or-true (slice_index_or taken i false))))
-    (λ other. get_or-set_other taken (place - first) i true false other ∙ unmarked taken takes first place count is i in_pool (λ at. other (omega (arith, at))))
-    (cases_eq i (place - first))
-  where
-    unmarked : (taken : List Bool) (takes : ℕ → Bool) (first place count : ℕ) → ((p : ℕ) → p < count → takes p ≡ nat_eq p place) → (i : ℕ) → first + i < count → (first + i ≡ place → ⊥) → slice_index_or taken i false ≡ (slice_index_or taken i false || takes (first + i))
-    unmarked taken takes first place count is i in_pool other = by (nat_eq (first + i) place) refl (slice_index_or taken i false)
-      where
-        by : (b : Bool) → nat_eq (first + i) place ≡ b → (m : Bool) → m ≡ (m || takes (first + i))
-        by true same m = absurd (other (eqb-true (first + i) place same))
-        by false not true = refl
-        by false not false = sym (is (first + i) in_pool ∙ not)

@@ -1,9 +1,9 @@
--- What holds of each place below a window, and in it.
-use Rattle.std.proofs.Common.{◌≡◌, ℕ, ◌+◌, ◌-◌, ◌<◌, inl, inr, Bool, true, ◌∙◌, ap, arith}
+-- What holds of each place below a window, and in it up to a place.
+use Rattle.std.proofs.Common.{◌≡◌, ℕ, ◌+◌, ◌-◌, ◌<◌, ◌≤◌, inl, inr, List, Bool, true, ◌∙◌, ap, sym, arith}
 use Rattle.std.proofs.lemmas.Bool.{cases_lt}
 
-pub lower : (taken : ℕ → Bool) (count first place : ℕ) → ((p : ℕ) → p < first → p < count → taken p ≡ true) → ((i : ℕ) → i < place → first + i < count → taken (first + i) ≡ true) → (p : ℕ) → p < first + place → p < count → taken p ≡ true
-lower taken count first place low high p lt in_pool = elim (cases_lt p first) [
-  | inl below ↦ low p below in_pool
-  | inr above ↦ let is : p ≡ first + (p - first) = omega (arith, above) in ap taken is ∙ high (p - first) (omega (arith, lt, above)) (omega (arith, above, in_pool))
+pub lower : (taken : List ℕ → Bool) (address_at window_at : ℕ → List ℕ) (first count place : ℕ) → ((p : ℕ) → p < count → window_at p ≡ address_at (first + p)) → place ≤ count → ((p : ℕ) → p < first → taken (address_at p) ≡ true) → ((p : ℕ) → p < place → taken (window_at p) ≡ true) → (p : ℕ) → p < first + place → taken (address_at p) ≡ true
+lower taken address_at window_at first count place places few low high p lt = elim (cases_lt p first) [
+  | inl below ↦ low p below
+  | inr above ↦ let is : p ≡ first + (p - first) = omega (arith, above) in ap (λ k. taken (address_at k)) is ∙ (sym (ap taken (places (p - first) (omega (arith, lt, above, few)))) ∙ high (p - first) (omega (arith, lt, above)))
 ]

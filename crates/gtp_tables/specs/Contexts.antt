@@ -8,7 +8,7 @@ use Rattle.gtp_tables.specs.declared.context.Session.{Session}
 use Rattle.gtp_tables.specs.declared.context.State.{State}
 use Rattle.gtp_tables.specs.declared.context.State.TheVariants.{Pending, Active, Closing}
 use Rattle.gtp_values.specs.FiniteMap.{FiniteMap, kept}
-use Rattle.gtp_tables.specs.declared.pool.Version.{Version}
+use Rattle.gtp_tables.specs.declared.pool.IpVersion.{IpVersion}
 use Rattle.gtp_tables.specs.Part.{part_of, are_octets}
 
 -- sessions and bearers, each by own TEID
@@ -47,7 +47,7 @@ abbrev pub is_seen : Bool → Session → Bool
 is_seen restarted s = not restarted || is_pending s.state
 
 -- whether a session is seen that has the address, as its part of this version
-abbrev pub takes : Bool → Version → List ℕ → Session → Bool
+abbrev pub takes : Bool → IpVersion → List ℕ → Session → Bool
 takes restarted version address s = is_seen restarted s && are_octets address (part_of version s.address)
 
 -- whether the bearers of what stands there are seen: those of an opened session not after a restart

@@ -13,21 +13,21 @@ pub record IsPool (pool : Range) : Type 0 where
   pub few : pool.count ≤ 65536
   pub within : pool.start + pool.count ≤ 2 ^ 32
 
--- IPv6 addresses, one in each of some networks in a row: the octets of the first, and how many
-pub record Networks : Type 0 where
+-- IPv6 addresses, one under each of some prefixes of 64 bits in a row: the octets of the first, and how many
+pub record Prefixes : Type 0 where
   pub start : List ℕ
   pub count : ℕ
 
--- the network of an address: the number that its first eight octets stand for
-abbrev pub network_of : List ℕ → ℕ
-network_of octets = from_be_bytes w64 (take 8 octets)
+-- the prefix of an address (TS 23.401 5.3.1.2.2): the number that its first eight octets stand for
+abbrev pub prefix_of : List ℕ → ℕ
+prefix_of octets = from_be_bytes w64 (take 8 octets)
 
--- at most 65,536 of them, up to the last network that there is
-pub record AreNetworks (pool : Networks) : Type 0 where
+-- at most 65,536 of them, up to the last prefix that there is
+pub record ArePrefixes (pool : Prefixes) : Type 0 where
   pub long : length pool.start ≡ 16
   pub few : pool.count ≤ 65536
-  pub within : network_of pool.start + pool.count ≤ 2 ^ 64
+  pub within : prefix_of pool.start + pool.count ≤ 2 ^ 64
 
 -- none
-abbrev pub no_networks : Networks
-no_networks = record { start = replicate 16 0; count = 0 }
+abbrev pub no_prefixes : Prefixes
+no_prefixes = record { start = replicate 16 0; count = 0 }

@@ -15,8 +15,8 @@ pub enum TablesFault {
     /// S2: the session has bearers under all 11 identities.
     #[error("all 11 identities of the session are in use")]
     NoBearerIdentity,
-    /// S3: sessions have all addresses of the pool.
-    #[error("all addresses of the pool are in use")]
+    /// S3: sessions have all addresses of each IP version that is asked for.
+    #[error("all addresses of the requested versions are in use")]
     PoolEmpty,
     /// S4: all 16,777,215 TEIDs of this start were drawn.
     #[error("all TEIDs of this start were drawn")]

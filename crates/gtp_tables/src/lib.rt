@@ -18,7 +18,7 @@ pub use context::{Bearer, Kind, Session, State, Subscriber};
 pub use draws::Draws;
 pub use fault::TablesFault;
 pub use peer::Peer;
-pub use pool::{Asked, Networks, Pool, Pools, Version};
+pub use pool::{Asked, IpVersion, Pool, Pools, Prefixes};
 pub use sessions::Sessions;
 pub use table::Table;
 pub use view::{View, end_opened};

@@ -1,14 +1,14 @@
 //! Addresses that a packet gateway gives to sessions.
 
-ghost use Rattle.std.specs.Prelude.{◌≡◌, ◌≢◌, ◌↔◌, ◌+◌, ◌<◌, ◌≤◌, ◌^◌, ◌||◌, ◌++◌, ℕ, true, false, Some, drop, nat_eq};
+ghost use Rattle.std.specs.Prelude.{◌≡◌, ◌≢◌, ◌↔◌, ◌+◌, ◌-◌, min, ◌<◌, ◌≤◌, ◌^◌, ◌||◌, ◌++◌, ℕ, true, false, Some, drop, nat_eq};
 ghost use Rattle.std.specs.Prelude.{IsOk, IfOk, IfErr, IfSome, IfNone, slice_index_or};
 ghost use Rattle.std.specs.List.{list_any};
 ghost use Rattle.gtp_values.specs.declared.fault.ValueFault.TheVariants.{OutOfRange};
 ghost use Rattle.gtp_tables.specs.Contexts.{is_seen, takes};
-ghost use Rattle.std.specs.Int.{w32, w64, to_be_bytes};
+ghost use Rattle.std.specs.Int.{w32, w64, to_be_bytes, from_be_bytes};
 ghost use Rattle.gtp_tables.specs.Free.{count_of, address_at, IsPlaceOf};
 ghost use Rattle.gtp_tables.specs.Part.{part_in};
-ghost use Rattle.gtp_tables.specs.Pool.{IsPool, AreNetworks, network_of, no_networks};
+ghost use Rattle.gtp_tables.specs.Pool.{IsPool, ArePrefixes, prefix_of, no_prefixes};
 
 use crate::context::{Session, State};
 use gtp_values::{Addr, ValueFault};
@@ -21,14 +21,14 @@ const MOST: u32 = 65_536;
 /// that there can be, so that the first go finds a free address where the pool has one.
 const WINDOW: u32 = 1024;
 
-/// The versions of an address, of which each has a pool.
+/// The IP versions, of which each has a pool.
 #[derive(Clone, Copy, Debug, PartialEq, Eq)]
-pub enum Version {
+pub enum IpVersion {
     V4,
     V6,
 }
 
-/// Which versions of an address are asked for.
+/// Of which IP versions an address is asked for.
 #[derive(Clone, Copy, Debug, PartialEq, Eq)]
 pub struct Asked {
     pub v4: bool,
@@ -93,6 +93,17 @@ impl Pool {
         (self.start + place).to_be_bytes()
     }
 
+    /// The addresses from a place on, at most 1,024 of them.
+    fn window(self, first: u32) -> Pool
+        requires { first < self.count }
+        ensures { result ≡ record { start = self.start + first; count = min (self.count - first) 1024 } }
+    {
+        Pool {
+            start: self.start + first,
+            count: WINDOW.min(self.count - first),
+        }
+    }
+
     /// The place of an address, where it is one of the pool.
     fn place_of(self, address: [u8; 4]) -> Option<u32>
         ensures range { IsPool self }
@@ -101,38 +112,34 @@ impl Pool {
         ensures none { IfNone result ((p : ℕ) → p < self.count
             → address ≢ to_be_bytes w32 (self.start + p)) }
     {
-        let number = u32::from_be_bytes(address);
-        if number >= self.start && number - self.start < self.count {
-            Some(number - self.start)
-        } else {
-            None
-        }
+        let place = u32::from_be_bytes(address).wrapping_sub(self.start);
+        (place < self.count).then_some(place)
     }
 }
 
-/// IPv6 addresses, one in each of some networks in a row, which the first eight octets number: at most
+/// IPv6 addresses, one under each of some prefixes of 64 bits in a row, which the first eight octets number: at most
 /// 65,536. All have the last eight octets of the first one. Contracts see its octets, and how many.
 #[derive(Clone, Copy, Debug, PartialEq, Eq)]
-pub struct Networks {
+pub struct Prefixes {
     start: [u8; 16],
     count: u32,
 }
 
-impl Model for Networks {
-    ghost use Rattle.gtp_tables.specs.Pool.{Networks as Range, AreNetworks};
+impl Model for Prefixes {
+    ghost use Rattle.gtp_tables.specs.Pool.{Prefixes as Range, ArePrefixes};
 
     ghost Value = { Range };
 
     ghost view = { λ a. record { start = a.start; count = a.count } };
 
-    ghost invariant = { λ a. AreNetworks (record { start = a.start; count = a.count }) };
+    ghost invariant = { λ a. ArePrefixes (record { start = a.start; count = a.count }) };
 
     ghost inverse = { λ r. record { start = r.start; count = r.count } };
 }
 
-/// The number of an address's network, its first eight octets.
-fn network_of(octets: [u8; 16]) -> u64
-    ensures value { result ≡ network_of octets }
+/// The number of an address's prefix, its first eight octets.
+fn prefix_of(octets: [u8; 16]) -> u64
+    ensures value { result ≡ prefix_of octets }
     ensures range { result < 2 ^ 64 }
 {
     match octets.first_chunk::<8>() {
@@ -141,27 +148,37 @@ fn network_of(octets: [u8; 16]) -> u64
     }
 }
 
-impl Networks {
-    /// The addresses from `start` on, one a network: `OutOfRange` for more than 65,536, and where they
-    /// go past the last network.
-    pub fn try_new(start: [u8; 16], count: u32) -> Result<Networks, ValueFault>
+/// The last eight octets of an address, as a number.
+fn rest_of(octets: [u8; 16]) -> u64
+    ensures { result ≡ from_be_bytes w64 (drop 8 octets) }
+{
+    match octets.last_chunk::<8>() {
+        Some(back) => u64::from_be_bytes(*back),
+        None => unreachable!(),
+    }
+}
+
+impl Prefixes {
+    /// `count` addresses from `start` on, one a prefix: `OutOfRange` for more than 65,536, and where the
+    /// number of a prefix passes 2^64 - 1.
+    pub fn try_new(start: [u8; 16], count: u32) -> Result<Prefixes, ValueFault>
         ensures ok { IsOk result
-            ↔ ((count ≤ 65536) × (network_of start + count ≤ 2 ^ 64)) }
+            ↔ ((count ≤ 65536) × (prefix_of start + count ≤ 2 ^ 64)) }
         ensures value { IfOk result (λ pool. pool ≡ record { start = start; count = count }) }
         ensures fault { IfErr result (λ f. f ≡ OutOfRange) }
     {
-        let last = u128::from(network_of(start)) + u128::from(count);
+        let last = u128::from(prefix_of(start)) + u128::from(count);
         if count > MOST || last > 1 << 64 {
             return Err(ValueFault::OutOfRange);
         }
-        Ok(Networks { start, count })
+        Ok(Prefixes { start, count })
     }
 
     /// No addresses.
-    pub fn none() -> Networks
-        ensures { result ≡ no_networks }
+    pub fn none() -> Prefixes
+        ensures { result ≡ no_prefixes }
     {
-        Networks {
+        Prefixes {
             start: [0; 16],
             count: 0,
         }
@@ -170,7 +187,7 @@ impl Networks {
     /// The first address.
     pub fn start(self) -> [u8; 16]
         ensures value { result ≡ self.start }
-        ensures range { AreNetworks self }
+        ensures range { ArePrefixes self }
     {
         self.start
     }
@@ -186,28 +203,42 @@ impl Networks {
     /// The address with this place.
     pub(crate) fn at(self, place: u32) -> [u8; 16]
         requires { place < self.count }
-        ensures { result ≡ to_be_bytes w64 (network_of self.start + place) ++ drop 8 self.start }
+        ensures { result ≡ to_be_bytes w64 (prefix_of self.start + place) ++ drop 8 self.start }
     {
-        let network = network_of(self.start) + u64::from(place);
+        let prefix = prefix_of(self.start) + u64::from(place);
         let mut octets = self.start;
-        octets[..8].copy_from_slice(&network.to_be_bytes());
+        octets[..8].copy_from_slice(&prefix.to_be_bytes());
         octets
+    }
+
+    /// The addresses from a place on, at most 1,024 of them.
+    fn window(self, first: u32) -> Prefixes
+        requires { first < self.count }
+        ensures count { result.count ≡ min (self.count - first) 1024 }
+        ensures places { (p : ℕ) → p < result.count
+            → to_be_bytes w64 (prefix_of result.start + p) ++ drop 8 result.start
+            ≡ to_be_bytes w64 (prefix_of self.start + (first + p)) ++ drop 8 self.start }
+    {
+        Prefixes {
+            start: self.at(first),
+            count: WINDOW.min(self.count - first),
+        }
     }
 
     /// The place of an address, where it is one of the pool.
     fn place_of(self, address: [u8; 16]) -> Option<u32>
-        ensures range { AreNetworks self }
+        ensures range { ArePrefixes self }
         ensures some { IfSome result (λ place. (place < self.count)
-            × (address ≡ to_be_bytes w64 (network_of self.start + place) ++ drop 8 self.start)) }
+            × (address ≡ to_be_bytes w64 (prefix_of self.start + place) ++ drop 8 self.start)) }
         ensures none { IfNone result ((p : ℕ) → p < self.count
-            → address ≢ to_be_bytes w64 (network_of self.start + p) ++ drop 8 self.start) }
+            → address ≢ to_be_bytes w64 (prefix_of self.start + p) ++ drop 8 self.start) }
     {
-        let first = network_of(self.start);
-        let network = network_of(address);
-        if network < first || network - first >= u64::from(self.count) {
+        let place = prefix_of(address).wrapping_sub(prefix_of(self.start));
+        if place >= u64::from(self.count) || rest_of(address) != rest_of(self.start) {
             return None;
         }
-        let place = (network - first) as u32;
+        let place = place as u32;
+        // The numbers have decided it; the contract speaks of the octets.
         (self.at(place) == address).then_some(place)
     }
 }
@@ -216,30 +247,49 @@ impl Networks {
 #[derive(Clone, Copy, Debug, PartialEq, Eq)]
 pub struct Pools {
     pub v4: Pool,
-    pub v6: Networks,
+    pub v6: Prefixes,
 }
 
 impl Pools {
     /// How many addresses of this version.
-    fn count_of(&self, version: Version) -> u32
+    fn count_of(&self, version: IpVersion) -> u32
         ensures value { result ≡ count_of self.now version }
         ensures few { result ≤ 65536 }
     {
         match version {
-            Version::V4 => self.v4.count(),
-            Version::V6 => self.v6.count(),
+            IpVersion::V4 => self.v4.count(),
+            IpVersion::V6 => self.v6.count(),
+        }
+    }
+
+    /// The addresses of this version from a place on, at most 1,024 of them.
+    fn window(&self, version: IpVersion, first: u32) -> Pools
+        requires { first < count_of self.now version }
+        ensures count { count_of result version ≡ min (count_of self.now version - first) 1024 }
+        ensures places { (p : ℕ) → p < count_of result version
+            → address_at result version p ≡ address_at self.now version (first + p) }
+    {
+        match version {
+            IpVersion::V4 => Pools {
+                v4: self.v4.window(first),
+                ..*self
+            },
+            IpVersion::V6 => Pools {
+                v6: self.v6.window(first),
+                ..*self
+            },
         }
     }
 
     /// The place of an address's part of this version, where it is one of the pool.
-    fn place_of(&self, version: Version, address: &Addr) -> Option<u32>
+    fn place_of(&self, version: IpVersion, address: &Addr) -> Option<u32>
         ensures some { IfSome result (IsPlaceOf self.now version (part_in version address.now)) }
         ensures none { IfNone result ((p : ℕ) → p < count_of self.now version
             → part_in version address.now ≢ Some (address_at self.now version p)) }
     {
         match version {
-            Version::V4 => self.v4.place_of(address.v4()?),
-            Version::V6 => self.v6.place_of(address.v6()?),
+            IpVersion::V4 => self.v4.place_of(address.v4()?),
+            IpVersion::V6 => self.v6.place_of(address.v6()?),
         }
     }
 
@@ -247,7 +297,7 @@ impl Pools {
     /// seen.
     pub(crate) fn lowest_place(
         &self,
-        version: Version,
+        version: IpVersion,
         sessions: &[Session],
         restarted: bool,
     ) -> Option<u32>
@@ -263,15 +313,13 @@ impl Pools {
             ≡ true) }
     {
         let count = self.count_of(version);
-        for window in 0..64u32 {
-            let first = window * WINDOW;
+        for turn in 0..64u32 {
+            let first = turn * WINDOW;
             if first >= count {
                 return None;
             }
-            if let Some(place) = self.place_in_window(version, sessions, restarted, first) {
-                if first + place >= count {
-                    return None;
-                }
+            let window = self.window(version, first);
+            if let Some(place) = window.place_in_window(version, sessions, restarted) {
                 return Some(first + place);
             }
         }
@@ -279,7 +327,8 @@ impl Pools {
     }
 
     /// The place of a session's address, where it is one of the pool and the session is seen.
-    fn seen_place(&self, version: Version, session: &Session, restarted: bool) -> Option<u32>
+    fn seen_place(&self, version: IpVersion, session: &Session, restarted: bool) -> Option<u32>
+        ensures within { IfSome result (λ place. place < count_of self.now version) }
         ensures some { IfSome result (λ place. (p : ℕ) → p < count_of self.now version
             → takes restarted version (address_at self.now version p) session.now ≡ nat_eq p place) }
         ensures none { IfNone result ((p : ℕ) → p < count_of self.now version
@@ -288,74 +337,49 @@ impl Pools {
         if !is_seen(session, restarted) {
             return None;
         }
-        match session.address {
-            Some(address) => self.place_of(version, &address),
+        match &session.address {
+            Some(address) => self.place_of(version, address),
             None => None,
         }
     }
 
     /// Marks the place of a session's address, where it is one of a window and the session is seen.
-    fn mark(
-        &self,
-        version: Version,
-        taken: &mut [bool; 1024],
-        session: &Session,
-        restarted: bool,
-        first: u32,
-    )
-        ensures { (i : ℕ) → i < 1024 → first + i < count_of self.now version
-            → slice_index_or taken.new i false ≡ (slice_index_or taken.old i false
-            || takes restarted version (address_at self.now version (first + i)) session.now) }
+    fn mark(&self, version: IpVersion, taken: &mut [bool; 1024], session: &Session, restarted: bool)
+        requires { count_of self.now version ≤ 1024 }
+        ensures { (p : ℕ) → p < count_of self.now version
+            → slice_index_or taken.new p false ≡ (slice_index_or taken.old p false
+            || takes restarted version (address_at self.now version p) session.now) }
     {
-        if let Some(place) = self.seen_place(version, session, restarted)
-            && place >= first
-            && place - first < WINDOW
-        {
-            taken[(place - first) as usize] = true;
+        if let Some(place) = self.seen_place(version, session, restarted) {
+            taken[place as usize] = true;
         }
-    }
-
-    /// Which places of a window sessions have that are seen.
-    fn taken_from(
-        &self,
-        version: Version,
-        sessions: &[Session],
-        restarted: bool,
-        first: u32,
-    ) -> [bool; 1024]
-        ensures { (i : ℕ) → i < 1024 → first + i < count_of self.now version
-            → slice_index_or result i false ≡ list_any
-            (takes restarted version (address_at self.now version (first + i))) sessions.now }
-    {
-        let mut taken = [false; 1024];
-        for session in sessions {
-            self.mark(version, &mut taken, session, restarted, first);
-        }
-        taken
     }
 
     /// The first place of a window whose address none of the sessions has that are seen.
     fn place_in_window(
         &self,
-        version: Version,
+        version: IpVersion,
         sessions: &[Session],
         restarted: bool,
-        first: u32,
     ) -> Option<u32>
-        ensures within { IfSome result (λ place. place < 1024) }
-        ensures free { IfSome result (λ place. first + place < count_of self.now version
-            → list_any (takes restarted version (address_at self.now version (first + place)))
-            sessions.now ≡ false) }
-        ensures lower { IfSome result (λ place. (i : ℕ) → i < place
-            → first + i < count_of self.now version
-            → list_any (takes restarted version (address_at self.now version (first + i)))
-            sessions.now ≡ true) }
-        ensures none { IfNone result ((i : ℕ) → i < 1024
-            → first + i < count_of self.now version
-            → list_any (takes restarted version (address_at self.now version (first + i)))
-            sessions.now ≡ true) }
+        requires { count_of self.now version ≤ 1024 }
+        ensures within { IfSome result (λ place. place < count_of self.now version) }
+        ensures free { IfSome result (λ place.
+            list_any (takes restarted version (address_at self.now version place)) sessions.now
+            ≡ false) }
+        ensures lower { IfSome result (λ place. (p : ℕ) → p < place
+            → list_any (takes restarted version (address_at self.now version p)) sessions.now
+            ≡ true) }
+        ensures none { IfNone result ((p : ℕ) → p < count_of self.now version
+            → list_any (takes restarted version (address_at self.now version p)) sessions.now
+            ≡ true) }
     {
-        first_unmarked(&self.taken_from(version, sessions, restarted, first))
+        let mut taken = [false; 1024];
+        for session in sessions {
+            self.mark(version, &mut taken, session, restarted);
+        }
+        let place = first_unmarked(&taken)?;
+        (place < self.count_of(version)).then_some(place)
     }
 }
 

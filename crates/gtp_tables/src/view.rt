@@ -6,12 +6,12 @@ ghost use Rattle.std.specs.FinMap as map;
 ghost use Rattle.gtp_tables.specs.Contexts.{left, is_pending, is_opened, is_seen, are_seen};
 ghost use Rattle.gtp_tables.specs.Identity.{IsUnused, IsLowestUnused, IsBearerWith, HasAll};
 ghost use Rattle.gtp_tables.specs.Free.{IsLowestPart, IsLowestGiven, AreUsedUp};
-ghost use Rattle.gtp_tables.specs.declared.pool.Version.TheVariants as versions;
+ghost use Rattle.gtp_tables.specs.declared.pool.IpVersion.TheVariants as versions;
 
 use crate::bearers::Bearers;
 use crate::context::{Bearer, Session, State};
 use crate::fault::TablesFault;
-use crate::pool::{Asked, Pools, Version, is_seen};
+use crate::pool::{Asked, IpVersion, Pools, is_seen};
 use crate::sessions::{MOST, Sessions};
 use gtp_values::{Addr, Ebi, Teid};
 use std::marker::Model;
@@ -95,7 +95,7 @@ impl<'a> View<'a> {
         if !asked.v4 {
             return None;
         }
-        match pools.lowest_place(Version::V4, self.sessions.values(), self.restarted) {
+        match pools.lowest_place(IpVersion::V4, self.sessions.values(), self.restarted) {
             Some(place) => Some(pools.v4.at(place)),
             None => None,
         }
@@ -108,7 +108,7 @@ impl<'a> View<'a> {
         if !asked.v6 {
             return None;
         }
-        match pools.lowest_place(Version::V6, self.sessions.values(), self.restarted) {
+        match pools.lowest_place(IpVersion::V6, self.sessions.values(), self.restarted) {
             Some(place) => Some(pools.v6.at(place)),
             None => None,
         }

@@ -1,6 +1,6 @@
 //! Scenarios, read from JSON: what no report shows. All other rows are data, in tests/scenarios.
 
-use gtp_gateway::{Networks, Timers};
+use gtp_gateway::{Prefixes, Timers};
 use gtp_scenario::{Entry, ReadFault, Refusal, WorldConfig, read_scenario};
 use std::alloc::Global;
 use std::process::Abort;
@@ -108,7 +108,7 @@ fn are_unusual(rt: &impl Abort, config: &WorldConfig) {
     assert!(rt; config.serving().access_points().is_empty());
     let pools = config.serving().pools();
     assert!(rt; pools.v4.start() == 0 && pools.v4.count() == 0, "{pools:?}");
-    assert!(rt; pools.v6 == Networks::none(), "{pools:?}");
+    assert!(rt; pools.v6 == Prefixes::none(), "{pools:?}");
 }
 
 #[test]

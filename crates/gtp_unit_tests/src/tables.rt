@@ -5,8 +5,8 @@ mod lists;
 mod many;
 
 use gtp_tables::{
-    Addr, Age, Apn, Asked, Bearer, Bearers, Counter, Draws, Ebi, Imsi, Kind, Networks, Peer, Pool,
-    Pools, Session, Sessions, State, Subscriber, Table, TablesFault, Teid, ValueFault, View,
+    Addr, Age, Apn, Asked, Bearer, Bearers, Counter, Draws, Ebi, Imsi, Kind, Peer, Pool, Pools,
+    Prefixes, Session, Sessions, State, Subscriber, Table, TablesFault, Teid, ValueFault, View,
     end_opened,
 };
 use std::process::Abort;

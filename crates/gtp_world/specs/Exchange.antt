@@ -21,8 +21,8 @@ pub record CameSoFar (old : Kept) (events : List Event) (new : Kept) : Type 0 wh
   pub run : RunsOn old (take count events) new
 
 -- After a run, the three events make a session. From the world of the machine that the run has reached they lead to three worlds, and the last is what is left. Their
--- outcomes are begun, answered with cause 16, or 18 if both versions were asked for, and opened; the session is new at both gateways, and carries packets in both
--- directions.
+-- outcomes are begun, answered with cause 18 if both IP versions were asked for and one is given, else 16, and opened; the session is new at both gateways, and carries
+-- packets in both directions.
 pub record IsExchanged (spec : Specification) (old : Kept) (r : IsReached old) (outcomes : List EventOutcome) (new : Kept) : Type 0 where
   pub begun : World
   pub answered : World

@@ -40,7 +40,7 @@ fn are_facing(serving: &Config, packet: &Config) -> bool
     serving.own() == packet.peer() && packet.own() == serving.peer()
 }
 
-/// The counters, each of one octet.
+/// Both counters, each of one octet. Beside two `Config`s the prover does not find that range.
 fn each_of(counters: [Counter; 2]) -> (Counter, Counter)
     ensures values { map (λ k. k.0) counters ≡ result.0.0 ∷ result.1.0 ∷ [] }
     ensures range { (result.0.0 < 256) × (result.1.0 < 256) }

@@ -2,7 +2,7 @@
 use Rattle.std.proofs.Common.{◌≡◌, ◌≢◌, inl, inr, ℕ, List, [], length, Some, None, sym, ◌∙◌, ap, subst}
 use Rattle.std.specs.FinMap.{get, insert}
 use Rattle.gtp_values.specs.FiniteMap.{FiniteMap, Among}
-use Rattle.gtp_tables.specs.declared.pool.Version.{Version}
+use Rattle.gtp_tables.specs.declared.pool.IpVersion.{IpVersion}
 use Rattle.gtp_tables.specs.Part.{part_of}
 use Rattle.gtp_machine.specs.Ordered.{Unless}
 use Rattle.gtp_machine.specs.Node.{Role, Serving, Packet, Session, Bearer, Arrival, Node}
@@ -34,7 +34,7 @@ pub record ComesBeside {X : Type 0} (old new others : FiniteMap X) (t : ℕ) (x 
 -- gave, and the identity of a serving gateway's bearer; and for a command the number of a new request.
 pub record PickAlike (role : Role) (old : Node) (input : Input) (e f : Effect) : Type 0 where
   pub drawn : e.node.drawn ≡ f.node.drawn
-  pub addresses : (request : Arrival) (reading : ControlReading) → input ≡ Control_came request reading → role ≡ Packet → e.out.made ≢ [] → (others : FiniteMap Session) (t : ℕ) (a b : Session) → ComesBeside old.sessions e.node.sessions others t a → ComesBeside old.sessions f.node.sessions others t b → (version : Version) (x y : List ℕ) → part_of version a.address ≡ Some x → part_of version b.address ≡ Some y → x ≡ y
+  pub addresses : (request : Arrival) (reading : ControlReading) → input ≡ Control_came request reading → role ≡ Packet → e.out.made ≢ [] → (others : FiniteMap Session) (t : ℕ) (a b : Session) → ComesBeside old.sessions e.node.sessions others t a → ComesBeside old.sessions f.node.sessions others t b → (version : IpVersion) (x y : List ℕ) → part_of version a.address ≡ Some x → part_of version b.address ≡ Some y → x ≡ y
   pub identities : (request : Arrival) (reading : ControlReading) → input ≡ Control_came request reading → role ≡ Serving → e.out.made ≢ [] → (others : FiniteMap Bearer) (t : ℕ) (a b : Bearer) → ComesBeside old.bearers e.node.bearers others t a → ComesBeside old.bearers f.node.bearers others t b → a.session ≡ b.session → a.identity ≡ b.identity
   pub numbers : (command : Command) → input ≡ Commanded command → (number : ℕ) → get old.pending number ≡ None → HasPending e.node number → HasPending f.node number
 

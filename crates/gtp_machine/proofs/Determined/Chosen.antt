@@ -3,8 +3,8 @@ use Rattle.std.proofs.Common.{◌≡◌, ℕ, List, ◌∷◌, Option, Some, Non
 use Rattle.std.specs.FinMap.{get, insert}
 use Rattle.std.specs.Prelude.{is_some, not, ◌&&◌, ◌==◌, if◌then◌else◌}
 use Rattle.gtp_values.specs.FiniteMap.{FiniteMap, Among}
-use Rattle.gtp_tables.specs.declared.pool.Version.{Version}
-use Rattle.gtp_tables.specs.declared.pool.Version.TheVariants.{V4, V6}
+use Rattle.gtp_tables.specs.declared.pool.IpVersion.{IpVersion}
+use Rattle.gtp_tables.specs.declared.pool.IpVersion.TheVariants.{V4, V6}
 use Rattle.gtp_tables.specs.Part.{part_in}
 use Rattle.gtp_machine.specs.Node.{PendingRequest, Node}
 use Rattle.gtp_machine.specs.Choice.{HasPending, IsPart, IsGiven}
@@ -31,14 +31,14 @@ one_number one other pending m n p q is_one is_other free alike =
     never {x} e = cc
 
 -- whether a part of an address is given is no choice
-one_side : (node : Node) (pdn : ℕ) (version : Version) (x y : Option (List ℕ)) → IsPart node pdn version x → IsPart node pdn version y → is_some x ≡ is_some y
+one_side : (node : Node) (pdn : ℕ) (version : IpVersion) (x y : Option (List ℕ)) → IsPart node pdn version x → IsPart node pdn version y → is_some x ≡ is_some y
 one_side node pdn version None None r s = refl
 one_side node pdn version None (Some b) r s = absurd (r (s.0, record { address = b; free = s.1 }))
 one_side node pdn version (Some a) None r s = absurd (s (r.0, record { address = a; free = r.1 }))
 one_side node pdn version (Some a) (Some b) r s = refl
 
 -- so two addresses have parts of the same versions
-pub one_shape : (node : Node) (pdn : ℕ) (a b : PdnAddress) → IsGiven node pdn a → IsGiven node pdn b → (version : Version) → is_some (part_in version a) ≡ is_some (part_in version b)
+pub one_shape : (node : Node) (pdn : ℕ) (a b : PdnAddress) → IsGiven node pdn a → IsGiven node pdn b → (version : IpVersion) → is_some (part_in version a) ≡ is_some (part_in version b)
 one_shape node pdn a b r s V4 = one_side node pdn V4 a.v4 b.v4 r.v4 s.v4
 one_shape node pdn a b r s V6 = one_side node pdn V6 a.v6 b.v6 r.v6 s.v6
 
@@ -54,7 +54,7 @@ one_part (Some a) None alike same = absurd (cc alike)
 one_part (Some a) (Some b) alike same = ap (λ k. Some k) (same a b refl refl)
 
 -- addresses whose parts are one
-pub one_address : (node : Node) (pdn : ℕ) (a b : PdnAddress) → IsGiven node pdn a → IsGiven node pdn b → ((version : Version) (x y : List ℕ) → part_in version a ≡ Some x → part_in version b ≡ Some y → x ≡ y) → a ≡ b
+pub one_address : (node : Node) (pdn : ℕ) (a b : PdnAddress) → IsGiven node pdn a → IsGiven node pdn b → ((version : IpVersion) (x y : List ℕ) → part_in version a ≡ Some x → part_in version b ≡ Some y → x ≡ y) → a ≡ b
 one_address node pdn a b r s same =
     let v4 : a.v4 ≡ b.v4 = one_part a.v4 b.v4 (one_shape node pdn a b r s V4) (same V4) in
     let v6 : a.v6 ≡ b.v6 = one_part a.v6 b.v6 (one_shape node pdn a b r s V6) (same V6) in

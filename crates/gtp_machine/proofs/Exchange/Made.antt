@@ -20,6 +20,7 @@ use Rattle.gtp_machine.specs.User.{MayCome, Accepts, UserStep}
 use Rattle.gtp_machine.specs.Answer.{IsNew}
 use Rattle.gtp_machine.specs.Serving.{opened_session, opened_bearer}
 use Rattle.gtp_machine.specs.Packet.{session_cause, session_response, session_made, made_session, made_bearer}
+use Rattle.gtp_machine.specs.Recovery.{heard_by}
 use Rattle.gtp_machine.specs.Reading.{control_reading}
 use Rattle.gtp_machine.specs.Spelling.{ReadsAs, spelled, IsSendable}
 use Rattle.gtp_machine.specs.Step.{Step}
@@ -31,7 +32,7 @@ use Rattle.gtp_machine.proofs.Origins.Drawing.{Drawing, unowned, by_cases}
 use Rattle.gtp_machine.proofs.Worlds.Hearing.{Hearing}
 use Rattle.gtp_machine.proofs.Worlds.Runs.{Invariant, always}
 use Rattle.gtp_machine.proofs.Exchange.Held.{HeldOfSent, always_held}
-use Rattle.gtp_machine.proofs.Exchange.Nodes.{pass, type_is as asked_type, begins, CanMake, IsAnswered, answers, opening, waiting_for, Waits, OpensBy, IsOpened, is_opened_by}
+use Rattle.gtp_machine.proofs.Exchange.Nodes.{pass, v4_given, v6_given, type_is as asked_type, begins, CanMake, IsAnswered, answers, opening, waiting_for, Waits, OpensBy, IsOpened, is_opened_by}
 use Rattle.gtp_machine.proofs.Exchange.Texts.{request_like, response_like, same_request_teid, same_response_teid}
 use Rattle.gtp_machine.proofs.Exchange.Ranges.{IsWritten, given_written, request_sendable, request_short, response_sendable, response_short}
 use Rattle.gtp_machine.specs.Laws.{OwnsOn, IsFromOn}
@@ -271,10 +272,10 @@ module _ (serving packet : Config) (serving_counter packet_counter : ℕ) (event
         request_new s.message s.sent s.control (ap (λ (a : Arrival). a.octets) octets)
 
     can_make : CanMake w.packet.node q
-    can_make = record { room = can.held_room; one = refl; identity = can.identity; configured = can.configured; few = can.packet_room; draws = can.packet_draws; give = can.give }
+    can_make = record { room = can.held_room; one = refl; identity = can.identity; configured = can.configured; few = can.packet_room; draws = can.packet_draws }
 
     a2 : IsAnswered asked q w.serving.node.counter w.packet.node d2.moves.effect
-    a2 = answers asked q w.serving.node.counter w.packet.node d2.moves.effect (ap (λ (k : Addresses). k.control) (serving_own ∙ sym path.back)) new2 refl (not_earlier w.serving Serving w.history w.packet.node.known w.packet.seen w.serving.node.counter inv.serving.draws inv.packet.hearing refl) can_make (subst (λ n. Step Packet n (Control_came asked (Control_message (Create_session_request q))) d2.moves.effect) same2 d2.moves.step)
+    a2 = answers asked q w.serving.node.counter w.packet.node d2.moves.effect (ap (λ (k : Addresses). k.control) (serving_own ∙ sym path.back)) new2 refl (not_earlier w.serving Serving w.history w.packet.node.known w.packet.seen w.serving.node.counter inv.serving.draws inv.packet.hearing refl) can_make can.give (subst (λ n. Step Packet n (Control_came asked (Control_message (Create_session_request q))) d2.moves.effect) same2 d2.moves.step)
 
     abbrev a : CreateSessionResponse
     a = session_response a2.mid q a2.made.control a2.made.user a2.made.address
@@ -406,7 +407,10 @@ module _ (serving packet : Config) (serving_counter packet_counter : ℕ) (event
         cause = session_cause spec.pdn a2.made.address;
         address = a2.made.address;
         given = subst (λ n. IsGiven n spec.pdn a2.made.address) a2.heard a2.made.given;
+        v4_asked = v4_given a2.mid spec.pdn a2.made.address.v4 a2.made.given.v4;
+        v6_asked = v6_given a2.mid spec.pdn a2.made.address.v6 a2.made.given.v6;
         has = refl;
+        has_there = refl;
         for_address = refl;
         first = record { note = f1.note.note; before = f1.note.before; notes = f1.note.notes; is = f1.note.is ∙ ap (λ (f : Effect). f.outcome) r1.gives };
         second = record { note = f2.note.note; before = f2.note.before; notes = f2.note.notes; is = f2.note.is ∙ (a2.outcome ∙ ap (λ (f : Effect). f.outcome) a2.made.gives) };
@@ -478,7 +482,7 @@ module _ (serving packet : Config) (serving_counter packet_counter : ℕ) (event
     counter_small side role history draws = omega (arith, draws.counter)
 
     type_is : (spec.pdn ≡ 1) ⊎ ((spec.pdn ≡ 2) ⊎ (spec.pdn ≡ 3))
-    type_is = asked_type w.packet.node spec.pdn can.give
+    type_is = asked_type (heard_by w.packet.node w.serving.node.counter) spec.pdn can.give
 
     request_is : IsSendable (Create_session_request q)
     request_is = request_sendable w.serving.node spec r1.control r1.user r1.number serving_is specified can.identity type_is (counter_small w.serving Serving w.history inv.serving.draws) control_small user_small number_small

@@ -8,16 +8,15 @@ use Rattle.gtp_values.specs.Counter.{age_of}
 use Rattle.gtp_values.specs.FiniteMap.{Among}
 use Rattle.gtp_values.specs.declared.counter.Age.{Age}
 use Rattle.gtp_values.specs.declared.counter.Age.TheVariants.{Same, Later, Earlier}
-use Rattle.gtp_tables.specs.declared.pool.Version.{Version}
-use Rattle.gtp_tables.specs.declared.pool.Version.TheVariants.{V4, V6}
-use Rattle.gtp_tables.specs.Free.{count_of, address_at}
+use Rattle.gtp_tables.specs.declared.pool.IpVersion.{IpVersion}
+use Rattle.gtp_tables.specs.declared.pool.IpVersion.TheVariants.{V4, V6}
 use Rattle.gtp_machine.specs.Ordered.{Unless}
 use Rattle.gtp_machine.specs.Config.{Config}
 use Rattle.gtp_machine.specs.Element.{IsAccepting, PdnAddress, address_of}
 use Rattle.gtp_machine.specs.Message.{CreateSessionRequest, CreatedBearer, CreateSessionResponse, Create_session_request, Create_session_response}
 use Rattle.gtp_machine.specs.Node.{Serving, Packet, State, Pending, Session, Bearer, PendingRequest, Arrival, Held, Node}
 use Rattle.gtp_machine.specs.Input.{Came_to, Specification, Control_came, Control_message, Opened, Effect, nothing, messages}
-use Rattle.gtp_machine.specs.Choice.{HasDraws, IsFreeAddress, HasFreeAddress, AsksFor, IsPart, IsGiven, CanGive, IsServed, IsIdentity, HasSessionRoom, HasPendingRoom, HasHeldRoom}
+use Rattle.gtp_machine.specs.Choice.{HasDraws, HasFreeAddress, AsksFor, IsPart, IsGiven, CanGive, IsServed, IsIdentity, HasSessionRoom, HasPendingRoom, HasHeldRoom}
 use Rattle.gtp_machine.specs.Removal.{on, is_pending, is_opened}
 use Rattle.gtp_machine.specs.Recovery.{peer_restarted, Judges, Weighs, learned_by, Hears, heard_at_age, heard_from, heard_by}
 use Rattle.gtp_machine.specs.Command.{BeginsSession, SessionBegun, pending_session, pending_bearer}
@@ -26,7 +25,7 @@ use Rattle.gtp_machine.specs.Serving.{opened_session, opened_bearer, SessionAnsw
 use Rattle.gtp_machine.specs.Packet.{MakesSession, SessionAsked, PacketTakes}
 use Rattle.gtp_machine.specs.Step.{Step}
 use Rattle.gtp_machine.proofs.Basics.Counting.{len-kept_most}
-use Rattle.gtp_machine.proofs.Basics.FiniteMaps.{found-kept, get-kept}
+use Rattle.gtp_machine.proofs.Basics.FiniteMaps.{get-kept}
 
 -- a rule whose condition holds
 pub pass : {P X : Type 0} {Y : P → Type 0} → P → Unless P X Y → (p : P) × Y p
@@ -43,16 +42,15 @@ pub record IsReady (old mid : Node) : Type 0 where
   pub drawn : mid.drawn ≡ old.drawn
   pub held : mid.held ≡ old.held
   pub few : len mid.sessions ≤ len old.sessions
-  pub sessions : (t : ℕ) (s : Session) → get mid.sessions t ≡ Some s → get old.sessions t ≡ Some s
   pub waiting : (t : ℕ) (s : Session) → get old.sessions t ≡ Some s → s.state ≡ Pending → get mid.sessions t ≡ Some s
   pub bearers : (t : ℕ) (b : Bearer) (s : Session) → get old.bearers t ≡ Some b → get old.sessions b.session ≡ Some s → s.state ≡ Pending → get mid.bearers t ≡ Some b
   pub pending : (number : ℕ) (p : PendingRequest) (t : ℕ) (s : Session) → get old.pending number ≡ Some p → p.session ≡ Some t → p.bearer ≡ None → get old.sessions t ≡ Some s → s.state ≡ Pending → get mid.pending number ≡ Some p
 
 ready_known : (old : Node) (known : Option ℕ) → IsReady old (record old { known = known })
-ready_known old known = record { config = refl; counter = refl; drawn = refl; held = refl; few = omega arith; sessions = λ t s e. e; waiting = λ t s e w. e; bearers = λ t b s e at w. e; pending = λ n p t s e about none at w. e }
+ready_known old known = record { config = refl; counter = refl; drawn = refl; held = refl; few = omega arith; waiting = λ t s e w. e; bearers = λ t b s e at w. e; pending = λ n p t s e about none at w. e }
 
 ready_itself : (old : Node) → IsReady old old
-ready_itself old = record { config = refl; counter = refl; drawn = refl; held = refl; few = omega arith; sessions = λ t s e. e; waiting = λ t s e w. e; bearers = λ t b s e at w. e; pending = λ n p t s e about none at w. e }
+ready_itself old = record { config = refl; counter = refl; drawn = refl; held = refl; few = omega arith; waiting = λ t s e w. e; bearers = λ t b s e at w. e; pending = λ n p t s e about none at w. e }
 
 -- a session that stands there and is pending was not opened
 unopened : (there : Option Session) (s : Session) → there ≡ Some s → s.state ≡ Pending → is_opened there ≡ false
@@ -65,7 +63,6 @@ ready_restarted old counter = record {
   drawn = refl;
   held = refl;
   few = len-kept_most (λ t (s : Session). not (is_opened (get old.sessions t))) old.sessions;
-  sessions = λ t s e. (found-kept (λ k (x : Session). not (is_opened (get old.sessions k))) old.sessions t s e).1;
   waiting = λ t s e w. get-kept (λ k (x : Session). not (is_opened (get old.sessions k))) old.sessions t s e (ap not (unopened (get old.sessions t) s e w));
   bearers = λ t b s e at w. get-kept (λ k (x : Bearer). not (false || is_opened (get old.sessions x.session))) old.bearers t b e (ap not (unopened (get old.sessions b.session) s at w));
   pending = λ n p t s e about none at w. get-kept (λ k (x : PendingRequest). not (on (λ m. is_opened (get old.sessions m)) x.session || on (λ m. false) x.bearer)) old.pending n p e
@@ -102,7 +99,7 @@ can_be_had node pdn address given = by address.v4 address.v6 given.v4 given.v6 g
     by None (Some octets) r s some = record { version = V6; asked = s.0; free = record { address = octets; free = s.1 } }
     by None None r s some = let no : false ≡ true = some in absurd cc
 
--- a Create Session Request that can be taken
+-- a Create Session Request that can be taken, if an address can be given
 pub record CanMake (old : Node) (q : CreateSessionRequest) : Type 0 where
   pub room : HasHeldRoom old
   pub one : q.further ≡ []
@@ -110,21 +107,28 @@ pub record CanMake (old : Node) (q : CreateSessionRequest) : Type 0 where
   pub configured : Among q.access_point old.config.access_points
   pub few : HasSessionRoom old
   pub draws : HasDraws old 2
-  pub give : CanGive old q.pdn
 
-still_free : (old mid : Node) → IsReady old mid → (version : Version) (address : List ℕ) → IsFreeAddress old version address → IsFreeAddress mid version address
-still_free old mid ready version address free = record {
-  place = free.place;
-  in_pool = subst (λ n. free.place < n) (ap (λ (c : Config). count_of c.pools version) (sym ready.config)) free.in_pool;
-  is = free.is ∙ ap (λ (c : Config). address_at c.pools version free.place) (sym ready.config);
-  unused = λ t s e. free.unused t s (ready.sessions t s e);
-}
+-- the types that ask for version 4, and for version 6
+asks_v4 : (pdn : ℕ) → AsksFor pdn V4 → (pdn ≡ 1) ⊎ (pdn ≡ 3)
+asks_v4 pdn asked = grind (arith, nat_tests)
+
+asks_v6 : (pdn : ℕ) → AsksFor pdn V6 → (pdn ≡ 2) ⊎ (pdn ≡ 3)
+asks_v6 pdn asked = grind (arith, nat_tests)
+
+-- what is given was asked for
+pub v4_given : (node : Node) (pdn : ℕ) (part : Option (List ℕ)) → IsPart node pdn V4 part → IsTrue (is_some part) → (pdn ≡ 1) ⊎ (pdn ≡ 3)
+v4_given node pdn (Some octets) given some = asks_v4 pdn given.0
+v4_given node pdn None given some = let no : false ≡ true = some in absurd cc
+
+pub v6_given : (node : Node) (pdn : ℕ) (part : Option (List ℕ)) → IsPart node pdn V6 part → IsTrue (is_some part) → (pdn ≡ 2) ⊎ (pdn ≡ 3)
+v6_given node pdn (Some octets) given some = asks_v6 pdn given.0
+v6_given node pdn None given some = let no : false ≡ true = some in absurd cc
 
 -- the type of which an address can be had: one of three, and one that is served
 module _ (node : Node) (pdn : ℕ) (can : CanGive node pdn) where
-  asked_is : (version : Version) → AsksFor pdn version → (pdn ≡ 1) ⊎ ((pdn ≡ 2) ⊎ (pdn ≡ 3))
-  asked_is V4 asked = grind (arith, nat_tests)
-  asked_is V6 asked = grind (arith, nat_tests)
+  asked_is : (version : IpVersion) → AsksFor pdn version → (pdn ≡ 1) ⊎ ((pdn ≡ 2) ⊎ (pdn ≡ 3))
+  asked_is V4 asked = ⊎_elim (λ one. inl one) (λ three. inr (inr three)) (asks_v4 pdn asked)
+  asked_is V6 asked = inr (asks_v6 pdn asked)
 
   pub type_is : (pdn ≡ 1) ⊎ ((pdn ≡ 2) ⊎ (pdn ≡ 3))
   type_is = asked_is can.version can.asked
@@ -132,11 +136,9 @@ module _ (node : Node) (pdn : ℕ) (can : CanGive node pdn) where
   pub served : IsServed node.config pdn
   served = by can.version can.asked can.free
     where
-      by : (version : Version) → AsksFor pdn version → HasFreeAddress node version → IsServed node.config pdn
-      by V4 asked has = let is : (pdn ≡ 1) ⊎ (pdn ≡ 3) = grind (arith, nat_tests) in ⊎_elim (λ one. inl one) (λ three. inr (inl three)) is
-      by V6 asked has =
-          let is : (pdn ≡ 2) ⊎ (pdn ≡ 3) = grind (arith, nat_tests) in
-          ⊎_elim (λ two. inr (inr (two, omega (arith, has.free.in_pool)))) (λ three. inr (inl three)) is
+      by : (version : IpVersion) → AsksFor pdn version → HasFreeAddress node version → IsServed node.config pdn
+      by V4 asked has = ⊎_elim (λ one. inl one) (λ three. inr (inl three)) (asks_v4 pdn asked)
+      by V6 asked has = ⊎_elim (λ two. inr (inr (two, omega (arith, has.free.in_pool)))) (λ three. inr (inl three)) (asks_v6 pdn asked)
 
 can_still : (old mid : Node) → IsReady old mid → (q : CreateSessionRequest) → CanMake old q → CanMake mid q
 can_still old mid ready q can = record {
@@ -146,11 +148,10 @@ can_still old mid ready q can = record {
   configured = subst (λ (c : Config). Among q.access_point c.access_points) (sym ready.config) can.configured;
   few = record { few = omega (arith, ready.few, can.few.few) };
   draws = record { left = subst (λ (l : List ℕ). length l + 2 ≤ 16777215) (sym ready.drawn) can.draws.left };
-  give = record { version = can.give.version; asked = can.give.asked; free = record { address = can.give.free.address; free = still_free old mid ready can.give.version can.give.free.address can.give.free.free } };
 }
 
-makes : (request : Arrival) (q : CreateSessionRequest) (old : Node) (e : Effect) → CanMake old q → SessionAsked request q old e → MakesSession request old q e
-makes request q old e can r = (pass can.give (pass (can.few, can.draws) (pass (served old q.pdn can.give) (pass can.configured (pass can.identity (pass can.one (pass can.room r).1).1).1).1).1).1).1
+makes : (request : Arrival) (q : CreateSessionRequest) (old : Node) (e : Effect) → CanMake old q → CanGive old q.pdn → SessionAsked request q old e → MakesSession request old q e
+makes request q old e can give r = (pass give (pass (can.few, can.draws) (pass (served old q.pdn give) (pass can.configured (pass can.identity (pass can.one (pass can.room r).1).1).1).1).1).1).1
 
 -- what the packet gateway makes of the request
 pub record IsAnswered (request : Arrival) (q : CreateSessionRequest) (counter : ℕ) (old : Node) (e : Effect) : Type 0 where
@@ -163,13 +164,13 @@ pub record IsAnswered (request : Arrival) (q : CreateSessionRequest) (counter : 
   pub sent : messages e.out.sent ≡ messages taken.out.sent
   pub outcome : e.outcome ≡ taken.outcome
 
-pub answers : (request : Arrival) (q : CreateSessionRequest) (counter : ℕ) (old : Node) (e : Effect) → request.source.ip ≡ old.config.peer.control → IsNew old request → q.recovery ≡ Some counter → ((k : ℕ) → old.known ≡ Some k → age_of k counter ≢ Earlier) → CanMake old q → Step Packet old (Control_came request (Control_message (Create_session_request q))) e → IsAnswered request q counter old e
-answers request q counter old e peer new tells not_earlier can (inl f) = absurd (f.0 peer)
-answers request q counter old e peer new tells not_earlier can (inr (from, inl again)) = absurd (new again.held again.stands again.same)
-answers request q counter old e peer new tells not_earlier can (inr (from, inr (is_new, inl f))) = absurd (f.0 refl)
-answers request q counter old e peer new tells not_earlier can (inr (from, inr (is_new, inr (kind, hears)))) =
+pub answers : (request : Arrival) (q : CreateSessionRequest) (counter : ℕ) (old : Node) (e : Effect) → request.source.ip ≡ old.config.peer.control → IsNew old request → q.recovery ≡ Some counter → ((k : ℕ) → old.known ≡ Some k → age_of k counter ≢ Earlier) → CanMake old q → CanGive (heard_by old counter) q.pdn → Step Packet old (Control_came request (Control_message (Create_session_request q))) e → IsAnswered request q counter old e
+answers request q counter old e peer new tells not_earlier can give (inl f) = absurd (f.0 peer)
+answers request q counter old e peer new tells not_earlier can give (inr (from, inl again)) = absurd (new again.held again.stands again.same)
+answers request q counter old e peer new tells not_earlier can give (inr (from, inr (is_new, inl f))) = absurd (f.0 refl)
+answers request q counter old e peer new tells not_earlier can give (inr (from, inr (is_new, inr (kind, hears)))) =
     let h = heard_so (PacketTakes request (Create_session_request q)) old counter e not_earlier (subst (λ o. Hears (PacketTakes request (Create_session_request q)) old o e) tells hears) in
-    record { mid = h.mid; heard = h.heard; ready = h.ready; taken = h.taken; made = makes request q h.mid h.taken (can_still old h.mid h.ready q can) h.takes; node = ap (λ (f : Effect). f.node) h.is; sent = ap (λ (f : Effect). messages f.out.sent) h.is; outcome = ap (λ (f : Effect). f.outcome) h.is }
+    record { mid = h.mid; heard = h.heard; ready = h.ready; taken = h.taken; made = makes request q h.mid h.taken (can_still old h.mid h.ready q can) (subst (λ n. CanGive n q.pdn) (sym h.heard) give) h.takes; node = ap (λ (f : Effect). f.node) h.is; sent = ap (λ (f : Effect). messages f.out.sent) h.is; outcome = ap (λ (f : Effect). f.outcome) h.is }
 
 -- the session and its default bearer, opened
 abbrev pub opening : CreateSessionResponse → CreateSessionRequest → Node → PdnAddress → Effect

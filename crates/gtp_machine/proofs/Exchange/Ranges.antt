@@ -22,8 +22,8 @@ use Rattle.gtp_ie.specs.Value.{OfImsi, OfCause, OfApn, OfAmbr, OfEbi, OfPaa, OfQ
 use Rattle.gtp_ie.proofs.Again.{recovery_again, ebi_again, charging_id_again, rat_again, pdn_type_again, selection_again, cause_again, ambr_again, qos_again}
 use Rattle.gtp_ie.proofs.AgainAddresses.{v4_again, v6_again, v4v6_again, fteid_again, plmn_again}
 use Rattle.gtp_ie.proofs.AgainNames.{imsi_again, apn_again}
-use Rattle.gtp_tables.specs.declared.pool.Version.TheVariants.{V4 as Version_4, V6 as Version_6}
-use Rattle.gtp_tables.specs.Pool.{network_of}
+use Rattle.gtp_tables.specs.declared.pool.IpVersion.TheVariants.{V4 as Version_4, V6 as Version_6}
+use Rattle.gtp_tables.specs.Pool.{prefix_of}
 use Rattle.gtp_v2.specs.Encoding.{carried, headed_encoding}
 use Rattle.gtp_v2.specs.Kinds.{HasKind, RowsHaveKinds}
 use Rattle.gtp_v2.specs.Marks.{MeetsMarks}
@@ -119,12 +119,12 @@ given_v6 : (node : Node) → IsConfigured node.config → (pdn : ℕ) (o : Optio
 given_v6 node is pdn None part = (tt, tt)
 given_v6 node is pdn (Some octets) part =
     let start = node.config.pools.v6.start in
-    let network = to_be_bytes w64 (network_of start + part.1.place) in
-    let first : length network ≡ 8 = refl in
+    let prefix = to_be_bytes w64 (prefix_of start + part.1.place) in
+    let first : length prefix ≡ 8 = refl in
     let rest : length (drop 8 start) ≡ length start - 8 = length-drop 8 start in
-    let long = length-append network (drop 8 start) in
-    let whole : length (network ++ drop 8 start) ≡ 16 = omega (arith, long, first, rest, is.v6.long) in
-    (subst (λ l. length l ≡ 16) (sym part.1.is) whole, subst AreOctets (sym part.1.is) (joined network (drop 8 start) (big 8 (network_of start + part.1.place)) (record { each = All-drop (λ octet. octet < 256) 8 start is.octets })))
+    let long = length-append prefix (drop 8 start) in
+    let whole : length (prefix ++ drop 8 start) ≡ 16 = omega (arith, long, first, rest, is.v6.long) in
+    (subst (λ l. length l ≡ 16) (sym part.1.is) whole, subst AreOctets (sym part.1.is) (joined prefix (drop 8 start) (big 8 (prefix_of start + part.1.place)) (record { each = All-drop (λ octet. octet < 256) 8 start is.octets })))
 
 pub given_written : (node : Node) → IsConfigured node.config → (pdn : ℕ) (address : PdnAddress) → IsGiven node pdn address → IsWritten address
 given_written node is pdn address given =

@@ -10,8 +10,8 @@ use Rattle.gtp_machine.specs.Ordered.{Unless}
 use Rattle.gtp_machine.specs.Message.{Echo, CreateSessionRequest, CreateSessionResponse, CreateBearerRequest, CreateBearerResponse, DeleteBearerRequest, RemovedBearer, Message, Packet_data, End_marker, Error_indication, recovery_of}
 use Rattle.gtp_machine.specs.Node.{Role, Serving, Packet, Session, Arrival, Held, Node}
 use Rattle.gtp_machine.specs.Input.{ControlReading, Control_message, Faulty, Control_fault, FaultyRequest, RequestKind, Of_create_session, Of_delete_session, Of_create_bearer, Of_delete_bearer, UserReading, User_message, Extension_needed, User_fault, Command, Create_session, Delete_session, Create_bearer, Delete_bearer, Release_session, Mark_end, Send_echo, Send_user, Move, Resend, Give_up, Forget, Commanded, Control_came, User_came, Moves_on, Effect}
-use Rattle.gtp_tables.specs.declared.pool.Version.{Version}
-use Rattle.gtp_tables.specs.declared.pool.Version.TheVariants.{V4, V6}
+use Rattle.gtp_tables.specs.declared.pool.IpVersion.{IpVersion}
+use Rattle.gtp_tables.specs.declared.pool.IpVersion.TheVariants.{V4, V6}
 use Rattle.gtp_machine.specs.Choice.{IsFree, IsFreeNumber, HasFreeAddress, AsksFor, IsPart, CanGive, HasBearer}
 use Rattle.gtp_machine.specs.Removal.{without_bearer}
 use Rattle.gtp_machine.specs.Recovery.{peer_restarted, Judges, Weighs, Hears}
@@ -125,7 +125,7 @@ module _ (old : Node) where
       none _ (record { user = t.0; identity = free.0.identity; user_free = t.1; identity_free = free.0.free; gives = refl })))))))
 
   -- of each version an address is given, or none
-  part_given : (pdn : ℕ) (version : Version) → ((o : Option (List ℕ)) → IsPart old pdn version o → ⊥) → ⊥
+  part_given : (pdn : ℕ) (version : IpVersion) → ((o : Option (List ℕ)) → IsPart old pdn version o → ⊥) → ⊥
   part_given pdn version none = none None (λ h. none (Some h.1.address) (h.0, h.1.free))
 
   -- and of one of them, where one can be
@@ -134,7 +134,7 @@ module _ (old : Node) where
   some_given pdn None (Some y) r s can = refl
   some_given pdn None None r s can = absurd (by can.version can.asked can.free)
     where
-      by : (version : Version) → AsksFor pdn version → HasFreeAddress old version → ⊥
+      by : (version : IpVersion) → AsksFor pdn version → HasFreeAddress old version → ⊥
       by V4 asked free = r (asked, free)
       by V6 asked free = s (asked, free)
 

@@ -1,5 +1,5 @@
 -- The exchange that makes a session, from a start, for a type of which an address can be had.
-use Rattle.std.proofs.Common.{◌≡◌, ◌≢◌, ◌<◌, inl, inr, ℕ, List, [], ◌∷◌, Option, Some, None, true, false, refl, sym, subst, arith}
+use Rattle.std.proofs.Common.{◌≡◌, ◌≢◌, ◌<◌, inl, inr, ℕ, List, [], ◌∷◌, Some, None, true, false, refl, sym, subst, arith}
 use Rattle.std.proofs.Math.ListN.{replicate}
 use Rattle.std.specs.FinMap.{insert, remove, empty, get-empty, len, len-empty}
 use Rattle.std.specs.Ordering.{nat_cmp}
@@ -8,9 +8,9 @@ use Rattle.gtp_values.specs.declared.address.Ip.TheVariants.{V4}
 use Rattle.gtp_values.specs.declared.qos.Qos.{Qos}
 use Rattle.gtp_values.specs.declared.qos.Rates.{Rates}
 use Rattle.gtp_values.proofs.Allocations.{address_back}
-use Rattle.gtp_tables.specs.declared.pool.Version.TheVariants.{V4 as Version_4, V6 as Version_6}
+use Rattle.gtp_tables.specs.declared.pool.IpVersion.TheVariants.{V4 as Version_4, V6 as Version_6}
 use Rattle.gtp_tables.specs.Free.{address_at}
-use Rattle.gtp_tables.specs.Pool.{no_networks}
+use Rattle.gtp_tables.specs.Pool.{no_prefixes}
 use Rattle.gtp_machine.specs.Config.{Config}
 use Rattle.gtp_machine.specs.Element.{PdnAddress, cause_of, tunnel_end}
 use Rattle.gtp_machine.specs.Message.{Message, plane_of, CreateSessionRequest, CreateSessionResponse, Create_session_request, Create_session_response}
@@ -33,7 +33,7 @@ abbrev pub packet_ip : Ip
 packet_ip = V4 (10 ∷ 0 ∷ 0 ∷ 2 ∷ [])
 
 abbrev pub serving_config : Config
-serving_config = record { own = record { control = serving_ip; user = serving_ip }; peer = record { control = packet_ip; user = packet_ip }; access_points = []; pools = record { v4 = record { start = 0; count = 0 }; v6 = no_networks } }
+serving_config = record { own = record { control = serving_ip; user = serving_ip }; peer = record { control = packet_ip; user = packet_ip }; access_points = []; pools = record { v4 = record { start = 0; count = 0 }; v6 = no_prefixes } }
 
 -- a packet gateway with one address of version 4, and so many of version 6
 abbrev pub packet_config : ℕ → Config
@@ -94,35 +94,34 @@ heard e = record e { out = record e.out { heard = Some 1; learned = None } }
 abbrev pub w0 : ℕ → World
 w0 count = start serving_config (packet_config count) 1 1
 
--- the packet gateway, after a start or once a counter was heard
-abbrev pub at_start : ℕ → Option ℕ → Node
-at_start count known = record (w0 count).packet.node { known = known }
+-- the packet gateway after a start, once it has heard the other's counter
+abbrev pub at_start : ℕ → Node
+at_start count = record (w0 count).packet.node { known = Some 1 }
 
 -- what is given for each type: type 3 has both parts, or that of version 4 where there is no other
-module _ (known : Option ℕ) where
-  free_v4 : (count : ℕ) → IsFreeAddress (at_start count known) Version_4 first_v4
-  free_v4 count = record { place = 0; in_pool = omega arith; is = refl; unused = λ t s e. absurd (found-empty t s e) }
+free_v4 : (count : ℕ) → IsFreeAddress (at_start count) Version_4 first_v4
+free_v4 count = record { place = 0; in_pool = omega arith; is = refl; unused = λ t s e. absurd (found-empty t s e) }
 
-  free_v6 : IsFreeAddress (at_start 1 known) Version_6 first_v6
-  free_v6 = record { place = 0; in_pool = omega arith; is = refl; unused = λ t s e. absurd (found-empty t s e) }
+free_v6 : IsFreeAddress (at_start 1) Version_6 first_v6
+free_v6 = record { place = 0; in_pool = omega arith; is = refl; unused = λ t s e. absurd (found-empty t s e) }
 
-  unasked : false ≡ true → ⊥
-  unasked e = cc
+unasked : false ≡ true → ⊥
+unasked e = cc
 
-  no_v6 : HasFreeAddress (at_start 0 known) Version_6 → ⊥
-  no_v6 has = omega (arith, has.free.in_pool)
+no_v6 : HasFreeAddress (at_start 0) Version_6 → ⊥
+no_v6 has = omega (arith, has.free.in_pool)
 
-  pub gives_v4 : IsGiven (at_start 0 known) 1 only_v4
-  gives_v4 = record { v4 = (refl, free_v4 0); v6 = λ h. unasked h.0; some_part = refl }
+pub gives_v4 : IsGiven (at_start 0) 1 only_v4
+gives_v4 = record { v4 = (refl, free_v4 0); v6 = λ h. unasked h.0; some_part = refl }
 
-  pub gives_v6 : IsGiven (at_start 1 known) 2 only_v6
-  gives_v6 = record { v4 = λ h. unasked h.0; v6 = (refl, free_v6); some_part = refl }
+pub gives_v6 : IsGiven (at_start 1) 2 only_v6
+gives_v6 = record { v4 = λ h. unasked h.0; v6 = (refl, free_v6); some_part = refl }
 
-  pub gives_both : IsGiven (at_start 1 known) 3 both_versions
-  gives_both = record { v4 = (refl, free_v4 1); v6 = (refl, free_v6); some_part = refl }
+pub gives_both : IsGiven (at_start 1) 3 both_versions
+gives_both = record { v4 = (refl, free_v4 1); v6 = (refl, free_v6); some_part = refl }
 
-  pub gives_one_of_both : IsGiven (at_start 0 known) 3 only_v4
-  gives_one_of_both = record { v4 = (refl, free_v4 0); v6 = λ h. no_v6 h.1; some_part = refl }
+pub gives_one_of_both : IsGiven (at_start 0) 3 only_v4
+gives_one_of_both = record { v4 = (refl, free_v4 0); v6 = λ h. no_v6 h.1; some_part = refl }
 
 abbrev pub spec : ℕ → Specification
 spec pdn = record { subscriber = record { imsi = 0 ∷ 0 ∷ 1 ∷ 0 ∷ 1 ∷ 1 ∷ []; access_point = 1 ∷ 97 ∷ []; identity = 5 }; rat = 6; network = record { mcc = 0 ∷ 0 ∷ 1 ∷ []; mnc = 0 ∷ 1 ∷ [] }; selection = 0; pdn = pdn; ambr = record { up = 1000; down = 1000 }; qos = plain_qos }

@@ -299,14 +299,14 @@ hears_restart = record {
   where
     all : AllSendable w19.history
     all = (
-      session_request 1 0 only_v4 (omega arith) (gives_v4 (Some 1)),
+      session_request 1 0 only_v4 (omega arith) gives_v4,
       (
-        session_response 1 0 only_v4 (omega arith) (gives_v4 (Some 1)),
+        session_response 1 0 only_v4 (omega arith) gives_v4,
         (
           bearer_request,
           (
             bearer_response,
-            (packet 120 (omega arith), (session_response 1 0 only_v4 (omega arith) (gives_v4 (Some 1)), (packet 121 (omega arith), (packet 122 (omega arith), (removal_request, (removal_response, (echo_request 2 (omega arith), (echo_response 1 (omega arith), tt)))))))),
+            (packet 120 (omega arith), (session_response 1 0 only_v4 (omega arith) gives_v4, (packet 121 (omega arith), (packet 122 (omega arith), (removal_request, (removal_response, (echo_request 2 (omega arith), (echo_response 1 (omega arith), tt)))))))),
           ),
         ),
       ),

@@ -121,10 +121,10 @@ pub step1 : Moves (w0 0) Serving (Commanded (Create_session spec)) w1
 step1 = first.step1 1 0 only_v4
 
 pub step2 : Delivers w1 Serving (Create_session_request q) w2
-step2 = first.step2 1 0 only_v4 (gives_v4 (Some 1))
+step2 = first.step2 1 0 only_v4 gives_v4
 
 pub step3 : Delivers w2 Packet (Create_session_response a) w3
-step3 = first.step3 1 0 only_v4 (gives_v4 (Some 1))
+step3 = first.step3 1 0 only_v4 gives_v4
 
 pub step4 : Moves w3 Packet (Commanded (Create_bearer control (33 ∷ []) plain_qos)) w4
 step4 = record {

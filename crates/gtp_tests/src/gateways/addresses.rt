@@ -10,10 +10,13 @@ use std::alloc::Global;
 use std::process::Abort;
 use std::test::Fail;
 
-/// An accepting answer to the request for a session, with the last octet of its length, and this allocation of an
-/// address.
+/// An accepting answer to the request for a session, with the last octet of its length, this allocation of an address,
+/// and this cause of its bearer context, 16 if none is named.
 macro_rules! answer {
     ($length:literal, $allocation:literal) => {
+        answer!($length, $allocation, "10")
+    };
+    ($length:literal, $allocation:literal, $cause:literal) => {
         Comes(
             Role::Serving,
             Plane::Control,
@@ -27,7 +30,9 @@ macro_rules! answer {
                 "48000800000003e8000003e8",
                 "5d003a00",
                 "4900010005",
-                "020002001000",
+                "02000200",
+                $cause,
+                "00",
                 "5700090285010000020a000002",
                 "500016002009",
                 "0000000000000000000000000000000000000000",
@@ -86,7 +91,7 @@ fn addresses_of_other_versions_are_taken(rt: HostRuntime) -> Result<(), Fail> {
     Ok(())
 }
 
-/// An allocation of no known PDN type fits no session, which waits on.
+/// An allocation of no known PDN type fits no session, which waits on, also if the cause of the bearer context rejects.
 const NOT_TAKEN: Scene = Scene {
     rows: &[&[
         SESSION_ASKED,
@@ -97,6 +102,11 @@ const NOT_TAKEN: Scene = Scene {
         ),
         Does(
             answer!("73", "4f000500050a010001"),
+            Outcome::Dropped(DropReason::Mismatch),
+            Nothing,
+        ),
+        Does(
+            answer!("73", "4f000500070a010001", "49"),
             Outcome::Dropped(DropReason::Mismatch),
             Nothing,
         ),
@@ -156,7 +166,7 @@ fn a_request_without_an_allocation(rt: HostRuntime) -> Result<(), Fail> {
     plays(&rt, rt.alloc(), &WITHOUT_ALLOCATION)
 }
 
-/// The last network that there is, and the one of 2001:db8::1.
+/// The last prefix that there is, and the one of 2001:db8::1.
 const LAST: [u8; 16] = [0xff; 16];
 
 const FIRST: [u8; 16] = [0x20, 1, 0xd, 0xb8, 0, 0, 0, 0, 0, 0, 0, 0, 0, 0, 0, 1];
@@ -171,11 +181,11 @@ const LIMITS: [([u8; 16], u32, bool); 5] = [
 ];
 
 /// The addresses of version 6 in the settings of a packet gateway that is given so many.
-fn networks_of(
+fn prefixes_of(
     alloc: Global,
     start: [u8; 16],
     count: u32,
-) -> Result<Result<Networks, ValueFault>, Fail> {
+) -> Result<Result<Prefixes, ValueFault>, Fail> {
     let config = set_up(alloc, Role::Packet, &IDLE)?;
     match config.with_pool6(start, count) {
         Ok(config) => Ok(Ok(config.pools().v6)),
@@ -191,14 +201,14 @@ fn are_given(
     count: u32,
     in_range: bool,
 ) -> Result<(), Fail> {
-    let networks = networks_of(alloc, start, count)?;
-    assert!(rt; networks == Networks::try_new(start, count));
-    assert!(rt; networks.is_ok() == in_range, "{networks:?}");
+    let prefixes = prefixes_of(alloc, start, count)?;
+    assert!(rt; prefixes == Prefixes::try_new(start, count));
+    assert!(rt; prefixes.is_ok() == in_range, "{prefixes:?}");
     Ok(())
 }
 
 #[test]
-fn the_limits_of_networks(rt: HostRuntime) -> Result<(), Fail> {
+fn the_limits_of_prefixes(rt: HostRuntime) -> Result<(), Fail> {
     for (start, count, in_range) in LIMITS {
         are_given(&rt, rt.alloc(), start, count, in_range)?;
     }

@@ -1,5 +1,5 @@
 //! Gateways whose own addresses are of version 6 (TS 29.274 8.22, TS 29.281 8.4). The octets were made once by
-//! tests/reference, whose stored and random scenarios have IPv4 addresses alone.
+//! tests/reference, whose stored and random scenarios have gateways with IPv4 addresses alone.
 
 use super::{Act, IDLE, Row, Scene, Sends, Version, plays};
 use Act::*;

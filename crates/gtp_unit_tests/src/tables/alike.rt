@@ -11,13 +11,13 @@ use std::test::Fail;
 /// What can be asked for.
 const ASKED: [Asked; 3] = [V4, V6, BOTH];
 
-/// 30 addresses of version 4, and 20 of version 6, which are used up first. The ninth network carries into the sixth
+/// 30 addresses of version 4, and 20 of version 6, which are used up first. The ninth prefix carries into the sixth
 /// octet.
 fn pools() -> Result<Pools, Fail> {
     let start = [0x20, 1, 0xd, 0xb8, 0, 0, 0xff, 0xf8, 0, 0, 0, 0, 0, 0, 0, 1];
     Ok(Pools {
         v4: Pool::try_new(0x0a01_0000, 30)?,
-        v6: Networks::try_new(start, 20)?,
+        v6: Prefixes::try_new(start, 20)?,
     })
 }
 

@@ -17,7 +17,7 @@ fn address_v4(pool: Pool, place: u32) -> [u8; 4] {
 
 /// The address of version 6 with this place: the first one as a number of 128 bits, and 2^64 more for each
 /// place.
-fn address_v6(pool: Networks, place: u32) -> [u8; 16] {
+fn address_v6(pool: Prefixes, place: u32) -> [u8; 16] {
     let first = u128::from_be_bytes(pool.start());
     first.wrapping_add(u128::from(place) << 64).to_be_bytes()
 }
@@ -131,7 +131,7 @@ impl Lists {
         None
     }
 
-    fn lowest_v6(&self, pool: Networks) -> Option<[u8; 16]> {
+    fn lowest_v6(&self, pool: Prefixes) -> Option<[u8; 16]> {
         for place in 0..pool.count() {
             let part = address_v6(pool, place);
             if !self.has_v6(part) {

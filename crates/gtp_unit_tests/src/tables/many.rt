@@ -15,7 +15,7 @@ fn part_v4(place: u32) -> [u8; 4] {
     0x0a01_0001u32.wrapping_add(place).to_be_bytes()
 }
 
-/// The address of version 6 with this place, from 2001:db8::1 on, one a network of 64 bits.
+/// The address of version 6 with this place, from 2001:db8::1 on, one a prefix of 64 bits.
 fn part_v6(place: u32) -> [u8; 16] {
     let [a, b, c, d] = place.to_be_bytes();
     [0x20, 1, 0xd, 0xb8, a, b, c, d, 0, 0, 0, 0, 0, 0, 0, 1]
@@ -30,7 +30,7 @@ fn address(place: u32) -> Addr {
 fn pools(v4: u32, v6: u32) -> Result<Pools, Fail> {
     Ok(Pools {
         v4: Pool::try_new(0x0a01_0001, v4)?,
-        v6: Networks::try_new(part_v6(0), v6)?,
+        v6: Prefixes::try_new(part_v6(0), v6)?,
     })
 }
 
@@ -64,7 +64,7 @@ fn the_limits_of_a_pool(rt: HostRuntime) -> Result<(), Fail> {
     Ok(())
 }
 
-/// The last network, and the one before it.
+/// The last prefix, and the one before it.
 const LAST: [u8; 16] = [0xff; 16];
 
 const LAST_BUT_ONE: [u8; 16] = [
@@ -72,13 +72,13 @@ const LAST_BUT_ONE: [u8; 16] = [
 ];
 
 #[test]
-fn the_limits_of_networks(rt: HostRuntime) -> Result<(), Fail> {
-    assert!(rt; Networks::try_new(LAST_BUT_ONE, 2).is_ok());
-    assert!(rt; Networks::try_new(LAST_BUT_ONE, 3) == Err(ValueFault::OutOfRange));
-    assert!(rt; Networks::try_new(LAST, 1).is_ok());
-    assert!(rt; Networks::try_new(LAST, 0).is_ok());
-    assert!(rt; Networks::try_new(part_v6(0), 65_536)?.count() == 65_536);
-    assert!(rt; Networks::try_new(part_v6(0), 65_537) == Err(ValueFault::OutOfRange));
+fn the_limits_of_prefixes(rt: HostRuntime) -> Result<(), Fail> {
+    assert!(rt; Prefixes::try_new(LAST_BUT_ONE, 2).is_ok());
+    assert!(rt; Prefixes::try_new(LAST_BUT_ONE, 3) == Err(ValueFault::OutOfRange));
+    assert!(rt; Prefixes::try_new(LAST, 1).is_ok());
+    assert!(rt; Prefixes::try_new(LAST, 0).is_ok());
+    assert!(rt; Prefixes::try_new(part_v6(0), 65_536)?.count() == 65_536);
+    assert!(rt; Prefixes::try_new(part_v6(0), 65_537) == Err(ValueFault::OutOfRange));
     Ok(())
 }
 
@@ -112,7 +112,7 @@ const BESIDE_A_THOUSAND: [(u32, u32, Asked, Option<u32>, Option<u32>); 8] = [
 ];
 
 /// Where pools begin that have a free address at their first place: 1,024 places below the addresses of the sessions,
-/// and with their networks, but other last octets.
+/// and with their prefixes, but other last octets.
 const FREE_AT_FIRST: [(u32, [u8; 16]); 2] = [
     (
         0x0a00_fc01,
@@ -135,7 +135,7 @@ fn first_are_free(
 ) -> Result<(), Fail> {
     let pools = Pools {
         v4: Pool::try_new(start_v4, 65_536)?,
-        v6: Networks::try_new(start_v6, 65_536)?,
+        v6: Prefixes::try_new(start_v6, 65_536)?,
     };
     let first = Addr::of(Some(start_v4.to_be_bytes()), Some(start_v6));
     assert!(rt; view.lowest_free_address(&pools, BOTH) == Ok(first));

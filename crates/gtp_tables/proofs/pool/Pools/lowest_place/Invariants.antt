@@ -4,5 +4,5 @@ use Rattle.gtp_tables.specs.Contexts.{takes}
 use Rattle.gtp_tables.specs.Free.{count_of, address_at}
 use Rattle.gtp_tables.proofs.pool.Pools.lowest_place.Given as goal
 
-abbrev pub invariant-loop-window : goal.invariant-loop-window
-invariant-loop-window l = (p : ℕ) → p < 1024 * l.window → p < count_of l.fn.self l.version → list_any (takes l.restarted l.version (address_at l.fn.self l.version p)) l.sessions ≡ true
+abbrev pub invariant-loop-turn : goal.invariant-loop-turn
+invariant-loop-turn l = (p : ℕ) → p < 1024 * l.turn → p < count_of l.fn.self l.version → list_any (takes l.restarted l.version (address_at l.fn.self l.version p)) l.sessions ≡ true
