@@ -6,7 +6,9 @@ pub enum Fault {
         held: usize,
     },
     Version(u8),
-    Piggyback,
+    Piggyback {
+        at: usize,
+    },
     Length {
         held: usize,
     },
@@ -34,12 +36,31 @@ pub enum Fault {
 }
 
 impl Fault {
+    /// The fault of a second message, its place counted from the start of the datagram.
+    pub fn moved(self, place: usize) -> Self {
+        match self {
+            Fault::Piggyback { at } => Fault::Piggyback { at: place + at },
+            Fault::Truncated { at } => Fault::Truncated { at: place + at },
+            Fault::ShortValue { kind, instance, at } => Fault::ShortValue {
+                kind,
+                instance,
+                at: place + at,
+            },
+            Fault::BadValue { kind, instance, at } => Fault::BadValue {
+                kind,
+                instance,
+                at: place + at,
+            },
+            fault => fault,
+        }
+    }
+
     /// The number by which the driver compares it with the fault of the library.
     pub fn code(self) -> u64 {
         let (which, kind, instance, place) = match self {
             Fault::Short { held } => (1, 0, 0, held),
             Fault::Version(version) => (2, version, 0, 0),
-            Fault::Piggyback => (3, 0, 0, 0),
+            Fault::Piggyback { at } => (3, 0, 0, at),
             Fault::Length { held } => (4, 0, 0, held),
             Fault::WrongHeader { kind } => (5, kind, 0, 0),
             Fault::Missing {

@@ -9,19 +9,19 @@ mod packets;
 mod values;
 
 use fault::Fault;
-use messages::{InPlace, Message, Owned};
+use messages::{Datagram, InPlace, Message, Owned};
 use packets::Packet;
 use std::hint::black_box;
 
 /// Not inlined, so that all of the answer is written to memory.
 #[inline(never)]
-fn viewed(octets: &[u8]) -> Result<Message<'_, InPlace>, Fault> {
+fn viewed(octets: &[u8]) -> Result<Datagram<'_, InPlace>, Fault> {
     messages::read(octets)
 }
 
 /// Not inlined, for the same reason.
 #[inline(never)]
-fn decoded(octets: &[u8]) -> Result<Message<'_, Owned>, Fault> {
+fn decoded(octets: &[u8]) -> Result<Datagram<'_, Owned>, Fault> {
     messages::read(octets)
 }
 
@@ -54,7 +54,7 @@ unsafe fn slice_of<'a>(octets: *const u8, len: usize) -> &'a [u8] {
 #[unsafe(no_mangle)]
 pub unsafe extern "C" fn baseline_view(octets: *const u8, len: usize) -> u64 {
     match black_box(&viewed(unsafe { slice_of(octets, len) })) {
-        Ok(message) => 1 + u64::from(message.seq),
+        Ok(datagram) => 1 + u64::from(datagram.message.seq),
         Err(_) => 0,
     }
 }
@@ -66,7 +66,7 @@ pub unsafe extern "C" fn baseline_view(octets: *const u8, len: usize) -> u64 {
 #[unsafe(no_mangle)]
 pub unsafe extern "C" fn baseline_decode(octets: *const u8, len: usize) -> u64 {
     match black_box(&decoded(unsafe { slice_of(octets, len) })) {
-        Ok(message) => 1 + u64::from(message.seq) + message.members() as u64,
+        Ok(datagram) => 1 + u64::from(datagram.message.seq) + datagram.message.members() as u64,
         Err(_) => 0,
     }
 }
@@ -101,7 +101,7 @@ fn encode_often(octets: &[u8], times: u32, mut encode: impl FnMut() -> Option<Ve
 pub unsafe extern "C" fn baseline_encode(octets: *const u8, len: usize, times: u32) -> u64 {
     let octets = unsafe { slice_of(octets, len) };
     match decoded(octets) {
-        Ok(message) => encode_often(octets, times, || encoded(black_box(&message))),
+        Ok(datagram) => encode_often(octets, times, || encoded(black_box(&datagram.message))),
         Err(_) => 0,
     }
 }

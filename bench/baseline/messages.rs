@@ -674,17 +674,18 @@ struct Header<'a> {
     list: Elements<'a>,
 }
 
+/// The header of a message whose first octet is given apart from the others.
 #[inline]
-fn read_header(octets: &[u8]) -> Result<Header<'_>, Fault> {
-    let [flags, kind, high, low, rest @ ..] = octets else {
+fn read_header(flags: u8, octets: &[u8]) -> Result<Header<'_>, Fault> {
+    let [_, kind, high, low, rest @ ..] = octets else {
         return Err(Fault::Short { held: octets.len() });
     };
-    let (flags, kind) = (*flags, *kind);
+    let kind = *kind;
     if flags >> 5 != 2 {
         return Err(Fault::Version(flags >> 5));
     }
     if flags & 0x10 != 0 {
-        return Err(Fault::Piggyback);
+        return Err(Fault::Piggyback { at: 0 });
     }
     if usize::from(u16::from_be_bytes([*high, *low])) != rest.len() {
         return Err(Fault::Length { held: rest.len() });
@@ -748,9 +749,15 @@ fn read_body<'a, K: Keep<'a>>(header: &Header<'a>) -> Result<Body<'a, K>, Fault>
     }
 }
 
+/// One message, or two, of which the first announces the second.
+pub struct Datagram<'a, K: Keep<'a>> {
+    pub message: Message<'a, K>,
+    pub second: Option<Message<'a, K>>,
+}
+
 #[inline]
-pub fn read<'a, K: Keep<'a>>(octets: &'a [u8]) -> Result<Message<'a, K>, Fault> {
-    let header = read_header(octets)?;
+fn read_message<'a, K: Keep<'a>>(flags: u8, octets: &'a [u8]) -> Result<Message<'a, K>, Fault> {
+    let header = read_header(flags, octets)?;
     let body = read_body(&header)?;
     Ok(Message {
         teid: header.teid,
@@ -758,6 +765,39 @@ pub fn read<'a, K: Keep<'a>>(octets: &'a [u8]) -> Result<Message<'a, K>, Fault> 
         priority: header.priority,
         body,
     })
+}
+
+/// The second message, at a place.
+fn read_second<'a, K: Keep<'a>>(octets: &'a [u8], at: usize) -> Result<Message<'a, K>, Fault> {
+    let Some(flags) = octets.first() else {
+        return Err(Fault::Piggyback { at });
+    };
+    read_message(*flags, octets).map_err(|fault| fault.moved(at))
+}
+
+fn read_pair<'a, K: Keep<'a>>(octets: &'a [u8], stated: usize) -> Result<Datagram<'a, K>, Fault> {
+    let Some((front, back)) = octets.split_at_checked(4 + stated) else {
+        return Err(Fault::Length {
+            held: octets.len() - 4,
+        });
+    };
+    Ok(Datagram {
+        message: read_message(front[0] - 0x10, front)?,
+        second: Some(read_second(back, front.len())?),
+    })
+}
+
+#[inline]
+pub fn read<'a, K: Keep<'a>>(octets: &'a [u8]) -> Result<Datagram<'a, K>, Fault> {
+    match octets {
+        [flags, _, high, low, ..] if flags >> 4 == 5 => {
+            read_pair(octets, usize::from(u16::from_be_bytes([*high, *low])))
+        }
+        _ => Ok(Datagram {
+            message: read_message(octets.first().copied().unwrap_or(0), octets)?,
+            second: None,
+        }),
+    }
 }
 
 impl<'a, K: Keep<'a>> Message<'a, K> {

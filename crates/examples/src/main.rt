@@ -24,7 +24,8 @@ const FIRST: [u8; 16] = [0x20, 1, 0xd, 0xb8, 0, 0, 0, 0, 0, 0, 0, 0, 0, 0, 0, 1]
 
 /// The subscriber of a Create Session Request; nothing if the datagram holds another message.
 fn subscriber(octets: &[u8]) -> anyhow::Result<Option<Imsi>> {
-    let message = view(octets)?; // allocates nothing; an error is the first fault
+    let datagram = view(octets)?; // allocates nothing; an error is the first fault
+    let message = datagram.message();
     if message.kind() != CREATE_SESSION_REQUEST {
         return Ok(None);
     }
@@ -63,6 +64,17 @@ fn packet_gateway(alloc: Global, own: Ip, peer: Ip) -> anyhow::Result<Gateway> {
     Ok(Gateway::start(alloc, Role::Packet, &config, Counter(1))?)
 }
 
+/// The sessions of a gateway, each with its address.
+fn print_sessions(rt: &impl Print, gateway: &Gateway) -> anyhow::Result<()> {
+    for (teid, session) in gateway.sessions() {
+        println!(rt; "session {teid} {}", session.subscriber.imsi)?;
+        if let Some(address) = session.address {
+            println!(rt; "address {address}")?;
+        }
+    }
+    Ok(())
+}
+
 /// Hands a request of the serving gateway to a packet gateway, and prints what it does.
 fn exchange(rt: &impl Print, alloc: Global, request: &[u8]) -> anyhow::Result<()> {
     let (own, peer) = (Ip::V4([10, 0, 0, 2]), Ip::V4([10, 0, 0, 1]));
@@ -77,13 +89,7 @@ fn exchange(rt: &impl Print, alloc: Global, request: &[u8]) -> anyhow::Result<()
     if let Some(sent) = step.out {
         println!(rt; "to {} {}", sent.to.ip, hex::encode(alloc, &sent.octets)?)?; // your socket sends it
     }
-    for (teid, session) in gateway.sessions() {
-        println!(rt; "session {teid} {}", session.subscriber.imsi)?;
-        if let Some(address) = session.address {
-            println!(rt; "address {address}")?;
-        }
-    }
-    Ok(())
+    print_sessions(rt, &gateway)
 }
 
 fn main(rt: HostRuntime) -> anyhow::Result<()> {

@@ -1,4 +1,4 @@
-//! The libraries under one name, for callers: both codecs, a gateway, and a simulated network of two gateways. Contracts
+//! The libraries under one name, for callers: both codecs, captures, a gateway, and a simulated network of two gateways. Contracts
 //! and documentation are those of the items that are named here.
 #![tactic(auto)]
 
@@ -11,9 +11,10 @@ pub mod control {
         CreateBearerResponse, CreateSessionRequest, CreateSessionResponse, Datagram, DatagramView,
         DeleteBearerRequest, DeleteBearerResponse, DeleteSessionRequest, DeleteSessionResponse,
         EbiValue, EchoRequest, EchoResponse, FTeid, Head, IeFault, Imsi, Listed, MISSING_ELEMENT,
-        Message, Offending, OtherPdnType, Paa, PdnType, Plmn, Pti, Qos, Rat, Rate, Rates, Recovery,
-        RemovalResponseContext, Selection, Seq, SessionRequestContext, SessionResponseContext,
-        Teid, Tft, V2Fault, Values, VersionNotSupported, decode, encode, kinds, type_name, view,
+        Message, MessageView, Offending, OtherPdnType, Paa, PdnType, Plmn, Pti, Qos, Rat, Rate,
+        Rates, Recovery, RemovalResponseContext, Selection, Seq, SessionRequestContext,
+        SessionResponseContext, Teid, Tft, V2Fault, Values, VersionNotSupported, decode, encode,
+        encode_pair, kinds, pair, type_name, view,
     };
 }
 
@@ -22,6 +23,13 @@ pub mod user {
     pub use gtp_user::{
         ExtensionHeader, ExtensionHeaders, Extensions, Ip, Teid, UserBody, UserFault, UserMessage,
         decode, encode, kinds,
+    };
+}
+
+/// Packet captures (pcap): read the GTP datagrams of one.
+pub mod capture {
+    pub use gtp_capture::{
+        CaptureFault, Captured, Packet, Refused, Sink, Stop, Time, Unit, read_capture, read_packet,
     };
 }
 

@@ -27,10 +27,10 @@ use Rattle.gtp_gateway.specs.Station.{Station}
 use Rattle.gtp_gateway.proofs.Rows.{answers_made}
 use Rattle.gtp_gateway.proofs.Weighing.{counter_stays, config_stays}
 
-pub answered_so : (Takes : Node → Effect → Type 0) (source : Endpoint) (octets : List ℕ) (m : Message) (cause : ℕ) (made : Bool) (left heard : Node) (old : Station) (step : ControlStep) (new : Station) → heard.config ≡ old.node.config → IsAnsweredSo source octets m cause made left old step new → Takes heard (answering made (arrival_of source octets) m cause left)
+pub answered_so : (Takes : Node → Effect → Type 0) (source : Endpoint) (octets : List ℕ) (answer : List Message) (cause : ℕ) (made : Bool) (left heard : Node) (old : Station) (step : ControlStep) (new : Station) → heard.config ≡ old.node.config → IsAnsweredSo source octets answer cause made left old step new → Takes heard (answering made (arrival_of source octets) answer cause left)
     → IsRow Takes (arrival_of source octets) old.role heard step new
-answered_so Takes source octets m cause made left heard old step new config a takes =
-    answers_made Takes (arrival_of source octets) (record old { node = heard }) new step a.sent m cause made left a.is (a.goes ∙ ap (λ (c : Config). datagram_of c (record { destination = source; message = m })) (sym config)) a.read a.becomes a.role takes
+answered_so Takes source octets answer cause made left heard old step new config a takes =
+    answers_made Takes (arrival_of source octets) (record old { node = heard }) new step a.sent answer cause made left a.is (a.goes ∙ ap (λ (c : Config). datagram_of c (record { destination = source; messages = answer })) (sym config)) a.read a.becomes a.role takes
 
 module _ (r : SessionRequest) (q : CreateSessionRequest) (says : SaysSession r q) (heard : Heard) (node : Node) where
   abbrev left : Node

@@ -6,7 +6,7 @@ use Rattle.gtp_values.specs.FiniteMap.{Among}
 use Rattle.gtp_reliable.specs.Held.{HeldPair, IsHeld, HasAnswer}
 use Rattle.gtp_machine.specs.Node.{Arrival, Held}
 use Rattle.gtp_gateway.specs.Parts.{arrival_of, held_of}
-use Rattle.gtp_gateway.specs.Spelled.{message_in}
+use Rattle.gtp_gateway.specs.Spelled.{messages_in}
 
 -- one more answer
 pub held_push : (ps : List HeldPair) (p : HeldPair) (h : Held) → held_of p ≡ h → map held_of (ps ++ p ∷ []) ≡ map held_of ps ++ (h ∷ [])
@@ -17,11 +17,11 @@ pub record Repeated (held : List Held) (request : Arrival) (octets : List ℕ) :
   pub pair : Held
   pub stands : Among pair held
   pub same : pair.request ≡ request
-  pub answer : pair.answer ≡ message_in octets
+  pub answer : pair.answer ≡ messages_in octets
 
 pub repeats : (ps : List HeldPair) (source : Endpoint) (request answer : List ℕ) → HasAnswer source request answer ps → Repeated (map held_of ps) (arrival_of source request) answer
 repeats [] source request answer has = absurd has
-repeats (p ∷ ps) source request answer (inl here) = record { pair = held_of p; stands = inl refl; same = λ i. arrival_of (here.0.0 i) (here.0.1 i); answer = ap message_in here.1 }
+repeats (p ∷ ps) source request answer (inl here) = record { pair = held_of p; stands = inl refl; same = λ i. arrival_of (here.0.0 i) (here.0.1 i); answer = ap messages_in here.1 }
 repeats (p ∷ ps) source request answer (inr there) =
     let later = repeats ps source request answer there in
     record { pair = later.pair; stands = inr later.stands; same = later.same; answer = later.answer }

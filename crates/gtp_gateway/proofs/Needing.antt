@@ -77,12 +77,12 @@ bearer_judged request r old active e (inr (a, inr (b, inr (c, inr (d, inl f)))))
 bearer_judged request r old active e (inr (a, inr (b, inr (c, inr (d, inr (g, makes)))))) = sends (λ none. cc) makes.gives
 
 -- so it is where the request is answered
-bearer_open : (request : Arrival) (r : CreateBearerRequest) (old : Node) (made : _) (m : Message) (cause : ℕ) (left : Node) → BearerJudged request r old (answering made request m cause left) → IsOpen old r.header
+bearer_open : (request : Arrival) (r : CreateBearerRequest) (old : Node) (made : _) (m : Message) (cause : ℕ) (left : Node) → BearerJudged request r old (answering made request (m ∷ []) cause left) → IsOpen old r.header
 bearer_open request r old made m cause left (inl f) at = absurd (f.0 at)
-bearer_open request r old made m cause left (inr (a, inl f)) at = absurd (let none : (record { destination = request.source; message = m } ∷ []) ≡ [] = ap (λ (x : Effect). x.out.sent) f.1 in cc)
+bearer_open request r old made m cause left (inr (a, inl f)) at = absurd (let none : (record { destination = request.source; messages = m ∷ [] } ∷ []) ≡ [] = ap (λ (x : Effect). x.out.sent) f.1 in cc)
 bearer_open request r old made m cause left (inr (a, inr (active, rest))) at = subst (λ (s : Session). s.state ≡ Active) (one_value (get old.sessions r.header) a.session at.session a.stands at.stands) active
 
-pub bearer_asked : (request : Arrival) (r : CreateBearerRequest) (old : Node) (made : _) (m : Message) (cause : ℕ) (left : Node) → HasHeldRoom old → BearerJudged request r old (answering made request m cause left) → AlwaysSendsOrOpens (BearerAsked request r) old
+pub bearer_asked : (request : Arrival) (r : CreateBearerRequest) (old : Node) (made : _) (m : Message) (cause : ℕ) (left : Node) → HasHeldRoom old → BearerJudged request r old (answering made request (m ∷ []) cause left) → AlwaysSendsOrOpens (BearerAsked request r) old
 bearer_asked request r old made m cause left room judged e (inl f) = absurd (f.0 room)
 bearer_asked request r old made m cause left room judged e (inr (few, is)) = bearer_judged request r old (bearer_open request r old made m cause left judged) e is
 
@@ -104,7 +104,7 @@ removal_judged request d old opened e (inr (a, inr (b, taken))) = removal_taken 
 -- so it was where the request is answered
 pub removal_opened : (request : Arrival) (d : DeleteBearerRequest) (old : Node) (m : Message) (cause : ℕ) (left : Node) → RemovalJudged request d old (answered request m cause left) → WasOpened old d.header
 removal_opened request d old m cause left (inl f) at = absurd (f.0 at)
-removal_opened request d old m cause left (inr (a, inl f)) at = absurd (let none : (record { destination = request.source; message = m } ∷ []) ≡ [] = ap (λ (x : Effect). x.out.sent) f.1 in cc)
+removal_opened request d old m cause left (inr (a, inl f)) at = absurd (let none : (record { destination = request.source; messages = m ∷ [] } ∷ []) ≡ [] = ap (λ (x : Effect). x.out.sent) f.1 in cc)
 removal_opened request d old m cause left (inr (a, inr (opened, rest))) at = subst (λ (s : Session). s.state ≡ Pending → ⊥) (one_value (get old.sessions d.header) a.session at.session a.stands at.stands) opened
 
 pub removal_asked : (request : Arrival) (d : DeleteBearerRequest) (old : Node) → HasHeldRoom old → WasOpened old d.header → AlwaysSendsOrOpens (RemovalAsked request d) old

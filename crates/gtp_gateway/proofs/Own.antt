@@ -1,5 +1,5 @@
 -- Messages of a gateway's own are sent as they are spelled, and read as they are.
-use Rattle.std.proofs.Common.{◌≡◌, ℕ, ◌+◌, ◌≤◌, List, Some, None, length, sym, ◌∙◌, ap, subst, arith}
+use Rattle.std.proofs.Common.{◌≡◌, ℕ, ◌+◌, ◌≤◌, List, [], ◌∷◌, Some, None, length, sym, ◌∙◌, ap, subst, arith}
 use Rattle.gtp_values.specs.declared.address.Ip.{Ip}
 use Rattle.gtp_v2.specs.declared.message.Message as decoded
 use Rattle.gtp_v2.specs.Body.{message_value}
@@ -11,11 +11,12 @@ use Rattle.gtp_user.specs.Message as user_messages
 use Rattle.gtp_user.specs.Encoding.{octets_of, encoding, options_encoding, content_encoding}
 use Rattle.gtp_machine.specs.Input.{Control_message, User_message}
 use Rattle.gtp_machine.specs.Message.{Plane}
-use Rattle.gtp_machine.specs.Reading.{control_message, user_message, ControlReads, UserReads}
-use Rattle.gtp_machine.specs.Spelling.{ReadsAs, spelled_on, spelled, plain_user}
+use Rattle.gtp_machine.specs.Reading.{control_message, user_message, Alone, DatagramReads, UserReads}
+use Rattle.gtp_machine.specs.Spelling.{spelled_on, spelled, plain_user}
 use Rattle.gtp_machine.proofs.Octets.ByGrammar.{decoded_reads, user_decoded_reads}
+use Rattle.gtp_machine.proofs.Octets.Datagrams.{message_reads_alone}
 use Rattle.gtp_gateway.specs.Own.{IsOwn, IsUserOwn}
-use Rattle.gtp_gateway.specs.Sent.{ReadsBack}
+use Rattle.gtp_gateway.specs.Sent.{ReadsBackOn, ReadsBack}
 use Rattle.gtp_gateway.specs.Spelled.{message_read, message_in, AreSpelled}
 
 pub own_spelled : (m : decoded.Message) → IsOwn m → canonical_encoding (message_value m) ≡ spelled (control_message m)
@@ -26,10 +27,10 @@ unfolding message_in
 own_read octets m is = ap message_read (sym (decoded_reads octets m is))
 
 -- octets that are written of the message read as it, and can be kept
-pub own_back : (octets : List ℕ) (m : decoded.Message) → IsOwn m → octets ≡ canonical_encoding (message_value m) → IsMessage octets (message_value m) → ReadsBack (control_message m)
+pub own_back : (octets : List ℕ) (m : decoded.Message) → IsOwn m → octets ≡ canonical_encoding (message_value m) → IsMessage octets (message_value m) → ReadsBack (control_message m ∷ [])
 own_back octets m own written is =
-    subst (λ (p : Plane). ReadsAs p (spelled (control_message m)) (control_message m)) (sym own.control)
-    (subst (λ (o : List ℕ). ControlReads o (Control_message (control_message m))) (written ∙ own_spelled m own) (decoded_reads octets m is))
+    subst (λ (p : Plane). ReadsBackOn p (control_message m ∷ [])) (sym own.control)
+    (subst (λ (o : List ℕ). DatagramReads o (Alone (Control_message (control_message m)))) (written ∙ own_spelled m own) (message_reads_alone octets (control_message m) (decoded_reads octets m is)))
 
 pub own_kept : (octets : List ℕ) (m : decoded.Message) → IsOwn m → octets ≡ canonical_encoding (message_value m) → IsMessage octets (message_value m) → AreSpelled octets
 own_kept octets m own written is =
@@ -41,9 +42,9 @@ own_kept octets m own written is =
 pub user_own_spelled : (m : UserMessage) → IsUserOwn m → encoding (user_messages.message_value m) ≡ spelled (user_message m)
 user_own_spelled m own = ap encoding own.says ∙ sym (ap (λ p. spelled_on p (user_message m)) own.user)
 
-pub user_own_back : (octets : List ℕ) (m : UserMessage) → IsUserOwn m → octets ≡ encoding (user_messages.message_value m) → IsUserMessage octets (user_messages.message_value m) → ReadsBack (user_message m)
+pub user_own_back : (octets : List ℕ) (m : UserMessage) → IsUserOwn m → octets ≡ encoding (user_messages.message_value m) → IsUserMessage octets (user_messages.message_value m) → ReadsBack (user_message m ∷ [])
 user_own_back octets m own written is =
-    subst (λ (p : Plane). ReadsAs p (spelled (user_message m)) (user_message m)) (sym own.user)
+    subst (λ (p : Plane). ReadsBackOn p (user_message m ∷ [])) (sym own.user)
     (subst (λ (o : List ℕ). UserReads o (User_message (user_message m))) (written ∙ user_own_spelled m own) (user_decoded_reads octets m is))
 
 pub packet_short : (teid : ℕ) (payload : List ℕ) → length payload ≤ 65000 → length (encoding (plain_user None (user_messages.Packet teid payload))) ≤ 65535 + 8

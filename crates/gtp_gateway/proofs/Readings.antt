@@ -1,9 +1,11 @@
 -- What is read on the control plane is of the control plane.
-use Rattle.std.proofs.Common.{◌≡◌, ℕ, Bool, true, false, List, [], ◌∷◌, Result, Ok, Err, refl}
+use Rattle.std.proofs.Common.{◌≡◌, ℕ, Bool, true, false, List, [], ◌∷◌, Option, Some, None, Result, Ok, Err, refl}
 use Rattle.std.specs.Prelude.{◌==◌, if◌then◌else◌}
 use Rattle.gtp_v2.specs.Table.{Field}
 use Rattle.gtp_v2.specs.Message.{Content, Fields, Raw, MessageValue}
+use Rattle.gtp_v2.specs.Pair.{DatagramValue}
 use Rattle.gtp_v2.specs.reading.Message.{message_at}
+use Rattle.gtp_v2.specs.reading.Pair.{datagram_at}
 use Rattle.gtp_v2.specs.declared.fault.V2Fault.{V2Fault}
 use Rattle.gtp_ie.specs.Value.{Value}
 use Rattle.gtp_v2.specs.CreateSessionRequest.{create_session_request}
@@ -11,7 +13,8 @@ use Rattle.gtp_v2.specs.CreateBearerRequest.{create_bearer_request}
 use Rattle.gtp_machine.specs.Message.{Message, Control, plane_of}
 use Rattle.gtp_machine.specs.Decoded.{contexts_in, session_request_in, bearer_request_in, message_in, content_message, message_of}
 use Rattle.gtp_machine.specs.Input.{ControlReading, Control_message, Faulty, Control_fault}
-use Rattle.gtp_machine.specs.Reading.{control_fault, control_reading_of}
+use Rattle.gtp_machine.specs.Reading.{control_fault, control_reading_of, Alone, announces, messages_read, pair_reading_of}
+use Rattle.gtp_machine.specs.Spelling.{datagram_plane}
 use Rattle.gtp_machine.proofs.Octets.Faults.{IsFault, fault_is}
 use Rattle.gtp_gateway.specs.Spelled as kept
 
@@ -60,6 +63,19 @@ outcome (Err fault) = faulty (control_fault fault) (fault_is fault)
     faulty (Faulty f) is = refl
     faulty (Control_fault fault) is = refl
 
-pub control_kept : (octets : List ℕ) → plane_of (kept.message_in octets) ≡ Control
-unfolding kept.message_in
-control_kept octets = outcome (message_at octets)
+-- so is what the outcome of reading a datagram says, where it may be of two messages
+both : (first : MessageValue) (second : Option MessageValue) → datagram_plane (kept.those_read (messages_read first second)) ≡ Control
+both first None = message first
+both first (Some second) = message first
+
+pair : (r : Result DatagramValue V2Fault) → datagram_plane (kept.those_read (pair_reading_of r)) ≡ Control
+pair (Ok d) = both d.first d.second
+pair (Err fault) = refl
+
+datagram : (announced : Bool) (r : Result DatagramValue V2Fault) (one : Result MessageValue V2Fault) → datagram_plane (kept.those_read (if announced then pair_reading_of r else Alone (control_reading_of one))) ≡ Control
+datagram true r one = pair r
+datagram false r one = outcome one
+
+pub control_kept : (octets : List ℕ) → datagram_plane (kept.messages_in octets) ≡ Control
+unfolding kept.messages_in
+control_kept octets = datagram (announces octets) (datagram_at octets) (message_at octets)

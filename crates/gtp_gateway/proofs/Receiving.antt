@@ -7,9 +7,9 @@ use Rattle.gtp_values.specs.declared.address.Endpoint.{Endpoint}
 use Rattle.gtp_machine.specs.Message.{Plane, Control, User}
 use Rattle.gtp_machine.specs.Input.{Out, nothing}
 use Rattle.gtp_machine.specs.Sound.{IsSound, IsWellFormed}
-use Rattle.gtp_machine.specs.Reading.{control_reading}
+use Rattle.gtp_machine.specs.Reading.{datagram_reading}
 use Rattle.gtp_machine.proofs.Sound.Rows.{stays_sound}
-use Rattle.gtp_machine.proofs.Sound.Reads.{reads_whole}
+use Rattle.gtp_machine.proofs.Sound.Reads.{taken_whole}
 use Rattle.gtp_gateway.specs.declared.step.Report.{Report}
 use Rattle.gtp_gateway.specs.declared.step.Step.{Step}
 use Rattle.gtp_gateway.specs.declared.control_step.ControlStep.{ControlStep}
@@ -66,7 +66,7 @@ module _ (plane : Plane) (source : Endpoint) (octets : List ℕ) (old new : Stat
   as_stays = accepted_stays source octets old step new as_taken
 
 formed : (plane : Plane) (source : Endpoint) (octets : List ℕ) → IsWellFormed (coming plane source octets)
-formed Control source octets = reads_whole (arrival_of source octets) (control_reading octets) refl
+formed Control source octets = taken_whole (arrival_of source octets) (datagram_reading octets) refl
 formed User source octets = tt
 
 -- what a datagram leaves is sound: it was a step, or changed nothing

@@ -36,7 +36,7 @@ again_in t3 n3 ws = filter_map (sent_again t3 n3) ws
 
 -- what the machine sends for one
 abbrev pub sending_again : Config → reliable.Message → Sending
-sending_again config m = record { destination = control_end config.peer.control; message = message_in m.octets }
+sending_again config m = record { destination = control_end config.peer.control; messages = message_in m.octets ∷ [] }
 
 -- a request is one of those that wait
 record IsOf (ws : List (Waiting Purpose)) (m : reliable.Message) : Type 0 where
@@ -149,13 +149,13 @@ resent config t3 n3 ws each = same_each (datagram_again config) (λ m. datagram_
     twice (m ∷ ms) = λ i. datagram_of config (sending_again config m) ∷ twice ms i
 
 -- a request that waits reads back
-asked_back : (peer : Ip) (ws : List (Waiting Purpose)) (m : reliable.Message) → AreAsked peer ws → IsOf ws m → ReadsBack (message_in m.octets)
+asked_back : (peer : Ip) (ws : List (Waiting Purpose)) (m : reliable.Message) → AreAsked peer ws → IsOf ws m → ReadsBack (message_in m.octets ∷ [])
 asked_back peer ws m each of =
     let w = of.waiting in
     let asked = asked_there peer ws w (recursion_from_All (IsAsked peer) ws each) of.among in
-    subst (λ (x : reliable.Message). ReadsBack (message_in x.octets)) (sym of.is) (kept_back w.octets (on_control w.purpose (message_in w.octets) asked.purpose) asked.octets)
+    subst (λ (x : reliable.Message). ReadsBack (message_in x.octets ∷ [])) (sym of.is) (kept_back w.octets (on_control w.purpose (message_in w.octets) asked.purpose) asked.octets)
 
-all_back : (config : Config) (ms : List reliable.Message) → ((m : reliable.Message) → Among m ms → ReadsBack (message_in m.octets)) → All SendingReads (map (sending_again config) ms)
+all_back : (config : Config) (ms : List reliable.Message) → ((m : reliable.Message) → Among m ms → ReadsBack (message_in m.octets ∷ [])) → All SendingReads (map (sending_again config) ms)
 all_back config [] each = All-nil SendingReads
 all_back config (m ∷ ms) each = All-cons SendingReads (sending_again config m) (map (sending_again config) ms) (each m (inl refl)) (all_back config ms (λ k among. each k (inr among)))
 

@@ -1,5 +1,5 @@
 -- What a step that sends nothing comes to, as a row of the machine.
-use Rattle.std.proofs.Common.{◌≡◌, inl, inr, ℕ, Bool, true, false, List, Option, None, Some, option_map, refl, sym, ◌∙◌, subst}
+use Rattle.std.proofs.Common.{◌≡◌, inl, inr, ℕ, Bool, true, false, List, [], ◌∷◌, Option, None, Some, option_map, refl, sym, ◌∙◌, subst}
 use Rattle.gtp_machine.specs.Node.{Arrival, Node, holding}
 use Rattle.gtp_values.specs.declared.address.Endpoint.{Endpoint}
 use Rattle.gtp_values.specs.declared.counter.Counter.{Counter}
@@ -9,7 +9,7 @@ use Rattle.gtp_machine.specs.declared.role.Role.TheVariants.{Serving, Packet}
 use Rattle.gtp_machine.specs.Message.{Message, recovery_of}
 use Rattle.gtp_machine.specs.Answer.{IsNew, answered}
 use Rattle.gtp_machine.specs.Recovery.{Hears, learned_by}
-use Rattle.gtp_machine.specs.Reading.{control_reading}
+use Rattle.gtp_machine.specs.Reading.{datagram_reading, taken_as}
 use Rattle.gtp_machine.specs.Spelling.{datagram_of}
 use Rattle.gtp_machine.specs.Step.{Step as MachineStep}
 use Rattle.gtp_machine.specs.Input.{Came_to, Effect, ControlReading, Control_message, Control_came, nothing, dropped}
@@ -53,22 +53,22 @@ ends Takes request old new step outcome node is becomes role takes =
     })
 
 -- an answer that is held, for a request for which a context may have been made
-pub answers_made : (Takes : Node → Effect → Type 0) (request : Arrival) (old new : Station) (step : ControlStep) (sent : Sent) (m : Message) (cause : ℕ) (made : Bool) (node : Node) → step ≡ record { out = Some sent; report = record (plain_report (Answered cause)) { made = made } } → datagram_by sent ≡ datagram_of old.node.config (record { destination = request.source; message = m }) → ReadsBack m → new.node ≡ holding request m node → new.role ≡ old.role
-    → Takes old.node (answering made request m cause node) → IsRow Takes request old.role old.node step new
-answers_made Takes request old new step sent m cause made node is goes back becomes role takes =
+pub answers_made : (Takes : Node → Effect → Type 0) (request : Arrival) (old new : Station) (step : ControlStep) (sent : Sent) (answer : List Message) (cause : ℕ) (made : Bool) (node : Node) → step ≡ record { out = Some sent; report = record (plain_report (Answered cause)) { made = made } } → datagram_by sent ≡ datagram_of old.node.config (record { destination = request.source; messages = answer }) → ReadsBack answer → new.node ≡ holding request answer node → new.role ≡ old.role
+    → Takes old.node (answering made request answer cause node) → IsRow Takes request old.role old.node step new
+answers_made Takes request old new step sent answer cause made node is goes back becomes role takes =
     subst (λ (t : ControlStep). IsRow Takes request old.role old.node t new) (sym is)
     (record {
-      effect = answering made request m cause node;
+      effect = answering made request answer cause node;
       takes = takes;
-      tells = record { sent = one_sent old.node.config (datagram_by sent) (record { destination = request.source; message = m }) goes back; outcome = refl; made = refl; heard = refl; learned = refl; untold = refl; unlearned = refl; all = refl };
+      tells = record { sent = one_sent old.node.config (datagram_by sent) (record { destination = request.source; messages = answer }) goes back; outcome = refl; made = refl; heard = refl; learned = refl; untold = refl; unlearned = refl; all = refl };
       becomes = becomes;
       role_stays = role;
     })
 
 -- the same, where none was made
-pub answers : (Takes : Node → Effect → Type 0) (request : Arrival) (old new : Station) (step : ControlStep) (sent : Sent) (m : Message) (cause : ℕ) (node : Node) → step ≡ record { out = Some sent; report = plain_report (Answered cause) } → datagram_by sent ≡ datagram_of old.node.config (record { destination = request.source; message = m }) → ReadsBack m → new.node ≡ holding request m node → new.role ≡ old.role → Takes old.node (answered request m cause node)
+pub answers : (Takes : Node → Effect → Type 0) (request : Arrival) (old new : Station) (step : ControlStep) (sent : Sent) (m : Message) (cause : ℕ) (node : Node) → step ≡ record { out = Some sent; report = plain_report (Answered cause) } → datagram_by sent ≡ datagram_of old.node.config (record { destination = request.source; messages = m ∷ [] }) → ReadsBack (m ∷ []) → new.node ≡ holding request (m ∷ []) node → new.role ≡ old.role → Takes old.node (answered request m cause node)
     → IsRow Takes request old.role old.node step new
-answers Takes request old new step sent m cause node is goes back becomes role takes = answers_made Takes request old new step sent m cause false node is goes back becomes role takes
+answers Takes request old new step sent m cause node is goes back becomes role takes = answers_made Takes request old new step sent (m ∷ []) cause false node is goes back becomes role takes
 
 -- a row of one kind, at a gateway that has heard the counter, as a row of another
 pub as_row : (T U : Node → Effect → Type 0) (request : Arrival) (role there : Role) (old heard : Node) (step : ControlStep) (new : Station) → there ≡ role → heard ≡ old → ((node : Node) (e : Effect) → T node e → U node e) → IsRow T request there heard step new → IsRow U request role old step new
@@ -127,7 +127,7 @@ told_node None known e = refl
 told_node (Some counter) known e = refl
 
 -- a row, once the counter was heard, is a step on what the octets read as
-pub row_taken : (source : Endpoint) (octets : List ℕ) (old : Station) (m : Message) (recovery : Option Counter) (step : ControlStep) (new : Station) → source.ip ≡ old.node.config.peer.control → IsNew old.node (arrival_of source octets) → control_reading octets ≡ Control_message m → takes_by old.role m ≡ true
+pub row_taken : (source : Endpoint) (octets : List ℕ) (old : Station) (m : Message) (recovery : Option Counter) (step : ControlStep) (new : Station) → source.ip ≡ old.node.config.peer.control → IsNew old.node (arrival_of source octets) → taken_as (datagram_reading octets) ≡ Control_message m → takes_by old.role m ≡ true
     → option_map (λ (c : Counter). c.0) recovery ≡ recovery_of m → (IsEarlier (weighed_by recovery old.node.known) → ⊥) → IsHeardRow (arrival_of source octets) m (weighed_by recovery old.node.known) old step new
     → IsTaken source octets old (record step { report = report_heard (weighed_by recovery old.node.known) step.report }) new
 row_taken source octets old m recovery step new peer fresh reads takes counter on row =
@@ -143,7 +143,7 @@ row_taken source octets old m recovery step new peer fresh reads takes counter o
     }
 
 -- a message with a counter of an earlier start is dropped
-pub early_taken : (source : Endpoint) (octets : List ℕ) (old : Station) (m : Message) (recovery : Option Counter) → source.ip ≡ old.node.config.peer.control → IsNew old.node (arrival_of source octets) → control_reading octets ≡ Control_message m → takes_by old.role m ≡ true
+pub early_taken : (source : Endpoint) (octets : List ℕ) (old : Station) (m : Message) (recovery : Option Counter) → source.ip ≡ old.node.config.peer.control → IsNew old.node (arrival_of source octets) → taken_as (datagram_reading octets) ≡ Control_message m → takes_by old.role m ≡ true
     → option_map (λ (c : Counter). c.0) recovery ≡ recovery_of m → IsEarlier (weighed_by recovery old.node.known)
     → IsTaken source octets old (record { out = None; report = report_heard (weighed_by recovery old.node.known) (plain_report (Dropped OldCounter)) }) old
 early_taken source octets old m recovery peer fresh reads takes counter early =

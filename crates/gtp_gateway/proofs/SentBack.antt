@@ -11,5 +11,5 @@ pub none_sent : (config : Config) → AreSent config [] []
 none_sent config = record { octets = refl; read = All-nil SendingReads }
 
 -- one datagram is sent
-pub one_sent : (config : Config) (d : Datagram) (s : Sending) → d ≡ datagram_of config s → ReadsBack s.message → AreSent config (d ∷ []) (s ∷ [])
+pub one_sent : (config : Config) (d : Datagram) (s : Sending) → d ≡ datagram_of config s → ReadsBack s.messages → AreSent config (d ∷ []) (s ∷ [])
 one_sent config d s is back = record { octets = λ i. is i ∷ []; read = All-cons SendingReads s [] back (All-nil SendingReads) }

@@ -26,7 +26,7 @@ packet_of accepted = option_map (λ a. (a.bearer.0, a.payload.now)) accepted
 abbrev pub waits_as : Waiting Purpose → Waiting (Unit {0})
 waits_as w = record { seq = w.seq; to = w.to; octets = w.octets; purpose = tt; waited = w.waited; resent = w.resent }
 
--- an answer that is held, but for its octets: the node has the message
+-- an answer that is held, but for its octets: the node has the messages
 abbrev pub held_as : HeldPair → HeldPair
 held_as p = record p { answer = [] }
 

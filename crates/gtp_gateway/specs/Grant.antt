@@ -1,5 +1,5 @@
 -- Create Session Requests, as the packet gateway answers them.
-use Rattle.std.specs.Prelude.{◌≡◌, ℕ, Bool, true, false, List, Some}
+use Rattle.std.specs.Prelude.{◌≡◌, ℕ, Bool, true, false, List, [], ◌∷◌, Some}
 use Rattle.gtp_values.specs.declared.address.Endpoint.{Endpoint}
 use Rattle.gtp_values.specs.declared.cause.Cause.{Cause}
 use Rattle.gtp_values.specs.Cause.{is_accepting_value}
@@ -57,7 +57,7 @@ grants r g node = Create_session_response (granted r (tunnel_end 7 g.drawn.contr
 -- the effect that a verdict stands for, at a gateway that has heard the counter
 abbrev pub session_effect : Arrival → messages.CreateSessionRequest → SessionVerdict → Node → Effect
 session_effect request q (Refused cause) n = session_refused request q cause n
-session_effect request q (Granted g) n = making request (Create_session_response (session_response n q g.drawn.control.0 g.drawn.user.0 g.address)) (session_cause q.pdn g.address) (session_made n q g.drawn.control.0 g.drawn.user.0 g.address)
+session_effect request q (Granted g) n = making request (Create_session_response (session_response n q g.drawn.control.0 g.drawn.user.0 g.address) ∷ []) (session_cause q.pdn g.address) (session_made n q g.drawn.control.0 g.drawn.user.0 g.address)
 
 -- the TEIDs may be drawn
 abbrev pub CanGrant : Grant → Node → Type 0
@@ -91,22 +91,22 @@ pub record JudgesSession (r : SessionRequest) (heard : Heard) (node : Node) (v :
   pub judged : (request : Arrival) (q : messages.CreateSessionRequest) → SaysSession r q → SessionJudged request q (node_heard heard node) (session_effect request q v (node_heard heard node))
   pub is : IsVerdict r.default.identity r.pdn.0 v heard node
 
--- a request was answered with this message, which is held, and left this node; a context was made for it, or not
-pub record IsAnsweredSo (source : Endpoint) (octets : List ℕ) (m : Message) (cause : ℕ) (made : Bool) (left : Node) (old : Station) (step : ControlStep) (new : Station) : Type 0 where
+-- a request was answered with a datagram of these messages, which is held, and left this node; a context was made for it, or not
+pub record IsAnsweredSo (source : Endpoint) (octets : List ℕ) (answer : List Message) (cause : ℕ) (made : Bool) (left : Node) (old : Station) (step : ControlStep) (new : Station) : Type 0 where
   pub sent : Sent
   pub is : step ≡ record { out = Some sent; report = record (plain_report (Answered cause)) { made = made } }
-  pub goes : datagram_by sent ≡ datagram_of old.node.config (record { destination = source; message = m })
-  pub read : ReadsBack m
-  pub becomes : new.node ≡ holding (arrival_of source octets) m left
+  pub goes : datagram_by sent ≡ datagram_of old.node.config (record { destination = source; messages = answer })
+  pub read : ReadsBack answer
+  pub becomes : new.node ≡ holding (arrival_of source octets) answer left
   pub role : new.role ≡ old.role
 
 -- it was refused
 abbrev pub IsRefusedSession : Endpoint → List ℕ → SessionRequest → Cause → Heard → Station → ControlStep → Station → Type 0
-IsRefusedSession source octets r cause heard old step new = IsAnsweredSo source octets (refusing Of_create_session r.control.teid r.seq cause old.node.counter) cause.value false (node_heard heard old.node) old step new
+IsRefusedSession source octets r cause heard old step new = IsAnsweredSo source octets (refusing Of_create_session r.control.teid r.seq cause old.node.counter ∷ []) cause.value false (node_heard heard old.node) old step new
 
 -- it was granted
 abbrev pub IsGrantedSession : Endpoint → List ℕ → SessionRequest → Grant → Heard → Station → ControlStep → Station → Type 0
-IsGrantedSession source octets r g heard old step new = IsAnsweredSo source octets (grants r g old.node) (session_cause r.pdn.0 g.address) true (changed_by (change_of r g) (node_heard heard old.node)) old step new
+IsGrantedSession source octets r g heard old step new = IsAnsweredSo source octets (grants r g old.node ∷ []) (session_cause r.pdn.0 g.address) true (changed_by (change_of r g) (node_heard heard old.node)) old step new
 
 -- a Create Session Request was taken
 abbrev pub TakesSessionRequest : Endpoint → List ℕ → SessionRequest → Heard → Station → ControlStep → Station → Type 0

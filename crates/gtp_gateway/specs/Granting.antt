@@ -108,7 +108,7 @@ IsChosen session (Granted g) node = IsGrant session g node
 -- the effect that a verdict stands for; without one the session is not active
 abbrev pub bearer_effect : Arrival → BearerRequest → messages.CreateBearerRequest → Option BearerVerdict → Node → Effect
 bearer_effect request r q None old = dropped old ContextNotActive
-bearer_effect request r q (Some v) old = answering (is_granted v.answer) request (bearer_answer v.answer v.header.0 q old) (cause_in v.answer) (changed_by (change_for r v.answer) old)
+bearer_effect request r q (Some v) old = answering (is_granted v.answer) request (bearer_answer v.answer v.header.0 q old ∷ []) (cause_in v.answer) (changed_by (change_for r v.answer) old)
 
 -- what a verdict chooses
 abbrev pub Chooses : ℕ → Option BearerVerdict → Node → Type 0

@@ -3,7 +3,7 @@ use Rattle.std.specs.Prelude.{◌≡◌, ◌≢◌, ◌⊎◌, ℕ, List, []}
 use Rattle.gtp_values.specs.declared.address.Endpoint.{Endpoint}
 use Rattle.gtp_machine.specs.Input.{Came_to, ControlReading, Control_came, Effect}
 use Rattle.gtp_machine.specs.Node.{Arrival, Node}
-use Rattle.gtp_machine.specs.Reading.{control_reading}
+use Rattle.gtp_machine.specs.Reading.{datagram_reading, taken_as}
 use Rattle.gtp_machine.specs.Step.{Step as MachineStep}
 use Rattle.gtp_machine.specs.declared.outcome.Outcome.TheVariants.{Opened}
 use Rattle.gtp_gateway.specs.Parts.{arrival_of}
@@ -23,7 +23,7 @@ StepSendsOrOpens request reading old = AlwaysSendsOrOpens (λ node e. MachineSte
 
 -- whatever step of the machine there is on these octets
 abbrev pub ControlSendsOrOpens : Endpoint → List ℕ → Station → Type 0
-ControlSendsOrOpens source octets old = StepSendsOrOpens (arrival_of source octets) (control_reading octets) old
+ControlSendsOrOpens source octets old = StepSendsOrOpens (arrival_of source octets) (taken_as (datagram_reading octets)) old
 
 -- whatever step of the machine there is on a datagram from the peer that reads so
 abbrev pub FaultSendsOrOpens : Endpoint → ControlReading → Station → Type 0

@@ -10,7 +10,7 @@ use Rattle.gtp_machine.specs.Node.{PendingRequest, Arrival, Held, Node}
 use Rattle.gtp_gateway.specs.declared.purpose.Purpose.{Purpose}
 use Rattle.gtp_gateway.specs.declared.purpose.Purpose.TheVariants.{Echo, CreateSession, DeleteSession, ReleaseSession, CreateBearer, DeleteBearer}
 use Rattle.gtp_gateway.specs.declared.parts.Parts.{Parts}
-use Rattle.gtp_gateway.specs.Spelled.{message_in}
+use Rattle.gtp_gateway.specs.Spelled.{message_in, messages_in}
 
 -- the session that a request is about
 abbrev pub session_of : Purpose → Option ℕ
@@ -44,7 +44,7 @@ arrival_of source octets = record { source = source; octets = octets }
 
 -- an answer that is held, with its request
 abbrev pub held_of : HeldPair → Held
-held_of p = record { request = arrival_of p.source p.request; answer = message_in p.answer }
+held_of p = record { request = arrival_of p.source p.request; answer = messages_in p.answer }
 
 -- the node that a gateway with these parts stands for
 abbrev pub node_of : Parts → Node

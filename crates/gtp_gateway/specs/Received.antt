@@ -4,7 +4,7 @@ use Rattle.gtp_values.specs.declared.address.Endpoint.{Endpoint}
 use Rattle.gtp_machine.specs.Message.{Plane, Control, User}
 use Rattle.gtp_machine.specs.Node.{Arrival, Node}
 use Rattle.gtp_machine.specs.Input.{Came_to, Input, Control_came, User_came, nothing, Effect}
-use Rattle.gtp_machine.specs.Reading.{control_reading, user_reading}
+use Rattle.gtp_machine.specs.Reading.{datagram_reading, taken_as, user_reading}
 use Rattle.gtp_machine.specs.Step.{Step as MachineStep}
 use Rattle.gtp_machine.specs.declared.outcome.Outcome.TheVariants.{Broken}
 use Rattle.gtp_gateway.specs.declared.step.Step.{Step}
@@ -17,9 +17,9 @@ use Rattle.gtp_gateway.specs.Station.{Station, IsTied}
 use Rattle.gtp_gateway.specs.Taken.{datagrams, made_for}
 use Rattle.gtp_gateway.specs.UserTaken.{AreEntries, IsAnswered, WaitOn}
 
--- what comes with a datagram of a plane: what its octets read as
+-- what comes with a datagram of a plane: what it is taken for
 abbrev pub coming : Plane → Endpoint → List ℕ → Input
-coming Control source octets = Control_came (arrival_of source octets) (control_reading octets)
+coming Control source octets = Control_came (arrival_of source octets) (taken_as (datagram_reading octets))
 coming User source octets = User_came source (user_reading octets)
 
 -- the step tells what the effect has: what is sent, the outcome, the counter that was heard, whether it is later than the one that was known, whether a
@@ -33,7 +33,7 @@ pub record TellsStep (old : Node) (request : Arrival) (step : Step) (e : Effect)
   pub accepted : AreEntries old step.accepted e.out.accepted
   pub all : e.out ≡ record nothing { sent = e.out.sent; heard = e.out.heard; learned = e.out.learned; made = e.out.made; accepted = e.out.accepted }
 
--- a datagram was received: that is a step of the machine, on what its octets read as
+-- a datagram was received: that is a step of the machine, on what it is taken for
 pub record IsReceived (plane : Plane) (source : Endpoint) (octets : List ℕ) (old : Station) (step : Step) (new : Station) : Type 0 where
   pub effect : Effect
   pub takes : MachineStep old.role old.node (coming plane source octets) effect

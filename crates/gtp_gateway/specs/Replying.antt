@@ -21,9 +21,9 @@ numbered_message number body = record { seq = Some number; npdu = None; ext = []
 
 -- what is sent: an Echo Response goes to where the request came from, all else to the peer
 abbrev pub sending_of : Reply → Config → Sending
-sending_of (ErrorIndication teid) config = record { destination = user_end config.peer.user; message = Error_indication teid.0 config.own.user }
-sending_of Notification config = record { destination = user_end config.peer.user; message = Supported_extensions (64 ∷ []) }
-sending_of (EchoResponse to number) config = record { destination = to; message = User_echo_response number }
+sending_of (ErrorIndication teid) config = record { destination = user_end config.peer.user; messages = Error_indication teid.0 config.own.user ∷ [] }
+sending_of Notification config = record { destination = user_end config.peer.user; messages = Supported_extensions (64 ∷ []) ∷ [] }
+sending_of (EchoResponse to number) config = record { destination = to; messages = User_echo_response number ∷ [] }
 
 -- what the datagram comes to
 abbrev pub outcome_of : Reply → Outcome

@@ -1,5 +1,5 @@
 -- Messages kept as the octets that were sent for them.
-use Rattle.std.specs.Prelude.{◌≡◌, ◌==◌, ◌&&◌, not, ℕ, Bool, true, false, List, All}
+use Rattle.std.specs.Prelude.{◌≡◌, ◌==◌, ◌&&◌, not, ℕ, Bool, true, false, List, [], ◌∷◌, All}
 use Rattle.std.specs.Bool.{beq}
 use Rattle.gtp_values.specs.declared.address.Ip.{Ip}
 use Rattle.gtp_reliable.specs.Waiting.{Waiting}
@@ -7,8 +7,8 @@ use Rattle.gtp_reliable.specs.Held.{HeldPair}
 use Rattle.gtp_machine.specs.Config.{control_end}
 use Rattle.gtp_machine.specs.Message.{Message, Other_control, Echo_request, Create_session_request, Delete_session_request, Create_bearer_request, Delete_bearer_request}
 use Rattle.gtp_machine.specs.Input.{ControlReading, Control_message, Faulty, Control_fault}
-use Rattle.gtp_machine.specs.Reading.{control_reading, ControlReads}
-use Rattle.gtp_machine.specs.Spelling.{spelled}
+use Rattle.gtp_machine.specs.Reading.{control_reading, ControlReads, DatagramReading, Alone, Both, datagram_reading, DatagramReads, reading_of}
+use Rattle.gtp_machine.specs.Spelling.{spelled, spelled_all}
 use Rattle.gtp_gateway.specs.declared.purpose.Purpose.{Purpose}
 use Rattle.gtp_gateway.specs.declared.purpose.Purpose.TheVariants.{Echo, CreateSession, DeleteSession, ReleaseSession, CreateBearer, DeleteBearer}
 
@@ -22,10 +22,24 @@ message_read (Control_fault fault) = Other_control 0
 unfoldable pub message_in : List ℕ → Message
 message_in octets = message_read (control_reading octets)
 
+-- the messages of a datagram that was read: one, or two
+abbrev pub those_read : DatagramReading → List Message
+those_read (Alone reading) = message_read reading ∷ []
+those_read (Both first second) = first ∷ second ∷ []
+
+-- the messages that the octets of a datagram of the control plane read as
+unfoldable pub messages_in : List ℕ → List Message
+messages_in octets = those_read (datagram_reading octets)
+
 -- the octets read as a message, and are those that a gateway sends for it
 pub record AreSpelled (octets : List ℕ) : Type 0 where
   pub is : octets ≡ spelled (message_in octets)
   pub read : ControlReads octets (Control_message (message_in octets))
+
+-- the octets read as a datagram of one message or two, and are those that a gateway sends for it
+pub record AreSpelledAll (octets : List ℕ) : Type 0 where
+  pub is : octets ≡ spelled_all (messages_in octets)
+  pub read : DatagramReads octets (reading_of (messages_in octets))
 
 -- the request is one that is sent for the purpose; a purpose tells whether a TEID stood in the header, and in that of a Create Session Request none did
 abbrev pub is_for : Purpose → Message → Bool
@@ -47,6 +61,6 @@ pub record IsAsked (peer : Ip) (w : Waiting Purpose) : Type 0 where
 abbrev pub AreAsked : Ip → List (Waiting Purpose) → Type 0
 AreAsked peer waiting = All (IsAsked peer) waiting
 
--- each answer that is held is kept as it is spelled
+-- each answer that is held is kept as it is spelled, as one datagram
 abbrev pub AreAnswered : List HeldPair → Type 0
-AreAnswered pairs = All (λ (p : HeldPair). AreSpelled p.answer) pairs
+AreAnswered pairs = All (λ (p : HeldPair). AreSpelledAll p.answer) pairs

@@ -6,7 +6,7 @@ use Rattle.gtp_machine.specs.Node.{Arrival}
 use Rattle.gtp_machine.specs.Answer.{IsNew}
 use Rattle.gtp_machine.specs.Input.{Came_to, Control_came, nothing, Effect}
 use Rattle.gtp_machine.specs.declared.outcome.Outcome.{Outcome}
-use Rattle.gtp_machine.specs.Reading.{control_reading}
+use Rattle.gtp_machine.specs.Reading.{datagram_reading, taken_as}
 use Rattle.gtp_machine.specs.Spelling.{Datagram}
 use Rattle.gtp_machine.specs.Step.{Step as MachineStep}
 use Rattle.gtp_gateway.specs.declared.sent.Sent.{Sent}
@@ -42,10 +42,10 @@ pub record Tells (old : Station) (request : Arrival) (step : ControlStep) (e : E
   pub made : made_for request step.report.made ≡ e.out.made
   pub all : e.out ≡ record nothing { sent = e.out.sent; heard = e.out.heard; learned = e.out.learned; made = e.out.made }
 
--- a datagram of the control plane was taken: that is a step of the machine, on what its octets read as
+-- a datagram of the control plane was taken: that is a step of the machine, on what it is taken for
 pub record IsTaken (source : Endpoint) (octets : List ℕ) (old : Station) (step : ControlStep) (new : Station) : Type 0 where
   pub effect : Effect
-  pub takes : MachineStep old.role old.node (Control_came (arrival_of source octets) (control_reading octets)) effect
+  pub takes : MachineStep old.role old.node (Control_came (arrival_of source octets) (taken_as (datagram_reading octets))) effect
   pub tells : Tells old (arrival_of source octets) step effect
   pub becomes : new.node ≡ effect.node
   pub role : new.role ≡ old.role

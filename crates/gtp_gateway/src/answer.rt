@@ -1,7 +1,7 @@
 //! Answers to requests, which are held for requests that come again (TS 29.274 7.6).
 
 ghost use Rattle.gtp_gateway.specs.GoesOn.{GoesOn};
-ghost use Rattle.std.specs.Prelude.{◌≡◌, ◌<◌, true, IfOk, OnOk, OnErr, length};
+ghost use Rattle.std.specs.Prelude.{◌≡◌, ◌<◌, true, [], ◌∷◌, IfOk, OnOk, OnErr, length};
 ghost use Rattle.gtp_reliable.specs.Held.{IsHeld, IsReady};
 ghost use Rattle.gtp_machine.specs.Config.{control_end};
 ghost use Rattle.gtp_machine.specs.Message.{Control};
@@ -13,7 +13,7 @@ ghost use Rattle.gtp_gateway.specs.Answering.{after_held};
 ghost use Rattle.gtp_gateway.specs.Own.{IsOwn};
 ghost use Rattle.gtp_gateway.specs.Parts.{arrival_of, node_of};
 ghost use Rattle.gtp_gateway.specs.Sent.{datagram_by, ReadsBack};
-ghost use Rattle.gtp_gateway.specs.Spelled.{message_in, AreSpelled};
+ghost use Rattle.gtp_gateway.specs.Spelled.{messages_in, AreSpelledAll};
 ghost use Rattle.gtp_gateway.specs.Station.{station_of};
 
 use crate::ask::control_end_of;
@@ -41,8 +41,8 @@ impl Parts {
     pub fn reply(&self, alloc: Global, source: Endpoint, message: &Message) -> Result<Sent, Memory>
         requires own { IsOwn message.now }
         ensures sent { IfOk result (λ sent. datagram_by sent ≡ datagram_of self.now.config.config
-            (record { destination = source; message = control_message message.now })) }
-        ensures back { IfOk result (λ _. ReadsBack (control_message message.now)) }
+            (record { destination = source; messages = control_message message.now ∷ [] })) }
+        ensures back { IfOk result (λ _. ReadsBack (control_message message.now ∷ [])) }
     {
         Ok(Sent {
             plane: Plane::Control,
@@ -79,11 +79,11 @@ impl Parts {
         ensures request { IfOk result (λ ready. ready.request.items ≡ request.now) }
         ensures octets { IfOk result (λ ready.
             ready.octets.items ≡ spelled (control_message message.now)) }
-        ensures back { IfOk result (λ _. ReadsBack (control_message message.now)) }
+        ensures back { IfOk result (λ _. ReadsBack (control_message message.now ∷ [])) }
         ensures answer { IfOk result (λ ready. ready.answer.items ≡ ready.octets.items) }
-        ensures kept { IfOk result (λ ready. AreSpelled ready.answer.items) }
+        ensures kept { IfOk result (λ ready. AreSpelledAll ready.answer.items) }
         ensures read { IfOk result (λ ready.
-            message_in ready.answer.items ≡ control_message message.now) }
+            messages_in ready.answer.items ≡ control_message message.now ∷ []) }
         ensures held { OnOk result (self.new.held ≡ record self.old.held { has_room = true }) }
         ensures pairs { self.new.held.pairs ≡ self.old.held.pairs }
         ensures bearers { self.new.bearers ≡ self.old.bearers }
@@ -106,7 +106,7 @@ impl Parts {
     pub fn give(&mut self, source: Endpoint, ready: ReadyAnswer) -> Sent
         requires ready { IsReady self.old.held }
         requires fresh { IsHeld source ready.request.items self.old.held.pairs → ⊥ }
-        requires spelled { AreSpelled ready.answer.items }
+        requires spelled { AreSpelledAll ready.answer.items }
         ensures sent { datagram_by result ≡ record {
           plane = Control;
           from = control_end self.old.config.config.own.control;
@@ -115,7 +115,7 @@ impl Parts {
         } }
         ensures octets { result.octets.items ≡ ready.octets.items }
         ensures node { node_of self.new ≡ holding (arrival_of source ready.request.items)
-            (message_in ready.answer.items) (node_of self.old) }
+            (messages_in ready.answer.items) (node_of self.old) }
         ensures held { self.new.held.pairs
             ≡ after_held source ready.request.items ready.answer.items self.old.held.pairs }
         ensures goes { GoesOn source ready.request.items
@@ -147,10 +147,10 @@ impl Parts {
         requires few { length self.old.held.pairs < 4096 }
         requires fresh { IsHeld source request.now self.old.held.pairs → ⊥ }
         ensures sent { IfOk result (λ sent. datagram_by sent ≡ datagram_of self.old.config.config
-            (record { destination = source; message = control_message message.now })) }
-        ensures back { IfOk result (λ _. ReadsBack (control_message message.now)) }
+            (record { destination = source; messages = control_message message.now ∷ [] })) }
+        ensures back { IfOk result (λ _. ReadsBack (control_message message.now ∷ [])) }
         ensures node { OnOk result (node_of self.new
-            ≡ holding (arrival_of source request.now) (control_message message.now)
+            ≡ holding (arrival_of source request.now) (control_message message.now ∷ [])
             (changed_by change (node_of self.old))) }
         ensures held { IfOk result (λ sent. self.new.held.pairs
             ≡ after_held source request.now sent.octets.items self.old.held.pairs) }

@@ -1,6 +1,6 @@
 //! Requests that a gateway begins (TS 29.274 7.6).
 
-ghost use Rattle.std.specs.Prelude.{true, ◌≡◌, ◌≤◌, ◌↔◌, ◌⊎◌, Err, IfOk, IfErr, OnOk, OnErr, length};
+ghost use Rattle.std.specs.Prelude.{true, ◌≡◌, ◌≤◌, ◌↔◌, ◌⊎◌, [], ◌∷◌, Err, IfOk, IfErr, OnOk, OnErr, length};
 ghost use Rattle.gtp_reliable.specs.Pending.{AreDistinct, IsPrepared};
 ghost use Rattle.gtp_machine.specs.Config.{control_end};
 ghost use Rattle.gtp_machine.specs.Reading.{control_message};
@@ -78,9 +78,9 @@ impl Parts {
         ensures sent { IfOk result (λ sent. datagram_by sent ≡ datagram_of self.old.config.config
             (record {
               destination = control_end self.old.config.config.peer.control;
-              message = control_message message.now;
+              messages = control_message message.now ∷ [];
             })) }
-        ensures back { IfOk result (λ _. ReadsBack (control_message message.now)) }
+        ensures back { IfOk result (λ _. ReadsBack (control_message message.now ∷ [])) }
         ensures read { IfOk result (λ sent.
             message_in sent.octets.items ≡ control_message message.now) }
         ensures node { OnOk result (node_of self.new

@@ -24,7 +24,7 @@ use crate::response::{Response, response_in};
 use crate::settle::Verdict;
 use gtp_machine::{DropReason, Outcome};
 use gtp_tables::{Bearer, Session, State, View};
-use gtp_v2::DatagramView;
+use gtp_v2::MessageView;
 use gtp_values::{Below, Ebi, Memory, Teid};
 
 /// What a Create Bearer Response says.
@@ -43,7 +43,7 @@ pub struct AskedBearer {
 }
 
 /// What a Create Bearer Response says.
-pub fn bearer_response_in(view: &DatagramView<'_>) -> BearerResponse
+pub fn bearer_response_in(view: &MessageView<'_>) -> BearerResponse
     requires spelled { (octets : List ℕ) × IsMessage octets view.now.message }
     requires of { procedure_at view.now.message.kind ≡ Some procedures.BearerAnswered }
     ensures { ReadsBearer view.now.message result }

@@ -10,7 +10,7 @@ ghost use Rattle.gtp_v2.specs.Viewed.{optional_at};
 ghost use Rattle.gtp_machine.specs.Element.{IsAccepting, address_of, teid_in};
 ghost use Rattle.gtp_gateway.specs.Contexts.{AreContexts, ReadsContext, ReadsOnly};
 
-use gtp_v2::{ContextView, DatagramView, EbiValue};
+use gtp_v2::{ContextView, EbiValue, MessageView};
 use gtp_values::{Addr, Below, Cause, FTeid, Paa};
 
 /// What a bearer context of a response says.
@@ -68,7 +68,7 @@ fn context_in(context: &ContextView<'_>) -> ResponseContext
 }
 
 /// What the only bearer context of a response says, where there is exactly one.
-pub fn only_context_in(view: &DatagramView<'_>) -> Option<ResponseContext>
+pub fn only_context_in(view: &MessageView<'_>) -> Option<ResponseContext>
     requires { (others : List Element → List (List Value)) × (groups : List (List (List Value)))
         × AreContexts view.now.message others groups }
     ensures { (others : List Element → List (List Value)) (groups : List (List (List Value)))

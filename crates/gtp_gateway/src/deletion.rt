@@ -17,7 +17,7 @@ use crate::parts::Parts;
 use crate::user::written_teid;
 use gtp_machine::{DropReason, Outcome};
 use gtp_tables::Session;
-use gtp_v2::{DatagramView, EbiValue};
+use gtp_v2::{EbiValue, MessageView};
 use gtp_values::{Below, Endpoint, Memory, Seq, Teid};
 use std::alloc::Global;
 
@@ -40,7 +40,7 @@ pub struct DeletionVerdict {
 }
 
 /// What such a request says.
-pub fn deletion_request_in(view: &DatagramView<'_>) -> DeletionRequest
+pub fn deletion_request_in(view: &MessageView<'_>) -> DeletionRequest
     ensures { ReadsDeletion view.now.message result }
 {
     DeletionRequest {

@@ -1,6 +1,6 @@
 //! Messages of a gateway's own, as octets.
 
-ghost use Rattle.std.specs.Prelude.{◌≡◌, IfOk};
+ghost use Rattle.std.specs.Prelude.{◌≡◌, [], ◌∷◌, IfOk};
 ghost use Rattle.gtp_machine.specs.Reading.{control_message};
 ghost use Rattle.gtp_machine.specs.Spelling.{spelled};
 ghost use Rattle.gtp_gateway.specs.Own.{IsOwn};
@@ -19,7 +19,7 @@ pub fn encode_own(alloc: Global, message: &Message) -> Result<Vec<u8>, Memory>
         octets.items ≡ spelled (control_message message.now)) }
     ensures read { IfOk result (λ octets.
         message_in octets.items ≡ control_message message.now) }
-    ensures back { IfOk result (λ _. ReadsBack (control_message message.now)) }
+    ensures back { IfOk result (λ _. ReadsBack (control_message message.now ∷ [])) }
     ensures kept { IfOk result (λ octets. AreSpelled octets.items) }
 {
     match encode(alloc, message) {

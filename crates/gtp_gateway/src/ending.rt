@@ -39,7 +39,7 @@ use crate::user::written_teid;
 use gtp_ie::IeValue;
 use gtp_machine::{DropReason, Outcome};
 use gtp_tables::{Session, State};
-use gtp_v2::{DatagramView, EbiValue, Message, RemovalResponseContext};
+use gtp_v2::{EbiValue, Message, MessageView, RemovalResponseContext};
 use gtp_values::{Below, Ebi, Endpoint, Memory, Seq, Teid};
 use std::alloc::Global;
 
@@ -76,7 +76,7 @@ pub enum RemovalVerdict {
 }
 
 /// The identities in the list of a Delete Bearer Request.
-fn identities_in(alloc: Global, view: &DatagramView<'_>) -> Result<Vec<EbiValue>, Memory>
+fn identities_in(alloc: Global, view: &MessageView<'_>) -> Result<Vec<EbiValue>, Memory>
     requires spelled { (octets : List ℕ) × IsMessage octets view.now.message }
     requires kind { view.now.message.kind ≡ delete_bearer_request.kind }
     ensures { IfOk result (λ identities. ReadsIdentities view.now.message identities.items) }
@@ -90,7 +90,7 @@ fn identities_in(alloc: Global, view: &DatagramView<'_>) -> Result<Vec<EbiValue>
 
 /// Whether the list of a Delete Bearer Request has more identities than bearers have, by its
 /// elements.
-fn has_too_many(view: &DatagramView<'_>) -> bool
+fn has_too_many(view: &MessageView<'_>) -> bool
     ensures { IsTrue result ↔ (11 < length (all_of (number_of forms.Ebi) 1 view.now.elements)) }
 {
     let mut count = 0;
@@ -373,7 +373,7 @@ impl Parts {
         alloc: Global,
         source: Endpoint,
         octets: &[u8],
-        view: &DatagramView<'_>,
+        view: &MessageView<'_>,
         request: &DeletionRequest,
         header: Teid,
     ) -> Result<ControlStep, Memory>
@@ -417,7 +417,7 @@ impl Parts {
         alloc: Global,
         source: Endpoint,
         octets: &[u8],
-        view: &DatagramView<'_>,
+        view: &MessageView<'_>,
         request: &DeletionRequest,
     ) -> Result<ControlStep, Memory>
         requires whole { IsWhole (station_of self.old) }

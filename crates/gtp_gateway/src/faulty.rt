@@ -3,7 +3,7 @@
 ghost use Rattle.std.specs.Prelude.{◌≡◌, ◌<◌, true, false, IfOk, OnErr, option_map};
 ghost use Rattle.gtp_v2.specs.Instances.{ElementInstanceIsSmall, InstanceIsSmall};
 ghost use Rattle.gtp_machine.specs.Answer.{fault_number, defect_cause, opened_remote, faulty_header};
-ghost use Rattle.gtp_machine.specs.Reading.{control_fault, request_kind, missing_in, defect_in, element_fault};
+ghost use Rattle.gtp_machine.specs.Reading.{control_fault, request_kind, missing_in, defect_in, element_fault, announces, datagram_fault};
 ghost use Rattle.std.specs.FinMap as map;
 ghost use Rattle.gtp_gateway.specs.Faulty.{kind_of, defect_of, fault_of, reading_of, is_answered, dropped_for};
 ghost use Rattle.gtp_gateway.specs.Parts.{node_of};
@@ -153,8 +153,8 @@ fn element_flaw(head: &Head, fault: &IeFault) -> Flaw
     }
 }
 
-/// What is wrong with a datagram, by its first fault.
-pub fn flaw_of(fault: &V2Fault) -> Flaw
+/// What is wrong with a message, by its first fault.
+fn message_flaw(fault: &V2Fault) -> Flaw
     requires { InstanceIsSmall fault.now }
     ensures { reading_of result ≡ control_fault fault.now }
 {
@@ -167,6 +167,29 @@ pub fn flaw_of(fault: &V2Fault) -> Flaw
         } => flaw_in(head, missing(*conditional), *kind, *instance),
         V2Fault::Element { fault, head } => element_flaw(head, fault),
         _ => Flaw::Plain(fault.number()),
+    }
+}
+
+/// Whether the first message of a datagram announces a second one (TS 29.274 5.5.1).
+fn announces_second(octets: &[u8]) -> bool
+    ensures { result ≡ announces octets.now }
+{
+    match octets {
+        [first, _, _, _, ..] => *first >> 4 == 5,
+        _ => false,
+    }
+}
+
+/// What is wrong with a datagram, by its first fault. Where a second message is announced, no fault is
+/// answered.
+pub fn flaw_of(octets: &[u8], fault: &V2Fault) -> Flaw
+    requires { InstanceIsSmall fault.now }
+    ensures { reading_of result ≡ datagram_fault (announces octets.now) fault.now }
+{
+    if announces_second(octets) {
+        Flaw::Plain(fault.number())
+    } else {
+        message_flaw(fault)
     }
 }
 

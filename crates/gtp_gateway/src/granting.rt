@@ -28,7 +28,7 @@ use crate::parts::Parts;
 use crate::user::written_teid;
 use gtp_machine::DropReason;
 use gtp_tables::{Bearer, Kind, Session, State, View};
-use gtp_v2::{DatagramView, EbiValue, Message};
+use gtp_v2::{EbiValue, Message, MessageView};
 use gtp_values::{Below, Ebi, Endpoint, FTeid, Memory, Seq, Teid};
 use std::alloc::Global;
 
@@ -72,7 +72,7 @@ pub struct BearerVerdict {
 }
 
 /// What a Create Bearer Request says.
-pub fn bearer_request_in(view: &DatagramView<'_>) -> BearerRequest
+pub fn bearer_request_in(view: &MessageView<'_>) -> BearerRequest
     requires { HasBearerContext view.now.message }
     ensures { ReadsBearer view.now.message result }
 {

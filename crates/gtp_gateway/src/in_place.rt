@@ -7,11 +7,11 @@ ghost use Rattle.gtp_machine.specs.Decoded.{message_of};
 ghost use Rattle.gtp_gateway.specs.Procedure.{procedure_at};
 
 use crate::procedure::Procedure;
-use gtp_v2::{DatagramView, Recovery};
+use gtp_v2::{MessageView, Recovery};
 use gtp_values::Counter;
 
 /// The sender's restart counter, where the message that the procedure takes tells one.
-pub fn counter_in(view: &DatagramView<'_>, procedure: Procedure) -> Option<Counter>
+pub fn counter_in(view: &MessageView<'_>, procedure: Procedure) -> Option<Counter>
     requires spelled { (octets : List ℕ) × IsMessage octets view.now.message }
     requires taken { procedure_at view.now.message.kind ≡ Some procedure }
     ensures { option_map (λ c. c.0) result ≡ recovery_of (message_of view.now.message) }

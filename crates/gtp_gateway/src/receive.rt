@@ -65,7 +65,8 @@ impl Parts {
         Ok(Entrance::Settled(ControlStep::sent(out, Outcome::Repeated)))
     }
 
-    /// Takes a datagram of the control plane.
+    /// Takes a datagram of the control plane. Two messages are dropped as one, before a restart counter
+    /// of theirs is heard.
     #[tactic(auto, using(crate::proofs::GoingOn::tied_of, crate::proofs::GoingOn::on_goes, crate::proofs::GoingOn::same_goes, crate::proofs::GoingOn::given_goes, crate::proofs::GoingOn::then_goes))]
     pub fn receive_control(
         &mut self,
@@ -90,10 +91,14 @@ impl Parts {
         }
         let view = match view(octets) {
             Ok(view) => view,
-            Err(fault) => return self.take_flaw(alloc, source, &flaw_of(&fault)),
+            Err(fault) => return self.take_flaw(alloc, source, &flaw_of(octets, &fault)),
         };
-        match self.procedure_for(view.kind()) {
-            Some(procedure) => self.take_message(alloc, source, octets, &view, procedure),
+        if view.second().is_some() {
+            return Ok(ControlStep::dropped(DropReason::Unexpected));
+        }
+        let message = view.message();
+        match self.procedure_for(message.kind()) {
+            Some(procedure) => { self.take_message(alloc, source, octets, message, procedure) }
             None => Ok(ControlStep::dropped(DropReason::Unexpected)),
         }
     }

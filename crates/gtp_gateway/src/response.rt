@@ -18,7 +18,7 @@ use crate::control_step::ControlStep;
 use crate::parts::Parts;
 use crate::purpose::Purpose;
 use gtp_machine::{DropReason, Outcome};
-use gtp_v2::DatagramView;
+use gtp_v2::MessageView;
 use gtp_values::{Cause, Seq, Teid};
 
 /// What a response says of the request that it answers.
@@ -31,7 +31,7 @@ pub struct Response {
 }
 
 /// What a response says of its request, where the response has a cause.
-pub fn response_in(view: &DatagramView<'_>) -> Response
+pub fn response_in(view: &MessageView<'_>) -> Response
     requires { IsTrue (always_has view.now.message.kind (number_of forms.Cause) 0) }
     ensures seq { result.seq ≡ view.now.message.seq }
     ensures header { result.header.0 ≡ written view.now.message.teid }

@@ -8,7 +8,7 @@ ghost use Rattle.gtp_machine.specs.Message.{Create_session_request};
 ghost use Rattle.gtp_machine.specs.Message as messages;
 ghost use Rattle.gtp_gateway.specs.SessionAsked.{ReadsContext, SaysSession};
 
-use gtp_v2::{Contexts, DatagramView, EbiValue, PdnType};
+use gtp_v2::{Contexts, EbiValue, MessageView, PdnType};
 use gtp_values::{Ambr, Apn, Below, FTeid, Imsi, Qos, Seq};
 
 /// What a Create Session Request says of the session that it asks for.
@@ -44,7 +44,7 @@ fn none_is_left(contexts: &mut Contexts<'_>) -> bool
 }
 
 /// What the message says of the default bearer.
-fn requested_default(view: &DatagramView<'_>) -> RequestedDefault
+fn requested_default(view: &MessageView<'_>) -> RequestedDefault
     requires spelled { (octets : List ℕ) × IsMessage octets view.now.message }
     requires of { view.now.message.kind ≡ create_session_request.kind }
     ensures { ReadsContext view.now.message result }
@@ -63,7 +63,7 @@ fn requested_default(view: &DatagramView<'_>) -> RequestedDefault
 }
 
 /// What a Create Session Request says.
-pub fn session_request_in(view: &DatagramView<'_>) -> SessionRequest
+pub fn session_request_in(view: &MessageView<'_>) -> SessionRequest
     requires spelled { (octets : List ℕ) × IsMessage octets view.now.message }
     requires of { view.now.message.kind ≡ create_session_request.kind }
     ensures { (q : messages.CreateSessionRequest)

@@ -24,7 +24,7 @@ use crate::response::{Response, response_in};
 use crate::settle::Verdict;
 use gtp_machine::DropReason;
 use gtp_tables::{Bearer, Session, State, View};
-use gtp_v2::DatagramView;
+use gtp_v2::MessageView;
 use gtp_values::{Addr, Below, Memory, Teid};
 
 /// What a Create Session Response says.
@@ -55,7 +55,7 @@ pub struct DescribedSession {
 }
 
 /// What a Create Session Response says.
-pub fn session_response_in(view: &DatagramView<'_>) -> SessionResponse
+pub fn session_response_in(view: &MessageView<'_>) -> SessionResponse
     requires spelled { (octets : List ℕ) × IsMessage octets view.now.message }
     requires of { procedure_at view.now.message.kind ≡ Some procedures.SessionAnswered }
     ensures { ReadsSession view.now.message result }

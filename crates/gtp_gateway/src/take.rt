@@ -26,7 +26,7 @@ use crate::response::response_in;
 use crate::session_request::session_request_in;
 use crate::session_response::session_response_in;
 use gtp_machine::DropReason;
-use gtp_v2::DatagramView;
+use gtp_v2::MessageView;
 use gtp_values::{Endpoint, Memory};
 use std::alloc::Global;
 
@@ -38,7 +38,7 @@ impl Parts {
         alloc: Global,
         source: Endpoint,
         octets: &[u8],
-        view: &DatagramView<'_>,
+        view: &MessageView<'_>,
         procedure: Procedure,
         heard: Heard,
     ) -> Result<ControlStep, Memory>
@@ -111,7 +111,7 @@ impl Parts {
         alloc: Global,
         source: Endpoint,
         octets: &[u8],
-        view: &DatagramView<'_>,
+        view: &MessageView<'_>,
         procedure: Procedure,
     ) -> Result<ControlStep, Memory>
         requires whole { IsWhole (station_of self.old) }

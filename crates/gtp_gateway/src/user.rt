@@ -1,6 +1,6 @@
 //! The user plane, as a gateway sends on it (TS 29.281).
 
-ghost use Rattle.std.specs.Prelude.{◌≡◌, ◌↔◌, None, IsTrue, IfOk, OnErr};
+ghost use Rattle.std.specs.Prelude.{◌≡◌, ◌↔◌, [], ◌∷◌, None, IsTrue, IfOk, OnErr};
 ghost use Rattle.gtp_machine.specs.Command.{MayGo};
 ghost use Rattle.gtp_machine.specs.Config.{user_end};
 ghost use Rattle.gtp_machine.specs.Input.{Send_user, Mark_end};
@@ -49,7 +49,7 @@ pub fn written_teid(teid: Option<u32>) -> Teid
 pub fn encode_user_own(alloc: Global, message: &UserMessage) -> Result<Vec<u8>, Memory>
     requires { IsUserOwn message.now }
     ensures spelled { IfOk result (λ octets. octets.items ≡ spelled (user_message message.now)) }
-    ensures back { IfOk result (λ _. ReadsBack (user_message message.now)) }
+    ensures back { IfOk result (λ _. ReadsBack (user_message message.now ∷ [])) }
 {
     match encode(alloc, message) {
         Ok(octets) => Ok(octets),
@@ -94,9 +94,10 @@ impl Parts {
         ensures sent { IfOk result (λ sent. datagram_by sent ≡ datagram_of self.now.config.config
             (record {
               destination = user_end self.now.config.config.peer.user;
-              message = user_message (plain_message body.entry);
+              messages = user_message (plain_message body.entry) ∷ [];
             })) }
-        ensures back { IfOk result (λ _. ReadsBack (user_message (plain_message body.entry))) }
+        ensures back { IfOk result (λ _.
+            ReadsBack (user_message (plain_message body.entry) ∷ [])) }
     {
         let message = plain(body);
         let octets = encode_user_own(alloc, &message)?;

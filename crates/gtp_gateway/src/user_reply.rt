@@ -100,7 +100,8 @@ impl Parts {
     /// The message of a reply.
     fn reply_message(&self, reply: Reply) -> UserMessage<'static>
         ensures own { IsUserOwn result }
-        ensures says { user_message result ≡ (sending_of reply self.now.config.config).message }
+        ensures says { user_message result ∷ []
+            ≡ (sending_of reply self.now.config.config).messages }
     {
         match reply {
             Reply::ErrorIndication { teid } => error_indication(teid, self.config.own().user),

@@ -1,5 +1,5 @@
 -- The lines of a control datagram.
-use Rattle.std.specs.Prelude.{◌≡◌, ℕ, ◌+◌, ◌==◌, if◌then◌else◌, Bool, true, false, List, [], ◌++◌, drop, Option, Some, None, Result, Ok, Err, codes, decimal}
+use Rattle.std.specs.Prelude.{◌≡◌, ℕ, ◌+◌, ◌==◌, if◌then◌else◌, Bool, true, false, List, [], ◌++◌, drop, Option, Some, None, Result, Ok, Err, ◌⊎◌, codes, decimal}
 use Rattle.std.specs.List.{flat_map}
 use Rattle.gtp_ie.specs.declared.fault.IeFault.{IeFault}
 use Rattle.gtp_ie.specs.declared.fault.IeFault.TheVariants as elements
@@ -13,8 +13,9 @@ use Rattle.gtp_v2.specs.Codes.{number_of}
 use Rattle.gtp_v2.specs.Table.{Table}
 use Rattle.gtp_v2.specs.Tables.{table_of}
 use Rattle.gtp_v2.specs.Message.{Content, Fields, Raw, MessageValue}
-use Rattle.gtp_v2.specs.Datagram.{IsMessage, IsFault}
-use Rattle.gtp_v2.specs.Viewed.{place_of}
+use Rattle.gtp_v2.specs.Datagram.{IsMessage}
+use Rattle.gtp_v2.specs.Pair.{Announces, IsDatagramFault}
+use Rattle.gtp_v2.specs.Viewed.{Viewed, place_of}
 use Rattle.gtp_values.specs.Teid.{teid_text}
 use Rattle.gtp_lines.specs.Text.{octets_text}
 use Rattle.gtp_lines.specs.Values.{field_shown, raw_shown, body_shown}
@@ -71,6 +72,15 @@ abbrev pub carried_lines : Content → List Element → List ℕ
 carried_lines (Raw carried) es = codes "octets " ++ (octets_text carried ++ codes "\n")
 carried_lines (Fields fields) es = flat_map element_lines es
 
+-- the lines of a message that is viewed
+abbrev pub seen_lines : Viewed → List ℕ
+seen_lines v = head_line v.message ++ carried_lines v.message.content v.elements
+
+-- the same of a datagram: those of its second message after those of the first
+abbrev pub datagram_lines : Viewed → Option Viewed → List ℕ
+datagram_lines first None = seen_lines first
+datagram_lines first (Some second) = seen_lines first ++ seen_lines second
+
 -- what follows the number of a fault of elements: the element, and its place
 abbrev pub element_fault_detail : IeFault → List ℕ
 element_fault_detail (elements.Truncated at) = codes " at " ++ decimal at
@@ -95,6 +105,7 @@ fault_detail (faults.FlagT kind) = codes " type " ++ decimal kind
 fault_detail (faults.Missing kind instance conditional head) =
     codes " type " ++ (decimal kind ++ (codes " instance " ++ (decimal instance ++ mark_shown conditional)))
 fault_detail (faults.Element fault head) = codes " " ++ element_fault fault
+fault_detail (faults.BadPiggyback at) = codes " at " ++ decimal at
 fault_detail fault = []
 
 -- what follows the word of a fault
@@ -109,7 +120,17 @@ fault_line f = codes "fault " ++ (fault_shown f ++ codes "\n")
 abbrev pub HasLines : List ℕ → List ℕ → MessageValue → List ℕ → Type 0
 HasLines before octets m text = (lines : List ℕ) × CarriedLines octets m m.content lines × (text ≡ before ++ (head_line m ++ lines))
 
+-- the lines of one message alone
+abbrev pub AloneLines : List ℕ → List ℕ → Type 0
+AloneLines octets text = (m : MessageValue) × IsMessage octets m × HasLines [] octets m text
+
+-- the lines of two messages: those of the first, and then those of the second
+abbrev pub PairLines : List ℕ → List ℕ → Type 0
+PairLines octets text =
+    (front : List ℕ) × (back : List ℕ) × Announces octets front back
+    × ((before : List ℕ) × AloneLines front before × ((m : MessageValue) × IsMessage back m × HasLines before back m text))
+
 -- the lines of a control datagram, and whether they are a fault's
 abbrev pub ControlLines : List ℕ → List ℕ → Bool → Type 0
-ControlLines octets text true = (f : V2Fault) × IsFault octets f × (text ≡ fault_line f)
-ControlLines octets text false = (m : MessageValue) × IsMessage octets m × HasLines [] octets m text
+ControlLines octets text true = (f : V2Fault) × IsDatagramFault octets f × (text ≡ fault_line f)
+ControlLines octets text false = AloneLines octets text ⊎ PairLines octets text

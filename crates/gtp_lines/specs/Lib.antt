@@ -3,3 +3,4 @@ pub mod Values
 pub mod Control
 pub mod User
 pub mod Lines
+pub mod Frames

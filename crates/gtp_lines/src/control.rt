@@ -10,7 +10,7 @@ ghost use Rattle.gtp_lines.specs.Control.{element_fault_detail, element_fault, m
 use crate::text::{put, put_teid};
 use crate::values::{put_body, put_field, put_raw};
 use gtp_ie::{ElementView, Elements, IeFault};
-use gtp_v2::{BEARER_CONTEXT, DatagramView, V2Fault, type_name};
+use gtp_v2::{BEARER_CONTEXT, MessageView, V2Fault, type_name};
 use gtp_values::{Below, Teid};
 use std::alloc::AllocError;
 
@@ -132,7 +132,7 @@ fn put_title(out: &mut Vec<u8>, kind: u8) -> Result<(), AllocError>
 
 /// Appends the first line of a message.
 #[tactic(auto, using(crate::proofs::Appends::appending))]
-pub fn put_head(out: &mut Vec<u8>, seen: &DatagramView) -> Result<(), AllocError>
+pub fn put_head(out: &mut Vec<u8>, seen: &MessageView) -> Result<(), AllocError>
     ensures ok { OnOk result (out.new.items ≡ out.old.items ++ head_line seen.now.message) }
 {
     put_title(out, seen.kind())?;
@@ -205,7 +205,8 @@ fn put_fault_detail(out: &mut Vec<u8>, fault: &V2Fault) -> Result<(), AllocError
             put(out, b" ")?;
             put_element_fault(out, fault)
         }
-        V2Fault::Piggyback | V2Fault::Memory | V2Fault::TooLong => Ok(()),
+        V2Fault::BadPiggyback { at } => put_field(out, b" at ", *at as u64),
+        V2Fault::Memory | V2Fault::TooLong => Ok(()),
     }
 }
 

@@ -1,7 +1,7 @@
 //! The lines of a datagram.
 
 ghost use Rattle.std.specs.Prelude.{◌≡◌, ◌++◌, OnOk, IfOk};
-ghost use Rattle.gtp_lines.specs.Control.{ControlLines, head_line, carried_lines};
+ghost use Rattle.gtp_lines.specs.Control.{ControlLines, seen_lines, datagram_lines};
 ghost use Rattle.gtp_lines.specs.User.{UserLines};
 ghost use Rattle.gtp_lines.specs.Lines.{LinesOf};
 
@@ -9,7 +9,7 @@ use crate::control::{put_elements, put_fault_line, put_head};
 use crate::text::put;
 use crate::user::{put_user_fault_line, put_user_message};
 use crate::values::put_raw;
-use gtp_v2::{DatagramView, view};
+use gtp_v2::{DatagramView, MessageView, view};
 use gtp_values::{Memory, Plane};
 use std::alloc::{AllocError, Global};
 
@@ -22,10 +22,8 @@ pub struct Shown {
 
 /// Appends the lines of a message.
 #[tactic(auto, using(crate::proofs::Appends::appending, crate::proofs::Seen::raw_lines, crate::proofs::Seen::typed_lines))]
-fn put_message(out: &mut Vec<u8>, seen: &DatagramView) -> Result<(), AllocError>
-    ensures ok { OnOk result (out.new.items ≡ out.old.items
-        ++ (head_line seen.now.message
-        ++ carried_lines seen.now.message.content seen.now.elements)) }
+fn put_message(out: &mut Vec<u8>, seen: &MessageView) -> Result<(), AllocError>
+    ensures ok { OnOk result (out.new.items ≡ out.old.items ++ seen_lines seen.now) }
 {
     put_head(out, seen)?;
     match seen.raw() {
@@ -37,6 +35,19 @@ fn put_message(out: &mut Vec<u8>, seen: &DatagramView) -> Result<(), AllocError>
     }
 }
 
+/// Appends the lines of a datagram's message, and then those of its second one, where it has one.
+#[tactic(auto, using(crate::proofs::Appends::appending))]
+fn put_datagram(out: &mut Vec<u8>, seen: &DatagramView) -> Result<(), AllocError>
+    ensures ok { OnOk result (out.new.items
+        ≡ out.old.items ++ datagram_lines seen.now.message seen.now.second) }
+{
+    put_message(out, seen.message())?;
+    match seen.second() {
+        Some(second) => put_message(out, &second),
+        None => Ok(()),
+    }
+}
+
 /// The lines of a control datagram; `Memory` where an allocation was refused.
 fn control_lines(alloc: Global, octets: &[u8]) -> Result<Shown, Memory>
     ensures { IfOk result (λ shown. ControlLines octets.now shown.text.items shown.faulty) }
@@ -44,7 +55,7 @@ fn control_lines(alloc: Global, octets: &[u8]) -> Result<Shown, Memory>
     let mut text = Vec::new(alloc);
     match view(octets) {
         Ok(seen) => {
-            put_message(&mut text, &seen)?;
+            put_datagram(&mut text, &seen)?;
             Ok(Shown {
                 text,
                 faulty: false,
@@ -77,8 +88,8 @@ fn user_lines(alloc: Global, octets: &[u8]) -> Result<Shown, Memory>
     }
 }
 
-/// The lines of a datagram: its message with each element in the order in which it came, or the one
-/// line of its first fault. `Memory` where an allocation was refused.
+/// The lines of a datagram: its message with each element in the order in which it came, and then its second
+/// one, if it has two; or the one line of its first fault. `Memory` where an allocation was refused.
 pub fn decode_lines(alloc: Global, plane: Plane, octets: &[u8]) -> Result<Shown, Memory>
     ensures { IfOk result (λ shown. LinesOf plane octets.now shown.text.items shown.faulty) }
 {

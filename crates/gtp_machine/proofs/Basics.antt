@@ -5,3 +5,4 @@ pub mod Options
 pub mod Counting
 pub mod Ages
 pub mod Kinds
+pub mod Datagrams

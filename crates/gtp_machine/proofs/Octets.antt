@@ -2,6 +2,7 @@
 pub mod Faults
 pub mod ByName
 pub mod ByGrammar
+pub mod Datagrams
 pub mod Readings
 pub mod Spelled
 pub mod AsOctets

@@ -1,5 +1,5 @@
 -- Answers that a gateway gives (TS 29.274, 7.6 and 7.7), and the place where requests come in.
-use Rattle.std.specs.Prelude.{◌≡◌, ◌⊎◌, ℕ, [], ◌∷◌, Option, Some, None, Bool, true}
+use Rattle.std.specs.Prelude.{◌≡◌, ◌⊎◌, ℕ, List, [], ◌∷◌, Option, Some, None, Bool, true}
 use Rattle.std.specs.FinMap.{get}
 use Rattle.gtp_values.specs.declared.cause.Cause.{Cause}
 use Rattle.gtp_values.specs.FiniteMap.{Among}
@@ -8,17 +8,17 @@ use Rattle.gtp_machine.specs.Ordered.{Unless}
 use Rattle.gtp_machine.specs.Element.{cause_at, teid_in}
 use Rattle.gtp_machine.specs.Message.{Message, Control, Echo, Echo_response, Create_session_response, Delete_session_response, Create_bearer_response, Delete_bearer_response, recovery_of}
 use Rattle.gtp_machine.specs.Node.{Pending, Active, Closing, State, Session, Arrival, Held, Node, holding, written}
-use Rattle.gtp_machine.specs.Input.{Came_to, RequestKind, Of_create_session, Of_delete_session, Of_create_bearer, Of_delete_bearer, Defect, Mandatory_missing, Conditional_missing, Too_short, Out_of_range, FaultyRequest, Effect, Answered, Echoed, Repeated, says, dropped, HeldFull, NotPeer, ControlReading, Control_message, Faulty, Control_fault, undecodable, Unexpected}
+use Rattle.gtp_machine.specs.Input.{Came_to, RequestKind, Of_create_session, Of_delete_session, Of_create_bearer, Of_delete_bearer, Defect, Mandatory_missing, Conditional_missing, Too_short, Out_of_range, FaultyRequest, Effect, Answered, Echoed, Repeated, says_all, says, dropped, HeldFull, NotPeer, ControlReading, Control_message, Faulty, Control_fault, undecodable, Unexpected}
 use Rattle.gtp_machine.specs.Choice.{HasHeldRoom}
 use Rattle.gtp_machine.specs.Recovery.{Hears}
 
 -- an answer goes to where the request came from, and is held
 abbrev pub answered : Arrival → Message → ℕ → Node → Effect
-answered request answer cause new = record { out = says request.source answer; outcome = Came_to (Answered cause); node = holding request answer new }
+answered request answer cause new = record { out = says request.source answer; outcome = Came_to (Answered cause); node = holding request (answer ∷ []) new }
 
--- the same, where a context was made for the request
-abbrev pub making : Arrival → Message → ℕ → Node → Effect
-making request answer cause new = record { out = record (says request.source answer) { made = request ∷ [] }; outcome = Came_to (Answered cause); node = holding request answer new }
+-- the same of a datagram of these messages, where a context was made for the request
+abbrev pub making : Arrival → List Message → ℕ → Node → Effect
+making request answer cause new = record { out = record (says_all request.source answer) { made = request ∷ [] }; outcome = Came_to (Answered cause); node = holding request answer new }
 
 -- an Echo Request is answered with the own counter and the same number (7.1.2); the answer is not held
 abbrev pub echoed : Arrival → Echo → Node → Effect
@@ -29,7 +29,7 @@ pub record Repeats (old : Node) (request : Arrival) (e : Effect) : Type 0 where
   pub held : Held
   pub stands : Among held old.held
   pub same : held.request ≡ request
-  pub gives : e ≡ record { out = says request.source held.answer; outcome = Came_to Repeated; node = old }
+  pub gives : e ≡ record { out = says_all request.source held.answer; outcome = Came_to Repeated; node = old }
 
 -- no answer is held for the request
 abbrev pub IsNew : Node → Arrival → Type 0

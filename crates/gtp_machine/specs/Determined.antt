@@ -29,16 +29,16 @@ abbrev pub unchosen : Input → EventOutcome → EventOutcome
 unchosen (Commanded command) (Came_to (Begun teid)) = Came_to (Begun None)
 unchosen input outcome = outcome
 
--- what is told besides the messages that are sent
+-- what is told besides the datagrams that are sent
 abbrev pub unsent : Out → Out
 unsent out = record out { sent = [] }
 
--- where the messages are sent to
+-- where the datagrams are sent to
 abbrev pub destinations : List Sending → List Endpoint
 destinations [] = []
 destinations (s ∷ sent) = s.destination ∷ destinations sent
 
--- Both tell the same: what it comes to, the counter that was heard, and all else besides the messages; as many messages are sent, to the same places; the
+-- Both tell the same: what it comes to, the counter that was heard, and all else besides the datagrams; as many datagrams are sent, to the same places; the
 -- counters are the same after them, the peer's and the own; and as many TEIDs were drawn.
 pub record TellAlike (input : Input) (e f : Effect) : Type 0 where
   pub outcome : unchosen input e.outcome ≡ unchosen input f.outcome
@@ -60,7 +60,7 @@ pub record ChooseAlike (old one other : Node) : Type 0 where
 abbrev pub OneIsTold : Type 0
 OneIsTold = (role : Role) (old : Node) (input : Input) (e f : Effect) → StepsTwice role old input e f → TellAlike input e f
 
--- And where the choices are alike there is one effect: the same messages are sent, and the same gateway is left.
+-- And where the choices are alike there is one effect: the same datagrams are sent, and the same gateway is left.
 abbrev pub OneIsDone : Type 0
 OneIsDone = (role : Role) (old : Node) (input : Input) (e f : Effect) → StepsTwice role old input e f → ChooseAlike old e.node f.node → e ≡ f
 

@@ -91,7 +91,7 @@ pub record IsCarried (w sent came : World) (role : Role) (payload : List ℕ) : 
 
 -- a packet of at most 65,000 octets that is sent on the bearer, and comes next, is accepted
 abbrev pub Carries : World → Role → ℕ → Type 0
-Carries w role bearer = (payload : List ℕ) (sent came : World) → length payload ≤ 65000 → Happens w (Does role (Send_user bearer payload)) sent → Happens sent (Deliver (length w.history)) came → IsCarried w sent came role payload
+Carries w role bearer = (payload : List ℕ) (sent came : World) → length payload ≤ 65000 → Happens w (Does role (Send_user bearer payload)) sent → Happens sent (Deliver (length w.datagrams)) came → IsCarried w sent came role payload
 
 -- There is a session for the specification at both gateways, and its default bearer carries packets in both directions.
 pub record IsMade (w : World) (spec : Specification) : Type 0 where
@@ -132,7 +132,7 @@ pub record Exchanged (spec : Specification) (w begun answered opened : World) : 
   pub cause : ℕ
   pub second : CameTo answered (Came_to (Answered cause))
   pub answer : CreateSessionResponse
-  pub told : answered.history ≡ begun.history ++ signed Packet (Create_session_response answer ∷ [])
+  pub told : answered.datagrams ≡ begun.datagrams ++ signed Packet ((Create_session_response answer ∷ []) ∷ [])
   pub says : answer.cause.value ≡ cause
   pub address : PdnAddress
   pub given : IsGiven (heard_by w.packet.node w.serving.node.counter) spec.pdn address  -- by the rules, once the request's counter is heard
@@ -151,8 +151,8 @@ pub record IsExchange (w begun answered opened : World) (spec : Specification) :
   pub specified : IsSpecified spec
   pub can : CanExchange w spec
   pub begins : Happens w (Does Serving (Create_session spec)) begun
-  pub comes : Happens begun (Deliver (length w.history)) answered
-  pub opens : Happens answered (Deliver (1 + length w.history)) opened
+  pub comes : Happens begun (Deliver (length w.datagrams)) answered
+  pub opens : Happens answered (Deliver (1 + length w.datagrams)) opened
 
 -- After each run the command, the delivery of its request and the delivery of its answer make the session.
 abbrev pub FairExchange : Type 0

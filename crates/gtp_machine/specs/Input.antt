@@ -1,5 +1,5 @@
 -- What a gateway may be told, and what a step of it gives.
-use Rattle.std.specs.Prelude.{ℕ, List, [], ◌∷◌, Option, None}
+use Rattle.std.specs.Prelude.{ℕ, List, [], ◌∷◌, ◌++◌, Option, None}
 use Rattle.gtp_values.specs.Plmn.{Network}
 use Rattle.gtp_values.specs.TunnelEnd.{TunnelEnd}
 use Rattle.gtp_values.specs.declared.address.Endpoint.{Endpoint}
@@ -98,10 +98,10 @@ pub record Entry : Type 0 where
 abbrev pub entry_for : ℕ → List ℕ → Subscriber → Option ℕ → Entry
 entry_for target payload subscriber identity = record { target = target; payload = payload; imsi = subscriber.imsi; access_point = subscriber.access_point; identity = identity }
 
--- a message that is sent, and where to
+-- a datagram that is sent, and where to
 pub record Sending : Type 0 where
   pub destination : Endpoint
-  pub message : Message
+  pub messages : List Message  -- of one datagram: one, or two
 
 -- what a step sends and tells
 pub record Out : Type 0 where
@@ -118,14 +118,23 @@ pub record Out : Type 0 where
 abbrev pub nothing : Out
 nothing = record { sent = []; heard = None; learned = None; gave_up = []; forgot = []; made = []; handed = []; accepted = [] }
 
+-- one datagram of these messages is sent
+abbrev pub says_all : Endpoint → List Message → Out
+says_all destination datagram = record nothing { sent = record { destination = destination; messages = datagram } ∷ [] }
+
 -- one message is sent
 abbrev pub says : Endpoint → Message → Out
-says destination message = record nothing { sent = record { destination = destination; message = message } ∷ [] }
+says destination message = says_all destination (message ∷ [])
 
--- the messages that are sent
+-- all messages that are sent
 abbrev pub messages : List Sending → List Message
 messages [] = []
-messages (s ∷ sent) = s.message ∷ messages sent
+messages (s ∷ sent) = s.messages ++ messages sent
+
+-- the same, datagram by datagram
+abbrev pub datagrams : List Sending → List (List Message)
+datagrams [] = []
+datagrams (s ∷ sent) = s.messages ∷ datagrams sent
 
 -- what an event comes to: of a command and of a datagram an outcome is told, and of a tick none
 pub data EventOutcome : Type 0 where

@@ -4,11 +4,11 @@ use Rattle.std.specs.FinMap.{get}
 use Rattle.gtp_values.specs.Counter.{age_of}
 use Rattle.gtp_values.specs.declared.counter.Age.TheVariants.{Later}
 use Rattle.gtp_values.specs.FiniteMap.{FiniteMap, Among}
-use Rattle.gtp_machine.specs.Config.{Config, control_end}
+use Rattle.gtp_machine.specs.Config.{Config}
 use Rattle.gtp_machine.specs.Message.{Plane, Control, User, first_created, created_identity, CreateSessionRequest, CreateSessionResponse, CreateBearerRequest, CreateBearerResponse, Message, Create_session_request, Create_session_response, Create_bearer_request, Create_bearer_response, Packet_data, End_marker, Error_indication, Owns, header_of, recovery_of, first_given, first_returned, first_identity}
 use Rattle.gtp_machine.specs.Element.{IsAccepting, PdnAddress, address_of, teid_in}
 use Rattle.gtp_machine.specs.Node.{Node, fresh_node, Arrival, Role, Serving, Packet, Pending, Active, Closing, Session, Bearer, Dedicated}
-use Rattle.gtp_machine.specs.Input.{Entry, Effect, Repeated, messages}
+use Rattle.gtp_machine.specs.Input.{Entry, Effect, Repeated, datagrams}
 use Rattle.gtp_machine.specs.Choice.{counter_of}
 use Rattle.gtp_machine.specs.Recovery.{Hears}
 use Rattle.gtp_machine.specs.Safety.{MutualSessions, MutualBearers}
@@ -16,12 +16,16 @@ use Rattle.gtp_machine.specs.Serving.{granted_bearer, BearerAsked}
 use Rattle.gtp_machine.specs.Packet.{made_session, made_bearer, SessionAsked}
 use Rattle.gtp_machine.specs.Step.{Done, Steps}
 use Rattle.gtp_machine.specs.Once.{Makes, Takes, NeverForgets, IsOnce}
-use Rattle.gtp_machine.specs.Spelling.{spelled, IsSendable}
-use Rattle.gtp_machine.specs.World.{World, steps_of, Event, Deliver, Cut, Note, Came_to, signed, arrival, Happens, Run, start, other, side_of, Side, HasBy, Sent, HasSent}
+use Rattle.gtp_machine.specs.Spelling.{spelled_all, IsSendable}
+use Rattle.gtp_machine.specs.World.{World, steps_of, Event, Deliver, Cut, Note, Came_to, signed, flat, come_from, arrival, Happens, Run, start, other, side_of, Side, HasBy, Sent, SentDatagram, HasSent}
 
 -- P holds at the end of each run, however the gateways are configured
 abbrev pub Always : (World → Type 0) → Type 0
 Always P = (serving packet : Config) (serving_counter packet_counter : ℕ) (events : List Event) (w : World) → Run (start serving packet serving_counter packet_counter) events w → P w
+
+-- the messages that were sent are those of the datagrams, one datagram after the other
+abbrev pub MessagesOfDatagrams : World → Type 0
+MessagesOfDatagrams w = flat w.datagrams ≡ w.history
 
 -- each TEID stands as its sender's own in one message and its repeats
 abbrev pub OneMessage : World → Type 0
@@ -101,17 +105,18 @@ pub record Gave (first : World) (events : List Event) (last : World) (role : Rol
   pub moment : Moment first events last
   pub number : ℕ
   pub came : moment.event ≡ Deliver number
-  pub sent : slice_get moment.before.history number ≡ Some (record { role = other role; what = request })
+  pub sent : slice_get moment.before.datagrams number ≡ Some (record { role = other role; what = request ∷ [] })
   pub effect : Effect
   pub asked : CreateAsked role request (arrival (side_of moment.before (other role)).node.config.own request) (side_of moment.before role).node effect
   pub becomes : (side_of moment.after role).node ≡ effect.node
-  pub says : messages effect.out.sent ≡ answer ∷ []
+  pub says : datagrams effect.out.sent ≡ (answer ∷ []) ∷ []
 
 -- the event brings this gateway these octets from this address: those of a datagram of the other gateway, or its first ones
 abbrev pub Brings : World → Event → Role → Arrival → Type 0
-Brings before (Deliver number) role request = (message : Message) × (slice_get before.history number ≡ Some (record { role = other role; what = message })) × (request ≡ arrival (side_of before (other role)).node.config.own message)
+Brings before (Deliver number) role request =
+    (datagram : List Message) × (slice_get before.datagrams number ≡ Some (record { role = other role; what = datagram })) × (request ≡ come_from (side_of before (other role)).node.config.own (spelled_all datagram))
 Brings before (Cut number count) role request =
-    (message : Message) × (slice_get before.history number ≡ Some (record { role = other role; what = message })) × (request ≡ record { source = control_end (side_of before (other role)).node.config.own.control; octets = take count (spelled message) })
+    (datagram : List Message) × (slice_get before.datagrams number ≡ Some (record { role = other role; what = datagram })) × (request ≡ come_from (side_of before (other role)).node.config.own (take count (spelled_all datagram)))
 Brings before event role request = ⊥
 
 -- The datagram with this number is the answer to the request: it was sent as that came, or later, as the same octets came again from the same address.
@@ -119,8 +124,8 @@ pub record GoesBackTo (first : World) (events : List Event) (last : World) (numb
   pub gave : Gave first events last role request answer
   pub moment : Moment first events last
   pub again : Brings moment.before moment.event role (arrival (side_of gave.moment.before (other role)).node.config.own request)
-  pub sent : moment.after.history ≡ moment.before.history ++ signed role (answer ∷ [])
-  pub place : length moment.before.history ≡ number
+  pub sent : moment.after.datagrams ≡ moment.before.datagrams ++ signed role ((answer ∷ []) ∷ [])
+  pub place : length moment.before.datagrams ≡ number
   pub since : length gave.moment.earlier ≤ length moment.earlier
 
 -- a session of this gateway, and its default bearer, which it made for the request: those that the response names, with the identity and all else that the request
@@ -166,8 +171,8 @@ pub record AnswersBearer (first : World) (events : List Event) (last : World) (n
 
 -- each datagram with a response goes back to that request of the other gateway for which its sender made or refused a context
 pub record ResponsesGoBack (first : World) (events : List Event) (last : World) : Type 0 where
-  pub sessions : (number : ℕ) (a : CreateSessionResponse) → slice_get last.history number ≡ Some (record { role = Packet; what = Create_session_response a }) → AnswersSession first events last number a
-  pub bearers : (number : ℕ) (x : CreateBearerResponse) → slice_get last.history number ≡ Some (record { role = Serving; what = Create_bearer_response x }) → AnswersBearer first events last number x
+  pub sessions : (number : ℕ) (datagram : List Message) (a : CreateSessionResponse) → slice_get last.datagrams number ≡ Some (record { role = Packet; what = datagram }) → Among (Create_session_response a) datagram → AnswersSession first events last number a
+  pub bearers : (number : ℕ) (datagram : List Message) (x : CreateBearerResponse) → slice_get last.datagrams number ≡ Some (record { role = Serving; what = datagram }) → Among (Create_bearer_response x) datagram → AnswersBearer first events last number x
 
 -- the counter of some start of the gateway up to now
 pub record IsOfStart (side : Side) (counter : ℕ) : Type 0 where
@@ -262,9 +267,9 @@ pub record ComesAgain (before again : World) : Type 0 where
   pub note : Note
   pub notes : again.notes ≡ note ∷ before.notes
   pub repeated : note.outcome ≡ Came_to Repeated
-  pub answer : Sent
-  pub sent : again.history ≡ before.history ++ (answer ∷ [])
-  pub held : Among answer before.history
+  pub answer : SentDatagram
+  pub sent : again.datagrams ≡ before.datagrams ++ (answer ∷ [])
+  pub held : Among answer before.datagrams
 
 -- A run goes on from there: a request comes again and gets the answer that is held, that datagram is lost, two packets come in the other order, and a dedicated
 -- bearer is deleted at both gateways, where its session stays.
@@ -284,7 +289,7 @@ pub record GoesOn (before : World) (session session_there bearer bearer_there : 
   pub stays : (s : Session) × (get world.serving.node.sessions session ≡ Some s)
   pub stays_there : (s : Session) × (get world.packet.node.sessions session_there ≡ Some s)
   pub restart : HearsRestart world session_there
-  pub never_comes : Among (Deliver (length before.history)) (events ++ restart.events) → ⊥
+  pub never_comes : Among (Deliver (length before.datagrams)) (events ++ restart.events) → ⊥
 
 -- a run to sessions and dedicated bearers that name each other and to a packet that was accepted on them, with no late delivery
 pub record GetsThrough : Type 0 where

@@ -27,10 +27,10 @@ pub record Arrival : Type 0 where
   pub source : Endpoint
   pub octets : List ℕ
 
--- an answer that was given, with the request that it answers
+-- an answer that was given, as one datagram, with the request that it answers
 pub record Held : Type 0 where
   pub request : Arrival
-  pub answer : Message
+  pub answer : List Message
 
 -- a gateway: what it keeps
 pub record Node : Type 0 where
@@ -48,7 +48,7 @@ abbrev pub fresh_node : Config → ℕ → Node
 fresh_node config counter = record { config = config; counter = counter; drawn = []; known = None; sessions = empty; bearers = empty; pending = empty; held = [] }
 
 -- a gateway that holds one more answer, after the others
-abbrev pub holding : Arrival → Message → Node → Node
+abbrev pub holding : Arrival → List Message → Node → Node
 holding request answer node = record node { held = node.held ++ (record { request = request; answer = answer } ∷ []) }
 
 -- a TEID that may be absent, as it is written: 0 for none

@@ -5,7 +5,7 @@ use Rattle.gtp_values.specs.FiniteMap.{Among}
 use Rattle.gtp_machine.specs.Config.{Config}
 use Rattle.gtp_machine.specs.Message.{Message, Create_session_request, Create_bearer_request}
 use Rattle.gtp_machine.specs.Node.{Role, Serving, Packet, Bearer, Arrival, Held, Node, fresh_node}
-use Rattle.gtp_machine.specs.Input.{Input, Control_came, Control_message, Effect, messages}
+use Rattle.gtp_machine.specs.Input.{Input, Control_came, Control_message, Effect, datagrams}
 use Rattle.gtp_machine.specs.Step.{Step, Done, Steps}
 
 -- a request by which this gateway makes a session or a bearer
@@ -51,7 +51,7 @@ pub record ComesTwice (role : Role) (request : Arrival) (message : Message) (fir
 -- the second of them makes no context where the first made one, and sends what the first sent
 pub record IsOnce (first second : Done) : Type 0 where
   pub one_context : MakesContext first → MakesContext second → ⊥
-  pub one_answer : (a b : Message) → Among a (messages first.effect.out.sent) → Among b (messages second.effect.out.sent) → a ≡ b
+  pub one_answer : (a b : List Message) → Among a (datagrams first.effect.out.sent) → Among b (datagrams second.effect.out.sent) → a ≡ b
 
 -- Until its answer is given up, a Create Session or Create Bearer Request makes one context and has one answer, however often it comes.
 abbrev pub ActsOnce : Type 0

@@ -58,7 +58,7 @@ pub record MakesSession (request : Arrival) (old : Node) (q : CreateSessionReque
   pub user_free : IsFree old user
   pub apart : control ≢ user
   pub given : IsGiven old q.pdn address
-  pub gives : e ≡ making request (Create_session_response (session_response old q control user address)) (session_cause q.pdn address) (session_made old q control user address)
+  pub gives : e ≡ making request (Create_session_response (session_response old q control user address) ∷ []) (session_cause q.pdn address) (session_made old q control user address)
 
 -- a refusal of a Create Session Request goes to the sender's control plane TEID
 abbrev pub session_refused : Arrival → CreateSessionRequest → Cause → Node → Effect

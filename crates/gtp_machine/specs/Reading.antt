@@ -1,5 +1,5 @@
 -- How datagrams read: what the decoders of the two planes tell, as the machine sees it.
-use Rattle.std.specs.Prelude.{◌≡◌, ◌⊎◌, ◌↔◌, ℕ, ◌<◌, ◌==◌, nat_lt, Bool, true, false, List, length, take, Option, Some, None, option_map, unwrap_or, Result, Ok, Err, if◌then◌else◌}
+use Rattle.std.specs.Prelude.{◌≡◌, ◌⊎◌, ◌↔◌, ℕ, ◌<◌, ◌/◌, ◌==◌, nat_lt, Bool, true, false, List, [], ◌∷◌, length, take, Option, Some, None, option_map, unwrap_or, Result, Ok, Err, if◌then◌else◌}
 use Rattle.gtp_values.specs.declared.identifiers.Teid.{Teid}
 use Rattle.gtp_ie.specs.declared.fault.IeFault.{IeFault}
 use Rattle.gtp_ie.specs.declared.fault.IeFault.TheVariants as elements
@@ -20,6 +20,8 @@ use Rattle.gtp_v2.specs.Body.{message_value}
 use Rattle.gtp_v2.specs.Message.{MessageValue}
 use Rattle.gtp_v2.specs.reading.Message.{message_at}
 use Rattle.gtp_v2.specs.Datagram.{IsMessage, IsFault}
+use Rattle.gtp_v2.specs.Pair.{DatagramValue, IsDatagram, IsDatagramFault}
+use Rattle.gtp_v2.specs.reading.Pair.{datagram_at}
 use Rattle.gtp_user.specs.declared.message.UserBody.{UserBody}
 use Rattle.gtp_user.specs.declared.message.UserBody.TheVariants as user_bodies
 use Rattle.gtp_user.specs.declared.message.UserMessage.{UserMessage}
@@ -29,7 +31,7 @@ use Rattle.gtp_user.specs.declared.fault.UserFault.TheVariants as user_faults
 use Rattle.gtp_user.specs.Message as user_messages
 use Rattle.gtp_user.specs.reading.Message as user_octets
 use Rattle.gtp_user.specs.Datagram.{IsUserMessage, IsUserFault}
-use Rattle.gtp_machine.specs.Message.{CreateSessionRequest, CreateBearerRequest, RemovedBearer, Message, Create_session_request, Create_bearer_request, Packet_data, End_marker, Error_indication, User_echo_request, User_echo_response, Supported_extensions, Other_user}
+use Rattle.gtp_machine.specs.Message.{CreateSessionRequest, CreateBearerRequest, RemovedBearer, Message, Other_control, Create_session_request, Create_bearer_request, Packet_data, End_marker, Error_indication, User_echo_request, User_echo_response, Supported_extensions, Other_user}
 use Rattle.gtp_machine.specs.Input.{RequestKind, Of_create_session, Of_delete_session, Of_create_bearer, Of_delete_bearer, Defect, Mandatory_missing, Conditional_missing, Too_short, Out_of_range, ControlReading, Control_message, Faulty, Control_fault, UserReading, User_message, Extension_needed, User_fault}
 use Rattle.gtp_machine.specs.Node.{written}
 use Rattle.gtp_machine.specs.Decoded.{message_of}
@@ -92,6 +94,50 @@ control_reading octets = control_reading_of (message_at octets)
 -- The octets of a control datagram read so.
 abbrev pub ControlReads : List ℕ → ControlReading → Type 0
 ControlReads octets reading = reading ≡ control_reading octets
+
+-- how a datagram of one or two messages reads (5.5.1)
+pub data DatagramReading : Type 0 where
+  Alone : ControlReading → DatagramReading
+  Both : Message → Message → DatagramReading
+
+-- a message announces a second one: by the first of at least four octets, in which the version is 2 and P is set
+abbrev pub announces : List ℕ → Bool
+announces (first ∷ kind ∷ high ∷ low ∷ held) = first / 16 == 5
+announces octets = false
+
+-- a message and perhaps a second one, as they read
+abbrev pub messages_read : MessageValue → Option MessageValue → DatagramReading
+messages_read first None = Alone (Control_message (message_of first))
+messages_read first (Some second) = Both (message_of first) (message_of second)
+
+-- how the first fault of a datagram reads: where a second message is announced, no fault is answered
+abbrev pub datagram_fault : Bool → V2Fault → ControlReading
+datagram_fault true fault = Control_fault (number_of fault)
+datagram_fault false fault = control_fault fault
+
+-- what the outcome of reading says where a second message is announced
+abbrev pub pair_reading_of : Result DatagramValue V2Fault → DatagramReading
+pair_reading_of (Ok d) = messages_read d.first d.second
+pair_reading_of (Err fault) = Alone (datagram_fault true fault)
+
+-- How the octets of a control datagram read, whether they hold one message or two.
+abbrev pub datagram_reading : List ℕ → DatagramReading
+datagram_reading octets = if announces octets then pair_reading_of (datagram_at octets) else Alone (control_reading octets)
+
+-- The octets of a control datagram, of one message or two, read so.
+abbrev pub DatagramReads : List ℕ → DatagramReading → Type 0
+DatagramReads octets reading = reading ≡ datagram_reading octets
+
+-- What a gateway takes a datagram for: two messages as one of a type that no gateway takes, so that both are dropped before a counter is heard.
+abbrev pub taken_as : DatagramReading → ControlReading
+taken_as (Alone reading) = reading
+taken_as (Both first second) = Control_message (Other_control 0)
+
+-- how a datagram of these messages reads
+abbrev pub reading_of : List Message → DatagramReading
+reading_of [] = Alone (Control_fault short_number)
+reading_of (message ∷ []) = Alone (Control_message message)
+reading_of (first ∷ second ∷ rest) = Both first second
 
 -- the fault of a control datagram of which only so many first octets come, by its printed number: H1, fewer than the first four of a header, or H3,
 -- fewer than these state (5.5.1)
@@ -179,6 +225,16 @@ IsReadOf octets reading =
 abbrev pub ControlByGrammar : Type 0
 ControlByGrammar = (octets : List ℕ) (reading : ControlReading) → ControlReads octets reading ↔ IsReadOf octets reading
 
+-- the octets spell one or two messages that read so, or their first fault reads so
+abbrev pub IsDatagramReadOf : List ℕ → DatagramReading → Type 0
+IsDatagramReadOf octets reading =
+    ((d : DatagramValue) × IsDatagram octets d × (reading ≡ messages_read d.first d.second))
+    ⊎ ((fault : V2Fault) × IsDatagramFault octets fault × (reading ≡ Alone (datagram_fault (announces octets) fault)))
+
+-- A control datagram reads as the one or two messages that the grammar says its octets spell, or as the fault that it says is their first, and not otherwise.
+abbrev pub DatagramByGrammar : Type 0
+DatagramByGrammar = (octets : List ℕ) (reading : DatagramReading) → DatagramReads octets reading ↔ IsDatagramReadOf octets reading
+
 -- the octets spell a message of the user plane that reads so, or their first fault reads so
 abbrev pub IsUserReadOf : List ℕ → UserReading → Type 0
 IsUserReadOf octets reading =
@@ -192,6 +248,14 @@ UserByGrammar = (octets : List ℕ) (reading : UserReading) → UserReads octets
 -- The first octets of a control message, but not all, read as the fault of a cut.
 abbrev pub CutsRead : Type 0
 CutsRead = (octets : List ℕ) (m : MessageValue) (count : ℕ) → IsMessage octets m → count < length octets → ControlReads (take count octets) (Control_fault (cut_fault count))
+
+-- Octets that read as a message by themselves read as a datagram of that one message.
+abbrev pub MessageReadsAlone : Type 0
+MessageReadsAlone = (octets : List ℕ) (m : Message) → ControlReads octets (Control_message m) → DatagramReads octets (Alone (Control_message m))
+
+-- A datagram of one message that comes cut reads as the fault of a cut.
+abbrev pub DatagramCutsRead : Type 0
+DatagramCutsRead = (octets : List ℕ) (m : MessageValue) (count : ℕ) → IsMessage octets m → count < length octets → DatagramReads (take count octets) (Alone (Control_fault (cut_fault count)))
 
 -- The first octets of a user plane message, but not all, read as the fault of a cut.
 abbrev pub UserCutsRead : Type 0

@@ -94,7 +94,7 @@ pub record MakesBearer (request : Arrival) (old : Node) (r : CreateBearerRequest
   pub identity : ℕ
   pub user_free : IsFree old user
   pub identity_free : IsFreeIdentity old r.header identity
-  pub gives : e ≡ making request (Create_bearer_response (bearer_response old r s user identity)) 16 (record old { drawn = user ∷ old.drawn; bearers = insert old.bearers user (granted_bearer r identity) })
+  pub gives : e ≡ making request (Create_bearer_response (bearer_response old r s user identity) ∷ []) 16 (record old { drawn = user ∷ old.drawn; bearers = insert old.bearers user (granted_bearer r identity) })
 
 -- the refusal for want of an identity or a TEID has a context with the packet gateway's F-TEID
 abbrev pub no_resources : Node → CreateBearerRequest → ℕ → CreateBearerResponse

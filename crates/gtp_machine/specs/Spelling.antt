@@ -15,6 +15,7 @@ use Rattle.gtp_v2.specs.DeleteBearerResponse.{delete_bearer_response}
 use Rattle.gtp_v2.specs.Table.{Field, Plain, Groups}
 use Rattle.gtp_v2.specs.Message.{Fields, Raw, MessageValue}
 use Rattle.gtp_v2.specs.Encoding.{canonical_encoding, Meets}
+use Rattle.gtp_v2.specs.Pair.{paired}
 use Rattle.gtp_user.specs.Message as user_messages
 use Rattle.gtp_user.specs.Encoding as user_encodings
 use Rattle.gtp_machine.specs.Message.{RequestedBearer, CreatedBearer, WantedBearer, GivenBearer, RemovedBearer, Message, Echo_request, Echo_response, Create_session_request, Create_session_response, Delete_session_request, Delete_session_response, Create_bearer_request, Create_bearer_response, Delete_bearer_request, Delete_bearer_response, Other_control, Packet_data, End_marker, Error_indication, User_echo_request, User_echo_response, Supported_extensions, Other_user, Plane, Control, User, plane_of}
@@ -121,9 +122,20 @@ pub record Datagram : Type 0 where
   pub to : Endpoint
   pub octets : List ℕ
 
--- the datagram that a gateway with this configuration sends for a message
+-- the plane of a datagram of these messages: that of the first
+abbrev pub datagram_plane : List Message → Plane
+datagram_plane [] = Control
+datagram_plane (first ∷ rest) = plane_of first
+
+-- the octets of a datagram of these messages: of two the first announces the second (TS 29.274, 5.5.1)
+abbrev pub spelled_all : List Message → List ℕ
+spelled_all [] = []
+spelled_all (message ∷ []) = spelled message
+spelled_all (first ∷ second ∷ rest) = paired (spelled first) (spelled second)
+
+-- the datagram that a gateway with this configuration sends
 abbrev pub datagram_of : Config → Sending → Datagram
-datagram_of config s = record { plane = plane_of s.message; from = own_end config (plane_of s.message); to = s.destination; octets = spelled s.message }
+datagram_of config s = record { plane = datagram_plane s.messages; from = own_end config (datagram_plane s.messages); to = s.destination; octets = spelled_all s.messages }
 
 -- a kind that a gateway sends
 abbrev pub IsOfOwnKind : Message → Type 0

@@ -2,15 +2,16 @@
 use Rattle.std.specs.Prelude.{◌≡◌, ℕ, ◌+◌, ◌%◌, ◌<◌, List, [], ◌∷◌, ◌++◌, map, length, take, Option, Some, None, slice_get}
 use Rattle.gtp_machine.specs.Ordered.{Unless}
 use Rattle.gtp_values.specs.FiniteMap.{Among}
+use Rattle.gtp_user.specs.Codes as user_codes
 use Rattle.gtp_machine.specs.Config.{Addresses, Config, control_end, user_end}
-use Rattle.gtp_machine.specs.Message.{Message, Plane, Control, User, plane_of}
+use Rattle.gtp_machine.specs.Message.{Message, Plane, Control, User}
 use Rattle.gtp_machine.specs.Node.{Role, Serving, Packet, Arrival, Node, fresh_node}
-use Rattle.gtp_machine.specs.Input.{Command, Move, Input, Commanded, Control_came, User_came, Control_message, Control_fault, User_message, User_fault, Entry, Out, Effect, messages}
+use Rattle.gtp_machine.specs.Input.{Command, Move, Input, Commanded, Control_came, User_came, Control_fault, User_message, User_fault, Entry, Out, Effect, messages, datagrams}
 pub use Rattle.gtp_machine.specs.Input.{EventOutcome, Came_to, Ticked, Restarted, No_such_datagram, Restarts_used, Cut_too_long}
 use Rattle.gtp_machine.specs.Tick.{TickStep, ticked}
 use Rattle.gtp_machine.specs.Step.{Step, Done, tick_steps}
-use Rattle.gtp_machine.specs.Reading.{cut_fault, user_cut_fault}
-use Rattle.gtp_machine.specs.Spelling.{spelled}
+use Rattle.gtp_machine.specs.Reading.{taken_as, reading_of, cut_fault, user_cut_fault}
+use Rattle.gtp_machine.specs.Spelling.{spelled, datagram_plane, spelled_all}
 
 -- the other gateway
 abbrev pub other : Role → Role
@@ -26,6 +27,10 @@ pub record By (X : Type 0) : Type 0 where
 abbrev pub Sent : Type 0
 Sent = By Message
 
+-- the same of a datagram
+abbrev pub SentDatagram : Type 0
+SentDatagram = By (List Message)
+
 -- a gateway of the world, and what is kept of it
 pub record Side : Type 0 where
   pub node : Node
@@ -40,7 +45,7 @@ pub record Side : Type 0 where
 pub record Note : Type 0 where
   pub outcome : EventOutcome
   pub learned : Option ℕ
-  pub sent : List Message
+  pub sent : List (List Message)  -- datagram by datagram
   pub gave_up : List ℕ
   pub forgot : List Arrival
 
@@ -48,6 +53,7 @@ pub record Note : Type 0 where
 pub record World : Type 0 where
   pub serving : Side
   pub packet : Side
+  pub datagrams : List SentDatagram  -- each datagram that was ever sent, in order
   pub history : List Sent  -- each message that was ever sent, in order
   pub handed : List (By Entry)  -- each packet that was handed in, in order
   pub accepted : List (By Entry)  -- each packet that was accepted, in order
@@ -100,6 +106,11 @@ pub data Event : Type 0 where
 abbrev pub signed : {X : Type 0} → Role → List X → List (By X)
 signed role list = map (λ what. record { role = role; what = what }) list
 
+-- the messages of these datagrams, one datagram after the other
+abbrev pub flat : List SentDatagram → List Sent
+flat [] = []
+flat (d ∷ sent) = signed d.role d.what ++ flat sent
+
 -- the counters heard, with one more
 abbrev pub with_heard : Option ℕ → List ℕ → List ℕ
 with_heard None seen = seen
@@ -119,6 +130,7 @@ stepped side e =
 abbrev pub moved : World → Role → Effect → World
 moved w role e =
     record (with_side w role (stepped (side_of w role) e)) {
+      datagrams = w.datagrams ++ signed role (datagrams e.out.sent);
       history = w.history ++ signed role (messages e.out.sent);
       handed = w.handed ++ signed role e.out.handed;
       accepted = w.accepted ++ signed role e.out.accepted;
@@ -134,7 +146,7 @@ quiet_note outcome = record { outcome = outcome; learned = None; sent = []; gave
 
 -- the note of what an event gave
 abbrev pub note_of : EventOutcome → Out → Note
-note_of outcome out = record { outcome = outcome; learned = out.learned; sent = messages out.sent; gave_up = out.gave_up; forgot = out.forgot }
+note_of outcome out = record { outcome = outcome; learned = out.learned; sent = datagrams out.sent; gave_up = out.gave_up; forgot = out.forgot }
 
 -- A gateway takes an input, and what comes of it is noted.
 pub record Moves (old : World) (role : Role) (input : Input) (new : World) : Type 0 where
@@ -150,43 +162,48 @@ pub record TicksOn (old : World) (role : Role) (new : World) : Type 0 where
   pub tick : TickStep (side_of old role).node moves out after
   pub becomes : new ≡ logged (noted (moved old role (ticked out after)) (note_of Ticked out)) role (tick_steps (side_of old role).node moves out after tick)
 
--- a request as it comes over the path: the octets that spell it, from its sender's control address
-abbrev pub arrival : Addresses → Message → Arrival
-arrival from message = record { source = control_end from.control; octets = spelled message }
+-- octets as they come over the path, from their sender's control address
+abbrev pub come_from : Addresses → List ℕ → Arrival
+come_from from octets = record { source = control_end from.control; octets = octets }
 
--- a datagram as it comes
-abbrev pub delivered_on : Plane → Addresses → Message → Input
-delivered_on Control from message = Control_came (arrival from message) (Control_message message)
-delivered_on User from message = User_came (user_end from.user) (User_message message)
+-- a request as it comes: the octets that spell it
+abbrev pub arrival : Addresses → Message → Arrival
+arrival from message = come_from from (spelled message)
+
+-- a datagram as it comes; on the user plane it is one message
+abbrev pub delivered_on : Plane → Addresses → List Message → Input
+delivered_on Control from datagram = Control_came (come_from from (spelled_all datagram)) (taken_as (reading_of datagram))
+delivered_on User from (message ∷ []) = User_came (user_end from.user) (User_message message)
+delivered_on User from datagram = User_came (user_end from.user) (User_fault user_codes.short_number)
 
 -- its first octets as they come: they read as no message, and with the fault of a cut
-abbrev pub cut_on : Plane → Addresses → Message → ℕ → Input
-cut_on Control from message count = Control_came (record { source = control_end from.control; octets = take count (spelled message) }) (Control_fault (cut_fault count))
-cut_on User from message count = User_came (user_end from.user) (User_fault (user_cut_fault count))
+abbrev pub cut_on : Plane → Addresses → List Message → ℕ → Input
+cut_on Control from datagram count = Control_came (come_from from (take count (spelled_all datagram))) (Control_fault (cut_fault count))
+cut_on User from datagram count = User_came (user_end from.user) (User_fault (user_cut_fault count))
 
 -- the delivery is late: it is of a request whose answer the receiver has given up
-abbrev pub IsLateOn : Plane → Addresses → Side → Message → Type 0
-IsLateOn Control from side message = Among (arrival from message) side.forgotten
-IsLateOn User from side message = ⊥
+abbrev pub IsLateOn : Plane → Addresses → Side → List Message → Type 0
+IsLateOn Control from side datagram = Among (come_from from (spelled_all datagram)) side.forgotten
+IsLateOn User from side datagram = ⊥
 
 -- the world where one more delivery was late: of this request, to that gateway
 abbrev pub late_once : World → Role → Arrival → World
 late_once w role request = record (with_side w role (record (side_of w role) { came_late = request ∷ (side_of w role).came_late })) { late = 1 + w.late }
 
 -- A datagram comes to the gateway that did not send it; it stays in the list. A late delivery is counted.
-abbrev pub Delivers : World → Role → Message → World → Type 0
-Delivers old sender message new =
-    Unless (IsLateOn (plane_of message) (side_of old sender).node.config.own (side_of old (other sender)) message) (Moves old (other sender) (delivered_on (plane_of message) (side_of old sender).node.config.own message) new) (λ late.
-    Moves (late_once old (other sender) (arrival (side_of old sender).node.config.own message)) (other sender) (delivered_on (plane_of message) (side_of old sender).node.config.own message) new)
+abbrev pub Delivers : World → Role → List Message → World → Type 0
+Delivers old sender datagram new =
+    Unless (IsLateOn (datagram_plane datagram) (side_of old sender).node.config.own (side_of old (other sender)) datagram) (Moves old (other sender) (delivered_on (datagram_plane datagram) (side_of old sender).node.config.own datagram) new) (λ late.
+    Moves (late_once old (other sender) (come_from (side_of old sender).node.config.own (spelled_all datagram))) (other sender) (delivered_on (datagram_plane datagram) (side_of old sender).node.config.own datagram) new)
 
 -- The first octets of a datagram come to the gateway that did not send it.
-abbrev pub Cuts : World → Sent → ℕ → World → Type 0
-Cuts old sent count new = Moves old (other sent.role) (cut_on (plane_of sent.what) (side_of old sent.role).node.config.own sent.what count) new
+abbrev pub Cuts : World → SentDatagram → ℕ → World → Type 0
+Cuts old sent count new = Moves old (other sent.role) (cut_on (datagram_plane sent.what) (side_of old sent.role).node.config.own sent.what count) new
 
 -- the datagram with this number
-pub record Stands (history : List Sent) (number : ℕ) : Type 0 where
-  pub sent : Sent
-  pub is : slice_get history number ≡ Some sent
+pub record Stands (datagrams : List SentDatagram) (number : ℕ) : Type 0 where
+  pub sent : SentDatagram
+  pub is : slice_get datagrams number ≡ Some sent
 
 -- the counter of the next start
 abbrev pub next_counter : Side → ℕ
@@ -201,11 +218,11 @@ abbrev pub Happens : World → Event → World → Type 0
 Happens old (Does role command) new = Moves old role (Commanded command) new
 Happens old (Tick role) new = TicksOn old role new
 Happens old (Deliver number) new =
-    Unless (Stands old.history number) (new ≡ noted old (quiet_note No_such_datagram)) (λ found.
+    Unless (Stands old.datagrams number) (new ≡ noted old (quiet_note No_such_datagram)) (λ found.
     Delivers old found.sent.role found.sent.what new)
 Happens old (Cut number count) new =
-    Unless (Stands old.history number) (new ≡ noted old (quiet_note No_such_datagram)) (λ found.
-    Unless (count < length (spelled found.sent.what)) (new ≡ noted old (quiet_note Cut_too_long)) (λ short.
+    Unless (Stands old.datagrams number) (new ≡ noted old (quiet_note No_such_datagram)) (λ found.
+    Unless (count < length (spelled_all found.sent.what)) (new ≡ noted old (quiet_note Cut_too_long)) (λ short.
     Cuts old found.sent count new))
 Happens old (Restart role) new =
     Unless ((side_of old role).restarts < 127) (new ≡ noted old (quiet_note Restarts_used)) (λ few.
@@ -222,4 +239,4 @@ begun config first = record { node = fresh_node config (first % 256); first = fi
 
 -- two gateways that have just started, so configured and with these counters
 abbrev pub start : Config → Config → ℕ → ℕ → World
-start serving packet serving_counter packet_counter = record { serving = begun serving serving_counter; packet = begun packet packet_counter; history = []; handed = []; accepted = []; late = 0; notes = []; serving_steps = []; packet_steps = [] }
+start serving packet serving_counter packet_counter = record { serving = begun serving serving_counter; packet = begun packet packet_counter; datagrams = []; history = []; handed = []; accepted = []; late = 0; notes = []; serving_steps = []; packet_steps = [] }

@@ -12,6 +12,7 @@ ghost use Rattle.gtp_machine.specs.Laws.{
   MadeOnce,
   NamesGoBack,
   NoneAhead,
+  MessagesOfDatagrams,
   OfEachRun,
   OneMessage,
   PlanesApart,
@@ -25,7 +26,10 @@ ghost use Rattle.gtp_machine.specs.Reading.{
   BearerRequestReads,
   ControlByGrammar,
   CutsRead,
+  DatagramByGrammar,
+  DatagramCutsRead,
   DecodedReads,
+  MessageReadsAlone,
   SessionRequestReads,
   UserByGrammar,
   UserByName,
@@ -50,6 +54,7 @@ ghost use Rattle.gtp_machine.specs.Sound.{
   ReadsWhole,
   StartsSound,
   StaysSound,
+  TakenWhole,
   TickStaysSound,
 };
 
@@ -74,6 +79,9 @@ pub fn tunnel_safety()
 
 /// What tunnel safety rests on.
 pub fn foundations()
+    // The messages that were sent are those of the datagrams, one datagram after the other.
+    ensures kept { Always MessagesOfDatagrams }
+
     // Each TEID stands as its sender's own in one message and its repeats.
     ensures one_message { Always OneMessage }
 
@@ -170,16 +178,19 @@ pub fn sound_nodes()
 
     // What is read from octets names the F-TEIDs that its table asks for.
     ensures whole { ReadsWhole }
+
+    // So does what a datagram of one or two messages is taken for.
+    ensures taken_whole { TakenWhole }
 {}
 
 /// A step of a sound gateway is determined, but for what it may choose: the TEIDs of a new context,
 /// its address or identity, and the number of a new request.
 pub fn determined()
     // Whatever is chosen, one thing is told: the outcome, the counter that was heard, the packets,
-    // how many messages are sent, and where to. Of a command's outcome the TEID may differ.
+    // how many datagrams are sent, and where to. Of a command's outcome the TEID may differ.
     ensures told { OneIsTold }
 
-    // Where the choices are alike, the same messages are sent and the same gateway is left.
+    // Where the choices are alike, the same datagrams are sent and the same gateway is left.
     ensures done { OneIsDone }
 
     // Nothing is chosen in a tick.
@@ -193,6 +204,13 @@ pub fn determined()
 pub fn readings()
     // Octets of the control plane read as the message that they spell, or as their first fault.
     ensures grammar { ControlByGrammar }
+
+    // A datagram of the control plane reads as the one or two messages that it spells, or as its first
+    // fault, which is not answered where a second message is announced.
+    ensures datagrams { DatagramByGrammar }
+
+    // Octets that read as a message by themselves read as a datagram of that message.
+    ensures alone { MessageReadsAlone }
 
     // Octets of the user plane read as the message that they spell, or as their first fault.
     ensures user_grammar { UserByGrammar }
@@ -208,6 +226,9 @@ pub fn readings()
 
     // A control message that is cut short reads as the fault of a cut.
     ensures cuts { CutsRead }
+
+    // So does a datagram of one.
+    ensures datagram_cuts { DatagramCutsRead }
 
     // So does a user plane message.
     ensures user_cuts { UserCutsRead }

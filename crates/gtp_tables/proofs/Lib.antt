@@ -8,5 +8,6 @@ pub mod Rows
 pub mod Ordered
 pub mod Seen
 pub mod Undrawn
+pub mod Lowest
 pub mod Places
 pub mod Windows

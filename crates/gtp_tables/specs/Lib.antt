@@ -5,6 +5,7 @@ pub mod Drawn
 pub mod Heard
 pub mod Identity
 pub mod Index
+pub mod Lowest
 pub mod Part
 pub mod Pool
 pub mod Rows

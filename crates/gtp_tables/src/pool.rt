@@ -2,11 +2,12 @@
 
 ghost use Rattle.std.specs.Prelude.{◌≡◌, ◌≢◌, ◌↔◌, ◌+◌, ◌-◌, min, ◌<◌, ◌≤◌, ◌^◌, ◌||◌, ◌++◌, ℕ, true, false, Some, drop, nat_eq};
 ghost use Rattle.std.specs.Prelude.{IsOk, IfOk, IfErr, IfSome, IfNone, slice_index_or};
-ghost use Rattle.std.specs.List.{list_any};
+ghost use Rattle.std.specs.Option.{option_map};
 ghost use Rattle.gtp_values.specs.declared.fault.ValueFault.TheVariants.{OutOfRange};
 ghost use Rattle.gtp_tables.specs.Contexts.{is_seen, takes};
 ghost use Rattle.std.specs.Int.{w32, w64, to_be_bytes, from_be_bytes};
-ghost use Rattle.gtp_tables.specs.Free.{count_of, address_at, IsPlaceOf};
+ghost use Rattle.gtp_tables.specs.Free.{count_of, address_at, asks_for, IsPlaceOf};
+ghost use Rattle.gtp_tables.specs.Lowest.{IsFirstFree, IsLowestPlace, is_taken, place_in};
 ghost use Rattle.gtp_tables.specs.Part.{part_in};
 ghost use Rattle.gtp_tables.specs.Pool.{IsPool, ArePrefixes, prefix_of, no_prefixes};
 
@@ -93,6 +94,24 @@ impl Pool {
         (self.start + place).to_be_bytes()
     }
 
+    /// The address with the place that was found, where one was.
+    pub(crate) fn at_found(self, found: Option<u32>) -> Option<[u8; 4]>
+        requires { IfSome found (λ place. place < self.count) }
+        ensures { result ≡ option_map (λ place. to_be_bytes w32 (self.start + place)) found }
+    {
+        Some(self.at(found?))
+    }
+
+    /// The first addresses, at most 1,024 of them.
+    fn front(self) -> Pool
+        ensures { result ≡ record { start = self.start; count = min self.count 1024 } }
+    {
+        Pool {
+            count: WINDOW.min(self.count),
+            ..self
+        }
+    }
+
     /// The addresses from a place on, at most 1,024 of them.
     fn window(self, first: u32) -> Pool
         requires { first < self.count }
@@ -112,8 +131,13 @@ impl Pool {
         ensures none { IfNone result ((p : ℕ) → p < self.count
             → address ≢ to_be_bytes w32 (self.start + p)) }
     {
-        let place = u32::from_be_bytes(address).wrapping_sub(self.start);
-        (place < self.count).then_some(place)
+        // In 64 bits, as wide as an index.
+        let number = u64::from(u32::from_be_bytes(address));
+        let place = number.wrapping_sub(u64::from(self.start));
+        if place >= u64::from(self.count) {
+            return None;
+        }
+        Some(place as u32)
     }
 }
 
@@ -211,6 +235,25 @@ impl Prefixes {
         octets
     }
 
+    /// The address with the place that was found, where one was.
+    pub(crate) fn at_found(self, found: Option<u32>) -> Option<[u8; 16]>
+        requires { IfSome found (λ place. place < self.count) }
+        ensures { result ≡ option_map (λ place.
+            to_be_bytes w64 (prefix_of self.start + place) ++ drop 8 self.start) found }
+    {
+        Some(self.at(found?))
+    }
+
+    /// The first addresses, at most 1,024 of them.
+    fn front(self) -> Prefixes
+        ensures { result ≡ record { start = self.start; count = min self.count 1024 } }
+    {
+        Prefixes {
+            count: WINDOW.min(self.count),
+            ..self
+        }
+    }
+
     /// The addresses from a place on, at most 1,024 of them.
     fn window(self, first: u32) -> Prefixes
         requires { first < self.count }
@@ -241,6 +284,13 @@ impl Prefixes {
         // The numbers have decided it; the contract speaks of the octets.
         (self.at(place) == address).then_some(place)
     }
+}
+
+/// A place in the pool of each version, where there is one.
+#[derive(Clone, Copy)]
+pub(crate) struct Places {
+    pub v4: Option<u32>,
+    pub v6: Option<u32>,
 }
 
 /// The addresses of each version that a packet gateway gives.
@@ -293,24 +343,80 @@ impl Pools {
         }
     }
 
-    /// The place in the pool of this version of the lowest address that none of the sessions has that are
-    /// seen.
-    pub(crate) fn lowest_place(
+    /// The places of the lowest addresses that none of the sessions has that are seen, of the versions
+    /// that are asked for.
+    pub(crate) fn lowest_places(
+        &self,
+        asked: Asked,
+        sessions: &[Session],
+        restarted: bool,
+    ) -> Places
+        ensures lowest { (version : IpVersion) → asks_for asked version ≡ true
+            → IsLowestPlace restarted version self.now sessions.now (place_in result version) }
+        ensures unasked { (version : IpVersion) → asks_for asked version ≡ false
+            → place_in result version ≡ None }
+    {
+        match (asked.v4, asked.v6) {
+            (true, true) => self.lowest_of_both(sessions, restarted),
+            (true, false) => Places {
+                v4: self.lowest_place(IpVersion::V4, sessions, restarted),
+                v6: None,
+            },
+            (false, true) => Places {
+                v4: None,
+                v6: self.lowest_place(IpVersion::V6, sessions, restarted),
+            },
+            (false, false) => Places { v4: None, v6: None },
+        }
+    }
+
+    /// The place of the lowest address of each version that none of the sessions has that are seen.
+    fn lowest_of_both(&self, sessions: &[Session], restarted: bool) -> Places
+        ensures { (version : IpVersion)
+            → IsLowestPlace restarted version self.now sessions.now (place_in result version) }
+    {
+        let found = self.front().places_in_windows(sessions, restarted);
+        Places {
+            v4: self.lowest_after(IpVersion::V4, found.v4, sessions, restarted),
+            v6: self.lowest_after(IpVersion::V6, found.v6, sessions, restarted),
+        }
+    }
+
+    /// The first addresses of each version, at most 1,024 of each.
+    fn front(&self) -> Pools
+        ensures count { (version : IpVersion)
+            → count_of result version ≡ min (count_of self.now version) 1024 }
+        ensures places { (version : IpVersion) → (p : ℕ)
+            → address_at result version p ≡ address_at self.now version p }
+    {
+        Pools {
+            v4: self.v4.front(),
+            v6: self.v6.front(),
+        }
+    }
+
+    /// The lowest place of this version, after what was found in the first window of its pool.
+    fn lowest_after(
         &self,
         version: IpVersion,
+        found: Option<u32>,
         sessions: &[Session],
         restarted: bool,
     ) -> Option<u32>
-        ensures within { IfSome result (λ place. place < count_of self.now version) }
-        ensures free { IfSome result (λ place.
-            list_any (takes restarted version (address_at self.now version place)) sessions.now
-            ≡ false) }
-        ensures lower { IfSome result (λ place. (p : ℕ) → p < place
-            → list_any (takes restarted version (address_at self.now version p)) sessions.now
-            ≡ true) }
-        ensures none { IfNone result ((p : ℕ) → p < count_of self.now version
-            → list_any (takes restarted version (address_at self.now version p)) sessions.now
-            ≡ true) }
+        requires { IsFirstFree (min (count_of self.now version) 1024)
+            (is_taken restarted version self.now sessions.now) found }
+        ensures { IsLowestPlace restarted version self.now sessions.now result }
+    {
+        if found.is_none() && self.count_of(version) > WINDOW {
+            return self.lowest_place(version, sessions, restarted);
+        }
+        found
+    }
+
+    /// The place in the pool of this version of the lowest address that none of the sessions has that are
+    /// seen.
+    fn lowest_place(&self, version: IpVersion, sessions: &[Session], restarted: bool) -> Option<u32>
+        ensures { IsLowestPlace restarted version self.now sessions.now result }
     {
         let count = self.count_of(version);
         for turn in 0..64u32 {
@@ -363,22 +469,40 @@ impl Pools {
         restarted: bool,
     ) -> Option<u32>
         requires { count_of self.now version ≤ 1024 }
-        ensures within { IfSome result (λ place. place < count_of self.now version) }
-        ensures free { IfSome result (λ place.
-            list_any (takes restarted version (address_at self.now version place)) sessions.now
-            ≡ false) }
-        ensures lower { IfSome result (λ place. (p : ℕ) → p < place
-            → list_any (takes restarted version (address_at self.now version p)) sessions.now
-            ≡ true) }
-        ensures none { IfNone result ((p : ℕ) → p < count_of self.now version
-            → list_any (takes restarted version (address_at self.now version p)) sessions.now
-            ≡ true) }
+        ensures { IsLowestPlace restarted version self.now sessions.now result }
     {
         let mut taken = [false; 1024];
         for session in sessions {
             self.mark(version, &mut taken, session, restarted);
         }
-        let place = first_unmarked(&taken)?;
+        self.first_free(version, &taken)
+    }
+
+    /// The same of a window of each version, in one go over the sessions.
+    fn places_in_windows(&self, sessions: &[Session], restarted: bool) -> Places
+        requires { (version : IpVersion) → count_of self.now version ≤ 1024 }
+        ensures { (version : IpVersion)
+            → IsLowestPlace restarted version self.now sessions.now (place_in result version) }
+    {
+        let mut v4 = [false; 1024];
+        let mut v6 = [false; 1024];
+        for session in sessions {
+            self.mark(IpVersion::V4, &mut v4, session, restarted);
+            self.mark(IpVersion::V6, &mut v6, session, restarted);
+        }
+        Places {
+            v4: self.first_free(IpVersion::V4, &v4),
+            v6: self.first_free(IpVersion::V6, &v6),
+        }
+    }
+
+    /// The first place of a window of this version that is not marked.
+    fn first_free(&self, version: IpVersion, taken: &[bool; 1024]) -> Option<u32>
+        requires { count_of self.now version ≤ 1024 }
+        ensures { IsFirstFree (count_of self.now version)
+            (λ p. slice_index_or taken.now p false) result }
+    {
+        let place = first_unmarked(taken)?;
         (place < self.count_of(version)).then_some(place)
     }
 }
@@ -392,11 +516,7 @@ pub(crate) fn is_seen(session: &Session, restarted: bool) -> bool
 
 /// The first place of a window that is not marked.
 fn first_unmarked(taken: &[bool; 1024]) -> Option<u32>
-    ensures within { IfSome result (λ place. place < 1024) }
-    ensures free { IfSome result (λ place. slice_index_or taken.now place false ≡ false) }
-    ensures lower { IfSome result (λ place. (i : ℕ) → i < place
-        → slice_index_or taken.now i false ≡ true) }
-    ensures none { IfNone result ((i : ℕ) → i < 1024 → slice_index_or taken.now i false ≡ true) }
+    ensures { IsFirstFree 1024 (λ p. slice_index_or taken.now p false) result }
 {
     for place in 0..WINDOW {
         if !taken[place as usize] {

@@ -11,7 +11,7 @@ ghost use Rattle.gtp_tables.specs.declared.pool.IpVersion.TheVariants as version
 use crate::bearers::Bearers;
 use crate::context::{Bearer, Session, State};
 use crate::fault::TablesFault;
-use crate::pool::{Asked, IpVersion, Pools, is_seen};
+use crate::pool::{Asked, Pools, is_seen};
 use crate::sessions::{MOST, Sessions};
 use gtp_values::{Addr, Ebi, Teid};
 use std::marker::Model;
@@ -88,30 +88,13 @@ impl<'a> View<'a> {
         self.session_count() >= MOST
     }
 
-    /// The lowest address of version 4 that no session has, where one is asked for and there is one.
-    fn lowest_v4(&self, pools: &Pools, asked: Asked) -> Option<[u8; 4]>
-        ensures { IsLowestPart self.now.sessions pools.now asked versions.V4 result }
+    /// The lowest address that no session has, of each version that is asked for and has one.
+    fn lowest_parts(&self, pools: &Pools, asked: Asked) -> (Option<[u8; 4]>, Option<[u8; 16]>)
+        ensures v4 { IsLowestPart self.now.sessions pools.now asked versions.V4 result.0 }
+        ensures v6 { IsLowestPart self.now.sessions pools.now asked versions.V6 result.1 }
     {
-        if !asked.v4 {
-            return None;
-        }
-        match pools.lowest_place(IpVersion::V4, self.sessions.values(), self.restarted) {
-            Some(place) => Some(pools.v4.at(place)),
-            None => None,
-        }
-    }
-
-    /// The lowest address of version 6 that no session has, where one is asked for and there is one.
-    fn lowest_v6(&self, pools: &Pools, asked: Asked) -> Option<[u8; 16]>
-        ensures { IsLowestPart self.now.sessions pools.now asked versions.V6 result }
-    {
-        if !asked.v6 {
-            return None;
-        }
-        match pools.lowest_place(IpVersion::V6, self.sessions.values(), self.restarted) {
-            Some(place) => Some(pools.v6.at(place)),
-            None => None,
-        }
+        let places = pools.lowest_places(asked, self.sessions.values(), self.restarted);
+        (pools.v4.at_found(places.v4), pools.v6.at_found(places.v6))
     }
 
     /// An address of the versions that are asked for: of each the lowest that no session has. A version
@@ -122,7 +105,7 @@ impl<'a> View<'a> {
         ensures none { IfErr result (λ _. AreUsedUp self.now.sessions pools.now asked) }
         ensures fault { IfErr result (λ fault. fault ≡ TablesFault.PoolEmpty) }
     {
-        match (self.lowest_v4(pools, asked), self.lowest_v6(pools, asked)) {
+        match self.lowest_parts(pools, asked) {
             (None, None) => Err(TablesFault::PoolEmpty),
             (v4, v6) => Ok(Addr::of(v4, v6)),
         }

@@ -719,7 +719,10 @@ fn faults_in_words(rt: HostRuntime) -> Result<(), Fail> {
     for (fault, words) in [
         (V2Fault::Short { held: 3 }, "only 3 octets"),
         (V2Fault::Version(1), "version 1"),
-        (V2Fault::Piggyback, "a second message is announced"),
+        (
+            V2Fault::BadPiggyback { at: 13 },
+            "the message at 13 is missing, or announces a third",
+        ),
         (
             V2Fault::Length { stated: 9, held: 8 },
             "the length is stated as 9 and is 8",
@@ -754,7 +757,7 @@ fn faults_in_words(rt: HostRuntime) -> Result<(), Fail> {
 
 /// The message of a view of octets.
 fn viewed(alloc: Global, octets: &[u8]) -> Result<Message, Fail> {
-    Ok(view(octets)?.to_message(alloc)?)
+    Ok(view(octets)?.message().to_message(alloc)?)
 }
 
 /// What a view of a datagram gives is what decoding it gives, without memory.
@@ -772,7 +775,8 @@ fn messages_in_place(rt: HostRuntime) -> Result<(), Fail> {
 
 /// The header of the request for a session, and what stands after it.
 fn has_header(rt: &impl Abort, octets: &[u8]) -> Result<(), Fail> {
-    let seen = view(octets)?;
+    let datagram = view(octets)?;
+    let seen = datagram.message();
     assert!(rt; seen.kind() == 32 && seen.teid() == Some(Teid(0)) && seen.seq() == Seq::new(0));
     assert!(rt; seen.priority().is_none() && seen.raw().is_none());
     assert!(rt; Some(seen.octets()) == octets.get(12..));
@@ -782,7 +786,8 @@ fn has_header(rt: &impl Abort, octets: &[u8]) -> Result<(), Fail> {
 /// Its restart counter and its sender.
 fn has_values(rt: &impl Abort, octets: &[u8]) -> Result<(), Fail> {
     let sender = end(6, 0x01000001, 1)?;
-    let seen = view(octets)?;
+    let datagram = view(octets)?;
+    let seen = datagram.message();
     assert!(rt; seen.value::<Recovery>(0) == Some(Recovery(Counter(1))));
     assert!(rt; seen.value::<FTeid>(0) == Some(sender));
     assert!(rt; seen.value::<FTeid>(1).is_none());
@@ -791,7 +796,7 @@ fn has_values(rt: &impl Abort, octets: &[u8]) -> Result<(), Fail> {
 
 /// Its one bearer context.
 fn has_context(rt: &impl Abort, octets: &[u8]) -> Result<(), Fail> {
-    let mut contexts = view(octets)?.contexts();
+    let mut contexts = view(octets)?.message().contexts();
     let context = contexts.next().ok_or("a context")?;
     assert!(rt; context.value::<EbiValue>(0) == Some(EbiValue(Below::new(5))));
     assert!(rt; contexts.next().is_none());
@@ -827,7 +832,7 @@ fn are_listed(
     numbers: &[u8],
 ) -> Result<(), Fail> {
     let octets = octets_of(alloc, digits)?;
-    let mut values = view(&octets)?.values::<EbiValue>(instance);
+    let mut values = view(&octets)?.message().values::<EbiValue>(instance);
     for number in numbers {
         assert!(rt;
             values.next() == Some(bearer(*number)?),
@@ -848,7 +853,8 @@ fn listed_values_in_place(rt: HostRuntime) -> Result<(), Fail> {
 
 /// A message without a table has octets, here none, and no bearer contexts.
 fn is_raw(rt: &impl Abort, octets: &[u8]) -> Result<(), Fail> {
-    let seen = view(octets)?;
+    let datagram = view(octets)?;
+    let seen = datagram.message();
     assert!(rt; seen.raw() == Some([].as_slice()) && seen.contexts().next().is_none());
     Ok(())
 }
@@ -857,4 +863,37 @@ fn is_raw(rt: &impl Abort, octets: &[u8]) -> Result<(), Fail> {
 fn octets_in_place(rt: HostRuntime) -> Result<(), Fail> {
     let octets = octets_of(rt.alloc(), "482200080100000100000700")?;
     is_raw(&rt, &octets)
+}
+
+/// Two messages are written as this datagram.
+fn are_written(
+    rt: &impl Abort,
+    alloc: Global,
+    first: &Message,
+    second: &Message,
+    octets: &[u8],
+) -> Result<(), Fail> {
+    if !first.is_encodable() || !second.is_encodable() {
+        return Err("not to be encoded".into());
+    }
+    let written = encode_pair(alloc, first, second)?;
+    assert!(rt; written.as_slice() == octets);
+    Ok(())
+}
+
+/// An answer that accepts a session, and the request for a bearer, in one datagram.
+#[test]
+fn two_messages_in_one_datagram(rt: HostRuntime) -> Result<(), Fail> {
+    let front = octets_of(rt.alloc(), SESSION_RESPONSE)?;
+    let back = octets_of(rt.alloc(), BEARER_REQUEST)?;
+    let octets = pair(rt.alloc(), &front, &back)?;
+    assert!(rt; octets.len() == 197 && octets.first() == Some(&0x58));
+    assert!(rt; view(&octets)?.back() == back.as_slice());
+    let first = read(rt.alloc(), &front)?;
+    let second = read(rt.alloc(), &back)?;
+    are_written(&rt, rt.alloc(), &first, &second, &octets)?;
+    let datagram = decode(rt.alloc(), &octets)?;
+    assert!(rt; datagram.message == first);
+    assert!(rt; datagram.second.is_some_and(|again| *again == second));
+    Ok(())
 }

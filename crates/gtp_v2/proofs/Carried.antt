@@ -1,5 +1,5 @@
 -- The elements that a datagram carries.
-use Rattle.std.proofs.Common.{◌≡◌, ℕ, ◌≤◌, List, length, drop, Option, Some, None, Ok, inl, inr, sym, ap, subst, ◌∙◌, arith}
+use Rattle.std.proofs.Common.{◌≡◌, ℕ, ◌+◌, ◌≤◌, List, length, drop, Option, Some, None, Ok, inl, inr, sym, ap, subst, ◌∙◌, arith}
 use Rattle.gtp_values.proofs.Decided.{bind_ok}
 use Rattle.gtp_ie.specs.Element.{Element, elements_of, list_of}
 use Rattle.gtp_ie.specs.Octets.{AreElements}
@@ -23,17 +23,18 @@ pub record IsAfter (octets : List ℕ) (h : Headed) : Type 0 where
   pub place : place_of h.teid ≡ h.at
   pub rest : drop h.at octets ≡ h.rest
   pub room : h.at ≤ length octets
+  pub long : h.at + length h.rest ≡ length octets
 
 pub after_header : (octets : List ℕ) (h : Headed) → IsHeaded octets h → IsAfter octets h
 after_header octets h is = elim is [
   | inl (flags, a, b, c, spare, small, (high, low, lt, text, long), e) ↦
       let at : h.at ≡ 8 = ap (λ (x : Headed). x.at) e in
       let teid : place_of h.teid ≡ 8 = ap (λ (x : Headed). place_of x.teid) e in
-      record { place = teid ∙ sym at; rest = ap (λ (n : ℕ). drop n octets) at ∙ ap (drop 8) text; room = omega (arith, at, ap length text) }
+      record { place = teid ∙ sym at; rest = ap (λ (n : ℕ). drop n octets) at ∙ ap (drop 8) text; room = omega (arith, at, ap length text); long = omega (arith, at, ap length text) }
   | inr (flags, a, b, c, d, p, q, r, last, small, (high, low, lt, text, long), e) ↦
       let at : h.at ≡ 12 = ap (λ (x : Headed). x.at) e in
       let teid : place_of h.teid ≡ 12 = ap (λ (x : Headed). place_of x.teid) e in
-      record { place = teid ∙ sym at; rest = ap (λ (n : ℕ). drop n octets) at ∙ ap (drop 12) text; room = omega (arith, at, ap length text) }
+      record { place = teid ∙ sym at; rest = ap (λ (n : ℕ). drop n octets) at ∙ ap (drop 12) text; room = omega (arith, at, ap length text); long = omega (arith, at, ap length text) }
 ]
 
 carried_by : (octets : List ℕ) (h : Headed) (elements : Option (List Element)) (table : Option Table) → IsAfter octets h → forgotten (by_table table h) ≡ Ok tt → elements ≡ elements_by table h

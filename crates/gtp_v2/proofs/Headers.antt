@@ -66,7 +66,7 @@ begins first kind high low following = first ∷ kind ∷ high ∷ low ∷ follo
 at_version : (first kind high low : ℕ) (following : List ℕ) → first / 32 ≢ 2 → header_at (begins first kind high low following) ≡ Err (faults.Version (first / 32))
 at_version first kind high low following ne = let t : (first / 32 == 2) ≡ false = grind (arith, nat_tests) in rw t refl
 
-at_second : (flags kind high low : ℕ) (following : List ℕ) → flags < 16 → header_at (begins (80 + flags) kind high low following) ≡ Err faults.Piggyback
+pub at_second : (flags kind high low : ℕ) (following : List ℕ) → flags < 16 → header_at (begins (80 + flags) kind high low following) ≡ Err (faults.BadPiggyback 0)
 at_second flags kind high low following lt =
     let version : ((80 + flags) / 32 == 2) ≡ true = grind (arith, nat_tests) in
     let second : (((80 + flags) / 16) % 2 == 1) ≡ true = grind (arith, nat_tests) in
@@ -160,7 +160,7 @@ sorted_by first kind high low following = elim (cases_lt first 64) [
   | inr le64 ↦ elim (cases_lt first 96) [
     | inr large ↦ inr (faults.Version (first / 32), inr (first, kind, high, low, following, refl, inl ((λ e. omega (arith, e)), refl)))
     | inl lt96 ↦ elim (cases_lt first 80) [
-      | inr le80 ↦ inr (faults.Piggyback, inr (first, kind, high, low, following, refl, inr (inl (first - 80, omega arith, omega arith, refl))))
+      | inr le80 ↦ inr (faults.BadPiggyback 0, inr (first, kind, high, low, following, refl, inr (inl (first - 80, omega arith, omega arith, refl))))
       | inl lt80 ↦ by_length first kind high low following le64 lt80 (256 * high + low == length following) refl
     ]
   ]

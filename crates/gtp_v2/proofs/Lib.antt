@@ -24,3 +24,8 @@ pub mod GroupValues
 pub mod ListValues
 pub mod CheckedLines
 pub mod Carried
+pub mod Pairs
+pub mod Places
+pub mod Answered
+pub mod Lies
+pub mod Joined

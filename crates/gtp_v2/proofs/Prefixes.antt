@@ -24,7 +24,7 @@ chosen_else false e r x h = absurd cc
 long_prefix : (a b c d n : ℕ) (rest : List ℕ) (h : Headed) → header_at (a ∷ b ∷ c ∷ d ∷ rest) ≡ Ok h → n < length rest → header_at (a ∷ b ∷ c ∷ d ∷ take n rest) ≡ Err (faults.Length (length rest) n)
 long_prefix a b c d n rest h e lt =
     let v = chosen_else (a / 32 == 2) (faults.Version (a / 32)) _ h e in
-    let p = chosen ((a / 16) % 2 == 1) faults.Piggyback _ h v.1 in
+    let p = chosen ((a / 16) % 2 == 1) (faults.BadPiggyback 0) _ h v.1 in
     let l = chosen_else (256 * c + d == length rest) (faults.Length (256 * c + d) (length rest)) _ h p.1 in
     let len : length (take n rest) ≡ n = omega (arith, length-take n rest) in
     let stated : 256 * c + d ≡ length rest = grind (arith, nat_tests) in

@@ -1,6 +1,6 @@
 -- Reading a datagram decides which message it is.
-use Rattle.std.proofs.Common.{◌≡◌, ℕ, Bool, true, false, cond, List, Option, Some, None, Result, Ok, Err, ◌⊎◌, inl, inr, refl, ap, sym, subst, ◌∙◌}
-use Rattle.std.specs.Prelude.{◌≢◌, is_some, option_map, IfOk, IfErr, IsOkAnd}
+use Rattle.std.proofs.Common.{◌≡◌, ℕ, Bool, true, false, cond, List, Option, Some, None, Result, Ok, Err, inl, inr, refl, ap, sym, subst, ◌∙◌}
+use Rattle.std.specs.Prelude.{◌≢◌, is_some, option_map, IfOk}
 use Rattle.std.specs.Bool.{beq}
 use Rattle.gtp_values.specs.Steps.{◌>>=◌}
 use Rattle.gtp_values.specs.Decides.{Decides, First_or_later}
@@ -26,14 +26,12 @@ use Rattle.gtp_v2.specs.Body.{content_of, kind_of, message_value}
 use Rattle.gtp_values.specs.declared.identifiers.Teid.{Teid}
 use Rattle.gtp_v2.specs.Header.{IsHeaded, HeaderFails}
 use Rattle.gtp_v2.proofs.Headers.{header_decided}
-use Rattle.gtp_v2.specs.Message.{head_of, with_head, Content, Fields, Raw, MessageValue, with_content, FaultIs, MessageGives, MessageAllocates, ContentAllocates}
+use Rattle.gtp_v2.specs.Message.{head_of, with_head, Content, Fields, Raw, with_content, MessageGives, ContentAllocates}
 use Rattle.gtp_v2.specs.reading.Message.{sender_of, told, list_at, fields_at, typed_at, by_table, content_at, message_at}
 use Rattle.gtp_v2.specs.Tables.{table_of}
-use Rattle.gtp_v2.specs.Instances.{InstanceIsSmall}
-use Rattle.gtp_v2.proofs.Instances.{fault_small, fault_of_octets}
 use Rattle.gtp_v2.specs.Marks.{ContentMarked, MeetsMarks}
 use Rattle.gtp_v2.proofs.MarksOf.{content_marked}
-use Rattle.gtp_v2.specs.Datagram.{FieldsAre, ListFails, FieldsFail, CarriesBy, FailsBy, IsMessage, IsFault, MayAllocate}
+use Rattle.gtp_v2.specs.Datagram.{FieldsAre, ListFails, FieldsFail, CarriesBy, FailsBy, IsMessage, IsFault}
 use Rattle.gtp_v2.proofs.Decided.{whole_decided, lines_decided}
 use Rattle.gtp_v2.proofs.Senders.{sender_is, sender_only}
 
@@ -94,98 +92,6 @@ message_decided octets =
     decide_bind (header_at octets) (λ h. content_at h >>= λ content. Ok (with_content h content)) (IsHeaded octets) (HeaderFails octets)
     (λ h m. (content : Content) × CarriesBy (table_of h.kind) h content × (m ≡ with_content h content)) (λ h. FailsBy (table_of h.kind) h)
     (header_decided octets) (λ h. decide_map (content_at h) (with_content h) (CarriesBy (table_of h.kind) h) (FailsBy (table_of h.kind) h) (content_decided (table_of h.kind) h))
-
--- ---- what a caller of decode is told
-
--- what is answered is a message that the octets spell
-pub answers_ok : {X : Type 0} (view : X → MessageValue) (r : Result X V2Fault) (octets : List ℕ) → MessageGives MessageAllocates view r (message_at octets) → IfOk r (λ m. IsMessage octets (view m))
-answers_ok view (Ok x) octets h = (message_decided octets).ok (view x) h
-answers_ok view (Err f) octets h = tt
-
--- out of memory, for a message for which memory is allocated, or the fault that the octets have
-fault_told : (f : V2Fault) (octets : List ℕ) → FaultIs MessageAllocates f (message_at octets) → ((f ≡ faults.Memory) × MayAllocate octets) ⊎ (message_at octets ≡ Err f)
-fault_told faults.Memory octets h = by_reading (message_at octets) refl h where
-  by_reading : (r : Result MessageValue V2Fault) → message_at octets ≡ r → IsOkAnd r MessageAllocates → ((faults.Memory ≡ faults.Memory) × MayAllocate octets) ⊎ (message_at octets ≡ Err faults.Memory)
-  by_reading (Ok m) e h = inl (refl, (m, (message_decided octets).ok m e, h))
-  by_reading (Err f) e h = absurd h
-fault_told (faults.Short n) octets h = inr h
-fault_told (faults.Version n) octets h = inr h
-fault_told faults.Piggyback octets h = inr h
-fault_told (faults.Length a b) octets h = inr h
-fault_told (faults.FlagT n) octets h = inr h
-fault_told faults.TooLong octets h = inr h
-fault_told (faults.Missing a b c d) octets h = inr h
-fault_told (faults.Element a b) octets h = inr h
-
--- a fault is the first one, or out of memory
-pub answers_fault : {X : Type 0} (view : X → MessageValue) (r : Result X V2Fault) (octets : List ℕ) → MessageGives MessageAllocates view r (message_at octets) → IfErr r (λ f. (f ≡ faults.Memory) ⊎ IsFault octets f)
-answers_fault view (Ok x) octets h = tt
-answers_fault view (Err f) octets h = elim (fault_told f octets h) [ inl p ↦ inl p.0 | inr e ↦ inr ((message_decided octets).err f e) ]
-
--- memory runs out where it is allocated for a message
-pub answers_memory : {X : Type 0} (view : X → MessageValue) (r : Result X V2Fault) (octets : List ℕ) → MessageGives MessageAllocates view r (message_at octets) → r ≡ Err faults.Memory → MayAllocate octets
-answers_memory view r octets h wanting = by_reading (message_at octets) refl (subst (λ (o : Result _ V2Fault). MessageGives MessageAllocates view o (message_at octets)) wanting h) where
-  by_reading : (o : Result MessageValue V2Fault) → message_at octets ≡ o → IsOkAnd o MessageAllocates → MayAllocate octets
-  by_reading (Ok m) e h = (m, (message_decided octets).ok m e, h)
-  by_reading (Err f) e h = absurd h
-
-only_memory : (f : V2Fault) (m : MessageValue) → FaultIs MessageAllocates f (Ok m) → (f ≡ faults.Memory) × MessageAllocates m
-only_memory faults.Memory m h = (refl, h)
-only_memory (faults.Short n) m h = absurd cc
-only_memory (faults.Version n) m h = absurd cc
-only_memory faults.Piggyback m h = absurd cc
-only_memory (faults.Length a b) m h = absurd cc
-only_memory (faults.FlagT n) m h = absurd cc
-only_memory faults.TooLong m h = absurd cc
-only_memory (faults.Missing a b c d) m h = absurd cc
-only_memory (faults.Element a b) m h = absurd cc
-
-told_only : {X : Type 0} (view : X → MessageValue) (r : Result X V2Fault) (m : MessageValue) → MessageGives MessageAllocates view r (Ok m) → IsOkAnd r (λ d. view d ≡ m) ⊎ ((r ≡ Err faults.Memory) × MessageAllocates m)
-told_only view (Ok x) m h = inl cc
-told_only view (Err f) m h = let wanting = only_memory f m h in inr (ap (λ (e : V2Fault). Err e) wanting.0, wanting.1)
-
--- what the octets spell is answered, unless memory runs out
-pub answers_only : {X : Type 0} (view : X → MessageValue) (r : Result X V2Fault) (octets : List ℕ) → MessageGives MessageAllocates view r (message_at octets) → (m : MessageValue) → IsMessage octets m → IsOkAnd r (λ d. view d ≡ m) ⊎ ((r ≡ Err faults.Memory) × MessageAllocates m)
-answers_only view r octets h m is = told_only view r m (subst (MessageGives MessageAllocates view r) ((message_decided octets).is m is) h)
-
--- and so is their first fault, whether or not there is memory
-first_fault : (g f : V2Fault) → FaultIs MessageAllocates g (Err f) → g ≡ f
-first_fault faults.Memory f h = absurd h
-first_fault (faults.Short n) f h = cc
-first_fault (faults.Version n) f h = cc
-first_fault faults.Piggyback f h = cc
-first_fault (faults.Length a b) f h = cc
-first_fault (faults.FlagT n) f h = cc
-first_fault faults.TooLong f h = cc
-first_fault (faults.Missing a b c d) f h = cc
-first_fault (faults.Element a b) f h = cc
-
-fault_told_first : {X : Type 0} (view : X → MessageValue) (r : Result X V2Fault) (f : V2Fault) → MessageGives MessageAllocates view r (Err f) → r ≡ Err f
-fault_told_first view (Ok x) f h = absurd cc
-fault_told_first view (Err g) f h = ap (λ (e : V2Fault). Err e) (first_fault g f h)
-
-pub answers_first : {X : Type 0} (view : X → MessageValue) (r : Result X V2Fault) (octets : List ℕ) → MessageGives MessageAllocates view r (message_at octets) → (f : V2Fault) → IsFault octets f → r ≡ Err f
-answers_first view r octets h f is = fault_told_first view r f (subst (MessageGives MessageAllocates view r) ((message_decided octets).fails f is) h)
-
--- and the instance that it names is below 16
-pub answers_small : {X : Type 0} (view : X → MessageValue) (r : Result X V2Fault) (octets : List ℕ) → MessageGives MessageAllocates view r (message_at octets) → IfErr r InstanceIsSmall
-answers_small view (Ok x) octets h = tt
-answers_small view (Err f) octets h = elim (fault_told f octets h) [
-  | inl p ↦ subst InstanceIsSmall (sym p.0) tt
-  | inr e ↦ fault_small octets f ((message_decided octets).err f e)
-]
-
--- a fault that is read is told, and it is none of memory
-pub fault_is_told : (f : V2Fault) (octets : List ℕ) → message_at octets ≡ Err f → FaultIs MessageAllocates f (message_at octets)
-fault_is_told faults.Memory octets h = absurd (fault_of_octets octets faults.Memory ((message_decided octets).err faults.Memory h))
-fault_is_told (faults.Short n) octets h = h
-fault_is_told (faults.Version n) octets h = h
-fault_is_told faults.Piggyback octets h = h
-fault_is_told (faults.Length stated held) octets h = h
-fault_is_told (faults.FlagT kind) octets h = h
-fault_is_told (faults.Missing kind instance conditional head) octets h = h
-fault_is_told (faults.Element fault head) octets h = h
-fault_is_told faults.TooLong octets h = h
 
 -- a message that was built of what carries its header and content meets the marks of its table
 pub built_marked : (h : Header) (r : Result Datagram V2Fault) → MessageGives (ContentAllocates (table_of h.kind)) (λ d. content_of d.message.body) r (content_at (headed_of h)) → IfOk r (λ d. kind_of d.message.body ≡ h.kind) → IfOk r (λ d. HasHeader h d.message)

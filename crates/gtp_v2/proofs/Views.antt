@@ -1,11 +1,11 @@
 -- What a view is told, and what it tells.
 use Rattle.std.proofs.Common.{rules, ◌≡◌, ℕ, Bool, true, false, cond, ◌&&◌, List, [], ◌∷◌, Option, Some, None, Result, Ok, Err, refl, sym, ap, subst, ◌∙◌}
-use Rattle.std.specs.Prelude.{option_map, IfOk, IfErr, IsOkAnd, ◌==◌, option_to_list, unwrap_or, is_some}
+use Rattle.std.specs.Prelude.{option_map, ◌==◌, option_to_list, unwrap_or, is_some}
 use Rattle.std.specs.Bool.{beq}
 use Rattle.std.proofs.lemmas.Option.{same_Some}
-use Rattle.gtp_values.specs.Steps.{◌>>=◌, Gives}
+use Rattle.gtp_values.specs.Steps.{◌>>=◌}
 use Rattle.gtp_values.proofs.Decided.{bind_ok}
-use Rattle.gtp_values.proofs.Outcomes.{done, ok_same, err_same, apart}
+use Rattle.gtp_values.proofs.Outcomes.{done, ok_same}
 use Rattle.gtp_ie.specs.declared.fault.ReadFault.{ReadFault}
 use Rattle.gtp_ie.specs.declared.fault.ReadFault.TheVariants.{Short, Bad}
 use Rattle.gtp_ie.specs.Element.{Element, elements_of, list_of, first_of}
@@ -19,31 +19,11 @@ use Rattle.gtp_v2.specs.reading.Rows.{row_at, needed, needed_at, needed_if_at, o
 use Rattle.gtp_v2.specs.Viewed.{optional_at, welcome, value_or_none, Viewed, found_among, found_by, plain_of, is_row, is_needed, needs_among, needs_by, always_has, in_row, has_among, has_by, has_row, row_of, front_value}
 use Rattle.gtp_v2.specs.reading.Checked.{forgotten}
 use Rattle.gtp_v2.specs.Headed.{Headed}
-use Rattle.gtp_v2.specs.Message.{Content, Fields, MessageValue, head_of}
-use Rattle.gtp_v2.specs.reading.Message.{told, sender_of, list_at, fields_at, typed_at, as_fields, by_table, content_among, content_at, message_at}
+use Rattle.gtp_v2.specs.Message.{Content, Fields, head_of}
+use Rattle.gtp_v2.specs.reading.Message.{told, sender_of, list_at, fields_at, typed_at, as_fields, by_table, content_among, content_at}
 use Rattle.gtp_v2.specs.Tables.{table_of}
-use Rattle.gtp_v2.specs.Datagram.{IsMessage, IsFault}
 use Rattle.gtp_v2.specs.reading.Viewed.{viewed, IsViewed, content_or_none, elements_by, list_or_none}
 use Rattle.gtp_v2.proofs.Checks.{was_read}
-use Rattle.gtp_v2.proofs.Told.{message_decided}
-
--- ---- the public clauses
-
-pub found : {X : Type 0} (view : X → MessageValue) (r : Result X V2Fault) (octets : List ℕ) → Gives view r (message_at octets) → IfOk r (λ v. IsMessage octets (view v))
-found view (Ok v) octets h = (message_decided octets).ok (view v) h
-found view (Err f) octets h = tt
-
-pub fault : {X : Type 0} (view : X → MessageValue) (r : Result X V2Fault) (octets : List ℕ) → Gives view r (message_at octets) → IfErr r (λ f. IsFault octets f)
-fault view (Ok v) octets h = tt
-fault view (Err f) octets h = (message_decided octets).err f h
-
-pub only : {X : Type 0} (view : X → MessageValue) (r : Result X V2Fault) (octets : List ℕ) → Gives view r (message_at octets) → (m : MessageValue) → IsMessage octets m → IsOkAnd r (λ v. view v ≡ m)
-only view (Ok v) octets h m is = ok_same V2Fault (view v) m (sym h ∙ (message_decided octets).is m is)
-only view (Err f) octets h m is = absurd (apart m f (sym ((message_decided octets).is m is) ∙ h))
-
-pub first : {X : Type 0} (view : X → MessageValue) (r : Result X V2Fault) (octets : List ℕ) → Gives view r (message_at octets) → (f : V2Fault) → IsFault octets f → r ≡ Err f
-first view (Ok v) octets h f is = absurd (apart (view v) f (sym h ∙ (message_decided octets).fails f is))
-first view (Err g) octets h f is = ap (λ (e : V2Fault). Err e) (err_same MessageValue g f (sym h ∙ (message_decided octets).fails f is))
 
 -- ---- what a row has, an element has
 

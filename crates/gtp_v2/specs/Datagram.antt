@@ -1,4 +1,4 @@
--- The grammar of datagrams: which message one spells, and which fault is its first.
+-- The grammar of one message: which one octets spell, and which fault is their first.
 use Rattle.std.specs.Prelude.{◌≡◌, ◌≢◌, ◌==◌, cond, ℕ, List, Option, Some, None, is_some, ◌⊎◌}
 use Rattle.gtp_values.specs.Decides.{First_or_later}
 use Rattle.gtp_ie.specs.Element.{Element}
@@ -15,7 +15,7 @@ use Rattle.gtp_v2.specs.Table.{Line, Field, start, Table}
 use Rattle.gtp_v2.specs.Grammar.{Says, SaysNothing, LinesAre, LinesFail}
 use Rattle.gtp_v2.specs.Headed.{Headed}
 use Rattle.gtp_v2.specs.Header.{IsHeaded, HeaderFails}
-use Rattle.gtp_v2.specs.Message.{head_of, with_head, Content, Fields, Raw, MessageValue, with_content, MessageAllocates}
+use Rattle.gtp_v2.specs.Message.{head_of, with_head, Content, Fields, Raw, MessageValue, with_content}
 use Rattle.gtp_v2.specs.CreateSessionRequest.{create_session_request}
 use Rattle.gtp_v2.specs.Tables.{table_of}
 
@@ -59,7 +59,3 @@ IsMessage octets m = (h : Headed) × IsHeaded octets h × ((content : Content) �
 -- the first fault of the octets
 abbrev pub IsFault : List ℕ → V2Fault → Type 0
 IsFault octets = First_or_later (IsHeaded octets) (HeaderFails octets) (λ h. FailsBy (table_of h.kind) h)
-
--- a message for which memory is allocated: a list in it has a member, or its octets are kept
-abbrev pub MayAllocate : List ℕ → Type 0
-MayAllocate octets = (m : MessageValue) × IsMessage octets m × MessageAllocates m

@@ -32,13 +32,13 @@ HeadedByTeid octets h =
 abbrev pub IsHeaded : List ℕ → Headed → Type 0
 IsHeaded octets h = HeadedPlain octets h ⊎ HeadedByTeid octets h
 
--- the first fault of a header: fewer than four octets, another version, a second message announced, another length, fewer octets than the form has
+-- the first fault of a header: fewer than four octets, another version, a further message announced, another length, fewer octets than the form has
 abbrev pub HeaderFails : List ℕ → V2Fault → Type 0
 HeaderFails octets f =
     ((length octets < 4) × (f ≡ faults.Short (length octets)))
     ⊎ ((first : ℕ) × (kind : ℕ) × (high : ℕ) × (low : ℕ) × (following : List ℕ) × (octets ≡ first ∷ kind ∷ high ∷ low ∷ following)
     × (((first / 32 ≢ 2) × (f ≡ faults.Version (first / 32)))
-    ⊎ (((flags : ℕ) × (flags < 16) × (first ≡ 80 + flags) × (f ≡ faults.Piggyback))
+    ⊎ (((flags : ℕ) × (flags < 16) × (first ≡ 80 + flags) × (f ≡ faults.BadPiggyback 0))
     ⊎ (((flags : ℕ) × (flags < 16) × (first ≡ 64 + flags) × (256 * high + low ≢ length following) × (f ≡ faults.Length (256 * high + low) (length following)))
     ⊎ (((flags : ℕ) × (flags < 8) × (first ≡ 64 + flags) × (256 * high + low ≡ length following) × (length following < 4) × (f ≡ faults.Short (4 + length following)))
     ⊎ ((flags : ℕ) × (flags < 8) × (first ≡ 72 + flags) × (256 * high + low ≡ length following) × (length following < 8) × (f ≡ faults.Short (4 + length following))))))))

@@ -19,6 +19,7 @@ pub mod Instances
 pub mod Encoding
 pub mod Codes
 pub mod Viewed
+pub mod Pair
 -- the messages
 pub mod EchoRequest
 pub mod EchoResponse

@@ -1,4 +1,4 @@
--- What a view of a datagram stands for.
+-- What a view of a message stands for.
 use Rattle.std.specs.Prelude.{◌≡◌, ℕ, ◌+◌, ◌==◌, ◌&&◌, Bool, true, false, List, [], ◌∷◌, ◌++◌, Option, Some, None, if◌then◌else◌, drop, option_map, option_to_list, unwrap_or, Result, Ok, Err}
 use Rattle.gtp_ie.specs.Element.{Element, elements_of, list_of, first_of}
 use Rattle.gtp_ie.specs.Octets.{AreElements}
@@ -14,12 +14,18 @@ pub record Viewed : Type 0 where
   pub octets : List ℕ
   pub elements : List Element
 
+-- a datagram's message, the second one where it announces one, and the octets of that
+pub record ViewedDatagram : Type 0 where
+  pub message : Viewed
+  pub second : Option Viewed
+  pub back : List ℕ
+
 -- where what a message carries begins: after a header without a TEID, or with one (TS 29.274 5.1)
 abbrev pub place_of : Option ℕ → ℕ
 place_of None = 8
 place_of (Some teid) = 12
 
--- the elements that a datagram carries; of a message that is kept as octets there are none
+-- the elements that a message's octets carry; of a message that is kept as octets there are none
 abbrev pub ElementsAre : List ℕ → MessageValue → Content → List Element → Type 0
 ElementsAre octets m (Raw carried) es = es ≡ []
 ElementsAre octets m (Fields fields) es = AreElements (place_of m.teid) (drop (place_of m.teid) octets) es
@@ -27,7 +33,7 @@ ElementsAre octets m (Fields fields) es = AreElements (place_of m.teid) (drop (p
 abbrev pub Carries : List ℕ → Viewed → Type 0
 Carries octets v = ElementsAre octets v.message v.message.content v.elements
 
--- the octets after the header of a datagram
+-- the octets after the header of a message
 abbrev pub Follows : List ℕ → Viewed → Type 0
 Follows octets v = v.octets ≡ drop (place_of v.message.teid) octets
 

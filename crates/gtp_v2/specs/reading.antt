@@ -2,6 +2,8 @@
 pub mod Headed
 pub mod Rows
 pub mod Message
+pub mod Pair
+pub mod Places
 pub mod Outcome
 pub mod Lines
 pub mod Checked

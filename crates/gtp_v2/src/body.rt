@@ -181,6 +181,7 @@ pub fn build_other(alloc: Global, header: &Header) -> Result<Datagram, V2Fault>
     ensures kind { IfOk result (λ d. kind_of d.message.body ≡ header.now.kind) }
     ensures header { IfOk result (λ d. HasHeader header.now d.message) }
     ensures octets_only { IfOk result (λ d. OctetsOnlyWithoutTable d.message.body) }
+    ensures alone { IfOk result (λ d. d.second ≡ None) }
 {
     let kind = header.kind;
     // No octets take no memory, so it may not be answered that it ran out.
@@ -209,6 +210,7 @@ pub fn build_datagram(
     ensures kind { IfOk result (λ d. kind_of d.message.body ≡ header.now.kind) }
     ensures header { IfOk result (λ d. HasHeader header.now d.message) }
     ensures octets_only { IfOk result (λ d. OctetsOnlyWithoutTable d.message.body) }
+    ensures alone { IfOk result (λ d. d.second ≡ None) }
 {
     with_kinds!(build_among, alloc, header, elements)
 }

@@ -2,17 +2,17 @@
 
 ghost use Rattle.std.specs.Prelude.{◌≡◌, IfOk, Err, IsOkAnd, ◌⊎◌, IfErr};
 ghost use Rattle.gtp_v2.specs.Priority.{PriorityNeedsTeid};
-ghost use Rattle.gtp_v2.specs.Message.{MessageGives, MessageAllocates, MessageValue};
-ghost use Rattle.gtp_v2.specs.reading.Message.{message_at};
+ghost use Rattle.gtp_v2.specs.Message.{MessageGives};
+ghost use Rattle.gtp_v2.specs.Pair.{DatagramValue, IsDatagram, IsDatagramFault, OfEach, DatagramAllocates, MayAllocate, datagram_value, second_of};
+ghost use Rattle.gtp_v2.specs.reading.Pair.{datagram_at};
 ghost use Rattle.gtp_v2.specs.Body.{message_value, OctetsOnlyWithoutTable};
 ghost use Rattle.gtp_v2.specs.Marks.{MeetsMarks};
-ghost use Rattle.gtp_v2.specs.Datagram.{IsMessage, IsFault, MayAllocate};
 ghost use Rattle.gtp_v2.specs.Instances.{InstanceIsSmall};
 ghost use Rattle.gtp_v2.specs.declared.fault.V2Fault.{V2Fault as AnyFault};
 
 use crate::fault::V2Fault;
 use crate::message::Datagram;
-use crate::viewing::view_message;
+use crate::viewing::view_datagram;
 use std::alloc::Global;
 
 /// A fault. Not inlined, so that what is built on the other way is written where the caller wants it, and
@@ -25,42 +25,48 @@ fn refused(fault: V2Fault) -> Result<Datagram, V2Fault>
     Err(fault)
 }
 
-/// The message that a datagram spells, by a view of it.
+/// The messages that a datagram spells, by a view of it.
 fn read_datagram(alloc: Global, octets: &[u8]) -> Result<Datagram, V2Fault>
-    ensures message { MessageGives MessageAllocates (λ d. message_value d.message) result
-        (message_at octets.now) }
-    ensures kind { IfOk result (λ d. OctetsOnlyWithoutTable d.message.body) }
-    ensures header { IfOk result (λ d. PriorityNeedsTeid d.message.teid d.message.priority) }
-    ensures marks { IfOk result (λ d. MeetsMarks (message_value d.message)) }
+    ensures messages { MessageGives DatagramAllocates datagram_value result (datagram_at octets.now) }
+    ensures kind { IfOk result
+        (λ d. OfEach (λ m. OctetsOnlyWithoutTable m.body) d.message (second_of d)) }
+    ensures header { IfOk result
+        (λ d. OfEach (λ m. PriorityNeedsTeid m.teid m.priority) d.message (second_of d)) }
+    ensures marks { IfOk result
+        (λ d. OfEach (λ m. MeetsMarks (message_value m)) d.message (second_of d)) }
 {
-    match view_message(octets) {
+    match view_datagram(octets) {
         Ok(seen) => seen.to_datagram(alloc),
         Err(fault) => refused(fault),
     }
 }
 
-/// The message that a datagram spells, or its first fault; `Memory` where an allocation was refused, and then
-/// the datagram has no fault.
+/// The message that a datagram spells, or the two, or its first fault; `Memory` where an allocation was
+/// refused, and then the datagram has no fault.
 pub fn decode(alloc: Global, octets: &[u8]) -> Result<Datagram, V2Fault>
     // What is answered is spelled so.
-    ensures found { IfOk result (λ d. IsMessage octets.now (message_value d.message)) }
+    ensures found { IfOk result (λ d. IsDatagram octets.now (datagram_value d)) }
     // What is spelled so is answered, unless memory runs out, which it does only where some is allocated.
-    ensures only { (m : MessageValue) → IsMessage octets.now m
-        → IsOkAnd result (λ d. message_value d.message ≡ m)
-        ⊎ ((result ≡ Err V2Fault.Memory) × MessageAllocates m) }
+    ensures only { (d : DatagramValue) → IsDatagram octets.now d
+        → IsOkAnd result (λ x. datagram_value x ≡ d)
+        ⊎ ((result ≡ Err V2Fault.Memory) × DatagramAllocates d) }
     // The first fault is answered, whether or not there is memory.
-    ensures first { (f : AnyFault) → IsFault octets.now f → result ≡ Err f }
+    ensures first { (f : AnyFault) → IsDatagramFault octets.now f → result ≡ Err f }
     // A fault is the first one.
-    ensures fault { IfErr result (λ f. (f ≡ V2Fault.Memory) ⊎ IsFault octets.now f) }
+    ensures fault { IfErr result (λ f. (f ≡ V2Fault.Memory) ⊎ IsDatagramFault octets.now f) }
     // An instance that a fault names is below 16.
     ensures instance { IfErr result InstanceIsSmall }
-    // Memory runs out only for a message for which some is allocated: a list in it has a member, or octets are kept.
+    // Memory runs out only where some is allocated: for a message in which a list has a member, or of which octets
+    // are kept, or for a second one.
     ensures memory { result ≡ Err V2Fault.Memory → MayAllocate octets.now }
 
     // What was decoded meets the conditions of `encode` and the marks of its table.
-    ensures kind { IfOk result (λ d. OctetsOnlyWithoutTable d.message.body) }
-    ensures header { IfOk result (λ d. PriorityNeedsTeid d.message.teid d.message.priority) }
-    ensures marks { IfOk result (λ d. MeetsMarks (message_value d.message)) }
+    ensures kind { IfOk result
+        (λ d. OfEach (λ m. OctetsOnlyWithoutTable m.body) d.message (second_of d)) }
+    ensures header { IfOk result
+        (λ d. OfEach (λ m. PriorityNeedsTeid m.teid m.priority) d.message (second_of d)) }
+    ensures marks { IfOk result
+        (λ d. OfEach (λ m. MeetsMarks (message_value m)) d.message (second_of d)) }
 {
     read_datagram(alloc, octets)
 }

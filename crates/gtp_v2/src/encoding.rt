@@ -1,6 +1,6 @@
 //! Encoding messages.
 
-ghost use Rattle.std.specs.Prelude.{◌≡◌, ◌+◌, ◌<◌, length, IfOk, IsErrOf, ◌⊎◌, ◌↔◌, OnOk, IfErr};
+ghost use Rattle.std.specs.Prelude.{◌≡◌, ◌+◌, ◌<◌, ◌≤◌, None, length, IfOk, IfSome, IsErrOf, ◌⊎◌, ◌↔◌, OnOk, IfErr};
 ghost use Rattle.gtp_v2.specs.Priority.{PriorityNeedsTeid};
 ghost use Rattle.gtp_v2.specs.Tables.{table_of};
 ghost use Rattle.gtp_v2.specs.Body.{content_of, kind_of, message_value, OctetsOnlyWithoutTable};
@@ -9,15 +9,34 @@ ghost use Rattle.gtp_v2.specs.Room.{most_carried, members};
 ghost use Rattle.gtp_v2.specs.Kinds.{ContentHasKinds};
 ghost use Rattle.gtp_v2.specs.Marks.{MeetsMarks};
 ghost use Rattle.gtp_v2.specs.Datagram.{IsMessage};
+ghost use Rattle.gtp_v2.specs.Pair.{IsDatagram, both, paired};
 
 use crate::body::{room_after, write_body};
 use crate::fault::V2Fault;
 use crate::header::write_header;
 use crate::message::Message;
-use std::alloc::Global;
+use std::alloc::{AllocError, Global};
 
 /// The most octets that a header can state after its first four (TS 29.274 5.5).
 const LONGEST: usize = 65535;
+
+/// How many octets the canonical encoding of a message has after its first four, where two octets state it.
+fn measured(message: &Message) -> Option<usize>
+    requires { OctetsOnlyWithoutTable message.now.body }
+    ensures some { IfSome result (λ size.
+        (size ≤ 65535) × (length (canonical_encoding (message_value message.now)) ≡ 4 + size)) }
+    ensures none { result ≡ None
+        ↔ (65535 + 4 < length (canonical_encoding (message_value message.now))) }
+    ensures rows { result ≡ None → 65527 < most_carried (message_value message.now) }
+{
+    let room = if message.teid.is_some() {
+        LONGEST - 8
+    } else {
+        LONGEST - 4
+    };
+    let left = room_after(&message.body, room)?;
+    Some(LONGEST - left)
+}
 
 /// The canonical encoding of a message. Its numbers fit its header, and its values are of the types in its
 /// table's rows.
@@ -36,15 +55,9 @@ fn write_message(alloc: Global, message: &Message) -> Result<Vec<u8>, V2Fault>
     ensures kinds { OnOk result
         (ContentHasKinds (table_of (kind_of message.now.body)) (content_of message.now.body)) }
 {
-    let room = if message.teid.is_some() {
-        LONGEST - 8
-    } else {
-        LONGEST - 4
-    };
-    let Some(left) = room_after(&message.body, room) else {
+    let Some(size) = measured(message) else {
         return Err(V2Fault::TooLong);
     };
-    let size = LONGEST - left;
     let mut out = Vec::with_capacity(alloc, 4 + size)?;
     write_header(&mut out, message)?;
     write_body(&mut out, &message.body)?;
@@ -79,4 +92,69 @@ pub fn encode(alloc: Global, message: &Message) -> Result<Vec<u8>, V2Fault>
         ↔ IsMessage octets.items (message_value message.now)) }
 {
     write_message(alloc, message)
+}
+
+/// The canonical encodings of two messages as one datagram, where the second is not too long.
+fn write_pair(alloc: Global, first: &Message, second: &Message) -> Result<Vec<u8>, V2Fault>
+    requires first_header { PriorityNeedsTeid first.now.teid first.now.priority }
+    requires first_kind { OctetsOnlyWithoutTable first.now.body }
+    requires second_header { PriorityNeedsTeid second.now.teid second.now.priority }
+    requires second_kind { OctetsOnlyWithoutTable second.now.body }
+    requires second_fits { length (canonical_encoding (message_value second.now)) ≤ 65535 + 4 }
+    ensures written { IfOk result (λ octets. octets.items
+        ≡ paired (canonical_encoding (message_value first.now))
+        (canonical_encoding (message_value second.now))) }
+    ensures too_long { IsErrOf result V2Fault.TooLong
+        ↔ (65535 + 4 < length (canonical_encoding (message_value first.now))) }
+    ensures few { IsErrOf result V2Fault.TooLong → 48 < members (message_value first.now) }
+    ensures fault { IfErr result (λ f. (f ≡ V2Fault.Memory) ⊎ (f ≡ V2Fault.TooLong)) }
+    ensures read_again { IfOk result (λ octets. MeetsMarks (message_value first.now)
+        → MeetsMarks (message_value second.now)
+        → IsDatagram octets.items (both (message_value first.now) (message_value second.now))) }
+{
+    let front = encode(alloc, first)?;
+    let back = encode(alloc, second)?;
+    let octets = pair(alloc, &front, &back)?;
+    Ok(octets)
+}
+
+/// The canonical encodings of two messages as one datagram: the first announces the second (TS 29.274 5.5.1).
+/// `TooLong` where one of them is too long, and nowhere else; `Memory` where an allocation was refused.
+pub fn encode_pair(alloc: Global, first: &Message, second: &Message) -> Result<Vec<u8>, V2Fault>
+    requires first_header { PriorityNeedsTeid first.now.teid first.now.priority }
+    requires first_kind { OctetsOnlyWithoutTable first.now.body }
+    requires second_header { PriorityNeedsTeid second.now.teid second.now.priority }
+    requires second_kind { OctetsOnlyWithoutTable second.now.body }
+    ensures written { IfOk result (λ octets. octets.items
+        ≡ paired (canonical_encoding (message_value first.now))
+        (canonical_encoding (message_value second.now))) }
+    ensures too_long { IsErrOf result V2Fault.TooLong
+        ↔ ((65535 + 4 < length (canonical_encoding (message_value first.now)))
+        ⊎ (65535 + 4 < length (canonical_encoding (message_value second.now)))) }
+    // So none is too long where the lists of each have at most 48 members.
+    ensures few { IsErrOf result V2Fault.TooLong →
+        (48 < members (message_value first.now)) ⊎ (48 < members (message_value second.now)) }
+    ensures fault { IfErr result (λ f. (f ≡ V2Fault.Memory) ⊎ (f ≡ V2Fault.TooLong)) }
+    // They are read again where they meet the marks of their tables, and nowhere else.
+    ensures read_again { IfOk result (λ octets. (MeetsMarks (message_value first.now)
+        × MeetsMarks (message_value second.now))
+        ↔ IsDatagram octets.items (both (message_value first.now) (message_value second.now))) }
+{
+    if measured(second).is_none() {
+        return Err(V2Fault::TooLong);
+    }
+    write_pair(alloc, first, second)
+}
+
+/// Two messages as one datagram, from the octets of each: the first announces the second (TS 29.274 5.5.1).
+pub fn pair(alloc: Global, front: &[u8], back: &[u8]) -> Result<Vec<u8>, AllocError>
+    ensures { IfOk result (λ octets. octets.items ≡ paired front.now back.now) }
+{
+    let mut out = Vec::with_capacity(alloc, front.len() + back.len())?;
+    if let [first, rest @ ..] = front {
+        out.push(first.wrapping_add(16))?;
+        out.extend_from_slice(rest)?;
+    }
+    out.extend_from_slice(back)?;
+    Ok(out)
 }

@@ -1,6 +1,8 @@
 //! What can be wrong with a datagram.
 
-ghost use Rattle.std.specs.Prelude.{◌≡◌};
+ghost use Rattle.std.specs.Prelude.{◌≡◌, ◌+◌, ◌<◌, ◌^◌};
+ghost use Rattle.gtp_v2.specs.Pair.{element_moved, moved};
+ghost use Rattle.gtp_v2.specs.reading.Places.{place_of_element, place_of_fault};
 ghost use Rattle.gtp_v2.specs.Codes.{number_of};
 ghost use Rattle.gtp_v2.specs.Needs.{need_where};
 ghost use Rattle.gtp_v2.specs.declared.fault.V2Fault.TheVariants as faults;
@@ -59,9 +61,9 @@ pub struct Head {
     pub sender: Option<FTeid>,
 }
 
-/// Why a datagram is no message: the first check that fails, or out of memory (TS 29.274 7.7.2 to
-/// 7.7.8). `held` counts octets, `at` of an `IeFault` from the start of the datagram; `conditional`
-/// tells a conditional row from a mandatory one.
+/// Why a datagram does not read: the first check that fails, or out of memory (TS 29.274 7.7.2 to
+/// 7.7.8). `held` counts octets of the message at fault, `at` octets from the start of the datagram;
+/// `conditional` tells a conditional row from a mandatory one.
 #[derive(Clone, Copy, Debug, PartialEq, Eq, Error)]
 pub enum V2Fault {
     /// H1: the header is not whole.
@@ -72,9 +74,12 @@ pub enum V2Fault {
     /// H2: the version, which is told, is not 2.
     #[error("version {0}")]
     Version(u8),
-    /// H5: the flag P is set; a message with another after it is not read.
-    #[error("a second message is announced")]
-    Piggyback,
+    /// H5: the flag P announces a second message, and none follows, or P is set in the second. `at` is the
+    /// place of the second message's first octet.
+    #[error("the message at {at} is missing, or announces a third")]
+    BadPiggyback {
+        at: usize,
+    },
     /// H3: `held` is without the first four octets.
     #[error("the length is stated as {stated} and is {held}")]
     Length {
@@ -125,12 +130,50 @@ impl V2Fault {
             V2Fault::Version(_) => 2,
             V2Fault::Length { .. } => 3,
             V2Fault::FlagT { .. } => 4,
-            V2Fault::Piggyback => 5,
+            V2Fault::BadPiggyback { .. } => 5,
             V2Fault::Missing { .. } => MISSING_ELEMENT,
             V2Fault::Element { .. } => BAD_ELEMENT,
             V2Fault::Memory => 8,
             V2Fault::TooLong => 9,
         }
+    }
+}
+
+/// The fault of an element, its place counted from so many octets earlier.
+fn element_moved(fault: IeFault, place: usize) -> IeFault
+    requires { place + place_of_element fault < 2 ^ 64 }
+    ensures { result ≡ element_moved place fault }
+{
+    match fault {
+        IeFault::Truncated { at } => IeFault::Truncated { at: place + at },
+        IeFault::ShortValue { kind, instance, at } => IeFault::ShortValue {
+            kind,
+            instance,
+            at: place + at,
+        },
+        IeFault::BadValue { kind, instance, at } => IeFault::BadValue {
+            kind,
+            instance,
+            at: place + at,
+        },
+        IeFault::Memory => IeFault::Memory,
+        IeFault::TooLong => IeFault::TooLong,
+    }
+}
+
+/// The fault of a second message, its place counted from the start of the datagram, so many octets earlier.
+#[cold]
+pub fn moved(fault: V2Fault, place: usize) -> V2Fault
+    requires { place + place_of_fault fault < 2 ^ 64 }
+    ensures { result ≡ moved place fault }
+{
+    match fault {
+        V2Fault::BadPiggyback { at } => V2Fault::BadPiggyback { at: place + at },
+        V2Fault::Element { fault, head } => V2Fault::Element {
+            fault: element_moved(fault, place),
+            head,
+        },
+        other => other,
     }
 }
 

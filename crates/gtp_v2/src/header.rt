@@ -19,7 +19,7 @@ pub struct Header<'a> {
     pub seq: Seq,
     pub priority: Option<Below<16>>,
     pub rest: &'a [u8],
-    /// The place of the rest in the datagram.
+    /// The place of the rest in the message.
     pub at: usize,
     pub ghost fits: { at + length rest.now < 2 ^ 64 },
     /// Two octets state the length of all after the first four.

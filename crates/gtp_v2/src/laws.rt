@@ -9,7 +9,8 @@ ghost use Rattle.gtp_v2.specs.Message.{MessageValue};
 ghost use Rattle.gtp_v2.specs.Body.{message_value};
 ghost use Rattle.gtp_v2.specs.Datagram.{IsMessage, IsFault};
 ghost use Rattle.gtp_v2.specs.Encoding.{FieldsMeet, Meets, canonical_encoding};
-ghost use Rattle.gtp_v2.specs.Prefixes.{prefix_fault};
+ghost use Rattle.gtp_v2.specs.Pair.{Announces, IsDatagram, IsDatagramFault, both, paired};
+ghost use Rattle.gtp_v2.specs.Prefixes.{prefix_fault, pair_prefix_fault};
 ghost use Rattle.gtp_v2.specs.Text.{lines_encoding};
 
 use crate::message::Message;
@@ -22,11 +23,27 @@ pub fn fields_are_read_again()
         × LinesAre start lines es fields }
 {}
 
-/// Each proper prefix of a datagram is at fault: it has fewer than four octets, or fewer than its header
-/// states.
+/// Each proper prefix of a message is at fault: it has fewer than four octets, or fewer than its header
+/// states. So it is as a datagram.
 pub fn proper_prefixes_are_faults()
-    ensures { (octets : List ℕ) (m : MessageValue) (n : ℕ) → IsMessage octets m → n < length octets
-        → IsFault (take n octets) (prefix_fault n (length octets)) }
+    ensures message { (octets : List ℕ) (m : MessageValue) (n : ℕ) → IsMessage octets m
+        → n < length octets → IsFault (take n octets) (prefix_fault n (length octets)) }
+    ensures datagram { (octets : List ℕ) (m : MessageValue) (n : ℕ) → IsMessage octets m
+        → n < length octets → IsDatagramFault (take n octets) (prefix_fault n (length octets)) }
+{}
+
+/// The same of a datagram of two messages. It ends in the first, or in the second; or between them, and then
+/// nothing is where the second is announced.
+pub fn proper_prefixes_of_pairs_are_faults()
+    ensures { (octets front back : List ℕ) (a b : MessageValue) (n : ℕ) → Announces octets front back
+        → IsMessage front a → IsMessage back b → n < length octets
+        → IsDatagramFault (take n octets) (pair_prefix_fault n (length front) (length back)) }
+{}
+
+/// The octets of two messages, as one datagram, spell the two.
+pub fn pairs_are_read_again()
+    ensures { (front back : List ℕ) (a b : MessageValue) → IsMessage front a → IsMessage back b
+        → IsDatagram (paired front back) (both a b) }
 {}
 
 /// The canonical encoding of a message spells it, so what was encoded is decoded.

@@ -32,13 +32,13 @@ pub use body::{
 };
 pub use contexts::{ContextView, Contexts};
 pub use decoding::decode;
-pub use encoding::encode;
+pub use encoding::{encode, encode_pair, pair};
 pub use fault::{BAD_ELEMENT, Head, MISSING_ELEMENT, V2Fault};
 pub use gtp_ie::kinds::BEARER_CONTEXT;
 pub use listed::Listed;
 pub use message::{Datagram, Message};
 pub use values::Values;
-pub use viewing::{DatagramView, view};
+pub use viewing::{DatagramView, MessageView, view};
 
 /// What the signatures and contracts here name of the crates below.
 pub use gtp_ie::{

@@ -1,6 +1,6 @@
 //! Messages.
 
-ghost use Rattle.std.specs.Prelude.{◌≡◌, ◌↔◌, IsTrue};
+ghost use Rattle.std.specs.Prelude.{◌≡◌, ◌↔◌, IsTrue, None};
 ghost use Rattle.gtp_v2.specs.reading.Headed.{HasHeader};
 ghost use Rattle.gtp_v2.specs.Priority.{PriorityNeedsTeid};
 ghost use Rattle.gtp_v2.specs.Body.{message_value, OctetsOnlyWithoutTable};
@@ -49,17 +49,20 @@ impl Message {
     }
 }
 
-/// What a datagram holds: one message.
+/// What a datagram holds: one message, or two (TS 29.274 5.5.1).
 #[derive(Debug, Drop, PartialEq, Eq)]
 pub struct Datagram {
     pub message: Message,
+    /// The second message, which the first announces.
+    pub second: Option<Box<Message>>,
 }
 
 impl Datagram {
-    /// The message with this header that says this.
+    /// The datagram of one message, with this header, that says this.
     pub(crate) fn of(header: &Header, body: Body) -> Datagram
         ensures header { HasHeader header.now result.message }
         ensures body { result.message.body ≡ body }
+        ensures alone { result.second ≡ None }
     {
         let message = Message {
             teid: header.teid,
@@ -67,6 +70,9 @@ impl Datagram {
             priority: header.priority,
             body,
         };
-        Datagram { message }
+        Datagram {
+            message,
+            second: None,
+        }
     }
 }

@@ -48,7 +48,7 @@ pub trait Typed: Drop {
     fn name() -> &'static str
         ensures { result.now ≡ named };
 
-    /// The datagram with this header and these elements, which have what the lines ask. A call of its own, so
+    /// The datagram of one message with this header and these elements, which have what the lines ask. A call of its own, so
     /// that it sets up no room for messages of the other kinds.
     fn build(alloc: Global, header: &Header, elements: &Indexed) -> Result<Datagram, V2Fault>
         requires { IsOk (lines_at start lines elements.now) }
@@ -56,7 +56,8 @@ pub trait Typed: Drop {
             (as_fields (fields_at lines (headed_of header.now) elements.now)) }
         ensures kind { IfOk result (λ d. kind_of d.message.body ≡ KIND) }
         ensures header { IfOk result (λ d. HasHeader header.now d.message) }
-        ensures octets_only { IfOk result (λ d. OctetsOnlyWithoutTable d.message.body) };
+        ensures octets_only { IfOk result (λ d. OctetsOnlyWithoutTable d.message.body) }
+        ensures alone { IfOk result (λ d. d.second ≡ None) };
 
     /// Appends the elements of the lines.
     fn write(&self, out: &mut Vec<u8>) -> Result<(), AllocError>

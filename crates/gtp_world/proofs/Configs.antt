@@ -1,7 +1,8 @@
 -- How a gateway is set up stays so in each run.
-use Rattle.std.proofs.Common.{◌≡◌, inl, inr, List, [], ◌∷◌, refl, ◌∙◌, ap}
+use Rattle.std.proofs.Common.{◌≡◌, inl, inr, List, [], ◌∷◌, refl, ◌∙◌, ap, subst}
 use Rattle.gtp_machine.specs.Config.{Addresses}
 use Rattle.gtp_machine.specs.Message.{Message, plane_of}
+use Rattle.gtp_machine.specs.Spelling.{datagram_plane}
 use Rattle.gtp_machine.specs.declared.role.Role.{Role}
 use Rattle.gtp_machine.specs.declared.role.Role.TheVariants.{Serving, Packet}
 use Rattle.gtp_machine.specs.Node.{Arrival}
@@ -9,7 +10,6 @@ use Rattle.gtp_machine.specs.Input.{Input, Commanded, Effect}
 use Rattle.gtp_machine.specs.Tick.{ticked}
 use Rattle.gtp_machine.specs.Step.{Done}
 use Rattle.gtp_machine.specs.World.{World, Note, Event, Does, Tick, Deliver, Cut, Restart, HasSent, Happens, Delivers, Moves, Run, other, side_of, with_side, with_steps, noted, moved, logged, late_once, arrival, restarted, start, quiet_note, next_counter, No_such_datagram, Cut_too_long, Restarts_used, Restarted}
-use Rattle.gtp_machine.proofs.Basics.FiniteMaps.{among_at}
 use Rattle.gtp_machine.proofs.Exchange.Held.{tick_config}
 use Rattle.gtp_machine.proofs.Rows.Stepping.{Carried}
 use Rattle.gtp_machine.proofs.Worlds.Runs as run
@@ -51,7 +51,7 @@ module _ (own : Addresses) where
   after : (w mid : World) (a : World) → SetUpAs w mid → SetUpAs mid a → SetUpAs w a
   after w mid a first second role = second role ∙ first role
 
-  delivers : (w : World) → run.Invariant own w → (sender : Role) (m : Message) → HasSent w.history sender m → (new : World) → Delivers w sender m new → SetUpAs w new
+  delivers : (w : World) → run.Invariant own w → (sender : Role) (m : Message) → HasSent w.history sender m → (new : World) → Delivers w sender (m ∷ []) new → SetUpAs w new
   delivers w inv Packet m sent new (inl d) = moves w inv Serving _ (run.serving_carried own w inv (plane_of m) m sent) new d.1
   delivers w inv Packet m sent new (inr d) =
       let a = arrival w.packet.node.config.own m in
@@ -67,10 +67,12 @@ module _ (own : Addresses) where
   happens w inv (Does role command) new m = moves w inv role (Commanded command) tt new m
   happens w inv (Tick role) new t = to_new w _ new t.becomes (stepped w role (ticked t.out t.after) _ _ (tick_config (side_of w role).node t.moves t.out t.after t.tick))
   happens w inv (Deliver number) new (inl none) = to_new w _ new none.1 (same_noted w (quiet_note No_such_datagram))
-  happens w inv (Deliver number) new (inr (found, d)) = delivers w inv found.sent.role found.sent.what (among_at w.history number found.sent found.is) new d
+  happens w inv (Deliver number) new (inr (found, d)) =
+      let one = run.found_one own w inv number found.sent found.is in
+      delivers w inv found.sent.role one.message one.sent new (subst (λ k. Delivers w found.sent.role k new) one.alone d)
   happens w inv (Cut number count) new (inl none) = to_new w _ new none.1 (same_noted w (quiet_note No_such_datagram))
   happens w inv (Cut number count) new (inr (found, inl long)) = to_new w _ new long.1 (same_noted w (quiet_note Cut_too_long))
-  happens w inv (Cut number count) new (inr (found, inr (short, c))) = moves w inv (other found.sent.role) _ (run.cut_carried own (other found.sent.role) (plane_of found.sent.what) _ found.sent.what count w.history (side_of w (other found.sent.role)).node) new c
+  happens w inv (Cut number count) new (inr (found, inr (short, c))) = moves w inv (other found.sent.role) _ (run.cut_carried own (other found.sent.role) (datagram_plane found.sent.what) _ found.sent.what count w.history (side_of w (other found.sent.role)).node) new c
   happens w inv (Restart role) new (inl used) = to_new w _ new used.1 (same_noted w (quiet_note Restarts_used))
   happens w inv (Restart role) new (inr (few, is)) = to_new w _ new is (same_restarted w role (quiet_note (Restarted (next_counter (side_of w role)))))
 

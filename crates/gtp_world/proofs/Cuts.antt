@@ -1,18 +1,21 @@
 -- What the datagrams of a world read as, whole and cut short.
-use Rattle.std.proofs.Common.{◌≡◌, ⊎_elim, ℕ, ◌<◌, List, length, take, sym, subst}
+use Rattle.std.proofs.Common.{◌≡◌, ⊎_elim, inl, inr, ℕ, ◌<◌, Bool, true, false, List, [], ◌∷◌, length, take, Some, None, sym, ◌∙◌, ap, subst}
+use Rattle.gtp_v2.specs.declared.fault.V2Fault.{V2Fault}
+use Rattle.gtp_v2.specs.Pair.{DatagramValue}
 use Rattle.gtp_user.specs.declared.fault.UserFault.{UserFault}
 use Rattle.gtp_user.specs.declared.fault.UserFault.TheVariants as user_faults
-use Rattle.gtp_machine.specs.Config.{Config, control_end, user_end, own_end}
+use Rattle.gtp_machine.specs.Config.{Config, user_end, own_end}
 use Rattle.gtp_machine.specs.Input.{Control_message, Control_fault, UserReading, User_message, Extension_needed, User_fault, Control_came, User_came}
 use Rattle.gtp_machine.specs.Message.{Message, Plane, Control, User, plane_of}
-use Rattle.gtp_machine.specs.Reading.{user_fault, control_reading, user_reading, cut_fault, user_cut_fault}
-use Rattle.gtp_machine.specs.Spelling.{ReadsAs, spelled}
-use Rattle.gtp_machine.specs.World.{arrival, delivered_on, cut_on}
-use Rattle.gtp_machine.proofs.Octets.ByGrammar.{control_by_grammar, user_by_grammar, cuts_read, user_cuts_read}
+use Rattle.gtp_machine.specs.Reading.{user_fault, control_reading, ControlReads, Alone, announces, messages_read, datagram_fault, datagram_reading, DatagramReads, IsDatagramReadOf, taken_as, user_reading, cut_fault, user_cut_fault}
+use Rattle.gtp_machine.specs.Spelling.{datagram_plane, spelled, spelled_all}
+use Rattle.gtp_machine.specs.World.{come_from, delivered_on, cut_on}
+use Rattle.gtp_machine.proofs.Basics.Datagrams.{IsAlone}
+use Rattle.gtp_machine.proofs.Octets.ByGrammar.{control_by_grammar, user_by_grammar, user_cuts_read}
+use Rattle.gtp_machine.proofs.Octets.Datagrams.{datagram_by_grammar, datagram_cuts_read}
 use Rattle.gtp_machine.proofs.Octets.Faults.{IsFault, fault_is}
-use Rattle.gtp_gateway.specs.Parts.{arrival_of}
 use Rattle.gtp_gateway.specs.Received.{coming}
-use Rattle.gtp_gateway.specs.Sent.{ReadsBack}
+use Rattle.gtp_gateway.specs.Sent.{ReadsBackOn, ReadsBack}
 
 -- a fault is no message
 
@@ -36,9 +39,9 @@ at_fault user_faults.TooLong = tt
 
 -- octets that read as a message are at fault when they are cut
 
-control_cut : (octets : List ℕ) (m : Message) (count : ℕ) → Control_message m ≡ control_reading octets → count < length octets → control_reading (take count octets) ≡ Control_fault (cut_fault count)
+control_cut : (octets : List ℕ) (m : Message) (count : ℕ) → Control_message m ≡ control_reading octets → count < length octets → taken_as (datagram_reading (take count octets)) ≡ Control_fault (cut_fault count)
 control_cut octets m count reads short = ⊎_elim
-    (λ is. sym (cuts_read octets is.0 count is.1 short))
+    (λ is. sym (ap taken_as (datagram_cuts_read octets is.0 count is.1 short)))
     (λ fails. absurd (subst IsFault (sym fails.2) (fault_is fails.0)))
     ((control_by_grammar octets (Control_message m)).0 reads)
 
@@ -48,17 +51,39 @@ user_cut octets m count reads short = ⊎_elim
     (λ fails. absurd (subst IsUserFault (sym fails.2) (at_fault fails.0)))
     ((user_by_grammar octets (User_message m)).0 reads)
 
+-- octets that read as a datagram of one message read as that message by themselves
+pub by_itself : (octets : List ℕ) (m : Message) → DatagramReads octets (Alone (Control_message m)) → ControlReads octets (Control_message m)
+by_itself octets m reads = one ((datagram_by_grammar octets (Alone (Control_message m))).0 reads)
+  where
+    no_fault : (announced : Bool) (f : V2Fault) → Control_message m ≡ datagram_fault announced f → ⊥
+    no_fault true f is = cc is
+    no_fault false f is = subst IsFault (sym is) (fault_is f)
+
+    one : IsDatagramReadOf octets (Alone (Control_message m)) → ControlReads octets (Control_message m)
+    one (inl (d, inl (k, is, same), as_d)) =
+        let so : Alone (Control_message m) ≡ messages_read k None = as_d ∙ ap (λ (v : DatagramValue). messages_read v.first v.second) same in
+        (control_by_grammar octets (Control_message m)).1 (inl (k, is, cc so))
+    one (inl (d, inr (front, back, announces_it, (a, is_a, (b, is_b, same))), as_d)) =
+        let so : Alone (Control_message m) ≡ messages_read a (Some b) = as_d ∙ ap (λ (v : DatagramValue). messages_read v.first v.second) same in
+        absurd (cc so)
+    one (inr (f, fails, as_f)) = absurd (no_fault (announces octets) f (cc as_f))
+
 -- a datagram comes as it was sent
-came : (p : Plane) (config : Config) (m : Message) → ReadsAs p (spelled m) m → coming p (own_end config p) (spelled m) ≡ delivered_on p config.own m
-came Control config m reads = λ i. Control_came (arrival config.own m) (sym reads i)
-came User config m reads = λ i. User_came (user_end config.own.user) (sym reads i)
+came : (p : Plane) (config : Config) (datagram : List Message) → ReadsBackOn p datagram → coming p (own_end config p) (spelled_all datagram) ≡ delivered_on p config.own datagram
+came Control config datagram reads = λ i. Control_came (come_from config.own (spelled_all datagram)) (taken_as (sym reads i))
+came User config (m ∷ []) reads = λ i. User_came (user_end config.own.user) (sym reads i)
+came User config [] reads = absurd reads
+came User config (m ∷ n ∷ rest) reads = absurd reads
 
-pub comes : (config : Config) (m : Message) → ReadsBack m → coming (plane_of m) (own_end config (plane_of m)) (spelled m) ≡ delivered_on (plane_of m) config.own m
-comes config m reads = came (plane_of m) config m reads
+pub comes : (config : Config) (datagram : List Message) → ReadsBack datagram → coming (datagram_plane datagram) (own_end config (datagram_plane datagram)) (spelled_all datagram) ≡ delivered_on (datagram_plane datagram) config.own datagram
+comes config datagram reads = came (datagram_plane datagram) config datagram reads
 
-cut : (p : Plane) (config : Config) (m : Message) (count : ℕ) → ReadsAs p (spelled m) m → count < length (spelled m) → coming p (own_end config p) (take count (spelled m)) ≡ cut_on p config.own m count
-cut Control config m count reads short = λ i. Control_came (arrival_of (control_end config.own.control) (take count (spelled m))) (control_cut (spelled m) m count reads short i)
+-- one of one message comes cut
+cut : (p : Plane) (config : Config) (m : Message) (count : ℕ) → ReadsBackOn p (m ∷ []) → count < length (spelled m) → coming p (own_end config p) (take count (spelled m)) ≡ cut_on p config.own (m ∷ []) count
+cut Control config m count reads short = λ i. Control_came (come_from config.own (take count (spelled m))) (control_cut (spelled m) m count (by_itself (spelled m) m reads) short i)
 cut User config m count reads short = λ i. User_came (user_end config.own.user) (user_cut (spelled m) m count reads short i)
 
-pub comes_cut : (config : Config) (m : Message) (count : ℕ) → ReadsBack m → count < length (spelled m) → coming (plane_of m) (own_end config (plane_of m)) (take count (spelled m)) ≡ cut_on (plane_of m) config.own m count
-comes_cut config m count reads short = cut (plane_of m) config m count reads short
+pub comes_cut : (config : Config) (datagram : List Message) (count : ℕ) → IsAlone datagram → ReadsBack datagram → count < length (spelled_all datagram) → coming (datagram_plane datagram) (own_end config (datagram_plane datagram)) (take count (spelled_all datagram)) ≡ cut_on (datagram_plane datagram) config.own datagram count
+comes_cut config (m ∷ []) count alone reads short = cut (plane_of m) config m count reads short
+comes_cut config [] count alone reads short = absurd alone
+comes_cut config (m ∷ n ∷ rest) count alone reads short = absurd alone

@@ -1,40 +1,60 @@
 -- The three events of an exchange.
-use Rattle.std.proofs.Common.{◌≡◌, inl, inr, ℕ, ◌+◌, ◌<◌, suc, take, arith, List, [], ◌∷◌, ◌++◌, map, length, refl, sym, ◌∙◌, ap, subst}
+use Rattle.std.proofs.Common.{◌≡◌, inl, inr, ⊎_elim, ℕ, ◌+◌, ◌<◌, suc, take, arith, List, [], ◌∷◌, ◌++◌, map, length, refl, sym, ◌∙◌, ap, subst}
 use Rattle.std.proofs.lemmas.List.{map-append}
 use Rattle.gtp_machine.specs.Config.{Config}
 use Rattle.gtp_machine.specs.Exchange.{IsOnePath, CanExchange, AllRead, CameTo}
 use Rattle.gtp_machine.specs.Input.{Specification, Create_session}
-use Rattle.gtp_machine.specs.Message.{Message, plane_of}
+use Rattle.gtp_machine.specs.Message.{Plane, Control, User, Message, plane_of}
 use Rattle.gtp_machine.specs.Spelling.{Datagram, ReadsAs, spelled}
 use Rattle.gtp_machine.specs.declared.role.Role.{Role}
 use Rattle.gtp_machine.specs.declared.role.Role.TheVariants.{Serving, Packet}
-use Rattle.gtp_machine.specs.World.{By, Sent, HasSent, World, Event, Does, Deliver, Note, EventOutcome, Happens, Run, start}
+use Rattle.gtp_machine.specs.World.{By, Sent, SentDatagram, HasSent, signed, flat, World, Event, Does, Deliver, Note, EventOutcome, Happens, Run, start}
+use Rattle.gtp_machine.proofs.Basics.Datagrams.{IsAlone, EachAlone}
+use Rattle.gtp_machine.proofs.Basics.FiniteMaps.{Among-cases}
 use Rattle.gtp_machine.proofs.Exchange.Made.{fair_exchange}
+use Rattle.gtp_machine.proofs.Worlds.Runs.{always}
+use Rattle.gtp_gateway.specs.Sent.{ReadsBackOn, ReadsBack}
 use Rattle.gtp_world.specs.Kept.{oldest_first, Told, Kept, outcomes_in}
 use Rattle.gtp_world.specs.Runs.{Setup, AreFacing, AreFor, told_in, StandsFor, IsRunOf, IsReached}
 use Rattle.gtp_world.specs.Stepped.{Comes, Follows}
 use Rattle.gtp_world.specs.Exchange.{CameSoFar, IsExchanged}
 use Rattle.gtp_world.proofs.Configs.{set_up}
+use Rattle.gtp_world.proofs.Cuts.{by_itself}
 use Rattle.gtp_world.proofs.Going.{goes}
 use Rattle.gtp_world.proofs.Running.{runs_on}
 
--- as many datagrams as messages
-as_many : (setup : Setup) (datagrams : List (By Datagram)) (history : List Sent) → AreFor setup datagrams history → length datagrams ≡ length history
+-- as many datagrams
+as_many : (setup : Setup) (log : List (By Datagram)) (all : List SentDatagram) → AreFor setup log all → length log ≡ length all
 as_many setup [] [] are = refl
-as_many setup [] (s ∷ history) are = absurd are
-as_many setup (d ∷ datagrams) [] are = absurd are
-as_many setup (d ∷ datagrams) (s ∷ history) are = ap (λ n. suc n) (as_many setup datagrams history are.1)
+as_many setup [] (s ∷ all) are = absurd are
+as_many setup (d ∷ log) [] are = absurd are
+as_many setup (d ∷ log) (s ∷ all) are = ap (λ n. suc n) (as_many setup log all are.1)
+
+-- a datagram of one message reads as that
+as_message : (p : Plane) (m : Message) → ReadsBackOn p (m ∷ []) → ReadsAs p (spelled m) m
+as_message Control m reads = by_itself (spelled m) m reads
+as_message User m reads = reads
+
+of_datagram : (role from : Role) (datagram : List Message) (m : Message) → IsAlone datagram → ReadsBack datagram → HasSent (signed from datagram) role m → ReadsAs (plane_of m) (spelled m) m
+of_datagram role from [] m alone reads has = absurd alone
+of_datagram role from (n ∷ []) m alone reads (inl is) = subst (λ (k : Sent). ReadsAs (plane_of k.what) (spelled k.what) k.what) (sym is) (as_message (plane_of n) n reads)
+of_datagram role from (n ∷ []) m alone reads (inr none) = absurd none
+of_datagram role from (n ∷ k ∷ rest) m alone reads has = absurd alone
 
 -- each message that was sent reads as itself
-each_reads : (setup : Setup) (datagrams : List (By Datagram)) (history : List Sent) → AreFor setup datagrams history → (role : Role) (m : Message) → HasSent history role m → ReadsAs (plane_of m) (spelled m) m
-each_reads setup [] [] are role m none = absurd none
-each_reads setup [] (s ∷ history) are role m has = absurd are
-each_reads setup (d ∷ datagrams) [] are role m none = absurd none
-each_reads setup (d ∷ datagrams) (s ∷ history) are role m (inl is) = subst (λ (k : Sent). ReadsAs (plane_of k.what) (spelled k.what) k.what) (sym is) are.0.reads
-each_reads setup (d ∷ datagrams) (s ∷ history) are role m (inr has) = each_reads setup datagrams history are.1 role m has
+each_reads : (setup : Setup) (log : List (By Datagram)) (all : List SentDatagram) → AreFor setup log all → EachAlone all → (role : Role) (m : Message) → HasSent (flat all) role m → ReadsAs (plane_of m) (spelled m) m
+each_reads setup [] [] are alone role m none = absurd none
+each_reads setup [] (s ∷ all) are alone role m has = absurd are
+each_reads setup (d ∷ log) [] are alone role m none = absurd none
+each_reads setup (d ∷ log) (s ∷ all) are alone role m has = ⊎_elim
+    (λ here. of_datagram role s.role s.what m (alone s (inl refl)) are.0.reads here)
+    (λ later. each_reads setup log all are.1 (λ k among. alone k (inr among)) role m later)
+    (Among-cases (record { role = role; what = m }) (signed s.role s.what) (flat all) has)
 
-all_read : (setup : Setup) (v : Kept) (w : World) → StandsFor setup v w → AllRead w
-all_read setup v w stands = each_reads setup v.log.datagrams w.history stands.datagrams
+all_read : (setup : Setup) (events : List Event) (v : Kept) → (r : IsRunOf setup events v) → AllRead r.world
+all_read setup events v r role m has =
+    let always_so = always setup.serving.config setup.packet.config setup.serving_counter setup.packet_counter events r.world r.run in
+    each_reads setup v.log.datagrams r.world.datagrams r.stands.datagrams always_so.alone role m (subst (λ h. HasSent h role m) (sym always_so.kept) has)
 
 -- a list with one more is not empty
 not_empty : {X : Type 0} (xs : List X) (x : X) → [] ≡ xs ++ (x ∷ []) → ⊥
@@ -78,20 +98,20 @@ exchanged old reached spec next v1 v2 new o1 o2 o3 next_is comes1 comes2 comes3 
     let r = reached.run in
     let e1 = Does Serving (Create_session spec) in
     let g1 = goes setup events old r e1 v1 comes1 in
-    let at = next_is ∙ as_many setup old.log.datagrams r.world.history r.stands.datagrams in
-    let after : next + 1 ≡ 1 + length r.world.history = omega (arith, at) in
+    let at = next_is ∙ as_many setup old.log.datagrams r.world.datagrams r.stands.datagrams in
+    let after : next + 1 ≡ 1 + length r.world.datagrams = omega (arith, at) in
     let comes_there = subst (λ n. Comes v1 (Deliver n) v2) at comes2 in
     let comes_back = subst (λ n. Comes v2 (Deliver n) new) after comes3 in
     let r1 : IsRunOf setup (events ++ (e1 ∷ [])) v1 = record { world = g1.world; run = g1.run; stands = g1.stands } in
-    let g2 = goes setup (events ++ (e1 ∷ [])) v1 r1 (Deliver (length r.world.history)) v2 comes_there in
-    let r2 : IsRunOf setup ((events ++ (e1 ∷ [])) ++ (Deliver (length r.world.history) ∷ [])) v2 = record { world = g2.world; run = g2.run; stands = g2.stands } in
-    let g3 = goes setup ((events ++ (e1 ∷ [])) ++ (Deliver (length r.world.history) ∷ [])) v2 r2 (Deliver (1 + length r.world.history)) new comes_back in
-    let x = fair_exchange setup.serving.config setup.packet.config setup.serving_counter setup.packet_counter events r.world g1.world g2.world g3.world spec r.run (one_path setup events r.world r.run reached.facing) can g1.happens g2.happens g3.happens (all_read setup v2 g2.world g2.stands) in
+    let g2 = goes setup (events ++ (e1 ∷ [])) v1 r1 (Deliver (length r.world.datagrams)) v2 comes_there in
+    let r2 : IsRunOf setup ((events ++ (e1 ∷ [])) ++ (Deliver (length r.world.datagrams) ∷ [])) v2 = record { world = g2.world; run = g2.run; stands = g2.stands } in
+    let g3 = goes setup ((events ++ (e1 ∷ [])) ++ (Deliver (length r.world.datagrams) ∷ [])) v2 r2 (Deliver (1 + length r.world.datagrams)) new comes_back in
+    let x = fair_exchange setup.serving.config setup.packet.config setup.serving_counter setup.packet_counter events r.world g1.world g2.world g3.world spec r.run (one_path setup events r.world r.run reached.facing) can g1.happens g2.happens g3.happens (all_read setup _ v2 r2) in
     let is1 = last_told setup v1 g1.world (outcomes_in old.log) o1 _ g1.stands told1 x.first in
     let is2 = last_told setup v2 g2.world (outcomes_in v1.log) o2 _ g2.stands told2 x.second in
     let is3 = last_told setup new g3.world (outcomes_in v2.log) o3 _ g3.stands told3 x.third in
-    let sent : length old.log.datagrams ≡ length r.world.history = as_many setup old.log.datagrams r.world.history r.stands.datagrams in
-    let sent_after : length old.log.datagrams + 1 ≡ 1 + length r.world.history = omega (arith, sent) in
+    let sent : length old.log.datagrams ≡ length r.world.datagrams = as_many setup old.log.datagrams r.world.datagrams r.stands.datagrams in
+    let sent_after : length old.log.datagrams + 1 ≡ 1 + length r.world.datagrams = omega (arith, sent) in
     record {
       begun = g1.world;
       answered = g2.world;

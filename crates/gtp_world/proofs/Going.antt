@@ -3,15 +3,17 @@ use Rattle.std.proofs.Common.{◌≡◌, inl, inr, ℕ, ◌<◌, true, false, Li
 use Rattle.gtp_values.specs.FiniteMap.{Among}
 use Rattle.gtp_machine.specs.Config.{Config, own_end}
 use Rattle.gtp_machine.specs.Input.{Input, Commanded, Effect}
-use Rattle.gtp_machine.specs.Message.{Message, Plane, Control, User, plane_of}
+use Rattle.gtp_machine.specs.Message.{Message, Plane, Control, User}
 use Rattle.gtp_machine.specs.declared.role.Role.{Role}
 use Rattle.gtp_machine.specs.declared.role.Role.TheVariants.{Serving, Packet}
 use Rattle.gtp_machine.specs.Node.{Arrival}
-use Rattle.gtp_machine.specs.Spelling.{Datagram, spelled}
+use Rattle.gtp_machine.specs.Spelling.{Datagram, datagram_plane, spelled_all}
 use Rattle.gtp_machine.specs.Step.{Step, Done, tick_steps}
 use Rattle.gtp_machine.specs.Tick.{Ticks, ticked}
-use Rattle.gtp_machine.specs.World.{By, Sent, World, Side, EventOutcome, Restarted, Event, Does, Tick, Deliver, Cut, Restart, Happens, Moves, Stands, Ticked, No_such_datagram, Cut_too_long, Restarts_used, quiet_note, noted, with_side, with_steps, restarted, next_counter, other, side_of, arrival, delivered_on, IsLateOn, late_once, Run, start}
-use Rattle.gtp_machine.proofs.Worlds.Runs.{Run-push}
+use Rattle.gtp_machine.specs.World.{By, SentDatagram, World, Side, EventOutcome, Restarted, Event, Does, Tick, Deliver, Cut, Restart, Happens, Moves, Stands, Ticked, No_such_datagram, Cut_too_long, Restarts_used, quiet_note, noted, with_side, with_steps, restarted, next_counter, other, side_of, come_from, delivered_on, IsLateOn, late_once, Run, start}
+use Rattle.gtp_machine.proofs.Basics.Datagrams.{EachAlone}
+use Rattle.gtp_machine.proofs.Basics.FiniteMaps.{among_at}
+use Rattle.gtp_machine.proofs.Worlds.Runs.{Run-push, always}
 use Rattle.gtp_gateway.specs.Parts.{arrival_of}
 use Rattle.gtp_gateway.specs.Received.{coming}
 use Rattle.gtp_gateway.specs.Station.{Station}
@@ -36,7 +38,7 @@ pub record Moved (setup : Setup) (old : World) (role : Role) (input : Input) (ne
   pub moves : Moves old role input world
   pub stands : StandsFor setup new world
 
-module _ (setup : Setup) (v : Kept) (w : World) (stands : StandsFor setup v w) (same : (role : Role) → (side_of w role).node.config ≡ config_in setup role) where
+module _ (setup : Setup) (v : Kept) (w : World) (stands : StandsFor setup v w) (same : (role : Role) → (side_of w role).node.config ≡ config_in setup role) (alone : EachAlone w.datagrams) where
   -- the step is one of the machine's gateway
   step_there : (role : Role) (input : Input) (e : Effect) → Step (half_in v role).station.role (half_in v role).station.node input e → Step role (side_of w role).node input e
   step_there role input e step =
@@ -89,27 +91,27 @@ module _ (setup : Setup) (v : Kept) (w : World) (stands : StandsFor setup v w) (
   abbrev config_of : Role → Config
   config_of role = (side_of w role).node.config
 
-  -- a datagram for a message, but for where it goes to
-  abbrev as_sent : Datagram → Sent → Datagram
-  as_sent d s = record { plane = plane_of s.what; from = own_end (config_of s.role) (plane_of s.what); to = d.to; octets = spelled s.what }
+  -- a datagram of these messages, but for where it goes to
+  abbrev as_sent : Datagram → SentDatagram → Datagram
+  as_sent d s = record { plane = datagram_plane s.what; from = own_end (config_of s.role) (datagram_plane s.what); to = d.to; octets = spelled_all s.what }
 
-  is_sent : (d : By Datagram) (s : Sent) → IsFor setup d s → d.what ≡ as_sent d.what s
-  is_sent d s for = λ i. record { plane = for.plane i; from = (for.from ∙ ap (λ c. own_end c (plane_of s.what)) (sym (same s.role))) i; to = d.what.to; octets = for.octets i }
+  is_sent : (d : By Datagram) (s : SentDatagram) → IsFor setup d s → d.what ≡ as_sent d.what s
+  is_sent d s for = λ i. record { plane = for.plane i; from = (for.from ∙ ap (λ c. own_end c (datagram_plane s.what)) (sym (same s.role))) i; to = d.what.to; octets = for.octets i }
 
-  to_late : (p : Plane) (config : Config) (m : Message) (side : Side) (forgotten : List Arrival) → forgotten ≡ side.forgotten → IsLateOn p config.own side m → (p ≡ Control) × Among (arrival_of (own_end config p) (spelled m)) forgotten
-  to_late Control config m side forgotten e late = (refl, subst (λ l. Among (arrival config.own m) l) (sym e) late)
-  to_late User config m side forgotten e late = absurd late
+  to_late : (p : Plane) (config : Config) (datagram : List Message) (side : Side) (forgotten : List Arrival) → forgotten ≡ side.forgotten → IsLateOn p config.own side datagram → (p ≡ Control) × Among (arrival_of (own_end config p) (spelled_all datagram)) forgotten
+  to_late Control config datagram side forgotten e late = (refl, subst (λ l. Among (come_from config.own (spelled_all datagram)) l) (sym e) late)
+  to_late User config datagram side forgotten e late = absurd late
 
-  from_late : (p : Plane) (config : Config) (m : Message) (side : Side) (forgotten : List Arrival) → forgotten ≡ side.forgotten → (p ≡ Control) × Among (arrival_of (own_end config p) (spelled m)) forgotten → IsLateOn p config.own side m
-  from_late Control config m side forgotten e late = subst (λ l. Among (arrival config.own m) l) e late.1
-  from_late User config m side forgotten e late = absurd (cc (late.0))
+  from_late : (p : Plane) (config : Config) (datagram : List Message) (side : Side) (forgotten : List Arrival) → forgotten ≡ side.forgotten → (p ≡ Control) × Among (arrival_of (own_end config p) (spelled_all datagram)) forgotten → IsLateOn p config.own side datagram
+  from_late Control config datagram side forgotten e late = subst (λ l. Among (come_from config.own (spelled_all datagram)) l) e late.1
+  from_late User config datagram side forgotten e late = absurd (cc (late.0))
 
-  -- where a datagram is there, so is its message, and the other way round
-  no_message : (number : ℕ) → (IsThere v.log.datagrams number → ⊥) → Stands w.history number → ⊥
-  no_message number none s = let d = back setup v.log.datagrams w.history number s.sent stands.datagrams s.is in none (record { sent = d.0; is = d.1 })
+  -- where a datagram is there, so are its messages, and the other way round
+  no_message : (number : ℕ) → (IsThere v.log.datagrams number → ⊥) → Stands w.datagrams number → ⊥
+  no_message number none s = let d = back setup v.log.datagrams w.datagrams number s.sent stands.datagrams s.is in none (record { sent = d.0; is = d.1 })
 
   -- a datagram comes
-  module _ (number : ℕ) (new : Kept) (found : IsThere v.log.datagrams number) (f : Found setup w.history number found.sent) where
+  module _ (number : ℕ) (new : Kept) (found : IsThere v.log.datagrams number) (f : Found setup w.datagrams number found.sent) where
     abbrev receiver : Role
     receiver = other f.sent.role
 
@@ -120,19 +122,19 @@ module _ (setup : Setup) (v : Kept) (w : World) (stands : StandsFor setup v w) (
     datagram_is : found.sent.what ≡ as_sent found.sent.what f.sent
     datagram_is = is_sent found.sent f.sent f.for
 
-    comes_so : coming found.sent.what.plane found.sent.what.from found.sent.what.octets ≡ delivered_on (plane_of f.sent.what) (config_of f.sent.role).own f.sent.what
+    comes_so : coming found.sent.what.plane found.sent.what.from found.sent.what.octets ≡ delivered_on (datagram_plane f.sent.what) (config_of f.sent.role).own f.sent.what
     comes_so = ap (λ (d : Datagram). coming d.plane d.from d.octets) datagram_is ∙ comes (config_of f.sent.role) f.sent.what f.for.reads
 
     half_forgotten : (half_in v receiver).forgotten ≡ (side_of w receiver).forgotten
     half_forgotten = (half_stands setup v w stands receiver).forgotten
 
-    late_here : IsLateOn (plane_of f.sent.what) (config_of f.sent.role).own (side_of w receiver) f.sent.what → IsLate (half_in v (other found.sent.role)) found.sent.what
-    late_here late = subst (λ r. IsLate (half_in v r) found.sent.what) (sym to_other) (subst (λ d. IsLate (half_in v receiver) d) (sym datagram_is) (to_late (plane_of f.sent.what) (config_of f.sent.role) f.sent.what (side_of w receiver) (half_in v receiver).forgotten half_forgotten late))
+    late_here : IsLateOn (datagram_plane f.sent.what) (config_of f.sent.role).own (side_of w receiver) f.sent.what → IsLate (half_in v (other found.sent.role)) found.sent.what
+    late_here late = subst (λ r. IsLate (half_in v r) found.sent.what) (sym to_other) (subst (λ d. IsLate (half_in v receiver) d) (sym datagram_is) (to_late (datagram_plane f.sent.what) (config_of f.sent.role) f.sent.what (side_of w receiver) (half_in v receiver).forgotten half_forgotten late))
 
-    late_there : IsLate (half_in v (other found.sent.role)) found.sent.what → IsLateOn (plane_of f.sent.what) (config_of f.sent.role).own (side_of w receiver) f.sent.what
-    late_there late = from_late (plane_of f.sent.what) (config_of f.sent.role) f.sent.what (side_of w receiver) (half_in v receiver).forgotten half_forgotten (subst (λ d. IsLate (half_in v receiver) d) datagram_is (subst (λ r. IsLate (half_in v r) found.sent.what) to_other late))
+    late_there : IsLate (half_in v (other found.sent.role)) found.sent.what → IsLateOn (datagram_plane f.sent.what) (config_of f.sent.role).own (side_of w receiver) f.sent.what
+    late_there late = from_late (datagram_plane f.sent.what) (config_of f.sent.role) f.sent.what (side_of w receiver) (half_in v receiver).forgotten half_forgotten (subst (λ d. IsLate (half_in v receiver) d) datagram_is (subst (λ r. IsLate (half_in v r) found.sent.what) to_other late))
 
-    abbrev there : Stands w.history number
+    abbrev there : Stands w.datagrams number
     there = record { sent = f.sent; is = f.is }
 
     on_time : (IsLate (half_in v (other found.sent.role)) found.sent.what → ⊥) → Brings v found.sent found.sent.what.octets false new → GoesOn setup w (Deliver number) new
@@ -144,25 +146,25 @@ module _ (setup : Setup) (v : Kept) (w : World) (stands : StandsFor setup v w) (
     too_late : IsLate (half_in v (other found.sent.role)) found.sent.what → Brings v found.sent found.sent.what.octets true new → GoesOn setup w (Deliver number) new
     too_late late t =
         let keeps = KeepsOn found.sent.what.plane found.sent.what.from found.sent.what.octets in
-        let m = takes_late receiver (arrival (config_of f.sent.role).own f.sent.what) _ _ keeps new comes_so (subst (λ r. Takes v r (coming found.sent.what.plane found.sent.what.from found.sent.what.octets) keeps true new) to_other t) in
+        let m = takes_late receiver (come_from (config_of f.sent.role).own (spelled_all f.sent.what)) _ _ keeps new comes_so (subst (λ r. Takes v r (coming found.sent.what.plane found.sent.what.from found.sent.what.octets) keeps true new) to_other t) in
         record { world = m.0; happens = inr (there, inr (late_there late, m.1)); stands = m.2 }
 
-    as_long : length found.sent.what.octets ≡ length (spelled f.sent.what)
+    as_long : length found.sent.what.octets ≡ length (spelled_all f.sent.what)
     as_long = ap length f.for.octets
 
     cut_short : (count : ℕ) → count < length found.sent.what.octets → Brings v found.sent (take count found.sent.what.octets) false new → GoesOn setup w (Cut number count) new
     cut_short count short t =
         let keeps = KeepsOn found.sent.what.plane found.sent.what.from (take count found.sent.what.octets) in
-        let fewer : count < length (spelled f.sent.what) = subst (λ n. count < n) as_long short in
-        let so = ap (λ (d : Datagram). coming d.plane d.from (take count d.octets)) datagram_is ∙ comes_cut (config_of f.sent.role) f.sent.what count f.for.reads fewer in
+        let fewer : count < length (spelled_all f.sent.what) = subst (λ n. count < n) as_long short in
+        let so = ap (λ (d : Datagram). coming d.plane d.from (take count d.octets)) datagram_is ∙ comes_cut (config_of f.sent.role) f.sent.what count (alone f.sent (among_at w.datagrams number f.sent f.is)) f.for.reads fewer in
         let m = takes_on receiver _ _ keeps new so (subst (λ r. Takes v r (coming found.sent.what.plane found.sent.what.from (take count found.sent.what.octets)) keeps false new) to_other t) in
         record { world = m.world; happens = inr (there, inr (fewer, m.moves)); stands = m.stands }
 
-    cut_long : (count : ℕ) → (count < length found.sent.what.octets → ⊥) → count < length (spelled f.sent.what) → ⊥
+    cut_long : (count : ℕ) → (count < length found.sent.what.octets → ⊥) → count < length (spelled_all f.sent.what) → ⊥
     cut_long count long fewer = long (subst (λ n. count < n) (sym as_long) fewer)
 
-  found_by : (number : ℕ) (found : IsThere v.log.datagrams number) → Found setup w.history number found.sent
-  found_by number found = find setup v.log.datagrams w.history number found.sent stands.datagrams found.is
+  found_by : (number : ℕ) (found : IsThere v.log.datagrams number) → Found setup w.datagrams number found.sent
+  found_by number found = find setup v.log.datagrams w.datagrams number found.sent stands.datagrams found.is
 
   passed : (outcome : EventOutcome) (new : Kept) → new ≡ passed_over v outcome → StandsFor setup new (noted w (quiet_note outcome))
   passed outcome new is = subst (λ k. StandsFor setup k (noted w (quiet_note outcome))) (sym is) (after_none setup v w outcome stands)
@@ -196,7 +198,7 @@ pub record Goes (setup : Setup) (events : List Event) (old : World) (event : Eve
 
 pub goes : (setup : Setup) (events : List Event) (v : Kept) (r : IsRunOf setup events v) (event : Event) (new : Kept) → Comes v event new → Goes setup events r.world event new
 goes setup events v r event new comes =
-    let g = goes_on setup v r.world r.stands (set_up setup events r.world r.run) event new comes in
+    let g = goes_on setup v r.world r.stands (set_up setup events r.world r.run) (always setup.serving.config setup.packet.config setup.serving_counter setup.packet_counter events r.world r.run).alone event new comes in
     record { world = g.world; happens = g.happens; run = Run-push _ events r.world event g.world r.run g.happens; stands = g.stands }
 
 pub run_on : (setup : Setup) (events : List Event) (v : Kept) → IsRunOf setup events v → (event : Event) (new : Kept) → Comes v event new → IsRunOf setup (events ++ event ∷ []) new

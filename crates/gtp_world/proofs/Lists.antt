@@ -3,11 +3,10 @@ use Rattle.std.proofs.Common.{◌≡◌, inl, inr, ⊎_elim, ℕ, zero, suc, Lis
 use Rattle.std.proofs.lemmas.List.Elements.{All-head, All-tail}
 use Rattle.gtp_values.specs.FiniteMap.{Among}
 use Rattle.gtp_machine.specs.Config.{Config, own_end}
-use Rattle.gtp_machine.specs.Input.{Sending, messages}
-use Rattle.gtp_machine.specs.Message.{plane_of}
+use Rattle.gtp_machine.specs.Input.{Sending, datagrams}
 use Rattle.gtp_machine.specs.declared.role.Role.{Role}
-use Rattle.gtp_machine.specs.Spelling.{Datagram, datagram_of}
-use Rattle.gtp_machine.specs.World.{By, Sent, signed}
+use Rattle.gtp_machine.specs.Spelling.{Datagram, datagram_plane, datagram_of}
+use Rattle.gtp_machine.specs.World.{By, SentDatagram, signed}
 use Rattle.gtp_machine.proofs.Basics.FiniteMaps.{Among-one_more, Among-left, Among-right}
 use Rattle.gtp_world.specs.Kept.{oldest_first}
 use Rattle.gtp_gateway.specs.Sent.{SendingReads}
@@ -27,38 +26,38 @@ oldest_among x [] none = none
 oldest_among x (y ∷ xs) (inl is) = Among-right x (oldest_first xs) (y ∷ []) (inl is)
 oldest_among x (y ∷ xs) (inr was) = Among-left x (oldest_first xs) (y ∷ []) (oldest_among x xs was)
 
-pub as_many : {Y : Type 0} (f : Sending → Y) (sent : List Sending) → length (map f sent) ≡ length (messages sent)
+pub as_many : {Y : Type 0} (f : Sending → Y) (sent : List Sending) → length (map f sent) ≡ length (datagrams sent)
 as_many f [] = refl
 as_many f (s ∷ sent) = ap (λ n. suc n) (as_many f sent)
 
-pub for_append : (setup : Setup) (a : List (By Datagram)) (b : List Sent) (c : List (By Datagram)) (d : List Sent) → AreFor setup a b → AreFor setup c d → AreFor setup (a ++ c) (b ++ d)
+pub for_append : (setup : Setup) (a : List (By Datagram)) (b : List SentDatagram) (c : List (By Datagram)) (d : List SentDatagram) → AreFor setup a b → AreFor setup c d → AreFor setup (a ++ c) (b ++ d)
 for_append setup [] [] c d are more = more
 for_append setup [] (s ∷ b) c d are more = absurd are
 for_append setup (x ∷ a) [] c d are more = absurd are
 for_append setup (x ∷ a) (s ∷ b) c d are more = (are.0, for_append setup a b c d are.1 more)
 
 -- what a gateway sends at a step
-pub sent_for : (setup : Setup) (role : Role) (config : Config) (sent : List Sending) → config ≡ config_in setup role → All SendingReads sent → AreFor setup (signed role (map (datagram_of config) sent)) (signed role (messages sent))
+pub sent_for : (setup : Setup) (role : Role) (config : Config) (sent : List Sending) → config ≡ config_in setup role → All SendingReads sent → AreFor setup (signed role (map (datagram_of config) sent)) (signed role (datagrams sent))
 sent_for setup role config [] same read = tt
-sent_for setup role config (s ∷ sent) same read = (record { role = refl; plane = refl; from = ap (λ c. own_end c (plane_of s.message)) same; octets = refl; reads = All-head SendingReads s sent read }, sent_for setup role config sent same (All-tail SendingReads s sent read))
+sent_for setup role config (s ∷ sent) same read = (record { role = refl; plane = refl; from = ap (λ c. own_end c (datagram_plane s.messages)) same; octets = refl; reads = All-head SendingReads s sent read }, sent_for setup role config sent same (All-tail SendingReads s sent read))
 
--- the message of a datagram, by its number
-pub record Found (setup : Setup) (history : List Sent) (number : ℕ) (d : By Datagram) : Type 0 where
-  pub sent : Sent
-  pub is : slice_get history number ≡ Some sent
+-- the messages of a datagram, by its number
+pub record Found (setup : Setup) (all : List SentDatagram) (number : ℕ) (d : By Datagram) : Type 0 where
+  pub sent : SentDatagram
+  pub is : slice_get all number ≡ Some sent
   pub for : IsFor setup d sent
 
-pub find : (setup : Setup) (datagrams : List (By Datagram)) (history : List Sent) (number : ℕ) (d : By Datagram) → AreFor setup datagrams history → slice_get datagrams number ≡ Some d → Found setup history number d
+pub find : (setup : Setup) (log : List (By Datagram)) (all : List SentDatagram) (number : ℕ) (d : By Datagram) → AreFor setup log all → slice_get log number ≡ Some d → Found setup all number d
 find setup [] [] number d are e = absurd (cc e)
-find setup [] (s ∷ history) number d are e = absurd are
-find setup (x ∷ datagrams) [] number d are e = absurd are
-find setup (x ∷ datagrams) (s ∷ history) zero d are e = record { sent = s; is = refl; for = subst (λ k. IsFor setup k s) (cc e) are.0 }
-find setup (x ∷ datagrams) (s ∷ history) (suc number) d are e = let f = find setup datagrams history number d are.1 e in record { sent = f.sent; is = f.is; for = f.for }
+find setup [] (s ∷ all) number d are e = absurd are
+find setup (x ∷ log) [] number d are e = absurd are
+find setup (x ∷ log) (s ∷ all) zero d are e = record { sent = s; is = refl; for = subst (λ k. IsFor setup k s) (cc e) are.0 }
+find setup (x ∷ log) (s ∷ all) (suc number) d are e = let f = find setup log all number d are.1 e in record { sent = f.sent; is = f.is; for = f.for }
 
--- and where there is a message, there is a datagram
-pub back : (setup : Setup) (datagrams : List (By Datagram)) (history : List Sent) (number : ℕ) (s : Sent) → AreFor setup datagrams history → slice_get history number ≡ Some s → (d : By Datagram) × (slice_get datagrams number ≡ Some d)
+-- and where there are messages, there is a datagram
+pub back : (setup : Setup) (log : List (By Datagram)) (all : List SentDatagram) (number : ℕ) (s : SentDatagram) → AreFor setup log all → slice_get all number ≡ Some s → (d : By Datagram) × (slice_get log number ≡ Some d)
 back setup [] [] number s are e = absurd (cc e)
-back setup [] (x ∷ history) number s are e = absurd are
-back setup (d ∷ datagrams) [] number s are e = absurd are
-back setup (d ∷ datagrams) (x ∷ history) zero s are e = (d, refl)
-back setup (d ∷ datagrams) (x ∷ history) (suc number) s are e = back setup datagrams history number s are.1 e
+back setup [] (x ∷ all) number s are e = absurd are
+back setup (d ∷ log) [] number s are e = absurd are
+back setup (d ∷ log) (x ∷ all) zero s are e = (d, refl)
+back setup (d ∷ log) (x ∷ all) (suc number) s are e = back setup log all number s are.1 e

@@ -4,7 +4,7 @@ use Rattle.gtp_machine.specs.Config.{Config}
 use Rattle.gtp_machine.specs.declared.role.Role.{Role}
 use Rattle.gtp_machine.specs.declared.role.Role.TheVariants.{Serving, Packet}
 use Rattle.gtp_machine.specs.Node.{Arrival, Node, fresh_node}
-use Rattle.gtp_machine.specs.Input.{Out, Effect, nothing, messages}
+use Rattle.gtp_machine.specs.Input.{Out, Effect, nothing, datagrams}
 use Rattle.gtp_machine.specs.Spelling.{Datagram, datagram_of}
 use Rattle.gtp_machine.specs.Step.{Done}
 use Rattle.gtp_machine.specs.World as machine
@@ -66,15 +66,15 @@ told_so outcome out config = λ i. record { outcome = outcome; learned = out.lea
 notes_after : (notes : List Told) (before : List Note) (told : Told) (note : Note) → notes ≡ oldest_first (map told_in before) → told ≡ told_in note → notes ++ (told ∷ []) ≡ oldest_first (map told_in (note ∷ before))
 notes_after notes before told note is same = λ i. is i ++ (same i ∷ [])
 
-datagrams_after : (setup : Setup) (role : Role) (config : Config) (datagrams : List (By Datagram)) (history : List machine.Sent) (out : Out) → config ≡ config_in setup role → AreFor setup datagrams history → AreReadable out → AreFor setup (datagrams ++ signed role (map (datagram_of config) out.sent)) (history ++ signed role (messages out.sent))
-datagrams_after setup role config datagrams history out same are read = for_append setup datagrams history _ _ are (sent_for setup role config out.sent same read)
+datagrams_after : (setup : Setup) (role : Role) (config : Config) (log : List (By Datagram)) (all : List machine.SentDatagram) (out : Out) → config ≡ config_in setup role → AreFor setup log all → AreReadable out → AreFor setup (log ++ signed role (map (datagram_of config) out.sent)) (all ++ signed role (datagrams out.sent))
+datagrams_after setup role config log all out same are read = for_append setup log all _ _ are (sent_for setup role config out.sent same read)
 
 -- after a step of a gateway
 pub after_step : (setup : Setup) (v : Kept) (w : World) (role : Role) (station : Station) (e : Effect) (outcome : EventOutcome) (late : Bool) (a : Arrival) (steps : List Done) → (side_of w role).node.config ≡ config_in setup role → StandsFor setup v w → AreReadable e.out → station.node ≡ e.node → station.role ≡ (half_in v role).station.role → StandsFor setup (kept_after v role station e.out (sent_at (half_in v role) e.out) outcome late) (world_after (lates late w role a) role e outcome steps)
 after_step setup v w Serving station e outcome false a steps same stands read node stays = record {
   serving = half_stepped setup.serving.config Serving v.serving w.serving station e stands.serving node stays;
   packet = stands.packet;
-  datagrams = datagrams_after setup Serving v.serving.station.node.config v.log.datagrams w.history e.out (ap (λ (n : Node). n.config) stands.serving.node ∙ same) stands.datagrams read;
+  datagrams = datagrams_after setup Serving v.serving.station.node.config v.log.datagrams w.datagrams e.out (ap (λ (n : Node). n.config) stands.serving.node ∙ same) stands.datagrams read;
   handed = ap (λ k. k ++ signed Serving e.out.handed) stands.handed;
   accepted = ap (λ k. k ++ signed Serving e.out.accepted) stands.accepted;
   late = stands.late;
@@ -83,7 +83,7 @@ after_step setup v w Serving station e outcome false a steps same stands read no
 after_step setup v w Serving station e outcome true a steps same stands read node stays = record {
   serving = half_stepped setup.serving.config Serving v.serving (side_of (late_once w Serving a) Serving) station e (record { set_up = stands.serving.set_up; role = stands.serving.role; node = stands.serving.node; first = stands.serving.first; restarts = stands.serving.restarts; seen = stands.serving.seen; forgotten = stands.serving.forgotten; made = stands.serving.made }) node stays;
   packet = stands.packet;
-  datagrams = datagrams_after setup Serving v.serving.station.node.config v.log.datagrams w.history e.out (ap (λ (n : Node). n.config) stands.serving.node ∙ same) stands.datagrams read;
+  datagrams = datagrams_after setup Serving v.serving.station.node.config v.log.datagrams w.datagrams e.out (ap (λ (n : Node). n.config) stands.serving.node ∙ same) stands.datagrams read;
   handed = ap (λ k. k ++ signed Serving e.out.handed) stands.handed;
   accepted = ap (λ k. k ++ signed Serving e.out.accepted) stands.accepted;
   late = ap (λ n. 1 + n) stands.late;
@@ -92,7 +92,7 @@ after_step setup v w Serving station e outcome true a steps same stands read nod
 after_step setup v w Packet station e outcome false a steps same stands read node stays = record {
   serving = stands.serving;
   packet = half_stepped setup.packet.config Packet v.packet w.packet station e stands.packet node stays;
-  datagrams = datagrams_after setup Packet v.packet.station.node.config v.log.datagrams w.history e.out (ap (λ (n : Node). n.config) stands.packet.node ∙ same) stands.datagrams read;
+  datagrams = datagrams_after setup Packet v.packet.station.node.config v.log.datagrams w.datagrams e.out (ap (λ (n : Node). n.config) stands.packet.node ∙ same) stands.datagrams read;
   handed = ap (λ k. k ++ signed Packet e.out.handed) stands.handed;
   accepted = ap (λ k. k ++ signed Packet e.out.accepted) stands.accepted;
   late = stands.late;
@@ -101,7 +101,7 @@ after_step setup v w Packet station e outcome false a steps same stands read nod
 after_step setup v w Packet station e outcome true a steps same stands read node stays = record {
   serving = stands.serving;
   packet = half_stepped setup.packet.config Packet v.packet (side_of (late_once w Packet a) Packet) station e (record { set_up = stands.packet.set_up; role = stands.packet.role; node = stands.packet.node; first = stands.packet.first; restarts = stands.packet.restarts; seen = stands.packet.seen; forgotten = stands.packet.forgotten; made = stands.packet.made }) node stays;
-  datagrams = datagrams_after setup Packet v.packet.station.node.config v.log.datagrams w.history e.out (ap (λ (n : Node). n.config) stands.packet.node ∙ same) stands.datagrams read;
+  datagrams = datagrams_after setup Packet v.packet.station.node.config v.log.datagrams w.datagrams e.out (ap (λ (n : Node). n.config) stands.packet.node ∙ same) stands.datagrams read;
   handed = ap (λ k. k ++ signed Packet e.out.handed) stands.handed;
   accepted = ap (λ k. k ++ signed Packet e.out.accepted) stands.accepted;
   late = ap (λ n. 1 + n) stands.late;

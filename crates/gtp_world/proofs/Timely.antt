@@ -63,9 +63,9 @@ restarted_timely w Serving note timely none Packet a has = timely none Packet a 
 restarted_timely w Packet note timely none Serving a has = timely none Serving a has
 restarted_timely w Packet note timely none Packet a has = absurd has
 
-delivers_timely : (old : World) (sender : Role) (m : Message) (new : World) → NoneLate old → Delivers old sender m new → NoneLate new
-delivers_timely old sender m new timely (inl on_time) = moves_timely old _ _ new timely on_time.1
-delivers_timely old sender m new timely (inr late) = moves_timely _ _ _ new (late_timely old _ _) late.1
+delivers_timely : (old : World) (sender : Role) (datagram : List Message) (new : World) → NoneLate old → Delivers old sender datagram new → NoneLate new
+delivers_timely old sender datagram new timely (inl on_time) = moves_timely old _ _ new timely on_time.1
+delivers_timely old sender datagram new timely (inr late) = moves_timely _ _ _ new (late_timely old _ _) late.1
 
 happens_timely : (old : World) (event : Event) (new : World) → NoneLate old → Happens old event new → NoneLate new
 happens_timely old (Does role command) new timely m = moves_timely old role _ new timely m

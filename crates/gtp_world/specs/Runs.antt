@@ -1,12 +1,11 @@
 -- Runs of the machine, and what they leave.
 use Rattle.std.specs.Prelude.{◌≡◌, ℕ, List, [], ◌∷◌, ◌++◌, map, length}
 use Rattle.gtp_machine.specs.Config.{Config, own_end}
-use Rattle.gtp_machine.specs.Message.{plane_of}
 use Rattle.gtp_machine.specs.declared.role.Role.{Role}
 use Rattle.gtp_machine.specs.declared.role.Role.TheVariants.{Serving, Packet}
-use Rattle.gtp_machine.specs.Spelling.{Datagram, spelled}
+use Rattle.gtp_machine.specs.Spelling.{Datagram, datagram_plane, spelled_all}
 use Rattle.gtp_machine.specs.World as machine
-use Rattle.gtp_machine.specs.World.{By, Sent, Side, World, Event, Run, start}
+use Rattle.gtp_machine.specs.World.{By, SentDatagram, Side, World, Event, Run, start}
 use Rattle.gtp_machine.specs.Safety.{SessionsAgree, BearersAgree, EachOwed, NoneOver}
 use Rattle.gtp_world.specs.Kept.{oldest_first, Half, Told, Kept, half_in}
 use Rattle.gtp_gateway.specs.Sent.{ReadsBack}
@@ -36,19 +35,19 @@ pub record AreFacing (serving packet : Settings) : Type 0 where
 abbrev pub begun : Setup → Kept
 begun setup = record { serving = half_begun Serving setup.serving setup.serving_counter; packet = half_begun Packet setup.packet setup.packet_counter; log = empty_log }
 
--- the datagram is the one that its gateway sends for the message, whoever it goes to; and it reads as the message
-pub record IsFor (setup : Setup) (d : By Datagram) (sent : Sent) : Type 0 where
+-- the datagram is the one that its gateway sends for these messages, whoever it goes to; and it reads as them
+pub record IsFor (setup : Setup) (d : By Datagram) (sent : SentDatagram) : Type 0 where
   pub role : d.role ≡ sent.role
-  pub plane : d.what.plane ≡ plane_of sent.what
-  pub from : d.what.from ≡ own_end (config_in setup sent.role) (plane_of sent.what)
-  pub octets : d.what.octets ≡ spelled sent.what
+  pub plane : d.what.plane ≡ datagram_plane sent.what
+  pub from : d.what.from ≡ own_end (config_in setup sent.role) (datagram_plane sent.what)
+  pub octets : d.what.octets ≡ spelled_all sent.what
   pub reads : ReadsBack sent.what
 
--- the datagrams are those for the messages, one by one
-abbrev pub AreFor : Setup → List (By Datagram) → List Sent → Type 0
+-- the datagrams are those of these messages, one by one
+abbrev pub AreFor : Setup → List (By Datagram) → List SentDatagram → Type 0
 AreFor setup [] [] = Unit {0}
-AreFor setup (d ∷ datagrams) (sent ∷ history) = IsFor setup d sent × AreFor setup datagrams history
-AreFor setup datagrams history = ⊥
+AreFor setup (d ∷ datagrams) (s ∷ sent) = IsFor setup d s × AreFor setup datagrams sent
+AreFor setup datagrams sent = ⊥
 
 -- what is told of an event, by the machine's note of it
 abbrev pub told_in : machine.Note → Told
@@ -69,7 +68,7 @@ pub record HalfStands (config : Config) (which : Role) (half : Half) (side : Sid
 pub record StandsFor (setup : Setup) (v : Kept) (w : World) : Type 0 where
   pub serving : HalfStands setup.serving.config Serving v.serving w.serving
   pub packet : HalfStands setup.packet.config Packet v.packet w.packet
-  pub datagrams : AreFor setup v.log.datagrams w.history
+  pub datagrams : AreFor setup v.log.datagrams w.datagrams
   pub handed : v.log.handed ≡ w.handed
   pub accepted : v.log.accepted ≡ w.accepted
   pub late : v.log.late ≡ w.late

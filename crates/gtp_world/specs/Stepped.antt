@@ -53,7 +53,7 @@ kept_after v role station out datagrams outcome late = record (with_half v role 
 abbrev pub sent_at : Half → Out → List Datagram
 sent_at half out = map (datagram_of half.station.node.config) out.sent
 
--- each message that is sent reads as itself
+-- each datagram that is sent reads as its messages
 abbrev pub AreReadable : Out → Type 0
 AreReadable out = All SendingReads out.sent
 

@@ -1,13 +1,13 @@
 -- What the views of a world tell.
 use Rattle.std.specs.Prelude.{◌≡◌, ℕ, ◌+◌, ◌≤◌, List, [], ◌∷◌}
 use Rattle.gtp_values.specs.FiniteMap.{Among}
-use Rattle.gtp_machine.specs.Input.{messages}
+use Rattle.gtp_machine.specs.Input.{datagrams}
 use Rattle.gtp_machine.specs.Laws.{Follow}
 use Rattle.gtp_machine.specs.Message.{Message}
 use Rattle.gtp_machine.specs.Node.{Arrival}
 use Rattle.gtp_machine.specs.Once.{Makes, Takes}
 use Rattle.gtp_machine.specs.Ordered.{Unless}
-use Rattle.gtp_machine.specs.Spelling.{Datagram, spelled}
+use Rattle.gtp_machine.specs.Spelling.{Datagram, spelled_all}
 use Rattle.gtp_machine.specs.Step.{Done}
 use Rattle.gtp_machine.specs.World.{By, Event, other, side_of, steps_of}
 use Rattle.gtp_machine.specs.declared.role.Role.{Role}
@@ -34,15 +34,15 @@ pub record IsMade (v : Kept) (number count : ℕ) : Type 0 where
 abbrev pub IsMadeOnce : Kept → ℕ → ℕ → Type 0
 IsMadeOnce v number count = (setup : Setup) (events : List Event) (r : IsRunOf setup events v) (found : IsThere v.log.datagrams number) → (Among (as_it_came found.sent) (side_of r.world (other found.sent.role)).came_late → ⊥) → count ≤ 1
 
--- a step of a gateway that took the datagram, as a create request, and a message that was sent in answer to it
-pub record IsAnswer (receiver : Role) (d : By Datagram) (request : Message) (done : Done) (answer : Message) : Type 0 where
+-- a step of a gateway that took the datagram, as a create request, and the messages of a datagram that was sent in answer to it
+pub record IsAnswer (receiver : Role) (d : By Datagram) (request : Message) (done : Done) (answer : List Message) : Type 0 where
   pub makes : Makes receiver request
   pub takes : Takes done (as_it_came d) request
-  pub sends : Among answer (messages done.effect.out.sent)
+  pub sends : Among answer (datagrams done.effect.out.sent)
 
 -- at the end of a run in which no delivery of the datagram was late, since its receiver started, all that was sent in answer to it since then is the same octets
 abbrev pub IsAnsweredAlike : Kept → ℕ → Type 0
 IsAnsweredAlike v number =
     (setup : Setup) (events : List Event) (r : IsRunOf setup events v) (found : IsThere v.log.datagrams number) → (Among (as_it_came found.sent) (side_of r.world (other found.sent.role)).came_late → ⊥)
     → (first second : Done) → Follow (steps_of r.world (other found.sent.role)) first second
-    → (request a b : Message) → IsAnswer (other found.sent.role) found.sent request first a → IsAnswer (other found.sent.role) found.sent request second b → spelled a ≡ spelled b
+    → (request : Message) (a b : List Message) → IsAnswer (other found.sent.role) found.sent request first a → IsAnswer (other found.sent.role) found.sent request second b → spelled_all a ≡ spelled_all b

@@ -3,3 +3,4 @@ pub mod Shown
 pub mod Replayed
 pub mod Watched
 pub mod Words
+pub mod Captured

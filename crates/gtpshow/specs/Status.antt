@@ -1,7 +1,7 @@
 -- What the program says where nothing could be shown or replayed, and how a replay ends.
-use Rattle.std.specs.Prelude.{ℕ, List, codes}
+use Rattle.std.specs.Prelude.{ℕ, List, ◌++◌, codes, decimal}
 use Rattle.gtpshow.specs.declared.command.Failure.{Failure}
-use Rattle.gtpshow.specs.declared.command.Failure.TheVariants.{BadWords, BadHex, Memory, Read, Write}
+use Rattle.gtpshow.specs.declared.command.Failure.TheVariants.{BadWords, BadHex, BadCapture, BrokenCapture, Memory, Read, Write}
 use Rattle.gtp_replay.specs.declared.verdict.Verdict.{Verdict}
 use Rattle.gtp_replay.specs.declared.verdict.Verdict.TheVariants.{Expected, Unexpected, Bad}
 use Rattle.gtp_replay.specs.declared.verdict.ReplayFault.{ReplayFault}
@@ -11,6 +11,8 @@ use Rattle.gtp_replay.specs.declared.verdict.ReplayFault.TheVariants as faults
 abbrev pub status_of : Failure → ℕ
 status_of BadWords = 2
 status_of BadHex = 2
+status_of BadCapture = 2
+status_of (BrokenCapture at) = 2
 status_of Memory = 3
 status_of Read = 3
 status_of Write = 3
@@ -19,6 +21,8 @@ status_of Write = 3
 abbrev pub failure_text : Failure → List ℕ
 failure_text BadWords = codes "bad words: an argument is not UTF-8"
 failure_text BadHex = codes "bad hex"
+failure_text BadCapture = codes "bad capture"
+failure_text (BrokenCapture at) = codes "bad capture at " ++ decimal at
 failure_text Memory = codes "no memory"
 failure_text Read = codes "read failed"
 failure_text Write = codes "write failed"

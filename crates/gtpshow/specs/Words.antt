@@ -15,13 +15,17 @@ octets_word = record (new_rule (codes "octets")) { value_names = 1; required = t
 abbrev pub decode_words : App
 decode_words = with_rule (with_rule (new_app (codes "decode")) user_flag) octets_word
 
+-- a file
+abbrev pub file_word : Rule
+file_word = record (new_rule (codes "file")) { value_names = 1 }
+
+-- to show a capture
+abbrev pub capture_words : App
+capture_words = with_rule (new_app (codes "capture")) file_word
+
 -- that a diagram is drawn
 abbrev pub diagram_flag : Rule
 diagram_flag = record (new_rule (codes "diagram")) { long = Some (codes "diagram"); action = Some SetTrue }
-
--- a file with a scenario
-abbrev pub file_word : Rule
-file_word = record (new_rule (codes "file")) { value_names = 1 }
 
 -- to replay a scenario
 abbrev pub replay_words : App
@@ -33,4 +37,4 @@ gtpshow_word = record (new_app (codes "gtpshow")).top { has_version = true; subc
 
 -- all of them
 abbrev pub program_words : App
-program_words = with_subcommand (with_subcommand (record { top = gtpshow_word; subs = [] }) decode_words.top) replay_words.top
+program_words = with_subcommand (with_subcommand (with_subcommand (record { top = gtpshow_word; subs = [] }) decode_words.top) capture_words.top) replay_words.top

@@ -17,10 +17,11 @@ const NOTES: &str = "\
 Examples:
   gtpshow decode 40010009000001000300010007
   gtpshow decode --user 30ff000301000002616263
+  gtpshow capture examples/captures/attach.pcap
   gtpshow replay examples/scenarios/attach.json
 
 Exit status: 0 shown, or replayed as expected; 1 a fault was shown, or an event came to something
-else; 2 bad words, hexadecimal or scenario; 3 no memory, or a failed read or write
+else; 2 bad words, hexadecimal, capture or scenario; 3 no memory, or a failed read or write
 
 docs/PROTOCOL.md of the repository explains the codes (H1 .., U1 .., G1 .., X1 .., N1 ..)";
 
@@ -52,6 +53,12 @@ pub fn command<'a>(alloc: Global) -> Result<Command<'a>, AllocError>
         .about("Shows one datagram, or its first fault")
         .arg(user)?
         .arg(octets)?;
+    let captured = Arg::new(alloc, "file")
+        .value_name("FILE")
+        .help("The capture (pcap); standard input for - or no word");
+    let capture = Command::new(alloc, "capture")
+        .about("Shows the GTP datagrams of a packet capture")
+        .arg(captured)?;
     let file = Arg::new(alloc, "file")
         .value_name("FILE")
         .help("The scenario, in JSON; standard input for - or no word");
@@ -70,6 +77,7 @@ pub fn command<'a>(alloc: Global) -> Result<Command<'a>, AllocError>
         .after_help(NOTES)
         .subcommand_required(true)
         .subcommand(decode)?
+        .subcommand(capture)?
         .subcommand(replay)
 }
 
@@ -80,6 +88,10 @@ pub enum Failure {
     BadWords,
     /// The octets of a datagram are not hexadecimal digits, or their number is odd.
     BadHex,
+    /// A file is no capture.
+    BadCapture,
+    /// From this octet of a capture on, counted from 0, no record stands.
+    BrokenCapture { at: u64 },
     /// An allocation was refused.
     Memory,
     /// A read failed, or a file could not be opened.
@@ -94,7 +106,10 @@ impl Failure {
         ensures { result ≡ status_of self }
     {
         match self {
-            Failure::BadWords | Failure::BadHex => 2,
+            Failure::BadWords
+            | Failure::BadHex
+            | Failure::BadCapture
+            | Failure::BrokenCapture { .. } => 2,
             Failure::Memory | Failure::Read | Failure::Write => 3,
         }
     }
@@ -119,6 +134,8 @@ impl fmt::Display for Failure {
         match self {
             Failure::BadWords => write!(f, "bad words: an argument is not UTF-8"),
             Failure::BadHex => write!(f, "bad hex"),
+            Failure::BadCapture => write!(f, "bad capture"),
+            Failure::BrokenCapture { at } => write!(f, "bad capture at {at}"),
             Failure::Memory => write!(f, "no memory"),
             Failure::Read => write!(f, "read failed"),
             Failure::Write => write!(f, "write failed"),

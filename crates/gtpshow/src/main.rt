@@ -1,6 +1,7 @@
-//! The program gtpshow: it decodes GTP datagrams, and replays scenarios of two gateways.
+//! The program gtpshow: it decodes GTP datagrams, also those of captures, and replays scenarios of two gateways.
 #![tactic(auto)]
 
+mod capturing;
 mod command;
 mod replaying;
 mod showing;
@@ -8,6 +9,7 @@ mod watched;
 
 ghost use Rattle.std.specs.Prelude.{◌≤◌, IfOk};
 
+use crate::capturing::capture_file;
 use crate::command::{Failure, command};
 use crate::replaying::{Form, replay_file};
 use crate::showing::show;
@@ -77,6 +79,7 @@ fn run<R: Print + Eprint + Input + Env + Files + AllocGlobal>(rt: &R) -> Result<
     };
     match matches.subcommand() {
         Some(("decode", asked)) => decode(rt, alloc, asked),
+        Some(("capture", asked)) => capture_file(rt, alloc, asked.get_str("file").unwrap_or("-")),
         Some(("replay", asked)) => replay_asked(rt, alloc, asked),
         _ => Ok(2),
     }

@@ -64,7 +64,7 @@ fn replay_from<I: Read, W: Write>(
 }
 
 /// The error for a file that cannot be opened: no memory if that is its kind, and else a failed read.
-fn unopened(error: io::Error) -> Failure
+pub fn unopened(error: io::Error) -> Failure
     ensures memory { error_kind error ≡ ErrorKind.OutOfMemory → result ≡ Failure.Memory }
     ensures read { error_kind error ≢ ErrorKind.OutOfMemory → result ≡ Failure.Read }
 {

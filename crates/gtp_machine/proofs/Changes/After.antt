@@ -9,7 +9,7 @@ use Rattle.gtp_values.specs.FiniteMap.{FiniteMap, Each, Among}
 use Rattle.gtp_machine.specs.Config.{control_end}
 use Rattle.gtp_machine.specs.Message.{CreateSessionRequest, CreateBearerRequest, Message, Create_session_request, Create_bearer_request, recovery_of}
 use Rattle.gtp_machine.specs.Node.{Role, Serving, Packet, Pending, Active, Session, Bearer, PendingRequest, Arrival, Held, Node, holding}
-use Rattle.gtp_machine.specs.Input.{Came_to, EventOutcome, Begun, Answered, Effect, nothing, says, messages}
+use Rattle.gtp_machine.specs.Input.{Came_to, EventOutcome, Begun, Answered, Effect, nothing, says, messages, datagrams}
 use Rattle.gtp_machine.specs.Choice.{IsFree, counter_of}
 use Rattle.gtp_machine.specs.Command.{asks}
 use Rattle.gtp_machine.specs.Answer.{answered}
@@ -22,6 +22,7 @@ use Rattle.gtp_machine.proofs.Changes.Shrinking.{NodeShrinks, Shrunk, Shrunk-its
 use Rattle.gtp_machine.proofs.Changes.Matching.{IsMatched, IsMatched-shrinks, IsMatched-session, IsMatched-bearer}
 use Rattle.gtp_machine.proofs.Changes.Steps.{Logs, Logs-silent, Logs-plain, Logs-repeat, IsPlain, NothingOwns}
 use Rattle.gtp_machine.proofs.Basics.Kinds.{is_create_answer}
+use Rattle.gtp_machine.proofs.Basics.Datagrams.{IsOneSent, AreAlone}
 use Rattle.gtp_values.proofs.Outcomes.{none_some}
 
 -- what holds of the sessions and bearers of a gateway
@@ -62,7 +63,7 @@ pub record Knows (role : Role) (history : List Sent) (node : Node) : Type 0 wher
   pub closed : ClosesWhole node.sessions node.bearers
   pub pending : Each (IsPending history role) node.pending
   pub matched : Each (IsMatched node.sessions node.bearers) node.pending
-  pub held : (h : Held) → Among h node.held → HasSent history role h.answer
+  pub held : (h : Held) → Among h node.held → IsOneSent history role h.answer
 
 -- what is known after a counter is heard, or none
 abbrev pub KnownBy : Age → ℕ → ℕ → Option ℕ → Type 0
@@ -91,6 +92,7 @@ pub record After (role : Role) (history : List Sent) (taken : Arrival → Messag
   pub known : KnownAfter old.known e.out.heard e.node.known
   pub told : (c : ℕ) → e.out.heard ≡ Some c → IsTold history (other role) c
   pub logs : Logs history role taken old e
+  pub alone : AreAlone (datagrams e.out.sent)
 
 pub IsPending-later : (before after : List Sent) → Extends before after → (role : Role) (number : ℕ) (p : PendingRequest) → IsPending before role number p → IsPending after role number p
 IsPending-later before after extends role number p is = record { sent = extends.keeps role p.request is.sent; names = is.names; asks = is.asks }
@@ -127,7 +129,7 @@ Knows-later role before after extends node knows = record {
   closed = knows.closed;
   matched = knows.matched;
   pending = Each-weaker (IsPending before role) (IsPending after role) node.pending (IsPending-later before after extends role) knows.pending;
-  held = λ h among. extends.keeps role h.answer (knows.held h among);
+  held = λ h among. let was = knows.held h among in record { message = was.message; alone = was.alone; sent = extends.keeps role was.message was.sent };
 }
 
 -- what shrinks stays drawn, standing and ready
@@ -175,6 +177,7 @@ module _ (role : Role) (history : List Sent) (taken : Arrival → Message → Ty
     told = nothing_told history (other role);
     draws = Draws-nothing history role old new s.config s.counter s.drawn;
     logs = Logs-silent history role taken old new outcome (λ h was. subst (Among h) (sym s.held) was) gave_up;
+    alone = tt;
   }
 
   -- nothing changes, and nothing is sent
@@ -189,25 +192,27 @@ module _ (role : Role) (history : List Sent) (taken : Arrival → Message → Ty
     told = nothing_told history (other role);
     draws = Draws-one history role old new m s.config s.counter s.drawn (inr made);
     logs = Logs-plain history role taken old new outcome (λ h was. subst (Among h) (sym s.held) was) destination m plain;
+    alone = (tt, tt);
   }
 
   -- an answer that is held from now on
-  pub held_now : (request : Arrival) (m : Message) (new : Node) → Knows role (history ++ signed role (m ∷ [])) new → Knows role (history ++ signed role (m ∷ [])) (holding request m new)
+  pub held_now : (request : Arrival) (m : Message) (new : Node) → Knows role (history ++ signed role (m ∷ [])) new → Knows role (history ++ signed role (m ∷ [])) (holding request (m ∷ []) new)
   held_now request m new k = record { contexts = k.contexts; drawn = k.drawn; standing = k.standing; ready = k.ready; closed = k.closed; pending = k.pending; matched = k.matched; held = held }
     where
-      held : (h : Held) → Among h (new.held ++ (record { request = request; answer = m } ∷ [])) → HasSent (history ++ signed role (m ∷ [])) role h.answer
+      held : (h : Held) → Among h (new.held ++ (record { request = request; answer = m ∷ [] } ∷ [])) → IsOneSent (history ++ signed role (m ∷ [])) role h.answer
       held h among = ⊎_elim (λ there. k.held h there)
-          (λ is. subst (λ (k : Held). HasSent (history ++ signed role (m ∷ [])) role k.answer) (sym is) (by_now history role (m ∷ []) m (inl refl)))
-          (Among-one_more h (record { request = request; answer = m }) new.held among)
+          (λ is. subst (λ (k : Held). IsOneSent (history ++ signed role (m ∷ [])) role k.answer) (sym is) (record { message = m; alone = refl; sent = by_now history role (m ∷ []) m (inl refl) }))
+          (Among-one_more h (record { request = request; answer = m ∷ [] }) new.held among)
 
   -- a step that only shrinks, and gives an answer, which is held
-  pub answers : (request : Arrival) (m : Message) (cause : ℕ) (new : Node) → Shrunk old new → IsPlain m → IsMadeNow history old (holding request m new) m → After role history taken old (answered request m cause new)
+  pub answers : (request : Arrival) (m : Message) (cause : ℕ) (new : Node) → Shrunk old new → IsPlain m → IsMadeNow history old (holding request (m ∷ []) new) m → After role history taken old (answered request m cause new)
   answers request m cause new s plain made = record {
     knows = held_now request m new (knows_shrunk (m ∷ []) new s);
     known = s.known;
     told = nothing_told history (other role);
-    draws = Draws-one history role old (holding request m new) m s.config s.counter s.drawn (inr made);
-    logs = Logs-plain history role taken old (holding request m new) (Came_to (Answered cause)) (λ h was. Among-left h new.held _ (subst (Among h) (sym s.held) was)) request.source m plain;
+    draws = Draws-one history role old (holding request (m ∷ []) new) m s.config s.counter s.drawn (inr made);
+    logs = Logs-plain history role taken old (holding request (m ∷ []) new) (Came_to (Answered cause)) (λ h was. Among-left h new.held _ (subst (Among h) (sym s.held) was)) request.source m plain;
+    alone = (tt, tt);
   }
 
   -- a pending request is added to what only shrinks
@@ -231,6 +236,7 @@ module _ (role : Role) (history : List Sent) (taken : Arrival → Message → Ty
         told = nothing_told history (other role);
         draws = Draws-one history role old (record new { pending = insert old.pending number p }) m s.config s.counter s.drawn (inr made);
         logs = Logs-plain history role taken old (record new { pending = insert old.pending number p }) (Came_to (Begun teid)) (λ h was. subst (Among h) (sym s.held) was) (control_end old.config.peer.control) m plain;
+        alone = (tt, tt);
       }
 
   -- nothing changes, and a message is sent that was sent before
@@ -241,4 +247,5 @@ module _ (role : Role) (history : List Sent) (taken : Arrival → Message → Ty
     told = nothing_told history (other role);
     draws = Draws-one history role old old m refl refl refl (inl was);
     logs = Logs-repeat history role taken old old outcome (λ h stood. stood) destination m was;
+    alone = (tt, tt);
   }

@@ -1,12 +1,13 @@
 -- What a step of either gateway leaves, besides its sessions and bearers.
-use Rattle.std.proofs.Common.{◌≡◌, ◌⊎◌, inl, inr, ⊎_elim, ℕ, List, [], ◌∷◌, Option, Some, None, refl, sym, ◌∙◌, subst}
+use Rattle.std.proofs.Common.{◌≡◌, ◌⊎◌, inl, inr, ⊎_elim, ℕ, List, [], ◌∷◌, Option, Some, None, refl, sym, ◌∙◌, ap, subst}
 use Rattle.std.specs.FinMap.{get}
 use Rattle.gtp_values.specs.declared.address.Endpoint.{Endpoint}
 use Rattle.gtp_values.specs.FiniteMap.{Among}
 use Rattle.gtp_machine.specs.Message.{Message, CreateBearerRequest, CreateBearerResponse, Create_bearer_request, Create_bearer_response, Packet_data, Owns, recovery_of, first_given, first_returned}
 use Rattle.gtp_machine.specs.Node.{Role, Packet, Session, Arrival, Held, Node}
-use Rattle.gtp_machine.specs.Input.{EventOutcome, Entry, Out, Effect, nothing, says, messages}
+use Rattle.gtp_machine.specs.Input.{EventOutcome, Came_to, Repeated, Entry, Out, Effect, nothing, says_all, says, messages}
 use Rattle.gtp_machine.specs.Choice.{IsFree}
+use Rattle.gtp_machine.specs.Answer.{Repeats}
 use Rattle.gtp_machine.specs.World.{other, Sent, HasSent}
 use Rattle.gtp_machine.proofs.Origins.Drawing.{Draws, IsMadeNow}
 use Rattle.gtp_machine.proofs.Origins.Entries.{IsFor}
@@ -28,7 +29,7 @@ pub record IsAnsweredNow (history : List Sent) (old new : Node) (taken : Arrival
   pub came : taken arrival (Create_bearer_request request)
   pub session : Session
   pub stands : get old.sessions request.header ≡ Some session
-  pub held : Among (record { request = arrival; answer = Create_bearer_response x }) new.held
+  pub held : Among (record { request = arrival; answer = Create_bearer_response x ∷ [] }) new.held
 
 -- a context was made for a create request, and its answer is held
 pub record MakesFor (taken : Arrival → Message → Type 0) (made : List Arrival) (new : Node) : Type 0 where
@@ -36,7 +37,7 @@ pub record MakesFor (taken : Arrival → Message → Type 0) (made : List Arriva
   pub is : made ≡ arrival ∷ []
   pub message : Message
   pub came : taken arrival message
-  pub answer : Message
+  pub answer : List Message
   pub held : Among (record { request = arrival; answer = answer }) new.held
 
 -- what a step leaves in the logs; `taken` holds of the message that came, and of how it came
@@ -93,6 +94,10 @@ module _ (history : List Sent) (role : Role) (taken : Arrival → Message → Ty
 -- a result of a row, from what the row says of it
 pub at_result : (P : Effect → Type 0) (e f : Effect) → e ≡ f → P f → P e
 at_result P e f gives h = subst P (sym gives) h
+
+-- a repeat of an answer of one message
+pub one_repeated : (old : Node) (request : Arrival) (e : Effect) (r : Repeats old request e) (m : Message) → r.held.answer ≡ m ∷ [] → e ≡ record { out = says request.source m; outcome = Came_to Repeated; node = old }
+one_repeated old request e r m alone = r.gives ∙ ap (λ (d : List Message). record { out = says_all request.source d; outcome = Came_to Repeated; node = old }) alone
 
 -- a node that differs from old only in what it has heard, and in sessions and bearers that went
 pub record IsHeardFrom (old mid : Node) : Type 0 where

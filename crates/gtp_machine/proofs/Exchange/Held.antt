@@ -11,8 +11,9 @@ use Rattle.gtp_machine.specs.Move.{MoveStep, AreLeft}
 use Rattle.gtp_machine.specs.Tick.{TickStep, ticked}
 use Rattle.gtp_machine.specs.Step.{Step}
 use Rattle.gtp_machine.specs.Answer.{IsNew}
+use Rattle.gtp_machine.specs.Spelling.{datagram_plane}
 use Rattle.gtp_machine.specs.World.{World, Sent, HasSent, Note, Event, Does, Tick, Deliver, Cut, Restart, Happens, Delivers, Moves, Run, other, side_of, with_side, with_steps, signed, moved, noted, late_once, arrival, delivered_on, cut_on, restarted, start, quiet_note, No_such_datagram, Cut_too_long, Restarts_used}
-use Rattle.gtp_machine.proofs.Basics.FiniteMaps.{Among-one_more, among_at}
+use Rattle.gtp_machine.proofs.Basics.FiniteMaps.{Among-one_more}
 use Rattle.gtp_machine.proofs.Origins.Drawing.{by_before}
 use Rattle.gtp_machine.proofs.Changes.Shrinking.{Shrunk-finished}
 use Rattle.gtp_machine.proofs.Requests.Holding.{Keeps, Adds, command_held, user_held, control_held}
@@ -114,16 +115,16 @@ module _ (own : Addresses) where
   moves_held w inv held role input new m carried now = subst HeldOfSent (sym m.becomes) (stepped_held w role m.effect _ _ held (run.config_stays own w inv role input m.effect carried m.step) now)
 
   -- a datagram comes
-  brought : (w : World) → run.Invariant own w → HeldOfSent w → (role : Role) (p : Plane) (m : Message) → HasSent w.history (other role) m → plane_of m ≡ p → (new : World) → Moves w role (delivered_on p (side_of w (other role)).node.config.own m) new → HeldOfSent new
+  brought : (w : World) → run.Invariant own w → HeldOfSent w → (role : Role) (p : Plane) (m : Message) → HasSent w.history (other role) m → plane_of m ≡ p → (new : World) → Moves w role (delivered_on p (side_of w (other role)).node.config.own (m ∷ [])) new → HeldOfSent new
   brought w inv held role Control m sent on new d = moves_held w inv held role _ new d (run.carried own w inv role Control m sent) (λ h among. ⊎_elim (λ was. inl was) (λ is. inr (record { message = m; sent = sent; control = on; is = is })) (held_by _ (side_of w role).node d.effect (control_held role _ (Control_message m) (side_of w role).node d.effect d.step) h among))
   brought w inv held role User m sent on new d = moves_held w inv held role _ new d sent (λ h among. inl (user_came_held role _ (User_message m) (side_of w role).node d.effect d.step h among))
 
-  cut_held : (w : World) → run.Invariant own w → HeldOfSent w → (role : Role) (p : Plane) (from : Addresses) (m : Message) (count : ℕ) (new : World) → Moves w role (cut_on p from m count) new → HeldOfSent new
-  cut_held w inv held role Control from m count new d = moves_held w inv held role _ new d tt (λ h among. inl (fault_held role _ (cut_fault count) (side_of w role).node d.effect d.step h among))
-  cut_held w inv held role User from m count new d = moves_held w inv held role _ new d tt (λ h among. inl (user_came_held role (user_end from.user) (User_fault (user_cut_fault count)) (side_of w role).node d.effect d.step h among))
+  cut_held : (w : World) → run.Invariant own w → HeldOfSent w → (role : Role) (p : Plane) (from : Addresses) (datagram : List Message) (count : ℕ) (new : World) → Moves w role (cut_on p from datagram count) new → HeldOfSent new
+  cut_held w inv held role Control from datagram count new d = moves_held w inv held role _ new d tt (λ h among. inl (fault_held role _ (cut_fault count) (side_of w role).node d.effect d.step h among))
+  cut_held w inv held role User from datagram count new d = moves_held w inv held role _ new d tt (λ h among. inl (user_came_held role (user_end from.user) (User_fault (user_cut_fault count)) (side_of w role).node d.effect d.step h among))
 
   -- a datagram that its sender sent comes, on time or late
-  delivers : (w : World) → run.Invariant own w → HeldOfSent w → (sender : Role) (m : Message) → HasSent w.history sender m → (new : World) → Delivers w sender m new → HeldOfSent new
+  delivers : (w : World) → run.Invariant own w → HeldOfSent w → (sender : Role) (m : Message) → HasSent w.history sender m → (new : World) → Delivers w sender (m ∷ []) new → HeldOfSent new
   delivers w inv held Packet m sent new (inl d) = brought w inv held Serving (plane_of m) m sent refl new d.1
   delivers w inv held Packet m sent new (inr d) = brought (late_once w Serving _) (run.late_keeps own w inv Serving _) (late_held w Serving _ held) Serving (plane_of m) m sent refl new d.1
   delivers w inv held Serving m sent new (inl d) = brought w inv held Packet (plane_of m) m sent refl new d.1
@@ -133,10 +134,12 @@ module _ (own : Addresses) where
   happens w inv held (Does role command) new m = moves_held w inv held role (Commanded command) new m tt (λ h among. inl (commanded_held role command (side_of w role).node m.effect m.step h among))
   happens w inv held (Tick role) new t = subst HeldOfSent (sym t.becomes) (stepped_held w role (ticked t.out t.after) _ _ held (tick_config (side_of w role).node t.moves t.out t.after t.tick) (λ h among. inl (tick_held (side_of w role).node t.moves t.out t.after t.tick h among)))
   happens w inv held (Deliver number) new (inl none) = subst HeldOfSent (sym none.1) (noted_held w (quiet_note No_such_datagram) held)
-  happens w inv held (Deliver number) new (inr (found, d)) = delivers w inv held found.sent.role found.sent.what (among_at w.history number found.sent found.is) new d
+  happens w inv held (Deliver number) new (inr (found, d)) =
+      let one = run.found_one own w inv number found.sent found.is in
+      delivers w inv held found.sent.role one.message one.sent new (subst (λ k. Delivers w found.sent.role k new) one.alone d)
   happens w inv held (Cut number count) new (inl none) = subst HeldOfSent (sym none.1) (noted_held w (quiet_note No_such_datagram) held)
   happens w inv held (Cut number count) new (inr (found, inl long)) = subst HeldOfSent (sym long.1) (noted_held w (quiet_note Cut_too_long) held)
-  happens w inv held (Cut number count) new (inr (found, inr (short, c))) = cut_held w inv held (other found.sent.role) (plane_of found.sent.what) _ found.sent.what count new c
+  happens w inv held (Cut number count) new (inr (found, inr (short, c))) = cut_held w inv held (other found.sent.role) (datagram_plane found.sent.what) _ found.sent.what count new c
   happens w inv held (Restart role) new (inl used) = subst HeldOfSent (sym used.1) (noted_held w (quiet_note Restarts_used) held)
   happens w inv held (Restart role) new (inr (few, is)) = subst HeldOfSent (sym is) (restarted_held w role _ held)
 

@@ -13,7 +13,7 @@ use Rattle.gtp_machine.specs.Config.{Addresses, Config, user_end}
 use Rattle.gtp_machine.specs.Element.{IsAccepting, PdnAddress, cause_of, tunnel_end, teid_in}
 use Rattle.gtp_machine.specs.Message.{CreateSessionRequest, CreateSessionResponse, Message, Create_session_request, Create_session_response, Packet_data, plane_of, Control, User, Create_bearer_request, Create_bearer_response, Owns}
 use Rattle.gtp_machine.specs.Node.{Role, Serving, Packet, Active, Session, Bearer, Arrival, Node, holding, written}
-use Rattle.gtp_machine.specs.Input.{Entry, Specification, Create_session, Send_user, entry_for, Input, Commanded, Control_came, User_came, Control_message, User_message, Effect, messages}
+use Rattle.gtp_machine.specs.Input.{Entry, Specification, Create_session, Send_user, entry_for, Input, Commanded, Control_came, User_came, Control_message, User_message, Effect, messages, datagrams}
 use Rattle.gtp_machine.specs.Choice.{IsFree, IsGiven, counter_of}
 use Rattle.gtp_machine.specs.Command.{BeginsSession, MayGo, SendsPacket, PacketSent, asks, session_request, session_begun, pending_session, pending_bearer}
 use Rattle.gtp_machine.specs.User.{MayCome, Accepts, UserStep}
@@ -24,7 +24,7 @@ use Rattle.gtp_machine.specs.Recovery.{heard_by}
 use Rattle.gtp_machine.specs.Reading.{control_reading}
 use Rattle.gtp_machine.specs.Spelling.{ReadsAs, spelled, IsSendable}
 use Rattle.gtp_machine.specs.Step.{Step}
-use Rattle.gtp_machine.specs.World.{World, Sent, HasSent, Side, Event, Does, Deliver, Happens, Delivers, Moves, Run, other, side_of, signed, late_once, arrival, delivered_on, start}
+use Rattle.gtp_machine.specs.World.{World, Sent, SentDatagram, HasSent, Side, Event, Does, Deliver, Happens, Delivers, Moves, Run, other, side_of, signed, late_once, arrival, delivered_on, start}
 use Rattle.gtp_machine.specs.Exchange.{AllRead, IsOnePath, IsConfigured, IsSpecified, CanExchange, CameTo, Carries, IsMade, Exchanged, FairExchange, ExchangeSendable}
 use Rattle.gtp_machine.proofs.Basics.Ages.{earlier_start}
 use Rattle.gtp_machine.proofs.Basics.FiniteMaps.{get-insert_same, Among-left, Among-last}
@@ -53,13 +53,14 @@ record IsMoved (old : World) (role : Role) (e : Effect) (new : World) : Type 0 w
   pub node : (side_of new role).node ≡ e.node
   pub elsewhere : (side_of new (other role)).node ≡ (side_of old (other role)).node
   pub history : new.history ≡ old.history ++ signed role (messages e.out.sent)
+  pub listed : new.datagrams ≡ old.datagrams ++ signed role (datagrams e.out.sent)
   pub handed : new.handed ≡ old.handed ++ signed role e.out.handed
   pub accepted : new.accepted ≡ old.accepted ++ signed role e.out.accepted
   pub note : CameTo new e.outcome
 
 moved_is : (old : World) (role : Role) (input : Input) (new : World) (m : Moves old role input new) → IsMoved old role m.effect new
-moved_is old Serving input new m = record { node = ap (λ (w : World). w.serving.node) m.becomes; elsewhere = ap (λ (w : World). w.packet.node) m.becomes; history = ap (λ (w : World). w.history) m.becomes; handed = ap (λ (w : World). w.handed) m.becomes; accepted = ap (λ (w : World). w.accepted) m.becomes; note = record { note = _; before = _; notes = ap (λ (w : World). w.notes) m.becomes; is = refl } }
-moved_is old Packet input new m = record { node = ap (λ (w : World). w.packet.node) m.becomes; elsewhere = ap (λ (w : World). w.serving.node) m.becomes; history = ap (λ (w : World). w.history) m.becomes; handed = ap (λ (w : World). w.handed) m.becomes; accepted = ap (λ (w : World). w.accepted) m.becomes; note = record { note = _; before = _; notes = ap (λ (w : World). w.notes) m.becomes; is = refl } }
+moved_is old Serving input new m = record { node = ap (λ (w : World). w.serving.node) m.becomes; elsewhere = ap (λ (w : World). w.packet.node) m.becomes; history = ap (λ (w : World). w.history) m.becomes; listed = ap (λ (w : World). w.datagrams) m.becomes; handed = ap (λ (w : World). w.handed) m.becomes; accepted = ap (λ (w : World). w.accepted) m.becomes; note = record { note = _; before = _; notes = ap (λ (w : World). w.notes) m.becomes; is = refl } }
+moved_is old Packet input new m = record { node = ap (λ (w : World). w.packet.node) m.becomes; elsewhere = ap (λ (w : World). w.serving.node) m.becomes; history = ap (λ (w : World). w.history) m.becomes; listed = ap (λ (w : World). w.datagrams) m.becomes; handed = ap (λ (w : World). w.handed) m.becomes; accepted = ap (λ (w : World). w.accepted) m.becomes; note = record { note = _; before = _; notes = ap (λ (w : World). w.notes) m.becomes; is = refl } }
 
 -- a delivery, on time or late
 record IsBrought (old : World) (sender : Role) (m : Message) (new : World) : Type 0 where
@@ -67,18 +68,19 @@ record IsBrought (old : World) (sender : Role) (m : Message) (new : World) : Typ
   pub serving : before.serving.node ≡ old.serving.node
   pub packet : before.packet.node ≡ old.packet.node
   pub history : before.history ≡ old.history
+  pub listed : before.datagrams ≡ old.datagrams
   pub accepted : before.accepted ≡ old.accepted
-  pub moves : Moves before (other sender) (delivered_on (plane_of m) (side_of old sender).node.config.own m) new
+  pub moves : Moves before (other sender) (delivered_on (plane_of m) (side_of old sender).node.config.own (m ∷ [])) new
 
-delivered_is : (old : World) (sender : Role) (m : Message) (new : World) → Delivers old sender m new → IsBrought old sender m new
-delivered_is old sender m new (inl d) = record { before = old; serving = refl; packet = refl; history = refl; accepted = refl; moves = d.1 }
-delivered_is old Serving m new (inr d) = record { before = late_once old Packet (arrival old.serving.node.config.own m); serving = refl; packet = refl; history = refl; accepted = refl; moves = d.1 }
-delivered_is old Packet m new (inr d) = record { before = late_once old Serving (arrival old.packet.node.config.own m); serving = refl; packet = refl; history = refl; accepted = refl; moves = d.1 }
+delivered_is : (old : World) (sender : Role) (m : Message) (new : World) → Delivers old sender (m ∷ []) new → IsBrought old sender m new
+delivered_is old sender m new (inl d) = record { before = old; serving = refl; packet = refl; history = refl; listed = refl; accepted = refl; moves = d.1 }
+delivered_is old Serving m new (inr d) = record { before = late_once old Packet (arrival old.serving.node.config.own m); serving = refl; packet = refl; history = refl; listed = refl; accepted = refl; moves = d.1 }
+delivered_is old Packet m new (inr d) = record { before = late_once old Serving (arrival old.packet.node.config.own m); serving = refl; packet = refl; history = refl; listed = refl; accepted = refl; moves = d.1 }
 
-brought : (old : World) (sender : Role) (m : Message) (number : ℕ) (new : World) → slice_get old.history number ≡ Some (record { role = sender; what = m }) → Happens old (Deliver number) new → IsBrought old sender m new
+brought : (old : World) (sender : Role) (m : Message) (number : ℕ) (new : World) → slice_get old.datagrams number ≡ Some (record { role = sender; what = m ∷ [] }) → Happens old (Deliver number) new → IsBrought old sender m new
 brought old sender m number new stands h =
-    let found = pass (record { sent = record { role = sender; what = m }; is = stands }) h in
-    delivered_is old sender m new (subst (λ (s : Sent). Delivers old s.role s.what new) (same_Some found.0.sent (record { role = sender; what = m }) (sym found.0.is ∙ stands)) found.1)
+    let found = pass (record { sent = record { role = sender; what = m ∷ [] }; is = stands }) h in
+    delivered_is old sender m new (subst (λ (s : SentDatagram). Delivers old s.role s.what new) (same_Some found.0.sent (record { role = sender; what = m ∷ [] }) (sym found.0.is ∙ stands)) found.1)
 
 -- the counter that a gateway tells is not earlier than one that was heard of it
 not_earlier : (peer : Side) (role : Role) (history : List Sent) (known : Option ℕ) (seen : List ℕ) (counter : ℕ) → Drawing peer role history → Hearing peer known seen → counter ≡ peer.node.counter → (k : ℕ) → known ≡ Some k → age_of k counter ≢ Earlier
@@ -161,9 +163,9 @@ carries w role bearer there ends payload sent came short h1 h2 =
     let m1 : Moves w role (Commanded (Send_user bearer payload)) sent = h1 in
     let f1 = moved_is w role _ sent m1 in
     let sends = sends_so role bearer payload (side_of w role).node m1.effect ends.here ends.stands ends.active ends.unended short m1.step in
-    let says : messages m1.effect.out.sent ≡ Packet_data there payload ∷ [] = ap (λ (f : Effect). messages f.out.sent) sends.gives ∙ ap (λ r. Packet_data (written r) payload ∷ []) ends.remote in
+    let says : datagrams m1.effect.out.sent ≡ (Packet_data there payload ∷ []) ∷ [] = ap (λ (f : Effect). datagrams f.out.sent) sends.gives ∙ ap (λ r. (Packet_data (written r) payload ∷ []) ∷ []) ends.remote in
     let kept : (side_of sent role).node.config ≡ (side_of w role).node.config = ap (λ (n : Node). n.config) (f1.node ∙ ap (λ (f : Effect). f.node) sends.gives) in
-    let d = brought sent role (Packet_data there payload) (length w.history) came (ap (λ hs. slice_get hs (length w.history)) (f1.history ∙ ap (λ ms. w.history ++ signed role ms) says) ∙ at_end w.history _) h2 in
+    let d = brought sent role (Packet_data there payload) (length w.datagrams) came (ap (λ ds. slice_get ds (length w.datagrams)) (f1.listed ∙ ap (λ ds. w.datagrams ++ signed role ds) says) ∙ at_end w.datagrams _) h2 in
     let same : (side_of d.before (other role)).node ≡ (side_of w (other role)).node = node_before sent role _ came d (other role) ∙ f1.elsewhere in
     let f2 = moved_is d.before (other role) _ came d.moves in
     let source = user_end (side_of sent role).node.config.own.user in
@@ -215,7 +217,7 @@ owned_small side role history draws m t sent owns = elim (draws.drawn m t sent o
 ]
 
 module _ (serving packet : Config) (serving_counter packet_counter : ℕ) (events : List Event) (w begun answered opened : World) (spec : Specification) (r : Run (start serving packet serving_counter packet_counter) events w) (path : IsOnePath w.serving.node.config w.packet.node.config) (can : CanExchange w spec)
-    (h1 : Happens w (Does Serving (Create_session spec)) begun) (h2 : Happens begun (Deliver (length w.history)) answered) (h3 : Happens answered (Deliver (1 + length w.history)) opened) where
+    (h1 : Happens w (Does Serving (Create_session spec)) begun) (h2 : Happens begun (Deliver (length w.datagrams)) answered) (h3 : Happens answered (Deliver (1 + length w.datagrams)) opened) where
   inv : Invariant packet.own w
   inv = always serving packet serving_counter packet_counter events w r
 
@@ -244,9 +246,12 @@ module _ (serving packet : Config) (serving_counter packet_counter : ℕ) (event
   begun_history : begun.history ≡ w.history ++ signed Serving (Create_session_request q ∷ [])
   begun_history = f1.history ∙ ap (λ (f : Effect). w.history ++ signed Serving (messages f.out.sent)) r1.gives
 
+  begun_list : begun.datagrams ≡ w.datagrams ++ signed Serving ((Create_session_request q ∷ []) ∷ [])
+  begun_list = f1.listed ∙ ap (λ (f : Effect). w.datagrams ++ signed Serving (datagrams f.out.sent)) r1.gives
+
   -- the request comes
   d2 : IsBrought begun Serving (Create_session_request q) answered
-  d2 = brought begun Serving (Create_session_request q) (length w.history) answered (ap (λ hs. slice_get hs (length w.history)) begun_history ∙ at_end w.history _) h2
+  d2 = brought begun Serving (Create_session_request q) (length w.datagrams) answered (ap (λ ds. slice_get ds (length w.datagrams)) begun_list ∙ at_end w.datagrams _) h2
 
   abbrev asked : Arrival
   asked = arrival begun.serving.node.config.own (Create_session_request q)
@@ -281,18 +286,21 @@ module _ (serving packet : Config) (serving_counter packet_counter : ℕ) (event
     a = session_response a2.mid q a2.made.control a2.made.user a2.made.address
 
     abbrev made_node : Node
-    made_node = holding asked (Create_session_response a) (session_made a2.mid q a2.made.control a2.made.user a2.made.address)
+    made_node = holding asked (Create_session_response a ∷ []) (session_made a2.mid q a2.made.control a2.made.user a2.made.address)
 
     answered_node : answered.packet.node ≡ made_node
     answered_node = f2.node ∙ a2.node ∙ ap (λ (f : Effect). f.node) a2.made.gives
 
     answered_history : answered.history ≡ (w.history ++ signed Serving (Create_session_request q ∷ [])) ++ signed Packet (Create_session_response a ∷ [])
-    answered_history = f2.history ∙ (λ i. (d2.history ∙ begun_history) i ++ signed Packet ((a2.sent ∙ ap (λ (f : Effect). messages f.out.sent) a2.made.gives) i))
+    answered_history = f2.history ∙ (λ i. (d2.history ∙ begun_history) i ++ signed Packet (messages ((a2.sent ∙ ap (λ (f : Effect). f.out.sent) a2.made.gives) i)))
+
+    answered_list : answered.datagrams ≡ (w.datagrams ++ signed Serving ((Create_session_request q ∷ []) ∷ [])) ++ signed Packet ((Create_session_response a ∷ []) ∷ [])
+    answered_list = f2.listed ∙ (λ i. (d2.listed ∙ begun_list) i ++ signed Packet (datagrams ((a2.sent ∙ ap (λ (f : Effect). f.out.sent) a2.made.gives) i)))
 
     -- the answer comes
     d3 : IsBrought answered Packet (Create_session_response a) opened
-    d3 = brought answered Packet (Create_session_response a) (1 + length w.history) opened
-        (ap (λ n. slice_get answered.history n) (one_longer w.history _) ∙ ap (λ hs. slice_get hs (length (w.history ++ signed Serving (Create_session_request q ∷ [])))) answered_history ∙ at_end (w.history ++ signed Serving (Create_session_request q ∷ [])) _)
+    d3 = brought answered Packet (Create_session_response a) (1 + length w.datagrams) opened
+        (ap (λ n. slice_get answered.datagrams n) (one_longer w.datagrams _) ∙ ap (λ ds. slice_get ds (length (w.datagrams ++ signed Serving ((Create_session_request q ∷ []) ∷ [])))) answered_list ∙ at_end (w.datagrams ++ signed Serving ((Create_session_request q ∷ []) ∷ [])) _)
         h3
 
     abbrev told : Arrival
@@ -415,7 +423,7 @@ module _ (serving packet : Config) (serving_counter packet_counter : ℕ) (event
         first = record { note = f1.note.note; before = f1.note.before; notes = f1.note.notes; is = f1.note.is ∙ ap (λ (f : Effect). f.outcome) r1.gives };
         second = record { note = f2.note.note; before = f2.note.before; notes = f2.note.notes; is = f2.note.is ∙ (a2.outcome ∙ ap (λ (f : Effect). f.outcome) a2.made.gives) };
         answer = a;
-        told = answered_history ∙ ap (λ h. h ++ signed Packet (Create_session_response a ∷ [])) (sym begun_history);
+        told = answered_list ∙ ap (λ h. h ++ signed Packet ((Create_session_response a ∷ []) ∷ [])) (sym begun_list);
         says = refl;
         third = record { note = f3.note.note; before = f3.note.before; notes = f3.note.notes; is = f3.note.is ∙ o3.outcome };
         made = made;
@@ -544,7 +552,7 @@ module _ (serving packet : Config) (serving_counter packet_counter : ℕ) (event
 
 -- where each message that was sent reads as itself, whatever it carries
 pub fair_exchange : (serving packet : Config) (serving_counter packet_counter : ℕ) (events : List Event) (w begun answered opened : World) (spec : Specification) → Run (start serving packet serving_counter packet_counter) events w → IsOnePath w.serving.node.config w.packet.node.config → CanExchange w spec
-    → Happens w (Does Serving (Create_session spec)) begun → Happens begun (Deliver (length w.history)) answered → Happens answered (Deliver (1 + length w.history)) opened → AllRead answered → Exchanged spec w begun answered opened
+    → Happens w (Does Serving (Create_session spec)) begun → Happens begun (Deliver (length w.datagrams)) answered → Happens answered (Deliver (1 + length w.datagrams)) opened → AllRead answered → Exchanged spec w begun answered opened
 fair_exchange serving packet sc pc events w begun answered opened spec r path can h1 h2 h3 reads = by_reading serving packet sc pc events w begun answered opened spec r path can h1 h2 h3 reads
 
 pub exchange_made : FairExchange

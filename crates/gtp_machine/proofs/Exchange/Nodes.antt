@@ -161,7 +161,7 @@ pub record IsAnswered (request : Arrival) (q : CreateSessionRequest) (counter : 
   pub taken : Effect
   pub made : MakesSession request mid q taken
   pub node : e.node ≡ taken.node
-  pub sent : messages e.out.sent ≡ messages taken.out.sent
+  pub sent : e.out.sent ≡ taken.out.sent
   pub outcome : e.outcome ≡ taken.outcome
 
 pub answers : (request : Arrival) (q : CreateSessionRequest) (counter : ℕ) (old : Node) (e : Effect) → request.source.ip ≡ old.config.peer.control → IsNew old request → q.recovery ≡ Some counter → ((k : ℕ) → old.known ≡ Some k → age_of k counter ≢ Earlier) → CanMake old q → CanGive (heard_by old counter) q.pdn → Step Packet old (Control_came request (Control_message (Create_session_request q))) e → IsAnswered request q counter old e
@@ -170,7 +170,7 @@ answers request q counter old e peer new tells not_earlier can give (inr (from, 
 answers request q counter old e peer new tells not_earlier can give (inr (from, inr (is_new, inl f))) = absurd (f.0 refl)
 answers request q counter old e peer new tells not_earlier can give (inr (from, inr (is_new, inr (kind, hears)))) =
     let h = heard_so (PacketTakes request (Create_session_request q)) old counter e not_earlier (subst (λ o. Hears (PacketTakes request (Create_session_request q)) old o e) tells hears) in
-    record { mid = h.mid; heard = h.heard; ready = h.ready; taken = h.taken; made = makes request q h.mid h.taken (can_still old h.mid h.ready q can) (subst (λ n. CanGive n q.pdn) (sym h.heard) give) h.takes; node = ap (λ (f : Effect). f.node) h.is; sent = ap (λ (f : Effect). messages f.out.sent) h.is; outcome = ap (λ (f : Effect). f.outcome) h.is }
+    record { mid = h.mid; heard = h.heard; ready = h.ready; taken = h.taken; made = makes request q h.mid h.taken (can_still old h.mid h.ready q can) (subst (λ n. CanGive n q.pdn) (sym h.heard) give) h.takes; node = ap (λ (f : Effect). f.node) h.is; sent = ap (λ (f : Effect). f.out.sent) h.is; outcome = ap (λ (f : Effect). f.outcome) h.is }
 
 -- the session and its default bearer, opened
 abbrev pub opening : CreateSessionResponse → CreateSessionRequest → Node → PdnAddress → Effect

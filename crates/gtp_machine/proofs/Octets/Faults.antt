@@ -27,7 +27,7 @@ element_is head elements.TooLong = tt
 pub fault_is : (fault : V2Fault) → IsFault (control_fault fault)
 fault_is (faults.Short held) = tt
 fault_is (faults.Version version) = tt
-fault_is faults.Piggyback = tt
+fault_is (faults.BadPiggyback at) = tt
 fault_is (faults.Length stated held) = tt
 fault_is (faults.FlagT kind) = tt
 fault_is (faults.Missing kind instance conditional head) = defect_is (request_kind head.kind) head (missing_in conditional) kind instance

@@ -23,6 +23,8 @@ use Rattle.gtp_machine.specs.Laws.{IsFromOn, NamesBack, EachNamesBack}
 use Rattle.gtp_machine.proofs.Basics.FiniteMaps.{Among-cases}
 use Rattle.gtp_machine.proofs.Origins.Drawing.{Extends, Extends-signed, signed_among}
 use Rattle.gtp_machine.proofs.Changes.After.{Knows}
+use Rattle.gtp_machine.proofs.Changes.Steps.{one_repeated}
+use Rattle.gtp_machine.proofs.Basics.Datagrams.{IsOneSent}
 use Rattle.gtp_machine.proofs.Changes.Shrinking.{Shrinks-restart, restart_pending}
 use Rattle.gtp_machine.proofs.Rows.Stepping.{Carried}
 use Rattle.gtp_machine.proofs.Rows.Control.{ControlCarried}
@@ -38,7 +40,7 @@ pub record Back (history : List Sent) (role : Role) (node : Node) : Type 0 where
   pub sessions : Each (λ t (s : Session). IsThere Control history role s.remote) node.sessions
   pub bearers : Each (λ t (b : Bearer). IsThere User history role b.remote) node.bearers
   pub pending : Each (λ number (p : PendingRequest). HasSent history role p.request) node.pending
-  pub held : (h : Held) → Among h node.held → HasSent history role h.answer
+  pub held : (h : Held) → Among h node.held → IsOneSent history role h.answer
 
 -- what a step sends was sent before, or names what goes back
 abbrev pub Told : List Sent → Role → Effect → Type 0
@@ -205,7 +207,7 @@ module _ (history : List Sent) (role : Role) where
 
   control : (Reads : Arrival → Node → Effect → Type 0) (request : Arrival) (old : Node) → Back history role old → (e : Effect) → (Reads request old e → Told history role e) → ControlStep Reads request old e → Told history role e
   control Reads request old back e reads (inl f) = at e _ f.1 silent
-  control Reads request old back e reads (inr (peer, inl r)) = at e _ r.gives (again r.held.answer (back.held r.held r.stands))
+  control Reads request old back e reads (inr (peer, inl r)) = let was = back.held r.held r.stands in at e _ (one_repeated old request e r was.message was.alone) (again was.message was.sent)
   control Reads request old back e reads (inr (peer, inr r)) = reads r.1
 
 module _ (history : List Sent) where

@@ -9,7 +9,7 @@ use Rattle.gtp_machine.specs.Step.{Step, Done, Steps}
 use Rattle.gtp_machine.specs.Config.{Config}
 use Rattle.gtp_machine.specs.Message.{CreateSessionRequest, CreateBearerRequest, Message, Create_session_request, Create_bearer_request}
 use Rattle.gtp_machine.specs.Node.{Role, Serving, Packet, Bearer, Arrival, Held, Node, fresh_node}
-use Rattle.gtp_machine.specs.Input.{Input, Commanded, Control_came, User_came, Moves_on, Control_message, Resend, Give_up, Forget, DropReason, Effect, dropped, messages}
+use Rattle.gtp_machine.specs.Input.{Input, Commanded, Control_came, User_came, Moves_on, Control_message, Resend, Give_up, Forget, DropReason, Effect, dropped, datagrams}
 use Rattle.gtp_machine.specs.Recovery.{Judges, Weighs, Hears, peer_restarted}
 use Rattle.gtp_machine.specs.Move.{Forgets}
 use Rattle.gtp_machine.specs.Answer.{making, Repeats, IsNew, ControlStep, answered}
@@ -70,7 +70,7 @@ reached_once role old [] new o is = subst HeldOnce (sym is) o
 reached_once role old (d ∷ log) new o s = reached_once role d.effect.node log new ((step_held role old d.input d.effect s.1).once o) s.2
 
 -- what is held stays until it is given up
-held_through : (role : Role) (request : Arrival) (a : Message) (old : Node) (log : List Done) (new : Node) → Among (record { request = request; answer = a }) old.held → NeverForgets log request → Steps role old log new → Among (record { request = request; answer = a }) new.held
+held_through : (role : Role) (request : Arrival) (a : List Message) (old : Node) (log : List Done) (new : Node) → Among (record { request = request; answer = a }) old.held → NeverForgets log request → Steps role old log new → Among (record { request = request; answer = a }) new.held
 held_through role request a old [] new held never is = subst (λ (n : Node). Among (record { request = request; answer = a }) n.held) (sym is) held
 held_through role request a old (d ∷ log) new held never s = held_through role request a d.effect.node log new (⊎_elim (λ stays. stays) (λ gone. absurd (never d (inl refl) gone)) ((step_held role old d.input d.effect s.1).stays (record { request = request; answer = a }) held)) (λ x among. never x (inr among)) s.2
 
@@ -89,26 +89,26 @@ last_step role old (d ∷ log) done new s =
 
 -- nothing is sent, and no bearer comes
 pub record IsQuiet (old : Node) (e : Effect) : Type 0 where
-  pub silent : messages e.out.sent ≡ []
+  pub silent : datagrams e.out.sent ≡ []
   pub none_comes : (key : ℕ) (b : Bearer) → get e.node.bearers key ≡ Some b → (x : Bearer) × (get old.bearers key ≡ Some x)
 
--- one message is sent, and is held as the answer
+-- one datagram is sent, and is held as the answer
 pub record IsAnswered (request : Arrival) (e : Effect) : Type 0 where
-  pub answer : Message
-  pub sends : messages e.out.sent ≡ answer ∷ []
+  pub answer : List Message
+  pub sends : datagrams e.out.sent ≡ answer ∷ []
   pub held : Among (record { request = request; answer = answer }) e.node.held
 
 abbrev Responds : Arrival → Node → Effect → Type 0
 Responds request old e = IsQuiet old e ⊎ IsAnswered request e
 
 quiet : (request : Arrival) (old : Node) (e : Effect) (why : DropReason) → e ≡ dropped old why → Responds request old e
-quiet request old e why gives = inl (record { silent = ap (λ (f : Effect). messages f.out.sent) gives; none_comes = λ key b is. (b, ap (λ (f : Effect). get f.node.bearers key) (sym gives) ∙ is) })
+quiet request old e why gives = inl (record { silent = ap (λ (f : Effect). datagrams f.out.sent) gives; none_comes = λ key b is. (b, ap (λ (f : Effect). get f.node.bearers key) (sym gives) ∙ is) })
 
-made : (request : Arrival) (old : Node) (e : Effect) (m : Message) (cause : ℕ) (new : Node) → e ≡ making request m cause new → Responds request old e
-made request old e m cause new gives = inr (record { answer = m; sends = ap (λ (f : Effect). messages f.out.sent) gives; held = subst (λ (f : Effect). Among (record { request = request; answer = m }) f.node.held) (sym gives) (Among-last {X = Held} (record { request = request; answer = m }) new.held) })
+made : (request : Arrival) (old : Node) (e : Effect) (m : List Message) (cause : ℕ) (new : Node) → e ≡ making request m cause new → Responds request old e
+made request old e m cause new gives = inr (record { answer = m; sends = ap (λ (f : Effect). datagrams f.out.sent) gives; held = subst (λ (f : Effect). Among (record { request = request; answer = m }) f.node.held) (sym gives) (Among-last {X = Held} (record { request = request; answer = m }) new.held) })
 
 gave : (request : Arrival) (old : Node) (e : Effect) (m : Message) (cause : ℕ) (new : Node) → e ≡ answered request m cause new → Responds request old e
-gave request old e m cause new gives = inr (record { answer = m; sends = ap (λ (f : Effect). messages f.out.sent) gives; held = subst (λ (f : Effect). Among (record { request = request; answer = m }) f.node.held) (sym gives) (Among-last {X = Held} (record { request = request; answer = m }) new.held) })
+gave request old e m cause new gives = inr (record { answer = m ∷ []; sends = ap (λ (f : Effect). datagrams f.out.sent) gives; held = subst (λ (f : Effect). Among (record { request = request; answer = m ∷ [] }) f.node.held) (sym gives) (Among-last {X = Held} (record { request = request; answer = m ∷ [] }) new.held) })
 
 bearer_asked : (request : Arrival) (q : CreateBearerRequest) (old : Node) (e : Effect) → BearerAsked request q old e → Responds request old e
 bearer_asked request q old e (inl f) = quiet request old e _ f.1
@@ -151,15 +151,15 @@ module _ (request : Arrival) (Takes : Node → Effect → Type 0) (takes : (old 
   heard : (old : Node) (o : Option ℕ) (e : Effect) → Hears Takes old o e → Responds request old e
   heard old None e r = takes old e r
   heard old (Some c) e r = ⊎_elim
-      (λ q. inl (record { silent = ap (λ (f : Effect). messages f.out.sent) r.2 ∙ q.silent; none_comes = λ key b is. q.none_comes key b (ap (λ (f : Effect). get f.node.bearers key) (sym r.2) ∙ is) }))
-      (λ a. inr (record { answer = a.answer; sends = ap (λ (f : Effect). messages f.out.sent) r.2 ∙ a.sends; held = subst (λ (f : Effect). Among (record { request = request; answer = a.answer }) f.node.held) (sym r.2) a.held }))
+      (λ q. inl (record { silent = ap (λ (f : Effect). datagrams f.out.sent) r.2 ∙ q.silent; none_comes = λ key b is. q.none_comes key b (ap (λ (f : Effect). get f.node.bearers key) (sym r.2) ∙ is) }))
+      (λ a. inr (record { answer = a.answer; sends = ap (λ (f : Effect). datagrams f.out.sent) r.2 ∙ a.sends; held = subst (λ (f : Effect). Among (record { request = request; answer = a.answer }) f.node.held) (sym r.2) a.held }))
       (weighed old c old.known r.0 r.1)
 
 -- a repeat sends the answer that is held, and changes nothing
 repeated : (request : Arrival) (old : Node) (e : Effect) → Repeats old request e → Responds request old e
 repeated request old e r = inr (record {
   answer = r.held.answer;
-  sends = ap (λ (f : Effect). messages f.out.sent) r.gives;
+  sends = ap (λ (f : Effect). datagrams f.out.sent) r.gives;
   held = subst (λ (f : Effect). Among (record { request = request; answer = r.held.answer }) f.node.held) (sym r.gives) (subst (λ h. Among h old.held) entry r.stands);
 })
   where
@@ -178,7 +178,7 @@ on_request Packet request (Create_session_request q) makes old e r = control (Pa
 on_request Serving request _ makes old e r = absurd makes
 on_request Packet request _ makes old e r = absurd makes
 
-only : (a b : Message) (sent : List Message) → sent ≡ b ∷ [] → Among a sent → a ≡ b
+only : (a b : List Message) (sent : List (List Message)) → sent ≡ b ∷ [] → Among a sent → a ≡ b
 only a b sent is among = one (subst (Among a) is among)
   where
     one : Among a (b ∷ []) → a ≡ b
@@ -186,19 +186,19 @@ only a b sent is among = one (subst (Among a) is among)
     one (inr none) = absurd none
 
 -- a request whose answer is held changes nothing, and gets that answer
-pub record IsAgain (old : Node) (e : Effect) (a : Message) : Type 0 where
+pub record IsAgain (old : Node) (e : Effect) (a : List Message) : Type 0 where
   pub same : e.node ≡ old
-  pub sends : (b : Message) → Among b (messages e.out.sent) → b ≡ a
+  pub sends : (b : List Message) → Among b (datagrams e.out.sent) → b ≡ a
 
-again : (Reads : Arrival → Node → Effect → Type 0) (request : Arrival) (a : Message) (old : Node) (e : Effect) → HeldOnce old → Among (record { request = request; answer = a }) old.held → ControlStep Reads request old e → IsAgain old e a
-again Reads request a old e o held (inl f) = record { same = ap (λ (x : Effect). x.node) f.1; sends = λ b among. absurd (subst (Among b) (ap (λ (x : Effect). messages x.out.sent) f.1) among) }
+again : (Reads : Arrival → Node → Effect → Type 0) (request : Arrival) (a : List Message) (old : Node) (e : Effect) → HeldOnce old → Among (record { request = request; answer = a }) old.held → ControlStep Reads request old e → IsAgain old e a
+again Reads request a old e o held (inl f) = record { same = ap (λ (x : Effect). x.node) f.1; sends = λ b among. absurd (subst (Among b) (ap (λ (x : Effect). datagrams x.out.sent) f.1) among) }
 again Reads request a old e o held (inr (peer, inl r)) = record {
   same = ap (λ (x : Effect). x.node) r.gives;
-  sends = λ b among. only b r.held.answer (messages e.out.sent) (ap (λ (x : Effect). messages x.out.sent) r.gives) among ∙ o.once r.held (record { request = request; answer = a }) r.stands held r.same;
+  sends = λ b among. only b r.held.answer (datagrams e.out.sent) (ap (λ (x : Effect). datagrams x.out.sent) r.gives) among ∙ o.once r.held (record { request = request; answer = a }) r.stands held r.same;
 }
 again Reads request a old e o held (inr (peer, inr r)) = absurd (r.0 (record { request = request; answer = a }) held refl)
 
-step_again : (role : Role) (request : Arrival) (m : Message) (a : Message) (old : Node) (e : Effect) → HeldOnce old → Among (record { request = request; answer = a }) old.held → Step role old (Control_came request (Control_message m)) e → IsAgain old e a
+step_again : (role : Role) (request : Arrival) (m : Message) (a : List Message) (old : Node) (e : Effect) → HeldOnce old → Among (record { request = request; answer = a }) old.held → Step role old (Control_came request (Control_message m)) e → IsAgain old e a
 step_again Serving request m a old e o held r = again (ServingReads (Control_message m)) request a old e o held r
 step_again Packet request m a old e o held r = again (PacketReads (Control_message m)) request a old e o held r
 
@@ -245,7 +245,7 @@ acts_once role request message first second t = ⊎_elim quietly answered_so res
         let g = step_again role request message is.answer l.mid second.effect mid_once held (subst (λ i. Step role l.mid i second.effect) t.second_takes l.step) in
         record {
           one_context = λ x y. there_not (get second.before.bearers y.key) y.bearer y.none (ap (λ (n : Node). get n.bearers y.key) (l.before ∙ sym g.same) ∙ y.comes);
-          one_answer = λ a b a_in b_in. only a is.answer (messages first.effect.out.sent) is.sends a_in ∙ sym (g.sends b b_in);
+          one_answer = λ a b a_in b_in. only a is.answer (datagrams first.effect.out.sent) is.sends a_in ∙ sym (g.sends b b_in);
         }
 
 -- some steps, and those after them

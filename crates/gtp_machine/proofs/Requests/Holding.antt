@@ -8,7 +8,7 @@ use Rattle.gtp_values.specs.declared.qos.Qos.{Qos}
 use Rattle.gtp_machine.specs.Element.{cause_of}
 use Rattle.gtp_machine.specs.Message.{Message, DeleteBearerRequest, Delete_bearer_response, Packet_data, End_marker, Error_indication, recovery_of}
 use Rattle.gtp_machine.specs.Node.{Role, Serving, Packet, Session, PendingRequest, Arrival, Held, Node, written}
-use Rattle.gtp_machine.specs.Input.{Command, Create_session, Delete_session, Create_bearer, Delete_bearer, Release_session, Mark_end, Send_echo, Send_user, RequestKind, FaultyRequest, ControlReading, Control_message, Faulty, Control_fault, Control_came, UserReading, User_message, Extension_needed, User_fault, Outcome, Effect, messages}
+use Rattle.gtp_machine.specs.Input.{Command, Create_session, Delete_session, Create_bearer, Delete_bearer, Release_session, Mark_end, Send_echo, Send_user, RequestKind, FaultyRequest, ControlReading, Control_message, Faulty, Control_fault, Control_came, UserReading, User_message, Extension_needed, User_fault, Outcome, Effect, messages, datagrams}
 use Rattle.gtp_machine.specs.Recovery.{Judges, Weighs, Hears}
 use Rattle.gtp_machine.specs.Response.{EchoAnswered, finishing}
 use Rattle.gtp_machine.specs.User.{PacketCame, EndCame, ErrorCame, UserTaken, UserRead, UserStep}
@@ -148,7 +148,7 @@ user_held role source reading old e r = keeps_calm old e (user_calm role source 
 
 -- a step that holds one more answer to the request
 pub record Adds (request : Arrival) (old : Node) (e : Effect) : Type 0 where
-  pub answer : Message
+  pub answer : List Message
   pub held : e.node.held ≡ old.held ++ (record { request = request; answer = answer } ∷ [])
 
 -- what taking a control message does with what is held
@@ -159,8 +159,8 @@ Holds request old e = Keeps old e ⊎ Adds request old e
 pub record Gives (request : Arrival) (create : Bool) (old : Node) (e : Effect) : Type 0 where
   pub answer : Message
   pub is : is_create_answer answer ≡ create
-  pub held : e.node.held ≡ old.held ++ (record { request = request; answer = answer } ∷ [])
-  pub sends : messages e.out.sent ≡ answer ∷ []
+  pub held : e.node.held ≡ old.held ++ (record { request = request; answer = answer ∷ [] } ∷ [])
+  pub sends : datagrams e.out.sent ≡ (answer ∷ []) ∷ []
 
 -- what a control message gets
 abbrev pub Answers : Arrival → Bool → Node → Effect → Type 0
@@ -168,7 +168,7 @@ Answers request create old e = Calm old e ⊎ Gives request create old e
 
 holds : (request : Arrival) (create : Bool) (old : Node) (e : Effect) → Answers request create old e → Holds request old e
 holds request create old e (inl calm) = inl (keeps_calm old e calm)
-holds request create old e (inr g) = inr (record { answer = g.answer; held = g.held })
+holds request create old e (inr g) = inr (record { answer = g.answer ∷ []; held = g.held })
 
 module _ (request : Arrival) (old : Node) (e : Effect) where
   drops : {create : Bool} (f : Effect) → e ≡ f → seen_in f ≡ (old.held, true) → Answers request create old e
@@ -177,8 +177,8 @@ module _ (request : Arrival) (old : Node) (e : Effect) where
   ends : {create : Bool} (number : ℕ) (p : PendingRequest) (outcome : Outcome) → e ≡ finishing old number p outcome → Answers request create old e
   ends number p outcome gives = inl (ap seen_in gives ∙ ap (λ (hs : List Held). (hs, true)) (Shrunk-finished old number p.session p.bearer).held)
 
-  answers : {create : Bool} (m : Message) (f : Effect) → e ≡ f → f.node.held ≡ old.held ++ (record { request = request; answer = m } ∷ []) → is_create_answer m ≡ create → messages f.out.sent ≡ m ∷ [] → Answers request create old e
-  answers m f gives same is sends = inr (record { answer = m; is = is; held = ap held_in gives ∙ same; sends = ap (λ (f : Effect). messages f.out.sent) gives ∙ sends })
+  answers : {create : Bool} (m : Message) (f : Effect) → e ≡ f → f.node.held ≡ old.held ++ (record { request = request; answer = m ∷ [] } ∷ []) → is_create_answer m ≡ create → datagrams f.out.sent ≡ (m ∷ []) ∷ [] → Answers request create old e
+  answers m f gives same is sends = inr (record { answer = m; is = is; held = ap held_in gives ∙ same; sends = ap (λ (f : Effect). datagrams f.out.sent) gives ∙ sends })
 
   echo_answered_answers : (a : _) → EchoAnswered a old e → Answers request false old e
   echo_answered_answers a (inl f) = drops _ f.1 refl
@@ -213,7 +213,7 @@ module _ (request : Arrival) (old : Node) (e : Effect) where
   removal_taken_answers d None s (inl f) = answers _ _ f.1 refl refl refl
   removal_taken_answers d None s (inr (a, r)) =
       let m = Delete_bearer_response (record { header = written s.remote; number = d.number; cause = cause_of (removal_cause r.contexts); linked = None; contexts = r.contexts; recovery = Some old.counter }) in
-      inr (record { answer = m; is = refl; sends = ap (λ (f : Effect). messages f.out.sent) r.gives; held = ap held_in r.gives ∙ ap (λ (hs : List Held). hs ++ (record { request = request; answer = m } ∷ [])) (removes_each d.header d.identities old r.contexts r.left r.removes).held })
+      inr (record { answer = m; is = refl; sends = ap (λ (f : Effect). datagrams f.out.sent) r.gives; held = ap held_in r.gives ∙ ap (λ (hs : List Held). hs ++ (record { request = request; answer = m ∷ [] } ∷ [])) (removes_each d.header d.identities old r.contexts r.left r.removes).held })
 
   removal_asked_answers : (d : DeleteBearerRequest) → RemovalAsked request d old e → Answers request false old e
   removal_asked_answers d (inl f) = drops _ f.1 refl
@@ -278,7 +278,7 @@ module _ (request : Arrival) (old : Node) (e : Effect) where
 module _ (request : Arrival) (create : Bool) (Takes : Node → Effect → Type 0) (takes : (old : Node) (e : Effect) → Takes old e → Answers request create old e) where
   from : (old mid : Node) (e : Effect) → mid.held ≡ old.held → Answers request create mid e → Answers request create old e
   from old mid e same (inl calm) = inl (calm ∙ ap (λ (hs : List Held). (hs, true)) same)
-  from old mid e same (inr g) = inr (record { answer = g.answer; is = g.is; held = g.held ∙ ap (λ (hs : List Held). hs ++ (record { request = request; answer = g.answer } ∷ [])) same; sends = g.sends })
+  from old mid e same (inr g) = inr (record { answer = g.answer; is = g.is; held = g.held ∙ ap (λ (hs : List Held). hs ++ (record { request = request; answer = g.answer ∷ [] } ∷ [])) same; sends = g.sends })
 
   judged : (old : Node) (c : ℕ) (a : Age) (e : Effect) → Judges Takes old c a e → Answers request create old e
   judged old c Same e r = takes old e r
@@ -293,7 +293,7 @@ module _ (request : Arrival) (create : Bool) (Takes : Node → Effect → Type 0
   heard_answers old None e r = takes old e r
   heard_answers old (Some c) e r = ⊎_elim
       (λ calm. inl (ap seen_in r.2 ∙ calm))
-      (λ g. inr (record { answer = g.answer; is = g.is; held = ap held_in r.2 ∙ g.held; sends = ap (λ (f : Effect). messages f.out.sent) r.2 ∙ g.sends }))
+      (λ g. inr (record { answer = g.answer; is = g.is; held = ap held_in r.2 ∙ g.held; sends = ap (λ (f : Effect). datagrams f.out.sent) r.2 ∙ g.sends }))
       (weighed old c old.known r.0 r.1)
 
 -- what comes on the control plane, at either gateway

@@ -5,7 +5,7 @@ use Rattle.gtp_values.specs.FiniteMap.{FiniteMap, Each, Among}
 use Rattle.gtp_values.proofs.Tests.{both}
 use Rattle.gtp_machine.specs.Message.{Message, Create_session_request, Create_bearer_request, recovery_of}
 use Rattle.gtp_machine.specs.Node.{Role, Serving, Packet, PendingRequest, Arrival, Held, Node}
-use Rattle.gtp_machine.specs.Input.{FaultyRequest, RequestKind, Control_message, Control_fault, Control_came, Move, Resend, Give_up, Forget, Out, Effect, messages}
+use Rattle.gtp_machine.specs.Input.{FaultyRequest, RequestKind, Control_message, Control_fault, Control_came, Move, Resend, Give_up, Forget, Out, Effect, messages, datagrams}
 use Rattle.gtp_machine.specs.Recovery.{Hears}
 use Rattle.gtp_machine.specs.Move.{MoveStep}
 use Rattle.gtp_machine.specs.Tick.{TickStep, ticked}
@@ -19,27 +19,27 @@ use Rattle.gtp_machine.proofs.Basics.Kinds.{creates, is_create_answer}
 use Rattle.gtp_machine.proofs.Changes.Shrinking.{Shrunk-finished}
 use Rattle.gtp_machine.proofs.Changes.Forgetting.{leaves}
 use Rattle.gtp_machine.proofs.Requests.Holding.{held_in, seen_in, are_plain, Calm, Gives, Answers, serving_answers, packet_answers, heard}
-use Rattle.gtp_machine.proofs.Worlds.Ticking.{both_messages}
+use Rattle.gtp_machine.proofs.Basics.Datagrams.{both_messages, of_one}
 
 -- no such response is sent, and none comes to be held
 pub record IsLesser (old : Node) (e : Effect) : Type 0 where
   pub plain : are_plain (messages e.out.sent) ≡ true
-  pub held : (h : Held) → Among h e.node.held → Among h old.held ⊎ (is_create_answer h.answer ≡ false)
+  pub held : (h : Held) → Among h e.node.held → Among h old.held ⊎ (are_plain h.answer ≡ true)
 
 -- the request came before, and gets the answer that is held for it
 pub record IsRepeated (request : Arrival) (old : Node) (e : Effect) : Type 0 where
   pub held : Held
   pub stands : Among held old.held
   pub same : held.request ≡ request
-  pub says : messages e.out.sent ≡ held.answer ∷ []
+  pub says : datagrams e.out.sent ≡ held.answer ∷ []
   pub stays : e.node.held ≡ old.held
 
 -- the request is new, and its answer is given by the rules, and held
 pub record IsReplied (role : Role) (m : Message) (request : Arrival) (old : Node) (e : Effect) : Type 0 where
   pub answer : Message
   pub asked : CreateAsked role m request old e
-  pub says : messages e.out.sent ≡ answer ∷ []
-  pub held : e.node.held ≡ old.held ++ (record { request = request; answer = answer } ∷ [])
+  pub says : datagrams e.out.sent ≡ (answer ∷ []) ∷ []
+  pub held : e.node.held ≡ old.held ++ (record { request = request; answer = answer ∷ [] } ∷ [])
 
 -- what a step on a control message does with these responses
 abbrev pub Replies : Role → Message → Arrival → Node → Effect → Type 0
@@ -53,8 +53,8 @@ lesser_calm old e calm = record {
 
 lesser_given : (request : Arrival) (old : Node) (e : Effect) → Gives request false old e → IsLesser old e
 lesser_given request old e g = record {
-  plain = ap are_plain g.sends ∙ ap (λ (b : Bool). not b && true) g.is;
-  held = λ h among. ⊎_elim (λ was. inl was) (λ is. inr (ap (λ (k : Held). is_create_answer k.answer) is ∙ g.is)) (Among-one_more h (record { request = request; answer = g.answer }) old.held (subst (Among h) g.held among));
+  plain = ap are_plain (of_one e.out.sent g.answer g.sends) ∙ ap (λ (b : Bool). not b && true) g.is;
+  held = λ h among. ⊎_elim (λ was. inl was) (λ is. inr (ap (λ (k : Held). are_plain k.answer) is ∙ ap (λ (b : Bool). not b && true) g.is)) (Among-one_more h (record { request = request; answer = g.answer ∷ [] }) old.held (subst (Among h) g.held among));
 }
 
 answered : (role : Role) (m : Message) (request : Arrival) (old : Node) (e : Effect) (create : Bool) → (create ≡ true → CreateAsked role m request old e) → Answers request create old e → Replies role m request old e
@@ -80,7 +80,7 @@ module _ (role : Role) (takes : Message → Bool) (Takes : Arrival → Message �
 module _ (Reads : Arrival → Node → Effect → Type 0) (request : Arrival) (old : Node) (e : Effect) (X : Type 0) where
   control : (Reads request old e → IsLesser old e ⊎ (IsRepeated request old e ⊎ X)) → ControlStep Reads request old e → IsLesser old e ⊎ (IsRepeated request old e ⊎ X)
   control reads (inl f) = inl (lesser_calm old e (ap seen_in f.1))
-  control reads (inr (peer, inl r)) = inr (inl (record { held = r.held; stands = r.stands; same = r.same; says = ap (λ (f : Effect). messages f.out.sent) r.gives; stays = ap held_in r.gives }))
+  control reads (inr (peer, inl r)) = inr (inl (record { held = r.held; stands = r.stands; same = r.same; says = ap (λ (f : Effect). datagrams f.out.sent) r.gives; stays = ap held_in r.gives }))
   control reads (inr (peer, inr r)) = reads r.1
 
 -- a message of the control plane comes

@@ -24,7 +24,7 @@ use Rattle.gtp_machine.proofs.Origins.Contexts.{closes-shrinks}
 use Rattle.gtp_machine.proofs.Changes.Shrinking.{Shrunk, Shrunk-itself, Shrunk-without, Shrunk-finished, Shrunk-bearer, Shrunk-closing, Shrinks-restart, restart_pending, restart_leaves_pending, closing_same, ended_same}
 use Rattle.gtp_machine.proofs.Changes.Matching.{IsMatched-shrinks}
 use Rattle.gtp_machine.proofs.Origins.Entries.{Once, IsFor}
-use Rattle.gtp_machine.proofs.Changes.Steps.{IsHandedNow, IsAnsweredNow, at_result, IsPlain, IsHeardFrom, Draws-from, Logs-from, Heard-itself}
+use Rattle.gtp_machine.proofs.Changes.Steps.{IsHandedNow, IsAnsweredNow, at_result, one_repeated, IsPlain, IsHeardFrom, Draws-from, Logs-from, Heard-itself}
 use Rattle.gtp_machine.proofs.Changes.After.{Contexts-shrinks, Knows, KnownBy, KnownAfter, IsTold, nothing_told, After, drawn-shrinks, standing-shrinks, ready-shrinks, later, shrunk, stays, speaks, asks_plain, repeated}
 use Rattle.gtp_machine.proofs.Changes.Carrying.{leaves_for, comes_for}
 use Rattle.gtp_machine.proofs.Changes.Forgetting.{leaves}
@@ -87,6 +87,7 @@ module _ (role : Role) (history : List Sent) (taken : Arrival → Message → Ty
           answers = answers;
           made = inl refl;
         };
+        alone = (tt, tt);
       })
     where
       packets : (entry : Entry) → entry.target ≡ written b.remote → entry.payload ≡ payload → (t : ℕ) (p : List ℕ) → Among (Packet_data t p) (Packet_data (written b.remote) payload ∷ []) → HasSent history role (Packet_data t p) ⊎ IsHandedNow (record (says (user_end old.config.peer.user) (Packet_data (written b.remote) payload)) { handed = entry ∷ [] }) t p
@@ -142,7 +143,9 @@ module _ (role : Role) (history : List Sent) (taken : Arrival → Message → Ty
   packet_sent by bearer payload e (inr (at, inr (active, inr (goes, inr (short, r))))) = sends bearer payload at.bearer e at.stands active r
 
   pub repeats : (request : Arrival) (e : Effect) → Repeats old request e → After role history taken old e
-  repeats request e r = at_result (After role history taken old) e _ r.gives (repeated role history taken old knows request.source r.held.answer (Came_to Repeated) (knows.held r.held r.stands))
+  repeats request e r =
+      let was = knows.held r.held r.stands in
+      at_result (After role history taken old) e _ (one_repeated old request e r was.message was.alone) (repeated role history taken old knows request.source was.message (Came_to Repeated) was.sent)
 
   forgets : (request : Arrival) (e : Effect) → Forgets old request e → After role history taken old e
   forgets request e r =
@@ -161,6 +164,7 @@ module _ (role : Role) (history : List Sent) (taken : Arrival → Message → Ty
           answers = λ x t none. absurd none;
           made = inl refl;
         };
+        alone = tt;
       })
 
   pub moves : (move : Move) (e : Effect) → MoveStep old move e → After role history taken old e
@@ -185,6 +189,7 @@ module _ (role : Role) (history : List Sent) (taken : Arrival → Message → Ty
           answers = λ x t none. absurd none;
           made = inl refl;
         };
+        alone = tt;
       })
     where
       accepted : (entry : Entry) → HasSent history (other role) (Packet_data entry.target entry.payload) → IsFor history role entry → (e : Entry) → Among e (entry ∷ []) → HasSent history (other role) (Packet_data e.target e.payload) × IsFor history role e
@@ -263,6 +268,7 @@ from_mid role history taken old mid e heard learned from told known after = reco
   known = known;
   told = λ c is. subst (IsTold history (other role)) (let same : heard ≡ c = cc is in same) told;
   logs = Logs-from history role taken old mid e (Some heard) learned from after.logs;
+  alone = after.alone;
 }
 
 -- equal ages are equal counters

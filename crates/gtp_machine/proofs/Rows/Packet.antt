@@ -74,6 +74,7 @@ module _ (history : List Sent) (taken : Arrival → Message → Type 0) (serving
         told = nothing_told history Serving;
         draws = Draws-new history Packet old new_node m refl refl (λ t stood. inr stood) (one_more_drawn old.counter r.user old.drawn r.user_free.counted) (record { free = λ t is. subst (IsFree old) (sym is) r.user_free; drawn = λ t is. inl is; told = λ c e. absurd (none_some c e); tells = λ t none. absurd none; proper = tt });
         logs = Logs-plain history Packet taken old new_node (Came_to (Begun (Some r.user))) (λ h stood. stood) _ m tt;
+        alone = (tt, tt);
       })
     where
       of_session : (q k : CreateBearerRequest) → Create_bearer_request q ≡ Create_bearer_request k → (b : Bearer) → get (insert old.bearers q.context.user.teid (pending_dedicated session)) k.context.user.teid ≡ Some b → Some session ≡ Some b.session
@@ -123,16 +124,17 @@ module _ (history : List Sent) (taken : Arrival → Message → Type 0) (serving
           });
           known = refl;
           told = nothing_told history Serving;
-          draws = Draws-new history Packet old (holding request m new) m refl refl (λ t stood. inr (inr stood)) (two_more_drawn old.counter r.user r.control old.drawn r.user_free.counted r.control_free.counted) (record { free = free; drawn = drawn; told = λ c e. cc e; tells = λ t is owns. refl; proper = record { control = λ accepts. (r.control, refl); user = λ accepts. (r.user, refl); apart = λ t control user. r.apart (same_Some r.control t control ∙ sym (same_Some r.user t user)) } });
+          draws = Draws-new history Packet old (holding request (m ∷ []) new) m refl refl (λ t stood. inr (inr stood)) (two_more_drawn old.counter r.user r.control old.drawn r.user_free.counted r.control_free.counted) (record { free = free; drawn = drawn; told = λ c e. cc e; tells = λ t is owns. refl; proper = record { control = λ accepts. (r.control, refl); user = λ accepts. (r.user, refl); apart = λ t control user. r.apart (same_Some r.control t control ∙ sym (same_Some r.user t user)) } });
           logs =
-              let l = Logs-plain history Packet taken old (holding request m new) (Came_to (Answered (session_cause q.pdn r.address))) (λ h stood. Among-left h old.held _ stood) request.source m tt in record {
+              let l = Logs-plain history Packet taken old (holding request (m ∷ []) new) (Came_to (Answered (session_cause q.pdn r.address))) (λ h stood. Among-left h old.held _ stood) request.source m tt in record {
                 held_stays = l.held_stays;
                 packets = λ t p among. absurd (no_packet a t p among);
                 handed = l.handed;
                 accepted = l.accepted;
                 answers = l.answers;
-                made = inr (record { arrival = request; is = refl; message = Create_session_request q; came = is_taken; answer = m; held = Among-last {X = Held} (record { request = request; answer = m }) old.held });
+                made = inr (record { arrival = request; is = refl; message = Create_session_request q; came = is_taken; answer = m ∷ []; held = Among-last {X = Held} (record { request = request; answer = m ∷ [] }) old.held });
               };
+          alone = (tt, tt);
         })
       where
         no_packet : (a : CreateSessionResponse) (t : ℕ) (p : List ℕ) → Among (Packet_data t p) (Create_session_response a ∷ []) → ⊥
@@ -225,6 +227,7 @@ module _ (history : List Sent) (taken : Arrival → Message → Type 0) (serving
             told = nothing_told history Serving;
             draws = Draws-nothing history Packet old new_node refl refl refl;
             logs = Logs-silent history Packet taken old new_node (Came_to Opened) (λ h stood. stood) [];
+            alone = tt;
           })
         where
           session_is : x.header ≡ r.at.bearer.session

@@ -69,6 +69,7 @@ module _ (history : List Sent) (taken : Arrival → Message → Type 0) (serving
         told = nothing_told history Packet;
         draws = Draws-new history Serving old new_node m refl refl (λ t stood. inr (inr stood)) (two_more_drawn old.counter r.user r.control old.drawn r.user_free.counted r.control_free.counted) (record { free = free; drawn = drawn; told = λ c e. cc e; tells = λ t is owns. refl; proper = r.apart });
         logs = Logs-plain history Serving taken old new_node (Came_to (Begun (Some r.control))) (λ h stood. stood) _ m tt;
+        alone = (tt, tt);
       })
     where
       pending_not_closing : Pending ≡ Closing → ⊥
@@ -171,6 +172,7 @@ module _ (history : List Sent) (taken : Arrival → Message → Type 0) (serving
             told = nothing_told history Packet;
             draws = Draws-nothing history Serving old new_node refl refl refl;
             logs = Logs-silent history Serving taken old new_node (Came_to Opened) (λ h stood. stood) [];
+            alone = tt;
           })
         where
           -- no other pending request is for this session
@@ -282,7 +284,7 @@ module _ (history : List Sent) (taken : Arrival → Message → Type 0) (serving
           });
           known = refl;
           told = nothing_told history Packet;
-          draws = Draws-new history Serving old (holding request m new) m refl refl (λ t stood. inr stood) (one_more_drawn old.counter r.user old.drawn r.user_free.counted) (record {
+          draws = Draws-new history Serving old (holding request (m ∷ []) new) m refl refl (λ t stood. inr stood) (one_more_drawn old.counter r.user old.drawn r.user_free.counted) (record {
             free = λ t is. subst (IsFree old) (let same : r.user ≡ t = cc is in same) r.user_free;
             drawn = λ t is. inl (let same : t ≡ r.user = cc is in same);
             told = λ c e. cc e;
@@ -294,9 +296,10 @@ module _ (history : List Sent) (taken : Arrival → Message → Type 0) (serving
             packets = λ t p among. absurd (no_packet x t p among);
             handed = λ e none. absurd none;
             accepted = λ e none. absurd none;
-            answers = answers x (holding request m new) (record { request = q; sent = came; echoed = refl; arrival = request; came = is_taken; session = at.session; stands = at.stands; held = Among-last {X = Held} (record { request = request; answer = m }) old.held });
-            made = inr (record { arrival = request; is = refl; message = Create_bearer_request q; came = is_taken; answer = m; held = Among-last {X = Held} (record { request = request; answer = m }) old.held });
+            answers = answers x (holding request (m ∷ []) new) (record { request = q; sent = came; echoed = refl; arrival = request; came = is_taken; session = at.session; stands = at.stands; held = Among-last {X = Held} (record { request = request; answer = m ∷ [] }) old.held });
+            made = inr (record { arrival = request; is = refl; message = Create_bearer_request q; came = is_taken; answer = m ∷ []; held = Among-last {X = Held} (record { request = request; answer = m ∷ [] }) old.held });
           };
+          alone = (tt, tt);
         })
       where
         not_closing : (s : Session) → get old.sessions q.header ≡ Some s → s.state ≡ Closing → ⊥

@@ -1,5 +1,5 @@
 -- What a gateway does with a control message leaves what each knows, and tells no counter.
-use Rattle.std.proofs.Common.{◌≡◌, inl, inr, ℕ, List, [], Option, Some, None, refl, sym, ◌∙◌, ap}
+use Rattle.std.proofs.Common.{◌≡◌, inl, inr, ℕ, List, [], ◌∷◌, Option, Some, None, refl, sym, ◌∙◌, ap}
 use Rattle.gtp_machine.specs.Message.{Echo, Message, Echo_response, Owns, recovery_of}
 use Rattle.gtp_machine.specs.Node.{Role, State, Active, Closing, PendingRequest, Arrival, Node, holding, written}
 use Rattle.gtp_machine.specs.Input.{Came_to, DropReason, Outcome, Echoed, Effect, dropped}
@@ -34,7 +34,7 @@ module _ (role : Role) (history : List Sent) (taken : Arrival → Message → Ty
   ends number p outcome e gives = took e _ gives refl (shrunk role history taken old knows (finished old number p) (Shrunk-finished old number p.session p.bearer) [] (Came_to outcome))
 
   pub gives_answer : (request : Arrival) (m : Message) (cause : ℕ) (new : Node) (e : Effect) → e ≡ answered request m cause new → Shrunk old new → IsPlain m → ((t : ℕ) → Owns m t → ⊥) → ((r : ℕ) → recovery_of m ≡ Some r → r ≡ old.counter) → IsProper m → Took role history taken old e
-  gives_answer request m cause new e gives s plain none told proper = took e _ gives refl (answers role history taken old knows request m cause new s plain (Made-plain history old (holding request m new) m none told proper))
+  gives_answer request m cause new e gives s plain none told proper = took e _ gives refl (answers role history taken old knows request m cause new s plain (Made-plain history old (holding request (m ∷ []) new) m none told proper))
 
   pub takes_echo : (request : Arrival) (q : Echo) (e : Effect) → e ≡ echoed request q old → Took role history taken old e
   takes_echo request q e gives = took e _ gives refl (speaks role history taken old knows request.source (Echo_response (record { number = q.number; recovery = old.counter })) (Came_to Echoed) old (Shrunk-itself old) tt (Made-plain history old old (Echo_response (record { number = q.number; recovery = old.counter })) (λ t none. none) (λ c e. cc e) tt))

@@ -1,5 +1,5 @@
 -- Each change of a node that a row makes leaves it sound.
-use Rattle.std.proofs.Common.{◌≡◌, ◌≢◌, ◌⊎◌, inl, inr, ⊎_elim, ℕ, ◌+◌, ◌≤◌, ◌<◌, eqb, cond, Bool, true, false, not, ◌||◌, [], ◌∷◌, length, length-append, Option, Some, None, refl, sym, ◌∙◌, ap, subst, arith}
+use Rattle.std.proofs.Common.{◌≡◌, ◌≢◌, ◌⊎◌, inl, inr, ⊎_elim, ℕ, ◌+◌, ◌≤◌, ◌<◌, eqb, cond, Bool, true, false, not, ◌||◌, List, [], ◌∷◌, length, length-append, Option, Some, None, refl, sym, ◌∙◌, ap, subst, arith}
 use Rattle.std.proofs.lemmas.Bool.{cases_eq, eq-eqb, ne_eqb}
 use Rattle.std.specs.FinMap.{get, insert, remove, len, gets}
 use Rattle.gtp_values.specs.FiniteMap.{FiniteMap, Among, kept, changed}
@@ -129,7 +129,7 @@ module _ (role : Role) where
         by (inr (inr (inr (inr d)))) = one d.key d.closes.0 d.bearer d.closes.1 d.closes.2.is_kind
 
     -- an answer is held
-    pub holding_sound : (request : Arrival) (answer : Message) → length old.held < 4096 → IsSound role (holding request answer old)
+    pub holding_sound : (request : Arrival) (answer : List Message) → length old.held < 4096 → IsSound role (holding request answer old)
     holding_sound request answer room = record {
       contexts = sound.contexts;
       requests = sound.requests;

@@ -18,19 +18,22 @@ use Rattle.gtp_v2.specs.CreateSessionResponse.{create_session_response, session_
 use Rattle.gtp_v2.specs.CreateBearerResponse.{create_bearer_response, bearer_response_context_rows}
 use Rattle.gtp_v2.specs.Message.{Content, Fields, Raw, MessageValue}
 use Rattle.gtp_v2.specs.reading.Message.{message_at}
+use Rattle.gtp_v2.specs.reading.Pair.{datagram_at}
 use Rattle.gtp_v2.specs.Datagram.{IsMessage, CarriesBy}
+use Rattle.gtp_v2.specs.Pair.{DatagramValue, IsDatagram}
 use Rattle.gtp_v2.specs.Tables.{table_of}
 use Rattle.gtp_v2.specs.declared.fault.Head.{Head}
 use Rattle.gtp_v2.specs.declared.fault.V2Fault.{V2Fault}
 use Rattle.gtp_v2.specs.declared.fault.V2Fault.TheVariants as faults
 use Rattle.gtp_v2.proofs.Told.{message_decided}
+use Rattle.gtp_v2.proofs.Pairs.{datagram_decided}
 use Rattle.gtp_machine.specs.Element.{IsAccepting, cause_of, teid_in}
 use Rattle.gtp_machine.specs.Message.{CreatedBearer, GivenBearer, Message}
 use Rattle.gtp_machine.specs.Node.{Arrival, written}
 use Rattle.gtp_machine.specs.Input.{Control_came, RequestKind, Defect, Too_short, Out_of_range}
 use Rattle.gtp_machine.specs.Decoded.{row_in, contexts_in, end_in, first_in, cause_at, row, values_in, groups_in, created, given, session_request_in, bearer_request_in, message_in, message_of}
-use Rattle.gtp_machine.specs.Reading.{control_fault, control_reading_of, element_fault, defect_in, request_kind, missing_in}
-use Rattle.gtp_machine.specs.Sound.{IsWhole, IsWellFormed, ReadsWhole}
+use Rattle.gtp_machine.specs.Reading.{control_fault, control_reading_of, control_reading, element_fault, defect_in, request_kind, missing_in, DatagramReading, Alone, announces, messages_read, pair_reading_of, taken_as}
+use Rattle.gtp_machine.specs.Sound.{IsWhole, IsWellFormed, ReadsWhole, TakenWhole}
 use Rattle.gtp_machine.proofs.Octets.Readings.{typed_lines}
 use Rattle.gtp_values.proofs.Tests.{same_number}
 
@@ -225,7 +228,7 @@ element_read request head elements.TooLong = tt
 fault_read : (request : Arrival) (fault : V2Fault) → IsWellFormed (Control_came request (control_fault fault))
 fault_read request (faults.Short held) = tt
 fault_read request (faults.Version version) = tt
-fault_read request faults.Piggyback = tt
+fault_read request (faults.BadPiggyback at) = tt
 fault_read request (faults.Length stated held) = tt
 fault_read request (faults.FlagT kind) = tt
 fault_read request (faults.Missing kind instance conditional head) = defect_read request (request_kind head.kind) head (missing_in conditional) kind instance
@@ -240,3 +243,19 @@ read_whole request (Err f) e = fault_read request f
 
 pub reads_whole : ReadsWhole
 reads_whole request reading is = subst (λ r. IsWellFormed (Control_came request r)) (sym is) (read_whole request (message_at request.octets) refl)
+
+-- two messages are taken for one of another type, which has nothing to be whole
+pair_whole : (request : Arrival) (r : Result DatagramValue V2Fault) → datagram_at request.octets ≡ r → IsWellFormed (Control_came request (taken_as (pair_reading_of r)))
+pair_whole request (Err f) e = tt
+pair_whole request (Ok d) e = by_messages ((datagram_decided request.octets).ok d e)
+  where
+    by_messages : IsDatagram request.octets d → IsWellFormed (Control_came request (taken_as (messages_read d.first d.second)))
+    by_messages (inl (m, is, same)) = subst (λ (v : DatagramValue). IsWellFormed (Control_came request (taken_as (messages_read v.first v.second)))) (sym same) (message_whole request.octets m is)
+    by_messages (inr (front, back, announces, (a, first, (b, second, same)))) = subst (λ (v : DatagramValue). IsWellFormed (Control_came request (taken_as (messages_read v.first v.second)))) (sym same) tt
+
+pub taken_whole : TakenWhole
+taken_whole request reading is = subst (λ (r : DatagramReading). IsWellFormed (Control_came request (taken_as r))) (sym is) (by_announcement (announces request.octets))
+  where
+    by_announcement : (b : Bool) → IsWellFormed (Control_came request (taken_as (if b then pair_reading_of (datagram_at request.octets) else Alone (control_reading request.octets))))
+    by_announcement true = pair_whole request (datagram_at request.octets) refl
+    by_announcement false = read_whole request (message_at request.octets) refl

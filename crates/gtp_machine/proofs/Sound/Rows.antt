@@ -221,7 +221,7 @@ module _ (old : Node) where
     deletion_answered d e (inr (at, inl f)) = by_row Serving e _ f.1 sound
     deletion_answered d e (inr (at, inr (fits, gives))) = by_row Serving e _ gives (ends Serving sound d.number at)
 
-    holds : (role : Role) → IsSound role old → (request : Arrival) (answer : Message) → length old.held < 4096 → IsSound role (holding request answer old)
+    holds : (role : Role) → IsSound role old → (request : Arrival) (answer : List Message) → length old.held < 4096 → IsSound role (holding request answer old)
     holds role s request answer room = holding_sound role old s request answer room
 
     bearer_asked : (request : Arrival) (q : CreateBearerRequest) (e : Effect) → BearerAsked request q old e → IsSound Serving e.node

@@ -82,10 +82,10 @@ after w role input e = logged (noted (moved w role e) (note_of e.outcome e.out))
 
 -- a message as it comes from the serving gateway, and from the packet gateway
 abbrev pub from_serving : Message → Input
-from_serving m = delivered_on (plane_of m) serving_config.own m
+from_serving m = delivered_on (plane_of m) serving_config.own (m ∷ [])
 
 abbrev pub from_packet : Message → Input
-from_packet m = delivered_on (plane_of m) (packet_config 0).own m
+from_packet m = delivered_on (plane_of m) (packet_config 0).own (m ∷ [])
 
 -- an effect, once the first counter was heard, and once the same was heard again
 abbrev pub heard : Effect → Effect
@@ -148,7 +148,7 @@ module _ (pdn count : ℕ) (address : PdnAddress) where
   asked = arrival serving_config.own (Create_session_request q)
 
   abbrev pub made : Effect
-  made = making asked (Create_session_response a) (session_cause pdn address) (session_made packet_heard q control user address)
+  made = making asked (Create_session_response a ∷ []) (session_cause pdn address) (session_made packet_heard q control user address)
 
   abbrev pub w2 : World
   w2 = after w1 Packet (from_serving (Create_session_request q)) (heard made)
@@ -195,7 +195,7 @@ module _ (pdn count : ℕ) (address : PdnAddress) where
     can : CanGive packet_heard pdn
     can = can_be_had packet_heard pdn address given
 
-    pub step2 : Delivers w1 Serving (Create_session_request q) w2
+    pub step2 : Delivers w1 Serving (Create_session_request q ∷ []) w2
     step2 = inl (
       λ none. none,
       record {
@@ -248,7 +248,7 @@ module _ (pdn count : ℕ) (address : PdnAddress) where
       },
     )
 
-    pub step3 : Delivers w2 Packet (Create_session_response a) w3
+    pub step3 : Delivers w2 Packet (Create_session_response a ∷ []) w3
     step3 = inl (
       λ none. none,
       record {

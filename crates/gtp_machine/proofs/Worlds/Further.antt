@@ -31,12 +31,12 @@ e9 = record { out = says asked.source (Create_session_response a); outcome = Cam
 abbrev w9 : World
 w9 = after w8 Packet (from_serving (Create_session_request q)) e9
 
-step9 : Delivers w8 Serving (Create_session_request q) w9
+step9 : Delivers w8 Serving (Create_session_request q ∷ []) w9
 step9 = inl (
   λ none. none,
   record {
     effect = e9;
-    step = inr (refl, inl (record { held = record { request = asked; answer = Create_session_response a }; stands = inl refl; same = refl; gives = refl }));
+    step = inr (refl, inl (record { held = record { request = asked; answer = Create_session_response a ∷ [] }; stands = inl refl; same = refl; gives = refl }));
     becomes = refl;
   },
 )
@@ -79,10 +79,10 @@ w12 = after w11 Packet (from_serving (Packet_data dedicated (122 ∷ []))) (take
 abbrev w13 : World
 w13 = after w12 Packet (from_serving (Packet_data dedicated (121 ∷ []))) (taken_with 121)
 
-step12 : Delivers w11 Serving (Packet_data dedicated (122 ∷ [])) w12
+step12 : Delivers w11 Serving (Packet_data dedicated (122 ∷ []) ∷ []) w12
 step12 = inl (λ none. none, record { effect = taken_with 122; step = takes_with 122; becomes = refl })
 
-step13 : Delivers w12 Serving (Packet_data dedicated (121 ∷ [])) w13
+step13 : Delivers w12 Serving (Packet_data dedicated (121 ∷ []) ∷ []) w13
 step13 = inl (λ none. none, record { effect = taken_with 121; step = takes_with 121; becomes = refl })
 
 -- delete_bearer
@@ -150,7 +150,7 @@ new_to_serving held (inl is) same = apart (ap second (ap (λ (k : Held). k.reque
     apart e = omega arith
 new_to_serving held (inr none) same = none
 
-step15 : Delivers w14 Packet (Delete_bearer_request d) w15
+step15 : Delivers w14 Packet (Delete_bearer_request d ∷ []) w15
 step15 = inl (
   λ none. none,
   record {
@@ -207,7 +207,7 @@ new_type kind octets is other held (inl at) same = ⊎_elim (λ more. omega (ari
     is_32 = ap second (ap (λ (k : Held). k.request.octets) (sym at) ∙ ap (λ (k : Arrival). k.octets) same) ∙ is
 new_type kind octets is other held (inr none) same = none
 
-step16 : Delivers w15 Serving (Delete_bearer_response answer) w16
+step16 : Delivers w15 Serving (Delete_bearer_response answer ∷ []) w16
 step16 = inl (
   λ none. none,
   record {
@@ -265,7 +265,7 @@ e19 = let taken = echoed told echo (peer_restarted w18.packet.node 2) in record 
 abbrev w19 : World
 w19 = after w18 Packet (from_serving (Echo_request echo)) e19
 
-step19 : Delivers w18 Serving (Echo_request echo) w19
+step19 : Delivers w18 Serving (Echo_request echo ∷ []) w19
 step19 = inl (
   λ none. none,
   record {

@@ -52,7 +52,7 @@ pub record IsRemembered (history : List Sent) (key : Message → Arrival) (side 
   pub request : CreateBearerRequest
   pub sent : HasSent history Packet (Create_bearer_request request)
   pub echoed : first_returned x.contexts ≡ Some request.context.user.teid
-  pub where_now : ((counter_of request.header ≡ side.node.counter) × (Among (record { request = key (Create_bearer_request request); answer = Create_bearer_response x }) side.node.held ⊎ Among (key (Create_bearer_request request)) side.forgotten)) ⊎ IsEarlier side (counter_of request.header)
+  pub where_now : ((counter_of request.header ≡ side.node.counter) × (Among (record { request = key (Create_bearer_request request); answer = Create_bearer_response x ∷ [] }) side.node.held ⊎ Among (key (Create_bearer_request request)) side.forgotten)) ⊎ IsEarlier side (counter_of request.header)
 
 abbrev pub Remembers : List Sent → (Message → Arrival) → Side → Type 0
 Remembers history key side = (x : CreateBearerResponse) (t : ℕ) → HasSent history Serving (Create_bearer_response x) → first_given x.contexts ≡ Some t → IsRemembered history key side x
@@ -85,8 +85,8 @@ module _ (history : List Sent) (key : Message → Arrival) (side : Side) (taken 
     | inr now ↦ ⊎_elim old fresh (logs.answers x t now.1 gives)
   ])
     where
-      still : (q : CreateBearerRequest) → Among (record { request = key (Create_bearer_request q); answer = Create_bearer_response x }) side.node.held ⊎ Among (key (Create_bearer_request q)) side.forgotten → Among (record { request = key (Create_bearer_request q); answer = Create_bearer_response x }) e.node.held ⊎ Among (key (Create_bearer_request q)) (side.forgotten ++ e.out.forgot)
-      still q (inl held) = ⊎_elim (λ stays. inl stays) (λ gone. inr (Among-right (key (Create_bearer_request q)) side.forgotten e.out.forgot gone)) (logs.held_stays (record { request = key (Create_bearer_request q); answer = Create_bearer_response x }) held)
+      still : (q : CreateBearerRequest) → Among (record { request = key (Create_bearer_request q); answer = Create_bearer_response x ∷ [] }) side.node.held ⊎ Among (key (Create_bearer_request q)) side.forgotten → Among (record { request = key (Create_bearer_request q); answer = Create_bearer_response x ∷ [] }) e.node.held ⊎ Among (key (Create_bearer_request q)) (side.forgotten ++ e.out.forgot)
+      still q (inl held) = ⊎_elim (λ stays. inl stays) (λ gone. inr (Among-right (key (Create_bearer_request q)) side.forgotten e.out.forgot gone)) (logs.held_stays (record { request = key (Create_bearer_request q); answer = Create_bearer_response x ∷ [] }) held)
       still q (inr gone) = inr (Among-left (key (Create_bearer_request q)) side.forgotten e.out.forgot gone)
 
       old : HasSent history Serving (Create_bearer_response x) → IsRemembered history key (stepped side e) x
@@ -102,7 +102,7 @@ module _ (history : List Sent) (key : Message → Arrival) (side : Side) (taken 
         request = is.request;
         sent = is.sent;
         echoed = is.echoed;
-        where_now = inl (answered_counter x is ∙ sym draws.counter, inl (subst (λ a. Among (record { request = a; answer = Create_bearer_response x }) e.node.held) (keyed is.arrival (Create_bearer_request is.request) is.came) is.held));
+        where_now = inl (answered_counter x is ∙ sym draws.counter, inl (subst (λ a. Among (record { request = a; answer = Create_bearer_response x ∷ [] }) e.node.held) (keyed is.arrival (Create_bearer_request is.request) is.came) is.held));
       }
 
   module _ (packet_once : Once history Packet) (is_new : (a : Arrival) (m : Message) → taken a m → IsNew side.node a) (on_time : (a : Arrival) (m : Message) → taken a m → Among a side.forgotten → ⊥) (once : AnsweredOnce history) where
@@ -115,7 +115,7 @@ module _ (history : List Sent) (key : Message → Arrival) (side : Side) (taken 
         let here : key (Create_bearer_request i.request) ≡ is.arrival = ap (λ q. key (Create_bearer_request q)) same ∙ sym (keyed is.arrival (Create_bearer_request is.request) is.came) in
         elim i.where_now [
           | inl now ↦ ⊎_elim
-              (λ held. is_new is.arrival (Create_bearer_request is.request) is.came (record { request = key (Create_bearer_request i.request); answer = Create_bearer_response y }) held here)
+              (λ held. is_new is.arrival (Create_bearer_request is.request) is.came (record { request = key (Create_bearer_request i.request); answer = Create_bearer_response y ∷ [] }) held here)
               (λ gone. on_time is.arrival (Create_bearer_request is.request) is.came (subst (λ a. Among a side.forgotten) here gone))
               now.1
           | inr earlier ↦ starts_apart side.first earlier.start side.restarts earlier.before drawing.few (sym earlier.is ∙ ap (λ (q : CreateBearerRequest). counter_of q.header) same ∙ counter ∙ drawing.counter)
@@ -138,11 +138,11 @@ module _ (history : List Sent) (key : Message → Arrival) (side : Side) (taken 
 
 -- each context that was made since the start has its answer held or given up, and was made once unless its request came late
 pub record Making (side : Side) : Type 0 where
-  pub kept : (a : Arrival) → Among a side.made → ((answer : Message) × Among (record { request = a; answer = answer }) side.node.held) ⊎ Among a side.forgotten
+  pub kept : (a : Arrival) → Among a side.made → ((answer : List Message) × Among (record { request = a; answer = answer }) side.node.held) ⊎ Among a side.forgotten
   pub once : (a : Arrival) → (Among a side.came_late → ⊥) → AtMostOnce a side.made
 
 module _ (history : List Sent) (role : Role) (side : Side) (taken : Arrival → Message → Type 0) (e : Effect) (m : Making side) (logs : Logs history role taken side.node e) (is_new : (a : Arrival) (n : Message) → taken a n → IsNew side.node a) (marked : (a : Arrival) (n : Message) → taken a n → Among a side.forgotten → Among a side.came_late) where
-  still : (a : Arrival) → ((answer : Message) × Among (record { request = a; answer = answer }) side.node.held) ⊎ Among a side.forgotten → ((answer : Message) × Among (record { request = a; answer = answer }) e.node.held) ⊎ Among a (side.forgotten ++ e.out.forgot)
+  still : (a : Arrival) → ((answer : List Message) × Among (record { request = a; answer = answer }) side.node.held) ⊎ Among a side.forgotten → ((answer : List Message) × Among (record { request = a; answer = answer }) e.node.held) ⊎ Among a (side.forgotten ++ e.out.forgot)
   still a (inl held) = ⊎_elim (λ stays. inl (held.0, stays)) (λ gone. inr (Among-right a side.forgotten e.out.forgot gone)) (logs.held_stays (record { request = a; answer = held.0 }) held.1)
   still a (inr gone) = inr (Among-left a side.forgotten e.out.forgot gone)
 
@@ -171,7 +171,7 @@ module _ (history : List Sent) (role : Role) (side : Side) (taken : Arrival → 
         once = λ a on_time. subst (λ (l : List Arrival). AtMostOnce a (l ++ side.made)) (sym x.is) (λ same before. first_made x.arrival x.message x.came (λ late. on_time (subst (λ k. Among k side.came_late) same late)) (subst (λ k. Among k side.made) (sym same) before), m.once a on_time);
       }
         where
-          kept : (a : Arrival) → Among a (x.arrival ∷ side.made) → ((answer : Message) × Among (record { request = a; answer = answer }) e.node.held) ⊎ Among a (side.forgotten ++ e.out.forgot)
+          kept : (a : Arrival) → Among a (x.arrival ∷ side.made) → ((answer : List Message) × Among (record { request = a; answer = answer }) e.node.held) ⊎ Among a (side.forgotten ++ e.out.forgot)
           kept a (inl same) = inl (x.answer, subst (λ k. Among (record { request = k; answer = x.answer }) e.node.held) (sym same) x.held)
           kept a (inr before) = still a (m.kept a before)
 

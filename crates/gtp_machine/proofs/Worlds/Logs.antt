@@ -9,9 +9,10 @@ use Rattle.gtp_machine.specs.Move.{MoveStep}
 use Rattle.gtp_machine.specs.Tick.{TickStep, ticked}
 use Rattle.gtp_machine.specs.Step.{Step, Done, Steps, tick_steps}
 use Rattle.gtp_machine.specs.Once.{Takes}
+use Rattle.gtp_machine.specs.Spelling.{datagram_plane}
 use Rattle.gtp_machine.specs.World.{World, Side, Note, Event, Does, Tick, Deliver, Cut, Restart, Happens, Delivers, Moves, Run, other, side_of, with_side, steps_of, with_steps, logged, stepped, moved, noted, late_once, arrival, delivered_on, IsLateOn, HasSent, restarted, begun, start, quiet_note, No_such_datagram, Cut_too_long, Restarts_used}
 use Rattle.gtp_machine.specs.Laws.{Always, StepsAreKept, EachActsOnce}
-use Rattle.gtp_machine.proofs.Basics.FiniteMaps.{Among-left, Among-right, Among-one_more, among_at}
+use Rattle.gtp_machine.proofs.Basics.FiniteMaps.{Among-left, Among-right, Among-one_more}
 use Rattle.gtp_machine.proofs.Requests.ActsOnce.{acts_once_from, acts_once_in_time}
 use Rattle.gtp_machine.proofs.Worlds.Ticking.{side_twice, side_nothing, move_quiet}
 use Rattle.gtp_machine.proofs.Exchange.Held.{move_config}
@@ -126,11 +127,11 @@ module _ (own : Addresses) where
   moves_steps w inv role input new each carried marked m = subst EachSteps (sym m.becomes) (one_step w role input m.effect _ each marked (run.config_stays own w inv role input m.effect carried m.step) m.step)
 
   -- a datagram that the other gateway sent comes
-  comes : (w : World) → run.Invariant own w → EachSteps w → (role : Role) (m : Message) → HasSent w.history (other role) m → (new : World) → (IsLateOn (plane_of m) (side_of w (other role)).node.config.own (side_of w role) m → ⊥) → Moves w role (delivered_on (plane_of m) (side_of w (other role)).node.config.own m) new → EachSteps new
+  comes : (w : World) → run.Invariant own w → EachSteps w → (role : Role) (m : Message) → HasSent w.history (other role) m → (new : World) → (IsLateOn (plane_of m) (side_of w (other role)).node.config.own (side_of w role) (m ∷ []) → ⊥) → Moves w role (delivered_on (plane_of m) (side_of w (other role)).node.config.own (m ∷ [])) new → EachSteps new
   comes w inv each role m sent new timely d = moves_steps w inv role _ new each (run.carried own w inv role (plane_of m) m sent) (timely_marked own (side_of w role) _ (plane_of m) m timely) d
 
   -- it comes late
-  late_comes : (w : World) → run.Invariant own w → EachSteps w → (role : Role) (p : Plane) (m : Message) → HasSent w.history (other role) m → (new : World) → IsLateOn p (side_of w (other role)).node.config.own (side_of w role) m → Moves (late_once w role (arrival (side_of w (other role)).node.config.own m)) role (delivered_on p (side_of w (other role)).node.config.own m) new → EachSteps new
+  late_comes : (w : World) → run.Invariant own w → EachSteps w → (role : Role) (p : Plane) (m : Message) → HasSent w.history (other role) m → (new : World) → IsLateOn p (side_of w (other role)).node.config.own (side_of w role) (m ∷ []) → Moves (late_once w role (arrival (side_of w (other role)).node.config.own m)) role (delivered_on p (side_of w (other role)).node.config.own (m ∷ [])) new → EachSteps new
   late_comes w inv each Serving Control m sent new late d =
       let a = arrival w.packet.node.config.own m in
       let still = run.late_keeps own w inv Serving a in
@@ -141,7 +142,7 @@ module _ (own : Addresses) where
       moves_steps (late_once w Packet a) still Packet _ new (late_steps w Packet a each) (run.carried own (late_once w Packet a) still Packet Control m sent) (lately_marked own w.packet w.serving.node.config.own m) d
   late_comes w inv each role User m sent new late d = absurd late
 
-  delivers : (w : World) → run.Invariant own w → EachSteps w → (sender : Role) (m : Message) → HasSent w.history sender m → (new : World) → Delivers w sender m new → EachSteps new
+  delivers : (w : World) → run.Invariant own w → EachSteps w → (sender : Role) (m : Message) → HasSent w.history sender m → (new : World) → Delivers w sender (m ∷ []) new → EachSteps new
   delivers w inv each Packet m sent new (inl d) = comes w inv each Serving m sent new d.0 d.1
   delivers w inv each Packet m sent new (inr d) = late_comes w inv each Serving (plane_of m) m sent new d.0 d.1
   delivers w inv each Serving m sent new (inl d) = comes w inv each Packet m sent new d.0 d.1
@@ -151,12 +152,14 @@ module _ (own : Addresses) where
   happens w inv each (Does role command) new m = moves_steps w inv role (Commanded command) new each tt (quiet_marked own (side_of w role) (Commanded command) tt) m
   happens w inv each (Tick role) new t = subst EachSteps (sym t.becomes) (tick_moves w role t.moves t.out t.after t.tick _ each)
   happens w inv each (Deliver number) new (inl none) = subst EachSteps (sym none.1) (noted_steps w (quiet_note No_such_datagram) each)
-  happens w inv each (Deliver number) new (inr (found, d)) = delivers w inv each found.sent.role found.sent.what (among_at w.history number found.sent found.is) new d
+  happens w inv each (Deliver number) new (inr (found, d)) =
+      let one = run.found_one own w inv number found.sent found.is in
+      delivers w inv each found.sent.role one.message one.sent new (subst (λ k. Delivers w found.sent.role k new) one.alone d)
   happens w inv each (Cut number count) new (inl none) = subst EachSteps (sym none.1) (noted_steps w (quiet_note No_such_datagram) each)
   happens w inv each (Cut number count) new (inr (found, inl long)) = subst EachSteps (sym long.1) (noted_steps w (quiet_note Cut_too_long) each)
   happens w inv each (Cut number count) new (inr (found, inr (short, c))) =
       let receiver = other found.sent.role in
-      moves_steps w inv receiver _ new each (cut_carried own receiver (plane_of found.sent.what) _ found.sent.what count w.history (side_of w receiver).node) (quiet_marked own (side_of w receiver) _ (cut_quiet own (plane_of found.sent.what) _ found.sent.what count)) c
+      moves_steps w inv receiver _ new each (cut_carried own receiver (datagram_plane found.sent.what) _ found.sent.what count w.history (side_of w receiver).node) (quiet_marked own (side_of w receiver) _ (cut_quiet own (datagram_plane found.sent.what) _ found.sent.what count)) c
   happens w inv each (Restart role) new (inl used) = subst EachSteps (sym used.1) (noted_steps w (quiet_note Restarts_used) each)
   happens w inv each (Restart role) new (inr (few, is)) = subst EachSteps (sym is) (restarted_steps w role _ each)
 

@@ -86,7 +86,7 @@ abbrev pub wanted : Arrival
 wanted = arrival (packet_config 0).own (Create_bearer_request r)
 
 abbrev pub e5 : Effect
-e5 = making wanted (Create_bearer_response x) 16 (record w4.serving.node { drawn = dedicated ∷ w4.serving.node.drawn; bearers = insert w4.serving.node.bearers dedicated (granted_bearer r 6) })
+e5 = making wanted (Create_bearer_response x ∷ []) 16 (record w4.serving.node { drawn = dedicated ∷ w4.serving.node.drawn; bearers = insert w4.serving.node.bearers dedicated (granted_bearer r 6) })
 
 abbrev pub w5 : World
 w5 = after w4 Serving (from_packet (Create_bearer_request r)) e5
@@ -120,10 +120,10 @@ w8 = after w7 Packet (from_serving (Packet_data dedicated (120 ∷ []))) e8
 pub step1 : Moves (w0 0) Serving (Commanded (Create_session spec)) w1
 step1 = first.step1 1 0 only_v4
 
-pub step2 : Delivers w1 Serving (Create_session_request q) w2
+pub step2 : Delivers w1 Serving (Create_session_request q ∷ []) w2
 step2 = first.step2 1 0 only_v4 gives_v4
 
-pub step3 : Delivers w2 Packet (Create_session_response a) w3
+pub step3 : Delivers w2 Packet (Create_session_response a ∷ []) w3
 step3 = first.step3 1 0 only_v4 gives_v4
 
 pub step4 : Moves w3 Packet (Commanded (Create_bearer control (33 ∷ []) plain_qos)) w4
@@ -167,7 +167,7 @@ free_identity = record { range = record { low = omega arith; high = omega arith 
       ]
     ]
 
-pub step5 : Delivers w4 Packet (Create_bearer_request r) w5
+pub step5 : Delivers w4 Packet (Create_bearer_request r ∷ []) w5
 step5 = inl (
   λ none. none,
   record {
@@ -240,7 +240,7 @@ can_open = record {
       ]
     ]
 
-pub step6 : Delivers w5 Serving (Create_bearer_response x) w6
+pub step6 : Delivers w5 Serving (Create_bearer_response x ∷ []) w6
 step6 = inl (
   λ none. none,
   record {
@@ -309,7 +309,7 @@ step7 = record {
   becomes = refl;
 }
 
-pub step8 : Delivers w7 Serving (Packet_data dedicated (120 ∷ [])) w8
+pub step8 : Delivers w7 Serving (Packet_data dedicated (120 ∷ []) ∷ []) w8
 step8 = inl (
   λ none. none,
   record {

@@ -1,17 +1,19 @@
 -- What holds of the world at each moment of a run.
-use Rattle.std.proofs.Common.{◌≡◌, inl, inr, ⊎_elim, ℕ, ◌<◌, ◌≤◌, List, [], ◌∷◌, ◌++◌, None, refl, sym, ◌∙◌, ap, subst, arith}
+use Rattle.std.proofs.Common.{◌≡◌, inl, inr, ⊎_elim, ℕ, ◌<◌, ◌≤◌, List, [], ◌∷◌, ◌++◌, Some, None, slice_get, refl, sym, ◌∙◌, ap, subst, arith}
 use Rattle.gtp_values.specs.FiniteMap.{Among}
 use Rattle.gtp_machine.specs.Step.{Step, Done}
 use Rattle.gtp_machine.specs.Config.{Addresses, Config}
 use Rattle.gtp_machine.specs.Message.{Message, Create_bearer_response, Plane, Control, User, plane_of}
 use Rattle.gtp_machine.specs.Node.{Role, Serving, Packet, Arrival, Node, fresh_node}
-use Rattle.gtp_machine.specs.Input.{Move, Input, Commanded, Control_came, Moves_on, Control_message, Entry, Out, Effect, messages}
+use Rattle.gtp_machine.specs.Input.{Move, Input, Commanded, Control_came, Moves_on, Control_message, Entry, Out, Effect, messages, datagrams}
 use Rattle.gtp_machine.specs.Answer.{IsNew}
-use Rattle.gtp_machine.specs.World.{with_steps, steps_of, logged, World, other, Side, By, HasBy, Sent, HasSent, signed, side_of, with_side, stepped, moved, Note, noted, Moves, Event, Does, Tick, Deliver, Cut, Restart, Happens, Delivers, arrival, late_once, delivered_on, cut_on, IsLateOn, restarted, Run, begun, start}
+use Rattle.gtp_machine.specs.Spelling.{datagram_plane}
+use Rattle.gtp_machine.specs.World.{with_steps, steps_of, logged, World, other, Side, By, HasBy, Sent, SentDatagram, HasSent, signed, flat, side_of, with_side, stepped, moved, Note, noted, Moves, Event, Does, Tick, Deliver, Cut, Restart, Happens, Delivers, arrival, late_once, delivered_on, cut_on, IsLateOn, restarted, Run, begun, start}
 use Rattle.gtp_machine.specs.Tick.{TickStep, ticked}
 use Rattle.gtp_machine.specs.Laws.{EachNamesBack}
 use Rattle.gtp_machine.specs.Safety.{EachOwed}
 use Rattle.gtp_machine.proofs.Basics.FiniteMaps.{Each-empty, found-empty, among_at}
+use Rattle.gtp_machine.proofs.Basics.Datagrams.{IsOneSent, EachAlone, flat_grows, alone_grows, one_sent}
 use Rattle.gtp_machine.proofs.Origins.Drawing.{Drawing, Drawing-step, Drawing-elsewhere, Drawing-restart, Drawing-marked, Extends-signed, by_before, by_cases, by_other, unowned}
 use Rattle.gtp_machine.proofs.Origins.Entries.{Once, AnsweredOnce, same_entry}
 use Rattle.gtp_machine.proofs.Changes.Steps.{Logs}
@@ -43,6 +45,8 @@ pub record Invariant (own : Addresses) (w : World) : Type 0 where
   pub packets : (role : Role) → Packets w.history w.handed role
   pub owed : EachOwed w.late w.handed w.accepted
   pub named : EachNamesBack w.history
+  pub kept : flat w.datagrams ≡ w.history
+  pub alone : EachAlone w.datagrams
 
 -- what a step of one gateway leaves of it
 side_step : (history : List Sent) (role : Role) (side peer : Side) (taken : Arrival → Message → Type 0) (e : Effect) → SideInvariant history role side peer → Drawing peer (other role) history → After role history taken side.node e → ((a : Arrival) (n : Message) → taken a n → IsNew side.node a) → ((a : Arrival) (n : Message) → taken a n → Among a side.forgotten → Among a side.came_late) → SideInvariant (history ++ signed role (messages e.out.sent)) role (stepped side e) peer
@@ -115,6 +119,8 @@ module _ (own : Addresses) where
         packets = packets_step w.history w.handed Serving w.serving.node taken e inv.packets after.logs;
         owed = λ z. owed_step w.history w.handed w.accepted Serving taken w.serving.node e so po (inv.once z) after.logs inv.packets (inv.owed z);
         named = Names-step w.history Serving e inv.named (step_told w.history inv.named Serving w.serving.node (back_of w.history Serving w.serving.node inv.serving.knows) input e carried step);
+        kept = flat_grows w.datagrams w.history inv.kept Serving e.out.sent;
+        alone = alone_grows w.datagrams inv.alone Serving (datagrams e.out.sent) after.alone;
       }
 
   packet_moves : (w : World) → Invariant own w → (input : Input) (e : Effect) → Carried Packet w.history w.packet.node input → IsMarked w.packet input → Step Packet w.packet.node input e → Invariant own (moved w Packet e)
@@ -132,6 +138,8 @@ module _ (own : Addresses) where
         packets = packets_step w.history w.handed Packet w.packet.node taken e inv.packets after.logs;
         owed = λ z. owed_step w.history w.handed w.accepted Packet taken w.packet.node e so po (inv.once z) after.logs inv.packets (inv.owed z);
         named = Names-step w.history Packet e inv.named (step_told w.history inv.named Packet w.packet.node (back_of w.history Packet w.packet.node inv.packet.knows) input e carried step);
+        kept = flat_grows w.datagrams w.history inv.kept Packet e.out.sent;
+        alone = alone_grows w.datagrams inv.alone Packet (datagrams e.out.sent) after.alone;
       }
 
   -- no step changes how a gateway is set up
@@ -150,6 +158,8 @@ module _ (own : Addresses) where
     packets = inv.packets;
     owed = λ z. absurd (one_more w.late z);
     named = inv.named;
+    kept = inv.kept;
+    alone = inv.alone;
   }
     where
       marked_draws : Drawing (record w.serving { came_late = a ∷ w.serving.came_late }) Serving w.history
@@ -163,16 +173,18 @@ module _ (own : Addresses) where
     packets = inv.packets;
     owed = λ z. absurd (one_more w.late z);
     named = inv.named;
+    kept = inv.kept;
+    alone = inv.alone;
   }
 
   -- a note changes nothing of this
   noted_keeps : (w : World) (note : Note) → Invariant own w → Invariant own (noted w note)
-  noted_keeps w note inv = record { serving = inv.serving; packet = inv.packet; own_is = inv.own_is; remembers = inv.remembers; once = inv.once; packets = inv.packets; owed = inv.owed; named = inv.named }
+  noted_keeps w note inv = record { serving = inv.serving; packet = inv.packet; own_is = inv.own_is; remembers = inv.remembers; once = inv.once; packets = inv.packets; owed = inv.owed; named = inv.named; kept = inv.kept; alone = inv.alone }
 
   -- nor do the steps that are kept
   steps_keep : (w : World) (role : Role) (steps : List Done) → Invariant own w → Invariant own (with_steps w role steps)
-  steps_keep w Serving steps inv = record { serving = inv.serving; packet = inv.packet; own_is = inv.own_is; remembers = inv.remembers; once = inv.once; packets = inv.packets; owed = inv.owed; named = inv.named }
-  steps_keep w Packet steps inv = record { serving = inv.serving; packet = inv.packet; own_is = inv.own_is; remembers = inv.remembers; once = inv.once; packets = inv.packets; owed = inv.owed; named = inv.named }
+  steps_keep w Serving steps inv = record { serving = inv.serving; packet = inv.packet; own_is = inv.own_is; remembers = inv.remembers; once = inv.once; packets = inv.packets; owed = inv.owed; named = inv.named; kept = inv.kept; alone = inv.alone }
+  steps_keep w Packet steps inv = record { serving = inv.serving; packet = inv.packet; own_is = inv.own_is; remembers = inv.remembers; once = inv.once; packets = inv.packets; owed = inv.owed; named = inv.named; kept = inv.kept; alone = inv.alone }
 
   noted_logged : (w : World) (note : Note) (role : Role) (steps : List Done) → Invariant own w → Invariant own (logged (noted w note) role steps)
   noted_logged w note role steps inv = steps_keep (noted w note) role (steps_of (noted w note) role ++ steps) (noted_keeps w note inv)
@@ -206,17 +218,21 @@ module _ (own : Addresses) where
       subst (λ k. Invariant own k) (moved_twice w Packet e rest after (move_quiet w.packet.node move e step) ∙ ap (λ o. moved w Packet (ticked o after)) (sym is))
       (ticks (moved w Packet e) (steps_quietly w inv Packet (Moves_on move) e tt tt step) Packet moves rest after others)
 
+  -- the datagram with a number is one message, which was sent
+  pub found_one : (w : World) → Invariant own w → (number : ℕ) (s : SentDatagram) → slice_get w.datagrams number ≡ Some s → IsOneSent w.history s.role s.what
+  found_one w inv number s is = one_sent w.datagrams w.history inv.kept inv.alone s (among_at w.datagrams number s is)
+
   -- what comes to a gateway, by its plane
-  pub carried : (w : World) → Invariant own w → (role : Role) (p : Plane) (m : Message) → HasSent w.history (other role) m → Carried role w.history (side_of w role).node (delivered_on p (side_of w (other role)).node.config.own m)
+  pub carried : (w : World) → Invariant own w → (role : Role) (p : Plane) (m : Message) → HasSent w.history (other role) m → Carried role w.history (side_of w role).node (delivered_on p (side_of w (other role)).node.config.own (m ∷ []))
   carried w inv Serving Control m came = (came, same_is w.history Serving w.serving w.packet inv.serving inv.packet.draws m came)
   carried w inv Packet Control m came = (came, same_is w.history Packet w.packet w.serving inv.packet inv.serving.draws m came)
   carried w inv role User m came = came
 
   -- what comes to each of the two
-  pub serving_carried : (w : World) → Invariant own w → (p : Plane) (m : Message) → HasSent w.history Packet m → Carried Serving w.history w.serving.node (delivered_on p w.packet.node.config.own m)
+  pub serving_carried : (w : World) → Invariant own w → (p : Plane) (m : Message) → HasSent w.history Packet m → Carried Serving w.history w.serving.node (delivered_on p w.packet.node.config.own (m ∷ []))
   serving_carried w inv = carried w inv Serving
 
-  pub packet_carried : (w : World) → Invariant own w → (p : Plane) (m : Message) → HasSent w.history Serving m → Carried Packet w.history w.packet.node (delivered_on p w.serving.node.config.own m)
+  pub packet_carried : (w : World) → Invariant own w → (p : Plane) (m : Message) → HasSent w.history Serving m → Carried Packet w.history w.packet.node (delivered_on p w.serving.node.config.own (m ∷ []))
   packet_carried w inv = carried w inv Packet
 
   -- a datagram that comes is the one that was sent
@@ -229,14 +245,14 @@ module _ (own : Addresses) where
       came_so from m a n is ∙ ap (λ k. arrival k m) from_is ∙ ap (λ k. arrival own k) same
 
   -- on time: its answer was not given up
-  timely : (w : World) → Invariant own w → (p : Plane) (m : Message) → (IsLateOn p w.packet.node.config.own w.serving m → ⊥) → Comes w (delivered_on p w.packet.node.config.own m)
+  timely : (w : World) → Invariant own w → (p : Plane) (m : Message) → (IsLateOn p w.packet.node.config.own w.serving (m ∷ []) → ⊥) → Comes w (delivered_on p w.packet.node.config.own (m ∷ []))
   timely w inv Control m on_time = record {
     keyed = keyed_so w.packet.node.config.own m inv.own_is;
     on_time = λ a n is z gone. on_time (subst (λ k. Among k w.serving.forgotten) (came_so w.packet.node.config.own m a n is) gone);
   }
   timely w inv User m on_time = quiet_comes w _ tt
 
-  pub timely_marked : (side : Side) (from : Addresses) (p : Plane) (m : Message) → (IsLateOn p from side m → ⊥) → IsMarked side (delivered_on p from m)
+  pub timely_marked : (side : Side) (from : Addresses) (p : Plane) (m : Message) → (IsLateOn p from side (m ∷ []) → ⊥) → IsMarked side (delivered_on p from (m ∷ []))
   timely_marked side from Control m on_time a n is gone = absurd (on_time (subst (λ k. Among k side.forgotten) (came_so from m a n is) gone))
   timely_marked side from User m on_time a n is gone = absurd (subst IsQuiet is tt)
 
@@ -250,14 +266,14 @@ module _ (own : Addresses) where
   moved_new : (w : World) (role : Role) (e : Effect) (note : Note) (steps : List Done) (new : World) → new ≡ logged (noted (moved w role e) note) role steps → Invariant own (moved w role e) → Invariant own new
   moved_new w role e note steps new is inv = subst (λ k. Invariant own k) (sym is) (noted_logged (moved w role e) note role steps inv)
 
-  late_to_serving : (w : World) → Invariant own w → (p : Plane) (m : Message) → HasSent w.history Packet m → IsLateOn p w.packet.node.config.own w.serving m → (new : World) → Moves (late_once w Serving (arrival w.packet.node.config.own m)) Serving (delivered_on p w.packet.node.config.own m) new → Invariant own new
+  late_to_serving : (w : World) → Invariant own w → (p : Plane) (m : Message) → HasSent w.history Packet m → IsLateOn p w.packet.node.config.own w.serving (m ∷ []) → (new : World) → Moves (late_once w Serving (arrival w.packet.node.config.own m)) Serving (delivered_on p w.packet.node.config.own (m ∷ [])) new → Invariant own new
   late_to_serving w inv Control m came late new d =
       let w1 = late_once w Serving (arrival w.packet.node.config.own m) in
       let inv1 = late_keeps w inv Serving (arrival w.packet.node.config.own m) in
       moved_new w1 Serving d.effect _ _ new d.becomes (serving_moves w1 inv1 _ d.effect (carried w1 inv1 Serving Control m came) (lately w inv m) (lately_marked w.serving w.packet.node.config.own m) d.step)
   late_to_serving w inv User m came late new d = absurd late
 
-  late_to_packet : (w : World) → Invariant own w → (p : Plane) (m : Message) → HasSent w.history Serving m → IsLateOn p w.serving.node.config.own w.packet m → (new : World) → Moves (late_once w Packet (arrival w.serving.node.config.own m)) Packet (delivered_on p w.serving.node.config.own m) new → Invariant own new
+  late_to_packet : (w : World) → Invariant own w → (p : Plane) (m : Message) → HasSent w.history Serving m → IsLateOn p w.serving.node.config.own w.packet (m ∷ []) → (new : World) → Moves (late_once w Packet (arrival w.serving.node.config.own m)) Packet (delivered_on p w.serving.node.config.own (m ∷ [])) new → Invariant own new
   late_to_packet w inv Control m came late new d =
       let w1 = late_once w Packet (arrival w.serving.node.config.own m) in
       let inv1 = late_keeps w inv Packet (arrival w.serving.node.config.own m) in
@@ -265,19 +281,19 @@ module _ (own : Addresses) where
   late_to_packet w inv User m came late new d = absurd late
 
   -- a datagram that its sender sent comes to the other gateway
-  delivers : (w : World) → Invariant own w → (sender : Role) (m : Message) → HasSent w.history sender m → (new : World) → Delivers w sender m new → Invariant own new
+  delivers : (w : World) → Invariant own w → (sender : Role) (m : Message) → HasSent w.history sender m → (new : World) → Delivers w sender (m ∷ []) new → Invariant own new
   delivers w inv Packet m came new (inl d) = moved_new w Serving d.1.effect _ _ new d.1.becomes (serving_moves w inv _ d.1.effect (carried w inv Serving (plane_of m) m came) (timely w inv (plane_of m) m d.0) (timely_marked w.serving w.packet.node.config.own (plane_of m) m d.0) d.1.step)
   delivers w inv Packet m came new (inr d) = late_to_serving w inv (plane_of m) m came d.0 new d.1
   delivers w inv Serving m came new (inl d) = moved_new w Packet d.1.effect _ _ new d.1.becomes (packet_moves w inv _ d.1.effect (carried w inv Packet (plane_of m) m came) (timely_marked w.packet w.serving.node.config.own (plane_of m) m d.0) d.1.step)
   delivers w inv Serving m came new (inr d) = late_to_packet w inv (plane_of m) m came d.0 new d.1
 
-  pub cut_quiet : (p : Plane) (from : Addresses) (m : Message) (count : ℕ) → IsQuiet (cut_on p from m count)
-  cut_quiet Control from m count = tt
-  cut_quiet User from m count = tt
+  pub cut_quiet : (p : Plane) (from : Addresses) (datagram : List Message) (count : ℕ) → IsQuiet (cut_on p from datagram count)
+  cut_quiet Control from datagram count = tt
+  cut_quiet User from datagram count = tt
 
-  pub cut_carried : (role : Role) (p : Plane) (from : Addresses) (m : Message) (count : ℕ) (history : List Sent) (node : Node) → Carried role history node (cut_on p from m count)
-  cut_carried role Control from m count history node = tt
-  cut_carried role User from m count history node = tt
+  pub cut_carried : (role : Role) (p : Plane) (from : Addresses) (datagram : List Message) (count : ℕ) (history : List Sent) (node : Node) → Carried role history node (cut_on p from datagram count)
+  cut_carried role Control from datagram count history node = tt
+  cut_carried role User from datagram count history node = tt
 
 fresh_contexts : (history : List Sent) (role : Role) → Contexts role history empty empty
 fresh_contexts history Serving = record { sessions_asked = Each-empty _; bearers_asked = Each-empty _ }
@@ -337,6 +353,8 @@ module _ (own : Addresses) where
     packets = inv.packets;
     owed = inv.owed;
     named = inv.named;
+    kept = inv.kept;
+    alone = inv.alone;
   }
   restarts w inv Packet room = record {
     serving = peer_restart w.history Serving w.serving w.packet inv.serving;
@@ -347,6 +365,8 @@ module _ (own : Addresses) where
     packets = inv.packets;
     owed = inv.owed;
     named = inv.named;
+    kept = inv.kept;
+    alone = inv.alone;
   }
 
   noted_new : (w : World) (note : Note) (new : World) → Invariant own w → new ≡ noted w note → Invariant own new
@@ -356,10 +376,12 @@ module _ (own : Addresses) where
   happens w inv (Does role command) new m = moves_quietly own w inv role (Commanded command) tt tt new m
   happens w inv (Tick role) new t = subst (λ k. Invariant own k) (sym t.becomes) (noted_logged own (moved w role (ticked t.out t.after)) _ role _ (ticks own w inv role t.moves t.out t.after t.tick))
   happens w inv (Deliver number) new (inl none) = noted_new w _ new inv none.1
-  happens w inv (Deliver number) new (inr (found, d)) = delivers own w inv found.sent.role found.sent.what (among_at w.history number found.sent found.is) new d
+  happens w inv (Deliver number) new (inr (found, d)) =
+      let one = found_one own w inv number found.sent found.is in
+      delivers own w inv found.sent.role one.message one.sent new (subst (λ k. Delivers w found.sent.role k new) one.alone d)
   happens w inv (Cut number count) new (inl none) = noted_new w _ new inv none.1
   happens w inv (Cut number count) new (inr (found, inl long)) = noted_new w _ new inv long.1
-  happens w inv (Cut number count) new (inr (found, inr (short, c))) = moves_quietly own w inv (other found.sent.role) _ (cut_quiet own (plane_of found.sent.what) _ found.sent.what count) (cut_carried own (other found.sent.role) (plane_of found.sent.what) _ found.sent.what count w.history (side_of w (other found.sent.role)).node) new c
+  happens w inv (Cut number count) new (inr (found, inr (short, c))) = moves_quietly own w inv (other found.sent.role) _ (cut_quiet own (datagram_plane found.sent.what) _ found.sent.what count) (cut_carried own (other found.sent.role) (datagram_plane found.sent.what) _ found.sent.what count w.history (side_of w (other found.sent.role)).node) new c
   happens w inv (Restart role) new (inl used) = noted_new w _ new inv used.1
   happens w inv (Restart role) new (inr (few, is)) = subst (λ k. Invariant own k) (sym is) (steps_keep own (noted (with_side w role (restarted (side_of w role))) _) role [] (noted_keeps own (with_side w role (restarted (side_of w role))) _ (restarts w inv role few)))
 
@@ -377,6 +399,8 @@ begins serving packet serving_counter packet_counter = record {
   packets = λ role. record { sent = λ t p none. absurd none; each = λ e none. absurd none };
   owed = λ z role e none. absurd none;
   named = λ role m none. absurd none;
+  kept = refl;
+  alone = λ s none. absurd none;
 }
 
 -- the invariant holds at the end of each run

@@ -8,7 +8,7 @@ use Rattle.gtp_machine.specs.Config.{Addresses}
 use Rattle.gtp_machine.specs.Choice.{counter_of}
 use Rattle.gtp_machine.specs.World.{World, Side, Sent, HasSent, side_of}
 use Rattle.gtp_machine.specs.Safety.{Agree, SessionsAgree, MutualBearers, AgreeBearers, BearersAgree, IsOver, NoneOver, EachOwed}
-use Rattle.gtp_machine.specs.Laws.{Always, OneMessage, OwnsOn, PlanesApart, GoesBack, EachGoesBack, NamesGoBack, IsOfStart, NoneAhead, IsLatestHeard, KnownIsLatest, BearersOnce, EachOpened, EachClosesWhole, MadeOnce}
+use Rattle.gtp_machine.specs.Laws.{Always, MessagesOfDatagrams, OneMessage, OwnsOn, PlanesApart, GoesBack, EachGoesBack, NamesGoBack, IsOfStart, NoneAhead, IsLatestHeard, KnownIsLatest, BearersOnce, EachOpened, EachClosesWhole, MadeOnce}
 use Rattle.gtp_machine.proofs.Origins.Drawing.{Drawing}
 use Rattle.gtp_machine.proofs.Origins.Contexts.{IsAskedWith, IsGranted, IsMadeWith, IsWanted}
 use Rattle.gtp_machine.proofs.Origins.Entries.{Once, same_request, same_user_request, same_answer, same_user_answer, same_bearer_answer, answer_not_request}
@@ -155,6 +155,9 @@ always_none_over serving packet sc pc events w r Packet t s = let inv = always s
 
 pub always_owed : Always (λ w. EachOwed w.late w.handed w.accepted)
 always_owed serving packet sc pc events w r = (always serving packet sc pc events w r).owed
+
+pub always_of_datagrams : Always MessagesOfDatagrams
+always_of_datagrams serving packet sc pc events w r = (always serving packet sc pc events w r).kept
 
 pub always_one_message : Always OneMessage
 always_one_message serving packet sc pc events w r Serving = (always serving packet sc pc events w r).serving.draws.once

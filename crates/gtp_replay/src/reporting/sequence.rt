@@ -7,7 +7,7 @@ use gtp_lines::message_name;
 use gtp_lines::text::{put, put_number, put_teid};
 use gtp_scenario::word_of;
 use gtp_user::UserBody;
-use gtp_v2::view;
+use gtp_v2::{MessageView, view};
 use gtp_values::{Memory, Teid};
 use gtp_world::{Datagram, Event, EventOutcome, Note, World};
 use std::alloc::{AllocError, Global};
@@ -56,11 +56,16 @@ fn user_name(body: &UserBody) -> (&'static str, Option<Teid>) {
     }
 }
 
+/// The name of a message of the control plane, and the TEID of its header.
+fn control_name(seen: &MessageView) -> (&'static str, Option<Teid>) {
+    (message_name(seen.kind()), seen.teid())
+}
+
 /// The name of a datagram's message, and the TEID of its header.
 fn name_of_message(datagram: &Datagram) -> (&'static str, Option<Teid>) {
     match datagram.sent.plane {
         Plane::Control => match view(datagram.sent.octets.as_slice()) {
-            Ok(seen) => (message_name(seen.kind()), seen.teid()),
+            Ok(seen) => control_name(seen.message()),
             Err(_) => ("fault", None),
         },
         Plane::User => match gtp_user::decode(datagram.sent.octets.as_slice()) {

@@ -3,7 +3,7 @@
 //! Of these datagrams some stand in examples/datagrams: control/delete-session-request,
 //! control/echo-request-cut.
 
-use super::{Act, DEDICATED, IDLE, OPENED, Row, SESSION_ASKED, Scene, Sends, plays};
+use super::{Act, DEDICATED, IDLE, OPENED, Row, SESSION_ASKED, Scene, Sends, UNTOLD, plays};
 use Act::*;
 use Row::*;
 use Sends::{Nothing, Octets, Shown};
@@ -82,6 +82,52 @@ const FAULTY: Scene = Scene {
 #[test]
 fn faulty_requests_at_each_gateway(rt: HostRuntime) -> Result<(), Fail> {
     plays(&rt, rt.alloc(), &FAULTY)
+}
+
+/// A second message is announced, and there is none (H5).
+const UNFOLLOWED: Outcome = Outcome::Dropped(DropReason::Undecodable(FaultName {
+    plane: Plane::Control,
+    number: 5,
+}));
+
+/// Two Echo Requests in one datagram, which tell a counter; the first of them alone; and a Create Bearer Request that
+/// lacks all its elements, with an Echo Request after it.
+const PAIRS: Scene = Scene {
+    rows: &[&[
+        Does(
+            Comes(
+                Role::Serving,
+                Plane::Control,
+                "5001000900000500030001000740010009000006000300010007",
+            ),
+            Outcome::Dropped(DropReason::Unexpected),
+            Nothing,
+        ),
+        UNTOLD,
+        Does(
+            Comes(Role::Serving, Plane::Control, "50010009000005000300010007"),
+            UNFOLLOWED,
+            Nothing,
+        ),
+        UNTOLD,
+        Does(
+            Comes(
+                Role::Serving,
+                Plane::Control,
+                "585f0008010000010000050040010009000006000300010007",
+            ),
+            MISSING,
+            Nothing,
+        ),
+        UNTOLD,
+    ]],
+    serving: Some((0, 0)),
+    ..IDLE
+};
+
+#[test]
+fn two_messages_are_dropped(rt: HostRuntime) -> Result<(), Fail> {
+    plays(&rt, rt.alloc(), &PAIRS)
 }
 
 /// The sender's F-TEID has no address, and an identity has no value.

@@ -4,7 +4,7 @@ use Rattle.byteorder.specs.Endian.{big_number}
 use Rattle.gtp_v2.specs.declared.header.Header.{Header}
 use Rattle.gtp_v2.specs.declared.message.Message.{Message}
 use Rattle.gtp_v2.specs.declared.fault.V2Fault.{V2Fault}
-use Rattle.gtp_v2.specs.declared.fault.V2Fault.TheVariants.{Short, Version, Piggyback, Length}
+use Rattle.gtp_v2.specs.declared.fault.V2Fault.TheVariants.{Short, Version, BadPiggyback, Length}
 use Rattle.gtp_v2.specs.Headed.{Headed}
 
 abbrev pub headed_of : Header → Headed
@@ -36,7 +36,7 @@ after_no_teid kind octets = Err (Short (4 + length octets))
 abbrev pub header_at : List ℕ → Result Headed V2Fault
 header_at (first ∷ kind ∷ high ∷ low ∷ rest) =
     if first / 32 == 2
-    then (if (first / 16) % 2 == 1 then Err Piggyback
+    then (if (first / 16) % 2 == 1 then Err (BadPiggyback 0)
     else (if 256 * high + low == length rest
     then (if (first / 8) % 2 == 1 then after_teid first kind rest else after_no_teid kind rest)
     else Err (Length (256 * high + low) (length rest))))

@@ -1,4 +1,4 @@
--- Reading functions, for private contracts and proofs: what a datagram says, or its first fault. `gtp_machine` cites
+-- Reading functions, for private contracts and proofs: what a message says, or its first fault. `gtp_machine` cites
 -- `message_at` in its `control_reading`, and has a law that this is the grammar's answer (`ControlByGrammar`).
 use Rattle.std.specs.Prelude.{ℕ, Bool, List, Option, Some, None, is_some, Result, Ok, Err, ◌==◌, if◌then◌else◌}
 use Rattle.std.specs.Bool.{beq}
@@ -65,7 +65,7 @@ content_among (Some table) h es = as_fields (fields_at table.lines h es)
 unfoldable pub content_at : Headed → Result Content V2Fault
 content_at h = by_table (table_of h.kind) h
 
--- the message that a datagram spells
+-- the message that octets spell
 unfoldable pub message_at : List ℕ → Result MessageValue V2Fault
 message_at octets = do
   h ← header_at octets

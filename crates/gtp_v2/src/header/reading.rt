@@ -1,6 +1,6 @@
 //! Reading a header (TS 29.274 5.1).
 
-ghost use Rattle.std.specs.Prelude.{◌<◌, ◌^◌, length};
+ghost use Rattle.std.specs.Prelude.{◌<◌, ◌^◌, ◌∷◌, length};
 ghost use Rattle.gtp_values.specs.Steps.{Gives};
 ghost use Rattle.gtp_v2.specs.reading.Headed.{headed_of, header_at, after_teid, after_no_teid};
 
@@ -52,32 +52,35 @@ fn without_teid(kind: u8, octets: &[u8]) -> Result<Header<'_>, V2Fault>
     })
 }
 
-/// The header of a datagram, which it fills exactly. In line, with the two forms above: else each header
-/// would be moved twice more.
+/// The header of a message that begins with these four octets and has the rest after them, which it fills
+/// exactly. In line, with the two forms above: else each header would be moved twice more.
 #[inline(always)]
-pub fn read_header(octets: &[u8]) -> Result<Header<'_>, V2Fault>
-    ensures { Gives headed_of result (header_at octets.now) }
+pub fn read_header(
+    first: u8,
+    kind: u8,
+    high: u8,
+    low: u8,
+    rest: &[u8],
+) -> Result<Header<'_>, V2Fault>
+    ensures { Gives headed_of result (header_at (first ∷ kind ∷ high ∷ low ∷ rest.now)) }
 {
-    let [first, kind, high, low, rest @ ..] = octets else {
-        return Err(V2Fault::Short { held: octets.len() });
-    };
-    let version = *first >> 5;
+    let version = first >> 5;
     if version != 2 {
         return Err(V2Fault::Version(version));
     }
-    if *first >> 4 & 1 == 1 {
-        return Err(V2Fault::Piggyback);
+    if first >> 4 & 1 == 1 {
+        return Err(V2Fault::BadPiggyback { at: 0 });
     }
-    let stated = usize::from(BigEndian::read_u16(&[*high, *low]));
+    let stated = usize::from(BigEndian::read_u16(&[high, low]));
     if stated != rest.len() {
         return Err(V2Fault::Length {
             stated,
             held: rest.len(),
         });
     }
-    if *first >> 3 & 1 == 1 {
-        with_teid(*first, *kind, rest)
+    if first >> 3 & 1 == 1 {
+        with_teid(first, kind, rest)
     } else {
-        without_teid(*kind, rest)
+        without_teid(kind, rest)
     }
 }

@@ -1,11 +1,11 @@
 use Rattle.std.proofs.Common.{◌++◌, ◌∙◌, ap}
-use Rattle.gtp_lines.specs.Control.{head_line, carried_lines}
-use Rattle.gtp_lines.proofs.Seen.{carried_are}
+use Rattle.gtp_lines.specs.Control.{datagram_lines}
+use Rattle.gtp_lines.proofs.Seen.{lines_lie}
 use Rattle.gtp_lines.proofs.lines.control_lines.Goals as goal
 
 -- the text began empty
-pub returns-in_ok-put_message-in-Ok : goal.returns-in_ok-put_message-in-Ok
-returns-in_ok-put_message-in-Ok c =
-    let m = c.in-Ok.seen.message in
-    let lines = carried_lines m.content c.in-Ok.seen.elements in
-    (m, c.in-Ok.ensures.found, (lines, carried_are c.args.octets.now m m.content c.in-Ok.seen.elements c.in-Ok.ensures.elements, c.in_ok-put_message-in-Ok.ensures.ok ∙ ap (λ text. text ++ (head_line m ++ lines)) c.new-text.ensures.items))
+pub returns-in_ok-put_datagram-in-Ok : goal.returns-in_ok-put_datagram-in-Ok
+returns-in_ok-put_datagram-in-Ok c =
+    let seen = c.in-Ok.seen in
+    lines_lie c.args.octets.now seen.message seen.second seen.back _ c.in-Ok.ensures.lie
+    (c.in_ok-put_datagram-in-Ok.ensures.ok ∙ ap (λ text. text ++ datagram_lines seen.message seen.second) c.new-text.ensures.items)

@@ -1,4 +1,4 @@
-use Rattle.std.proofs.Common.{◌∙◌, ap}
+use Rattle.std.proofs.Common.{◌∙◌, ap, [], ◌∷◌}
 use Rattle.gtp_machine.specs.Node.{holding}
 use Rattle.gtp_machine.specs.Reading.{control_message}
 use Rattle.gtp_gateway.specs.Change.{changed_by}
@@ -11,4 +11,4 @@ returns-clause-node c =
     let ready = c.in_ok-ready.ensures in
     c.give.ensures.node
     ∙ (λ i. holding (arrival_of c.args.source (ready.request i)) (ready.read i) (node_of c.apply.new.self))
-    ∙ ap (holding (arrival_of c.args.source c.args.request.now) (control_message c.args.message.now)) (c.in_ok-apply.ensures.node ∙ ap (λ (s : Station). changed_by c.args.change s.node) c.ready_answer.ensures.same)
+    ∙ ap (holding (arrival_of c.args.source c.args.request.now) (control_message c.args.message.now ∷ [])) (c.in_ok-apply.ensures.node ∙ ap (λ (s : Station). changed_by c.args.change s.node) c.ready_answer.ensures.same)

@@ -1,4 +1,4 @@
-use Rattle.std.proofs.Common.{◌≡◌, Some, refl, sym, ◌∙◌, ap, subst}
+use Rattle.std.proofs.Common.{◌≡◌, Some, refl, sym, ◌∙◌, ap, subst, [], ◌∷◌}
 use Rattle.gtp_values.specs.declared.address.Endpoint.{Endpoint}
 use Rattle.gtp_machine.specs.Answer.{faulted, refusing, faulty_header, defect_cause}
 use Rattle.gtp_machine.specs.Element.{cause_at}
@@ -26,12 +26,12 @@ returns-clause-taken c = λ request from peer new.
     let cause = defect_cause (defect_of f.defect) in
     let m : Message = refusing (kind_of f.kind) (faulty_header node (kind_of f.kind) fault) f.seq (cause_at cause f.element f.instance) node.counter in
     let said : control_message c.refusal-message.result ≡ m = c.refusal-message.ensures.says ∙ (λ i. refusing (kind_of f.kind) (c.faulty_header-header.ensures i) f.seq ((c.fault_cause-cause.ensures ∙ ap (λ n. cause_at n f.element f.instance) c.cause.ensures) i) (c.counter-counter.ensures i)) in
-    let sent = c.in_ok-out.ensures.sent ∙ (λ i. datagram_of node.config (record { destination = sym from i; message = said i })) in
+    let sent = c.in_ok-out.ensures.sent ∙ (λ i. datagram_of node.config (record { destination = sym from i; messages = said i ∷ [] })) in
     let shown : c.sent.result ≡ record { out = Some c.in_ok-out.out; report = plain_report (Answered cause) } = c.sent.ensures ∙ ap (λ n. record { out = Some c.in_ok-out.out; report = plain_report (Answered n) }) c.cause-2.ensures in
     subst (λ (s : ControlStep). IsFaultEffect request (Faulty fault) old s) (sym shown)
     (record {
       effect = faulted request fault node;
       takes = fault_answered node request fault old.role f.kind refl c.requires (ap (λ (e : Endpoint). e.ip) from ∙ peer) new;
-      tells = record { sent = one_sent node.config _ _ sent (subst ReadsBack said c.in_ok-out.ensures.back); outcome = refl; heard = refl; restart = refl; made = refl; all = refl };
+      tells = record { sent = one_sent node.config _ _ sent (subst (λ m. ReadsBack (m ∷ [])) said c.in_ok-out.ensures.back); outcome = refl; heard = refl; restart = refl; made = refl; all = refl };
       stays = refl;
     })

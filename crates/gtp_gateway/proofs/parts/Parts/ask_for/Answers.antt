@@ -1,4 +1,4 @@
-use Rattle.std.proofs.Common.{rules, ◌≡◌, ◌<◌, false, List, length, refl, sym, ◌∙◌, ap, subst}
+use Rattle.std.proofs.Common.{rules, ◌≡◌, ◌<◌, false, List, length, refl, sym, ◌∙◌, ap, subst, [], ◌∷◌}
 use Rattle.gtp_reliable.specs.Waiting.{Waiting}
 use Rattle.gtp_reliable.specs.Pending.{is_pending, IsNextFree}
 use Rattle.gtp_machine.specs.Input.{Came_to}
@@ -68,7 +68,7 @@ returns-clause-done c =
       effect = asks node seq (about (purpose_of wish) request) (teid_of wish) (changed_by (change_of wish) node);
       room = has_room node ws c.in_ok-seq.ensures.distinct refl few;
       asks = record { number = seq; number_free = record { unused = none_pending ws seq free; small = small_number _ _ seq c.in_ok-seq.ensures.prepared.number }; gives = refl };
-      sent = one_sent node.config _ _ (c.in_ok-out.ensures.sent ∙ (λ i. datagram_of (config i) (record { destination = control_end (config i).peer.control; message = says i }))) (subst ReadsBack says c.in_ok-out.ensures.back);
+      sent = one_sent node.config _ _ (c.in_ok-out.ensures.sent ∙ (λ i. datagram_of (config i) (record { destination = control_end (config i).peer.control; messages = says i ∷ [] }))) (subst (λ m. ReadsBack (m ∷ [])) says c.in_ok-out.ensures.back);
       outcome = ap (λ t. Came_to (outcomes.Begun t)) (sym c.teid.ensures);
       becomes = c.in_ok-out.ensures.node ∙ (λ i. asking (c.change.ensures i) seq (c.purpose.ensures i) (says i) (same i).node);
       role = c.in_ok-out.ensures.role ∙ ap (λ (s : Station). s.role) same;

@@ -1,4 +1,4 @@
-use Rattle.std.proofs.Common.{◌≡◌, ◌↔◌, ℕ, Some, inr, refl, sym, ◌∙◌, subst}
+use Rattle.std.proofs.Common.{◌≡◌, ◌↔◌, ℕ, Some, inr, refl, sym, ◌∙◌, subst, [], ◌∷◌}
 use Rattle.std.specs.FinMap.{get, insert}
 use Rattle.gtp_machine.specs.Config.{user_end}
 use Rattle.gtp_machine.specs.Command.{EndMarked}
@@ -47,8 +47,8 @@ returns-clause-done c =
     record {
       effect = effect;
       step = subst (λ (role : Role). EndMarked role bearer node effect) (sym c.in-Packet.is) (inr (record { bearer = at; stands = stands }, inr (yes c.is_active.ensures c.if-not-is_active.false, inr (c.if-at.false, refl))));
-      sent = one_sent node.config _ _ (c.in_ok-out.ensures.sent ∙ (λ i. datagram_of node.config (record { destination = user_end node.config.peer.user; message = End_marker (c.written_teid-teid.ensures i) })))
-          (subst (λ (t : ℕ). ReadsBack (End_marker t)) c.written_teid-teid.ensures c.in_ok-out.ensures.back);
+      sent = one_sent node.config _ _ (c.in_ok-out.ensures.sent ∙ (λ i. datagram_of node.config (record { destination = user_end node.config.peer.user; messages = End_marker (c.written_teid-teid.ensures i) ∷ [] })))
+          (subst (λ (t : ℕ). ReadsBack (End_marker t ∷ [])) c.written_teid-teid.ensures c.in_ok-out.ensures.back);
       outcome = refl;
       becomes = c.replace_bearer.ensures.node;
       role = c.replace_bearer.ensures.role;

@@ -1,4 +1,4 @@
-use Rattle.std.proofs.Common.{◌≡◌, ℕ, List, [], map, Some, None, sym, ◌∙◌, ap, subst}
+use Rattle.std.proofs.Common.{◌≡◌, ℕ, List, [], map, Some, None, sym, ◌∙◌, ap, subst, ◌∷◌}
 use Rattle.gtp_machine.specs.Answer.{answered}
 use Rattle.gtp_machine.specs.Config.{control_end}
 use Rattle.gtp_machine.specs.Element.{cause_of}
@@ -37,8 +37,8 @@ returns-clause-taken c = λ d says listed.
     let left = c.end_each.ensures.node ∙ ap (λ (s : Station). without_each ns s.node) c.ready_answer.ensures.same in
     answers (RemovalJudged request d) request old (station_of c.give.new.self) c.sent.result c.give.result m c.cause_of_all.result (without_each ns old.node) c.sent.ensures
     (c.give.ensures.sent ∙ (λ i. record { plane = Control; from = control_end (config i).own.control; to = c.args.source; octets = (ready.octets ∙ ap spelled said) i }))
-    (subst ReadsBack said ready.back)
-    (c.give.ensures.node ∙ (λ i. holding (arrival_of c.args.source (ready.request i)) ((ready.read ∙ said) i) (left i)))
+    (subst (λ m. ReadsBack (m ∷ [])) said ready.back)
+    (c.give.ensures.node ∙ (λ i. holding (arrival_of c.args.source (ready.request i)) ((ready.read ∙ ap (λ m. m ∷ []) said) i) (left i)))
     (c.give.ensures.role ∙ (c.end_each.ensures.role ∙ ap (λ (s : Station). s.role) c.ready_answer.ensures.same))
     (subst (λ (cause : ℕ). RemovalJudged request d old.node (answered request m cause (without_each ns old.node))) (sym c.cause_of_all.ensures)
     (ends_judged request r d old.node header ids ns says listed c.requires.asked c.requires.short same names))

@@ -1,7 +1,7 @@
 use Rattle.std.proofs.Common.{refl}
 use Rattle.std.proofs.lemmas.List.Elements.{All-same, All-push}
 use Rattle.gtp_reliable.specs.Held.{HeldPair, just_kept}
-use Rattle.gtp_gateway.specs.Spelled.{AreSpelled}
+use Rattle.gtp_gateway.specs.Spelled.{AreSpelledAll}
 use Rattle.gtp_gateway.specs.Station.{station_of, timing_of}
 use Rattle.gtp_gateway.proofs.GoingOn.{tied_of, given_goes}
 use Rattle.gtp_gateway.proofs.parts.Parts.give.Goals as goal
@@ -14,7 +14,7 @@ returns-clause-goes c =
     (λ i. record (timing_of old) { timers = record (timing_of old).timers { hold = c.keep.ensures.hold i }; held = c.keep.ensures.pairs i }) (record { pending = refl; held = refl; drawn = (tied_of old).drawn })
 
 abbrev IsKept : HeldPair → Type 0
-IsKept p = AreSpelled p.answer
+IsKept p = AreSpelledAll p.answer
 
 pub invariant_of-self-clause-answered : goal.invariant_of-self-clause-answered
 invariant_of-self-clause-answered c =

@@ -1,4 +1,4 @@
-use Rattle.std.proofs.Common.{◌≡◌, Some, true, ◌∙◌, ap, subst}
+use Rattle.std.proofs.Common.{◌≡◌, Some, true, ◌∙◌, ap, subst, [], ◌∷◌}
 use Rattle.gtp_machine.specs.Config.{control_end}
 use Rattle.gtp_machine.specs.Message.{Control}
 use Rattle.gtp_machine.specs.Node.{holding}
@@ -27,8 +27,8 @@ returns-clause-granted c =
       sent = c.give-out.result;
       is = c.answered.ensures ∙ (λ i. record { out = Some c.give-out.result; report = record (plain_report (Answered (c.session_cause.ensures i))) { made = true } });
       goes = c.give-out.ensures.sent ∙ (λ i. record { plane = Control; from = control_end (config i).own.control; to = c.args.source; octets = (ready.octets ∙ ap spelled said) i });
-      read = subst ReadsBack said ready.back;
+      read = subst (λ m. ReadsBack (m ∷ [])) said ready.back;
       becomes = c.give-out.ensures.node
-          ∙ (λ i. holding (arrival_of c.args.source (ready.request i)) ((ready.read ∙ said) i) ((c.in_ok-make_granted.ensures.node ∙ ap (λ (s : Station). changed_by change (node_heard c.args.heard s.node)) same) i));
+          ∙ (λ i. holding (arrival_of c.args.source (ready.request i)) ((ready.read ∙ ap (λ m. m ∷ []) said) i) ((c.in_ok-make_granted.ensures.node ∙ ap (λ (s : Station). changed_by change (node_heard c.args.heard s.node)) same) i));
       role = c.give-out.ensures.role ∙ c.make_granted.ensures.role ∙ ap (λ (s : Station). s.role) same;
     }

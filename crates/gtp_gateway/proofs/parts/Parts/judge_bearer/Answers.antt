@@ -33,7 +33,7 @@ returns-then-not-request c = record {
           yes c.is_open.ensures c.if-not-is_open.false,
           inl (
             no says.alone c.if-not-request.true,
-            λ i. answering false request (refusing Of_create_bearer (c.written_teid-header.ensures i) q.number (cause_of 94) old.counter) 94 old,
+            λ i. answering false request (refusing Of_create_bearer (c.written_teid-header.ensures i) q.number (cause_of 94) old.counter ∷ []) 94 old,
           ),
         ),
       );
@@ -52,7 +52,7 @@ returns-then-not-is_default c = record {
             yes says.alone c.if-not-request.false,
             inl (
               λ linked. no c.is_default.ensures c.if-not-is_default.true (sym says.linked ∙ linked),
-              λ i. answering false request (refusing Of_create_bearer (c.written_teid-header.ensures i) q.number (cause_of 64) old.counter) 64 old,
+              λ i. answering false request (refusing Of_create_bearer (c.written_teid-header.ensures i) q.number (cause_of 64) old.counter ∷ []) 64 old,
             ),
           ),
         ),
@@ -74,7 +74,7 @@ returns-in_default-choose c = record {
               says.linked ∙ yes c.is_default.ensures c.if-not-is_default.false,
               inl (
                 λ free. c.in_default-choose.ensures.none (subst (λ (t : ℕ). HasFreeIdentity old t) says.header free.0, free.1),
-                λ i. answering false request (Create_bearer_response (no_resources old q (c.written_teid-header.ensures i))) 73 old,
+                λ i. answering false request (Create_bearer_response (no_resources old q (c.written_teid-header.ensures i)) ∷ []) 73 old,
               ),
             ),
           ),
@@ -113,7 +113,7 @@ returns c = record {
                         cause = cause_of 16;
                         contexts = record { identity = grant.identity; cause = cause_of 16; serving_user = Some (tunnel_end 4 teid old.config.own.user); packet_user = Some q.context.user } ∷ [];
                         recovery = Some old.counter;
-                      }))
+                      }) ∷ [])
                       16
                       (record old { drawn = teid ∷ old.drawn; bearers = insert old.bearers teid (record { remote = Some (sym says.user i).teid; session = sym says.header i; identity = Some grant.identity; kind = Dedicated; state = Active; ended = false }) });
                 },

@@ -1,4 +1,4 @@
-use Rattle.std.proofs.Common.{◌≡◌, ◌∙◌, ap, subst, List, ℕ}
+use Rattle.std.proofs.Common.{◌≡◌, ◌∙◌, ap, subst, List, ℕ, [], ◌∷◌}
 use Rattle.gtp_machine.specs.Answer.{refusing}
 use Rattle.gtp_machine.specs.Config.{control_end}
 use Rattle.gtp_machine.specs.Input.{Of_create_session}
@@ -28,9 +28,9 @@ returns-clause-refused c =
       sent = c.give-out.result;
       is = c.answered.ensures;
       goes = c.give-out.ensures.sent ∙ (λ i. record { plane = Control; from = control_end (config i).own.control; to = c.args.source; octets = (ready.octets ∙ ap spelled said) i });
-      read = subst ReadsBack said ready.back;
+      read = subst (λ m. ReadsBack (m ∷ [])) said ready.back;
       becomes = c.give-out.ensures.node
-          ∙ (λ i. holding (arrival_of c.args.source (ready.request i)) ((ready.read ∙ said) i) ((c.hear.ensures.node ∙ ap (λ (s : Station). node_heard c.args.heard s.node) same) i));
+          ∙ (λ i. holding (arrival_of c.args.source (ready.request i)) ((ready.read ∙ ap (λ m. m ∷ []) said) i) ((c.hear.ensures.node ∙ ap (λ (s : Station). node_heard c.args.heard s.node) same) i));
       role = c.give-out.ensures.role ∙ c.hear.ensures.role ∙ ap (λ (s : Station). s.role) same;
     }
 

@@ -52,8 +52,8 @@ returns-clause-done c =
     record {
       effect = record { out = record (says (user_end node.config.peer.user) (Packet_data (written at.remote) payload)) { handed = entry_for (written at.remote) payload of.session.subscriber at.identity ∷ [] }; outcome = Came_to GoneOut; node = node };
       step = inr (record { bearer = at; stands = stands }, inr (yes c.is_active.ensures c.if-not-is_active.false, inr (yes c.may_go.ensures c.if-not-may_go.false, inr (few, record { of = of; gives = refl }))));
-      sent = one_sent node.config _ _ (c.in_ok-out.ensures.sent ∙ (λ i. datagram_of node.config (record { destination = user_end node.config.peer.user; message = Packet_data (c.written_teid-teid.ensures i) payload })))
-          (subst (λ (t : ℕ). ReadsBack (Packet_data t payload)) c.written_teid-teid.ensures c.in_ok-out.ensures.back);
+      sent = one_sent node.config _ _ (c.in_ok-out.ensures.sent ∙ (λ i. datagram_of node.config (record { destination = user_end node.config.peer.user; messages = Packet_data (c.written_teid-teid.ensures i) payload ∷ [] })))
+          (subst (λ (t : ℕ). ReadsBack (Packet_data t payload ∷ [])) c.written_teid-teid.ensures c.in_ok-out.ensures.back);
       outcome = refl;
       becomes = refl;
       role = refl;

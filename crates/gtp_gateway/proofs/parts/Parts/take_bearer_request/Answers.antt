@@ -1,4 +1,4 @@
-use Rattle.std.proofs.Common.{◌≡◌, true, Option, inl, inr, refl, sym, ◌∙◌, ap, subst}
+use Rattle.std.proofs.Common.{◌≡◌, true, Option, inl, inr, refl, sym, ◌∙◌, ap, subst, [], ◌∷◌}
 use Rattle.gtp_machine.specs.Node.{Node}
 use Rattle.gtp_machine.specs.Reading.{control_message}
 use Rattle.gtp_machine.specs.Serving.{BearerJudged, BearerAsked}
@@ -44,10 +44,10 @@ returns-clause-taken c = λ q says.
     let v = c.in-Some.verdict in
     let judged = subst (λ (o : Option BearerVerdict). BearerJudged request q node (bearer_effect request r q o node)) c.in-Some.is (c.judge_bearer.ensures.judged request q says) in
     let said : control_message c.in_ok-message.message ≡ bearer_answer v.answer v.header.0 q node = c.in_ok-message.ensures.says q says in
-    answers_made (BearerAsked request q) request (station_of old) (station_of c.answer.new.self) c.answered.result c.in_ok-out.out (control_message c.in_ok-message.message) c.cause.result c.is_granted.result (changed_by c.change.result node) c.answered.ensures c.in_ok-out.ensures.sent c.in_ok-out.ensures.back c.in_ok-out.ensures.node c.in_ok-out.ensures.role
+    answers_made (BearerAsked request q) request (station_of old) (station_of c.answer.new.self) c.answered.result c.in_ok-out.out (control_message c.in_ok-message.message ∷ []) c.cause.result c.is_granted.result (changed_by c.change.result node) c.answered.ensures c.in_ok-out.ensures.sent c.in_ok-out.ensures.back c.in_ok-out.ensures.node c.in_ok-out.ensures.role
     (inr (
       record { few = held_few old.held.pairs (no c.is_full.ensures.full c.if-is_full.false) },
-      subst (λ e. BearerJudged request q node e) (λ i. answering (sym c.is_granted.ensures i) request (sym said i) (sym c.cause.ensures i) (changed_by (sym c.change.ensures i) node)) judged,
+      subst (λ e. BearerJudged request q node e) (λ i. answering (sym c.is_granted.ensures i) request (sym said i ∷ []) (sym c.cause.ensures i) (changed_by (sym c.change.ensures i) node)) judged,
     ))
 
 pub returns-in_err-message-clause-memory : goal.returns-in_err-message-clause-memory

@@ -1,4 +1,4 @@
-use Rattle.std.proofs.Common.{◌≡◌, refl, sym, ◌∙◌, subst}
+use Rattle.std.proofs.Common.{◌≡◌, refl, sym, ◌∙◌, subst, [], ◌∷◌}
 use Rattle.gtp_machine.specs.Message.{Echo_response}
 use Rattle.gtp_machine.specs.Answer.{echoed}
 use Rattle.gtp_machine.specs.Reading.{control_message}
@@ -19,12 +19,12 @@ returns-clause-taken c = λ request q from number.
     let node = node_heard heard old.node in
     let says : control_message c.echo_response-message.result ≡ Echo_response (record { number = q.number; recovery = node.counter }) =
     c.echo_response-message.ensures.says ∙ (λ i. Echo_response (record { number = sym number i; recovery = (c.counter.ensures ∙ sym (counter_stays heard old.node)) i })) in
-    let sent = c.in_ok-out.ensures.sent ∙ (λ i. datagram_of (sym (config_stays heard old.node) i) (record { destination = sym from i; message = says i })) in
+    let sent = c.in_ok-out.ensures.sent ∙ (λ i. datagram_of (sym (config_stays heard old.node) i) (record { destination = sym from i; messages = says i ∷ [] })) in
     subst (λ (s : ControlStep). IsRow (λ n e. e ≡ echoed request q n) request old.role node s (station_of c.hear.new.self)) (sym c.sent.ensures)
     (record {
       effect = echoed request q node;
       takes = refl;
-      tells = record { sent = one_sent node.config _ _ sent (subst ReadsBack says c.in_ok-out.ensures.back); outcome = refl; made = refl; heard = refl; learned = refl; untold = refl; unlearned = refl; all = refl };
+      tells = record { sent = one_sent node.config _ _ sent (subst (λ m. ReadsBack (m ∷ [])) says c.in_ok-out.ensures.back); outcome = refl; made = refl; heard = refl; learned = refl; untold = refl; unlearned = refl; all = refl };
       becomes = c.hear.ensures.node;
       role_stays = c.hear.ensures.role;
     })

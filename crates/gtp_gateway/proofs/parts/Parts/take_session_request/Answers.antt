@@ -1,4 +1,4 @@
-use Rattle.std.proofs.Common.{◌<◌, List, length, false, true, inl, inr, refl, sym, ap, subst}
+use Rattle.std.proofs.Common.{◌<◌, List, length, false, true, inl, inr, refl, sym, ap, subst, [], ◌∷◌}
 use Rattle.std.proofs.lemmas.Result.{IfOk-weaker}
 use Rattle.gtp_machine.specs.Answer.{answered, making}
 use Rattle.gtp_machine.specs.Choice.{HasHeldRoom}
@@ -61,7 +61,7 @@ returns-in-Granted-clause-taken c =
     answered_so (SessionAsked request q) c.args.source c.args.octets.now _ (session_cause r.pdn.0 g.address) true _ left old step (station_of c.grant_session.new.self) (config_stays c.args.heard old.node) a
     (inr (
       room,
-      subst (λ (e : Effect). SessionJudged request q left e) (λ i. making request (sym (grant_same r q says c.args.heard old.node g chosen.identity_is) i) (session_cause (says.pdn i) g.address) (sym (made_same r q says c.args.heard old.node g chosen.identity_is) i))
+      subst (λ (e : Effect). SessionJudged request q left e) (λ i. making request (sym (grant_same r q says c.args.heard old.node g chosen.identity_is) i ∷ []) (session_cause (says.pdn i) g.address) (sym (made_same r q says c.args.heard old.node g chosen.identity_is) i))
           (subst (λ (v : SessionVerdict). SessionJudged request q left (session_effect request q v left)) c.in-Granted.is (c.judge_session.ensures.judged request q says)),
     )))
     c.grant_session.ensures.granted

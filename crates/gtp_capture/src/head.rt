@@ -1,0 +1,75 @@
+//! The head of a capture.
+
+ghost use Rattle.std.specs.Prelude.{◌≡◌, ◌≤◌, length, IfSome, IfNone, IfOk, IfErr};
+ghost use Rattle.gtp_capture.specs.Frame.{IsHead, magic};
+ghost use Rattle.gtp_capture.specs.Outcome.{Begins};
+ghost use Rattle.gtp_capture.specs.declared.head.Kind.{Kind as AnyKind};
+ghost use Rattle.gtp_capture.specs.declared.head.Unit.{Unit as AnyUnit};
+
+use crate::fault::Stop;
+use crate::filling::fill;
+use crate::octets::{Order, four};
+use std::io::Read;
+
+/// What the fractions of a second are counted in.
+#[derive(Clone, Copy, Debug, PartialEq, Eq)]
+pub enum Unit {
+    Microseconds,
+    Nanoseconds,
+}
+
+/// What the head of a capture says of its records.
+#[derive(Clone, Copy, Debug, PartialEq, Eq)]
+pub struct Kind {
+    pub order: Order,
+    pub unit: Unit,
+    /// The type of link, as tcpdump numbers them.
+    pub link: u32,
+}
+
+/// The unit that a number at the start says.
+fn unit_of(number: u32) -> Option<Unit>
+    ensures found { IfSome result (λ unit. number ≡ magic unit) }
+    ensures none { IfNone result ((unit : AnyUnit) → number ≡ magic unit → ⊥) }
+{
+    match number {
+        0xa1b2_c3d4 => Some(Unit::Microseconds),
+        0xa1b2_3c4d => Some(Unit::Nanoseconds),
+        _ => None,
+    }
+}
+
+/// What the octets of a head say in this order.
+fn kind_in(order: Order, head: &[u8]) -> Option<Kind>
+    requires { 24 ≤ length head.now }
+    ensures found { IfSome result (IsHead head.now) }
+    ensures none { IfNone result ((k : AnyKind) → k.order ≡ order → IsHead head.now k → ⊥) }
+{
+    let unit = unit_of(four(order, head, 0))?;
+    let link = four(order, head, 20) % 65536;
+    Some(Kind { order, unit, link })
+}
+
+/// What the octets of a head say.
+fn read_kind(head: &[u8]) -> Option<Kind>
+    requires { 24 ≤ length head.now }
+    ensures found { IfSome result (IsHead head.now) }
+    ensures none { IfNone result ((k : AnyKind) → IsHead head.now k → ⊥) }
+{
+    match kind_in(Order::High, head) {
+        Some(kind) => Some(kind),
+        None => kind_in(Order::Low, head),
+    }
+}
+
+/// The head of a capture, and what it says.
+pub fn read_head<R: Read>(reader: &mut R) -> Result<Option<Kind>, Stop>
+    ensures ok { IfOk result (Begins (R.remaining reader.old) (R.remaining reader.new)) }
+    ensures err { IfErr result (λ stop. stop ≡ Stop.Read) }
+{
+    let mut head = [0u8; 24];
+    if fill(reader, &mut head)? < 24 {
+        return Ok(None);
+    }
+    Ok(read_kind(&head))
+}
