@@ -1,6 +1,6 @@
 """The run of a scenario as a sequence diagram in plain text."""
 
-from gateways import PACKET, SERVING
+from gateways import PACKET, SERVING, has_two, last_message
 from world import other, outcome_text
 
 HEAD = "event  serving                                                     packet  outcome"
@@ -24,10 +24,13 @@ NAMES = {
 
 
 def datagram_name(number, plane, octets):
-    """The number of a datagram, the name of its message, and the TEID of its header, where it has one."""
+    """The number of a datagram, the names of its messages, and the TEID of the first header, where it has one."""
     kind = octets[1]
+    name = NAMES[plane][kind]
+    if plane == "control" and has_two(octets):
+        name += f" + {NAMES[plane][last_message(octets)[1]]}"
     has_teid = octets[0] & 8 if plane == "control" else kind in (254, 255)
-    return f"{number} {NAMES[plane][kind]}" + (f" {octets[4:8].hex()}" if has_teid else "")
+    return f"{number} {name}" + (f" {octets[4:8].hex()}" if has_teid else "")
 
 
 def line(place, middle, outcome=""):

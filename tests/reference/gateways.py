@@ -189,6 +189,36 @@ def read_control(octets):
     return Message(octets[1], teid, int.from_bytes(rest[:3], "big"), elements(rest[4:]))
 
 
+# A datagram is one message, or two: the first then has the flag P, and the second follows it at once (clause 5.5.1).
+
+ANNOUNCES = 16
+
+
+def announced(octets):
+    """A message, as it is in front of another."""
+    return bytes([octets[0] | ANNOUNCES]) + octets[1:]
+
+
+def has_two(octets):
+    """Whether a datagram announces a second message. One that has no length yet is cut (H1) and announces none."""
+    return len(octets) >= 4 and octets[0] & ANNOUNCES != 0
+
+
+def both_messages(octets):
+    """The octets of each, or the fault where the datagram was cut before the second begins."""
+    size = 4 + int.from_bytes(octets[2:4], "big")
+    if len(octets) < size:
+        raise Refused("X1 H3")
+    if len(octets) == size:
+        raise Refused("X1 H5")
+    return bytes([octets[0] - ANNOUNCES]) + octets[1:size], octets[size:]
+
+
+def last_message(octets):
+    """The octets of the only message of a datagram that was sent, or of the second of two."""
+    return both_messages(octets)[1] if has_two(octets) else octets
+
+
 def user(kind, teid, rest=b""):
     return bytes([0x30, kind]) + len(rest).to_bytes(2, "big") + teid.to_bytes(4, "big") + rest
 
@@ -257,13 +287,15 @@ class Held:
 
 @dataclass
 class Setup:
-    """What a gateway is set up with; the access points and addresses are the packet gateway's."""
+    """What a gateway is set up with. Access points, templates and addresses are the packet gateway's; the template of
+    an access point is the TFT of the bearer that each of its sessions gets at once."""
 
     role: str
     control: bytes
     user: bytes
     counter: int
     access_points: list = field(default_factory=list)
+    templates: dict = field(default_factory=dict)
     pool: int = 0
     count: int = 0
     pool6: bytes = bytes(16)
@@ -287,9 +319,10 @@ class Setup:
 
 @dataclass
 class Told:
-    """What an event comes to."""
+    """What an event comes to; where two messages came in one datagram, each of them."""
 
     outcome: str = ""
+    second: Optional[str] = None
     restart: Optional[int] = None
     sent: list = field(default_factory=list)
     gave_up: list = field(default_factory=list)
@@ -399,9 +432,12 @@ class Gateway:
         return replace(told, outcome=f"begun {teid:08x}")
 
     def create_bearer(self, teid, tft):
-        session = self.active_session(teid)
+        self.active_session(teid)
         self.room(draws=1)
-        bearer = self.draw()
+        return self.begin_bearer(teid, tft)
+
+    def begin_bearer(self, teid, tft):
+        session, bearer = self.sessions[teid], self.draw()
         self.bearers[bearer] = Bearer(teid, False, PENDING)
         context = number_of(EBI, 0) + element(TFT, 0, tft) + end_of(1, 5, bearer, self.setup.user)
         context += QUALITY + number_of(CHARGING_ID, bearer, 4)
@@ -448,7 +484,22 @@ class Gateway:
     # Datagrams of the control plane.
 
     def receive_control(self, octets):
-        """What a datagram comes to. A later counter is told even where the message is then dropped."""
+        """What a datagram comes to. Two messages are taken one after the other, each as if it came alone: the second
+        also where the first is dropped."""
+        if not has_two(octets):
+            return self.receive_message(octets)
+        try:
+            front, back = both_messages(octets)
+            kinds = read_control(front).kind, read_control(back).kind
+            if self.setup.role == PACKET or kinds != (CREATE_SESSION + 1, CREATE_BEARER):
+                raise Refused("X9")
+        except Refused as dropped:
+            return Told(str(dropped))
+        told, after = self.receive_message(front), self.receive_message(back)
+        return replace(told, second=after.outcome, sent=told.sent + after.sent)
+
+    def receive_message(self, octets):
+        """What a message comes to. A later counter is told even where the message is then dropped."""
         for held in self.held:
             if held.request == octets:
                 return Told("repeated", sent=[("control", held.answer)])
@@ -486,7 +537,8 @@ class Gateway:
         else:
             told.outcome = self.take_response(message)
 
-    # Requests (clauses 7.2.1 to 7.2.10). An answer is held under the request's octets.
+    # Requests (clauses 7.2.1 to 7.2.10). An answer is held under the request's octets, with the request that goes along
+    # in its datagram, if one does.
 
     def answer(self, message, octets, told):
         if len(self.held) >= MOST_HELD:
@@ -497,10 +549,12 @@ class Gateway:
             CREATE_BEARER: self.bearer_asked,
             DELETE_BEARER: self.bearers_deleted,
         }
-        header, cause, rows = rules[message.kind](message)
+        header, cause, rows, *along = rules[message.kind](message)
         offending = EBI if cause == 69 else None
         body = cause_of(cause, offending) + rows + number_of(RECOVERY, self.counter)
         answer = control(message.kind + 1, header, message.number, body)
+        if along:
+            answer = announced(answer) + along[0]
         self.held.append(Held(octets, answer))
         told.sent, told.outcome = [("control", answer)], f"answered {cause}"
 
@@ -530,7 +584,15 @@ class Gateway:
         made += element(QOS, 0, first(context, QOS, 0)) + number_of(CHARGING_ID, bearer, 4)
         rows = end_of(1, 7, session, self.setup.control) + allocation(address, PREFIX)
         rows += element(AMBR, 0, first(found, AMBR, 0)) + element(CONTEXT, 0, made)
-        return header, 16 if address.kind == pdn else 18, rows
+        return header, 16 if address.kind == pdn else 18, rows, *self.request_of_template(session)
+
+    def request_of_template(self, session):
+        """The Create Bearer Request that goes along with the answer about a new session, if there is a template and
+        room. Sent again it is alone, like every request."""
+        tft = self.setup.templates.get(self.sessions[session].apn)
+        if tft is None or not self.has_draws(1) or len(self.pending) >= MOST_PENDING:
+            return []
+        return [octets for _, octets in self.begin_bearer(session, tft).sent]
 
     def session_deleted(self, message):
         session = self.sessions.get(message.teid)

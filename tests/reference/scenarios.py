@@ -3,7 +3,7 @@ datagrams come at once and in order, and the others late, repeated, cut or never
 
 import random
 
-from gateways import ACTIVE, PACKET, SERVING
+from gateways import ACTIVE, PACKET, SERVING, has_two, last_message
 from world import World
 
 
@@ -14,11 +14,18 @@ def networks(rng):
     return {"pool6": f"{first:016x}" + rng.choice(["0000000000000001", "f" * 16]), "count6": count}
 
 
+def templates(rng):
+    """Mostly of one access point, else of both, of none, or twice of one, where the last counts."""
+    names = rng.choice([["internet"], ["internet"], ["ims.example"], ["internet", "ims.example"], [], ["internet"] * 2])
+    return {"templates": [{"apn": name, "tft": rng.choice(["21", "21", "", "210a0b", "ff" * 255])} for name in names]}
+
+
 def head(rng):
     addresses = {"control": "10.0.0.1", "user": "10.0.0.3"}, {"control": "10.0.0.2", "user": "10.0.0.4"}
     serving, packet = (dict(a, counter=rng.choice([0, 1, 7, 254, 255])) for a in addresses)
     packet |= {"apns": ["internet", "ims.example"], "pool": "10.1.0.254", "count": rng.choice([0, 1, 2, 3, 5])}
     packet |= networks(rng) if rng.random() < 0.5 else {}
+    packet |= templates(rng) if rng.random() < 0.6 else {}
     timers = {"t3": rng.randint(1, 4), "n3": rng.randint(0, 3), "hold": rng.randint(1, 20)}
     return {"serving": serving, "packet": packet, "events": []} | (timers if rng.random() < 0.8 else {})
 
@@ -80,7 +87,7 @@ def deliver(rng, world):
 
 def cut(rng, world):
     count = len(world.datagrams)
-    return {"datagram": rng.randint(0, count), "length": rng.randint(0, 170)}
+    return {"datagram": rng.randint(0, count), "length": rng.randint(0, 220)}
 
 
 EVENTS = {
@@ -99,8 +106,17 @@ EVENTS = {
 # Events in a row that random choice alone hardly ever makes.
 
 
+def delivery(number):
+    return {"do": "deliver", "datagram": number}
+
+
+def last_number(world):
+    """The number of the datagram that was sent last."""
+    return max(0, len(world.datagrams) - 1)
+
+
 def newest(world):
-    return {"do": "deliver", "datagram": max(0, len(world.datagrams) - 1)}
+    return delivery(last_number(world))
 
 
 def more_bearers_than_identities(rng, world):
@@ -133,12 +149,67 @@ def user_datagrams_cut(rng, world):
             yield {"do": "cut", "datagram": number, "length": rng.randint(0, len(octets))}
 
 
+def pairs_cut(rng, world):
+    """Each pair is cut somewhere, and about where its second message begins."""
+    for number, (_, plane, octets) in enumerate(world.datagrams):
+        if plane == "control" and has_two(octets):
+            begins = len(octets) - len(last_message(octets))
+            for length in rng.randint(0, len(octets)), begins + rng.randint(-1, 5):
+                yield {"do": "cut", "datagram": number, "length": length}
+
+
+def ticks(node, times):
+    return {"do": "tick", "node": node, "times": times}
+
+
+def answer_to_new_session(rng, world):
+    yield {"do": "create_session"} | create_session(rng, world)
+    yield newest(world)
+
+
+def pair_again(rng, world):
+    """A pair, the request in it alone, when it is sent again, and the pair again."""
+    yield from answer_to_new_session(rng, world)
+    pair, setup = last_number(world), world.setups[SERVING]
+    if rng.random() < 0.8:
+        yield delivery(pair)
+    yield ticks(SERVING, rng.randint(1, setup.hold))
+    yield ticks(PACKET, setup.t3)
+    yield newest(world)
+    yield delivery(pair)
+
+
+def pair_of_earlier_start(rng, world):
+    """A pair comes when the serving gateway has heard of the packet gateway's restart."""
+    yield from answer_to_new_session(rng, world)
+    pair = last_number(world)
+    yield {"do": "restart", "node": PACKET}
+    yield {"do": "echo", "node": PACKET} if rng.random() < 0.5 else delivery(max(0, pair - 1))
+    yield newest(world)
+    yield delivery(pair)
+
+
+def session_while_most_requests_wait(rng, world):
+    """No further request has room, unless the restart of the serving gateway ends one of those that wait."""
+    yield {"do": "create_bearer"} | create_bearer(rng, world)
+    for _ in range(256):
+        yield {"do": "echo", "node": PACKET}
+    if rng.random() < 0.5:
+        yield {"do": "restart", "node": SERVING}
+    yield from answer_to_new_session(rng, world)
+    yield newest(world)
+
+
 ROWS = [
     more_bearers_than_identities,
     more_requests_than_can_wait,
     more_restarts_than_can_be,
     payload_too_long,
     user_datagrams_cut,
+    pairs_cut,
+    pair_again,
+    pair_of_earlier_start,
+    session_while_most_requests_wait,
 ]
 
 

@@ -3,7 +3,7 @@
 from dataclasses import dataclass
 from ipaddress import ip_address
 
-from gateways import ACTIVE, MOST_RESTARTS, PACKET, SERVING, Gateway, Refused, Setup, Told
+from gateways import ACTIVE, MOST_RESTARTS, PACKET, SERVING, Gateway, Refused, Setup, Told, last_message
 
 
 OF_THE_PACKET_GATEWAY = ("create_bearer", "delete_bearer", "release_session", "end_marker")
@@ -30,6 +30,7 @@ def setups(scenario):
         if role == PACKET:
             setup.access_points, setup.count = head["apns"], head["count"]
             setup.pool = int.from_bytes(octets_of(head["pool"]), "big")
+            setup.templates = {it["apn"]: bytes.fromhex(it["tft"]) for it in head.get("templates", [])}
             if "pool6" in head:
                 setup.pool6, setup.count6 = bytes.fromhex(head["pool6"]), head["count6"]
         yield role, setup
@@ -108,7 +109,7 @@ class World:
         if event["datagram"] >= len(self.datagrams):
             raise Refused("N1")
         sender, plane, octets = self.datagrams[event["datagram"]]
-        if plane == "control" and octets in self.forgotten[other(sender)]:
+        if plane == "control" and last_message(octets) in self.forgotten[other(sender)]:
             self.late += 1
         return self.comes(sender, plane, octets)
 
@@ -173,7 +174,8 @@ def address_text(address):
 
 
 def outcome_text(told):
-    return told.outcome + ("" if told.restart is None else f" restart {told.restart}")
+    second = "" if told.second is None else f" then {told.second}"
+    return told.outcome + second + ("" if told.restart is None else f" restart {told.restart}")
 
 
 def event_lines(happened):
@@ -243,6 +245,9 @@ def run(scenario):
 
 
 def is_met(happened):
-    """Whether an event came to what the scenario expects."""
-    word, expect = happened.told.outcome.split()[0], happened.event.get("expect")
-    return word == expect if expect is not None else word[0] not in "GNX"
+    """Whether an event came to what the scenario expects: of the first message, where two came. Without it neither may
+    be refused."""
+    told, expect = happened.told, happened.event.get("expect")
+    if expect is not None:
+        return told.outcome.split()[0] == expect
+    return all(outcome[0] not in "GNX" for outcome in (told.outcome, told.second) if outcome)

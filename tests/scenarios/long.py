@@ -5,8 +5,11 @@ from dataclasses import dataclass
 
 @dataclass
 class Made:
+    """A scenario, and the exit status of its replay."""
+
     name: str
     scenario: dict
+    status: int = 0
 
 
 def head():
@@ -15,9 +18,14 @@ def head():
     return {"serving": own, "packet": {**peer, "apns": ["internet"], "pool": "10.1.0.1", "count": 10}}
 
 
-def made(name, *parts, **others):
+def made(name, *parts, status=0, **others):
     """A scenario of these events. Its head has these other values."""
-    return Made(name, {**head(), **others, "events": [event for part in parts for event in part]})
+    return Made(name, {**head(), **others, "events": [event for part in parts for event in part]}, status)
+
+
+def with_template():
+    """The packet gateway's head, where each session gets a bearer at once."""
+    return {**head()["packet"], "templates": [{"apn": "internet", "tft": "21"}]}
 
 
 def deliver(number, expect):
@@ -120,5 +128,57 @@ def most_sessions():
     )
 
 
+def most_pending_with_template():
+    """While 256 requests are pending at the packet gateway, a session gets no bearer of the template. When one has been
+    answered the next session gets one, and its request is the 256th again, so that the third session gets none. The
+    restart of the serving gateway ends that request, so that the next session gets a bearer."""
+    answered = [deliver(0, "echoed"), deliver(258, "alive")]
+    restart = {"do": "restart", "node": "serving", "expect": "restarted"}
+    return made(
+        "256 requests are pending, and sessions get a bearer at once",
+        [ECHO_OF_PACKET] * 256,
+        asked(256, 1, "answered", "opened"),
+        answered,
+        asked(259, 1, "answered", "opened"),
+        asked(262, 1, "answered", "opened"),
+        [restart],
+        asked(264, 1, "answered", "opened", "opened"),
+        packet=with_template(),
+    )
+
+
+def bearer_asked(first, answer):
+    """A dedicated bearer is asked for, by the datagram with this number; what the answer comes to."""
+    yield {"do": "create_bearer", "teid": "01000001", "tft": "21", "expect": "begun"}
+    yield deliver(first, "answered")
+    yield deliver(first + 1, answer)
+
+
+def most_held(name, expected, status):
+    """The serving gateway holds 4,096 answers: to the request of a pair, to nine more for which the session has room,
+    and to those that it refuses. Of the next pair, which is expected so, it takes the first message and drops the second
+    (X8), and when that request is sent again alone it drops it too."""
+    more = [bearer_asked(3 + 2 * time, "opened" if time < 9 else "rejected") for time in range(4095)]
+    again = [ticks("packet", 3), deliver(8195, "X8")]
+    return made(
+        name,
+        OPENED,
+        [deliver(2, "opened")],
+        *more,
+        asked(8193, 1, "answered"),
+        [{"do": "deliver", "datagram": 8194, **expected}],
+        again,
+        packet=with_template(),
+        status=status,
+    )
+
+
 def scenarios():
-    return [most_pending(), ten_thousand_events(), most_sessions()]
+    return [
+        most_pending(),
+        most_pending_with_template(),
+        most_held("4,096 answers are held, and the first outcome is expected", {"expect": "opened"}, 0),
+        most_held("4,096 answers are held, and nothing is expected", {}, 1),
+        ten_thousand_events(),
+        most_sessions(),
+    ]

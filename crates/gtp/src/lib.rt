@@ -26,10 +26,11 @@ pub mod user {
     };
 }
 
-/// Packet captures (pcap): read the GTP datagrams of one.
+/// Packet captures (pcap, pcapng): read the GTP datagrams of one.
 pub mod capture {
     pub use gtp_capture::{
-        CaptureFault, Captured, Packet, Refused, Sink, Stop, Time, Unit, read_capture, read_packet,
+        CaptureFault, Captured, Packet, Ports, Refused, Sink, Stop, Time, Unit, read_capture,
+        read_packet,
     };
 }
 

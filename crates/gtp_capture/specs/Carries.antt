@@ -6,6 +6,7 @@ use Rattle.gtp_capture.specs.Internet.{Parcel, IsV4, IsV6}
 use Rattle.gtp_capture.specs.Udp.{Udp, IsUdp}
 use Rattle.gtp_capture.specs.Packet.{Packet, plane_at}
 use Rattle.gtp_capture.specs.reading.Packet.{packet_in}
+use Rattle.gtp_capture.specs.declared.ports.Ports.{Ports}
 
 -- a packet of IPv4, or of IPv6
 abbrev pub CarriesV4 : List ℕ → Parcel → Type 0
@@ -41,11 +42,11 @@ InFrame link frame p =
     ⊎ (((link ≡ 229) × CarriesV6 frame p)
     ⊎ ((link ≡ 276) × CarriesAt 0 20 frame p))))))
 
--- The frame carries a UDP datagram, one of whose ports is 2123, or else 2152.
-abbrev pub Carries : ℕ → List ℕ → Packet → Type 0
-Carries link frame d = (p : Parcel) × (u : Udp) × InFrame link frame p × IsUdp p.octets u × (plane_at u.from u.to ≡ Some d.plane)
-    × (d.from ≡ record { ip = p.from; port = u.from }) × (d.to ≡ record { ip = p.to; port = u.to }) × (d.had ≡ u.had) × (d.octets ≡ u.held)
+-- The frame carries a UDP datagram with a plane by its ports, or its first fragment.
+abbrev pub Carries : Ports → ℕ → List ℕ → Packet → Type 0
+Carries ports link frame d = (p : Parcel) × (u : Udp) × InFrame link frame p × IsUdp p.octets u × (plane_at ports u.from u.to ≡ Some d.plane)
+    × (d.from ≡ record { ip = p.from; port = u.from }) × (d.to ≡ record { ip = p.to; port = u.to }) × (d.fragment ≡ p.fragment) × (d.had ≡ u.had) × (d.octets ≡ u.held)
 
 -- what is read of a frame is what it carries, and what it carries is read
 abbrev pub ReadsWhatIsCarried : Type 0
-ReadsWhatIsCarried = (link : ℕ) (frame : List ℕ) (d : Packet) → (packet_in link frame ≡ Some d → Carries link frame d) × (Carries link frame d → packet_in link frame ≡ Some d)
+ReadsWhatIsCarried = (ports : Ports) (link : ℕ) (frame : List ℕ) (d : Packet) → (packet_in ports link frame ≡ Some d → Carries ports link frame d) × (Carries ports link frame d → packet_in ports link frame ≡ Some d)

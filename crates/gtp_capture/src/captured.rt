@@ -6,7 +6,7 @@ ghost use Rattle.gtp_capture.specs.Seen.{Seen, seen_of};
 use crate::head::Unit;
 use crate::packet::Packet;
 
-/// When a frame was captured: seconds since 1970, and a fraction in its unit, as the capture has it.
+/// When a frame was captured: seconds since 1970, and a fraction in its unit.
 #[derive(Clone, Copy, Debug, PartialEq, Eq)]
 pub struct Time {
     pub seconds: u32,

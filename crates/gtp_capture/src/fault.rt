@@ -8,7 +8,7 @@ use thiserror::Error;
 /// What stopped the reading, whatever the octets are.
 #[derive(Clone, Copy, Debug, PartialEq, Eq, Error)]
 pub enum Stop {
-    /// There are more records or octets than 64 bits count.
+    /// The file has 2^64 - 1 octets or more, which are not counted.
     #[error("too long")]
     TooLong,
     /// An allocation was refused.
@@ -28,7 +28,7 @@ pub enum CaptureFault {
     /// The octets do not begin as a capture does.
     #[error("bad capture")]
     NoCapture,
-    /// No record stands from this octet on, counted from 0.
+    /// No record or block stands from this octet on, counted from 0.
     #[error("bad capture at {at}")]
     Broken { at: u64 },
     /// Something else stopped the reading.

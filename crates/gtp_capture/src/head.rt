@@ -1,14 +1,19 @@
 //! The head of a capture.
 
-ghost use Rattle.std.specs.Prelude.{◌≡◌, ◌≤◌, length, IfSome, IfNone, IfOk, IfErr};
+ghost use Rattle.std.specs.Prelude.{◌≡◌, ◌≤◌, ◌++◌, length, IfSome, IfNone, IfOk, IfErr};
 ghost use Rattle.gtp_capture.specs.Frame.{IsHead, magic};
-ghost use Rattle.gtp_capture.specs.Outcome.{Begins};
+ghost use Rattle.gtp_capture.specs.Octets.{four_at};
+ghost use Rattle.gtp_capture.specs.Block.{section_type};
+ghost use Rattle.gtp_capture.specs.Outcome.{Known, HasBegun};
+ghost use Rattle.gtp_capture.specs.declared.octets.Order.TheVariants.{High};
 ghost use Rattle.gtp_capture.specs.declared.head.Kind.{Kind as AnyKind};
 ghost use Rattle.gtp_capture.specs.declared.head.Unit.{Unit as AnyUnit};
 
+use crate::block::{SECTION, finish_section};
 use crate::fault::Stop;
 use crate::filling::fill;
-use crate::octets::{Order, four};
+use crate::octets::{Order, four, from, front};
+use crate::step::{Format, Started};
 use std::io::Read;
 
 /// What the fractions of a second are counted in.
@@ -62,14 +67,44 @@ fn read_kind(head: &[u8]) -> Option<Kind>
     }
 }
 
-/// The head of a capture, and what it says.
-pub fn read_head<R: Read>(reader: &mut R) -> Result<Option<Kind>, Stop>
-    ensures ok { IfOk result (Begins (R.remaining reader.old) (R.remaining reader.new)) }
+/// The header of the first section of a capture, of which the first octets were read.
+fn start_section<R: Read>(reader: &mut R, head: &[u8]) -> Result<Option<Started>, Stop>
+    requires size { length head.now ≡ 24 }
+    requires kind { four_at High 0 head.now ≡ section_type }
+    requires other { (k : AnyKind) → IsHead head.now k → ⊥ }
+    ensures ok { IfOk result (λ s. Known (λ octets left. HasBegun s (head.now ++ octets) left)
+        (R.remaining reader.old) (R.remaining reader.new)) }
+    ensures err { IfErr result (λ stop. stop ≡ Stop.Read) }
+{
+    match finish_section(reader, front(head, 8), from(head, 8))? {
+        Some((order, size)) => Ok(Some(Started {
+            format: Format::Blocks(order),
+            size,
+        })),
+        None => Ok(None),
+    }
+}
+
+/// How a capture begins.
+pub fn read_start<R: Read>(reader: &mut R) -> Result<Option<Started>, Stop>
+    ensures ok { IfOk result (λ s. Known (HasBegun s)
+        (R.remaining reader.old) (R.remaining reader.new)) }
     ensures err { IfErr result (λ stop. stop ≡ Stop.Read) }
 {
     let mut head = [0u8; 24];
     if fill(reader, &mut head)? < 24 {
         return Ok(None);
     }
-    Ok(read_kind(&head))
+    match read_kind(&head) {
+        Some(kind) => Ok(Some(Started {
+            format: Format::Records(kind),
+            size: 24,
+        })),
+        None => {
+            if four(Order::High, &head, 0) != SECTION {
+                return Ok(None);
+            }
+            start_section(reader, &head)
+        }
+    }
 }

@@ -1,28 +1,38 @@
-//! Packet captures of the pcap format, as tcpdump and Wireshark write them: reads one a record at a time, and hands on each
-//! GTP datagram in it; writes one of datagrams.
+//! Packet captures of the formats pcap and pcapng, as tcpdump and Wireshark write them: reads one a record or block at a time,
+//! and hands on each GTP datagram in it; writes one of datagrams (pcap).
 #![tactic(auto)]
 
+mod block;
 mod captured;
+mod checksum;
+mod clock;
 mod fault;
 mod filling;
 mod head;
+mod interface;
 mod internet;
 mod laws;
 mod link;
+mod meaning;
 mod octets;
+mod options;
 mod packet;
+mod ports;
 mod reading;
 mod record;
+mod step;
 mod udp;
 mod writing;
 
 pub use captured::{Captured, Refused, Sink, Time};
 pub use fault::{CaptureFault, Stop};
 pub use head::{Kind, Unit};
+pub use interface::Interface;
 pub use laws::{a_file_has_one_reading, what_is_read_is_carried};
 pub use octets::Order;
 pub use packet::{Packet, read_packet};
+pub use ports::Ports;
 pub use reading::read_capture;
 pub use writing::{
-    WrittenDatagram, what_is_written_is_read_back, write_capture, write_datagram, write_head,
+    Ends, WrittenDatagram, what_is_written_is_read_back, write_capture, write_datagram, write_head,
 };

@@ -3,40 +3,31 @@
 ghost use Rattle.std.specs.Prelude.{◌≡◌, ◌+◌, ◌≤◌, option_map, IfSome, IfNone};
 ghost use Rattle.gtp_capture.specs.reading.Steps.{or_else};
 ghost use Rattle.gtp_capture.specs.reading.Internet.{parcel_of, v4_in, v6_in};
-ghost use Rattle.gtp_capture.specs.Packet.{Packet as AnyPacket, plane_at};
+ghost use Rattle.gtp_capture.specs.Packet.{Packet as AnyPacket};
 ghost use Rattle.gtp_capture.specs.Carries.{Carries};
 ghost use Rattle.gtp_capture.specs.reading.Packet.{packet_of, packet_in, inside_in, internet_in, typed_at, family_in};
 
 use crate::internet::{Parcel, read_v4, read_v6};
 use crate::link::read_untagged;
 use crate::octets::{Order, four, two};
+use crate::ports::{Ports, plane_of};
 use crate::udp::read_udp;
 use gtp_values::{Endpoint, Plane};
 
-/// A GTP datagram, as a frame carries it. Its plane is that of its ports: control if one is 2123, else user if one is
-/// 2152.
+/// A GTP datagram, as a frame carries it. Its plane is that of its ports: control if one is 2123 or the further control
+/// port, else user if one is 2152 or the further user port.
 #[derive(Clone, Copy, Debug, PartialEq, Eq)]
 pub struct Packet<'a> {
     pub from: Endpoint,
     pub to: Endpoint,
     pub plane: Plane,
+    /// Whether this is only the first of several fragments of it. Later ones carry no datagram.
+    pub fragment: bool,
     /// How many octets the datagram had by its UDP length, at most 65,527.
     pub had: u16,
-    /// Those of them that the frame has in the capture: fewer if only the first octets of it were captured.
+    /// Those of them that the frame has in the capture: fewer if only the first octets of it were captured, or if it is a
+    /// fragment.
     pub octets: &'a [u8],
-}
-
-/// The plane by the ports: control has 2123 (TS 29.274 4.2.1), user 2152 (TS 29.281 4.4.2).
-fn plane_of(from: u16, to: u16) -> Option<Plane>
-    ensures { result ≡ plane_at from to }
-{
-    if from == 2123 || to == 2123 {
-        return Some(Plane::Control);
-    }
-    if from == 2152 || to == 2152 {
-        return Some(Plane::User);
-    }
-    None
 }
 
 /// The UDP datagram in octets of this type.
@@ -113,12 +104,12 @@ fn read_inside(link: u32, frame: &[u8]) -> Option<Parcel<'_>>
 
 /// The GTP datagram that a frame carries, on a link of this type.
 #[tactic(auto, unfolding(crate::specs::reading::Packet::packet_in))]
-pub fn packet_in_frame(link: u32, frame: &[u8]) -> Option<Packet<'_>>
-    ensures { option_map packet_of result ≡ packet_in link frame.now }
+pub fn packet_in_frame(ports: Ports, link: u32, frame: &[u8]) -> Option<Packet<'_>>
+    ensures { option_map packet_of result ≡ packet_in ports link frame.now }
 {
     let parcel = read_inside(link, frame)?;
     let udp = read_udp(parcel.octets)?;
-    let plane = plane_of(udp.from, udp.to)?;
+    let plane = plane_of(ports, udp.from, udp.to)?;
     Some(Packet {
         from: Endpoint {
             ip: parcel.from,
@@ -129,15 +120,16 @@ pub fn packet_in_frame(link: u32, frame: &[u8]) -> Option<Packet<'_>>
             port: udp.to,
         },
         plane,
+        fragment: parcel.fragment,
         had: udp.had,
         octets: udp.held,
     })
 }
 
-/// The GTP datagram that a frame carries, on a link of this type, as tcpdump numbers them.
-pub fn read_packet(link: u32, frame: &[u8]) -> Option<Packet<'_>>
-    ensures found { IfSome result (λ packet. Carries link frame.now (packet_of packet)) }
-    ensures none { IfNone result ((d : AnyPacket) → Carries link frame.now d → ⊥) }
+/// The GTP datagram, by these ports, that a frame carries, on a link of this type, as tcpdump numbers them.
+pub fn read_packet(ports: Ports, link: u32, frame: &[u8]) -> Option<Packet<'_>>
+    ensures found { IfSome result (λ packet. Carries ports link frame.now (packet_of packet)) }
+    ensures none { IfNone result ((d : AnyPacket) → Carries ports link frame.now d → ⊥) }
 {
-    packet_in_frame(link, frame)
+    packet_in_frame(ports, link, frame)
 }

@@ -1,35 +1,24 @@
-//! The records of a capture.
+//! The records of a capture (pcap).
 
 ghost use Rattle.std.specs.Prelude.{◌≡◌, ◌⊎◌, IfOk, IfErr};
+ghost use Rattle.gtp_capture.specs.Capture.{Records};
 ghost use Rattle.gtp_capture.specs.Outcome.{Steps};
 
+use crate::captured::Time;
 use crate::fault::Stop;
 use crate::filling::{fill, refill};
-use crate::octets::{Order, four};
+use crate::head::Kind;
+use crate::octets::four;
+use crate::step::{Found, Head, Item, Step};
 use std::io::Read;
 
-/// The most octets that a record holds.
-const LIMIT: usize = 262_144;
-
-/// What the head of a record says, but for how many octets it holds.
-#[derive(Clone, Copy)]
-pub struct Head {
-    pub seconds: u32,
-    pub fraction: u32,
-    pub had: u32,
-}
-
-/// What stands next in a capture.
-#[derive(Clone, Copy)]
-pub enum Step {
-    Frame(Head),
-    End,
-    Broken,
-}
+/// The most octets that are held of a frame.
+pub const LIMIT: usize = 262_144;
 
 /// What stands next, and the octets that it holds.
-pub fn next_record<R: Read>(reader: &mut R, order: Order, room: &mut Vec<u8>) -> Result<Step, Stop>
-    ensures ok { IfOk result (λ step. Steps order (R.remaining reader.old) (R.remaining reader.new) step room.new.items) }
+pub fn next_record<R: Read>(reader: &mut R, kind: Kind, room: &mut Vec<u8>) -> Result<Step, Stop>
+    ensures ok { IfOk result (λ step. Steps (Records kind)
+        (R.remaining reader.old) (R.remaining reader.new) step room.new.items) }
     ensures err { IfErr result (λ stop. (stop ≡ Stop.Read) ⊎ (stop ≡ Stop.Memory)) }
 {
     let mut head = [0u8; 16];
@@ -40,7 +29,7 @@ pub fn next_record<R: Read>(reader: &mut R, order: Order, room: &mut Vec<u8>) ->
     if found < 16 {
         return Ok(Step::Broken);
     }
-    let held = four(order, &head, 8) as usize;
+    let held = four(kind.order, &head, 8) as usize;
     if held > LIMIT {
         return Ok(Step::Broken);
     }
@@ -48,9 +37,20 @@ pub fn next_record<R: Read>(reader: &mut R, order: Order, room: &mut Vec<u8>) ->
     if room.len() < held {
         return Ok(Step::Broken);
     }
-    Ok(Step::Frame(Head {
-        seconds: four(order, &head, 0),
-        fraction: four(order, &head, 4),
-        had: four(order, &head, 12),
+    let time = Time {
+        seconds: four(kind.order, &head, 0),
+        fraction: four(kind.order, &head, 4),
+        unit: kind.unit,
+    };
+    let frame = Head {
+        time,
+        link: kind.link,
+        had: four(kind.order, &head, 12),
+        at: 0,
+        held,
+    };
+    Ok(Step::Found(Found {
+        item: Item::Frame(frame),
+        size: 16 + held as u32,
     }))
 }

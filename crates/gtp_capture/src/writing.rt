@@ -1,25 +1,32 @@
 //! Writing captures.
 
-ghost use Rattle.std.specs.Prelude.{◌≡◌, ◌+◌, ◌/◌, ◌%◌, ◌^◌, ◌<◌, ◌≤◌, length, map, All, OnOk};
-ghost use Rattle.gtp_capture.specs.Writing.{WritesAll, Writes, sent_of};
+ghost use Rattle.std.specs.Prelude.{◌≡◌, ◌+◌, ◌≤◌, ◌++◌, length, map, All, OnOk};
 ghost use Rattle.std.specs.Io.KnownBytes.{Appends};
-ghost use Rattle.gtp_capture.specs.Writing.{ReadsBack, head_octets};
+ghost use Rattle.gtp_capture.specs.Writing.{WritesAll, Writes, sent_of, most_octets, ReadsBack, head_octets, record_head, header_v4, header_v6, udp_octets, pseudo_header, IsChecksum, IsUdpChecksum};
+ghost use Rattle.gtp_capture.specs.reading.Writing.{front_v4, front_v6, udp_head, pseudo_tail, WritesHeader};
 
+use crate::checksum::{complement, sum_onto, udp_complement};
 use std::io::{self, Write};
 
-/// A datagram of IPv4 that is written: when, from where to where, and its octets, at most 65,507.
+/// The addresses that a datagram is from and to, both of one version.
+#[derive(Clone, Copy, Debug, PartialEq, Eq)]
+pub enum Ends {
+    V4 { from: [u8; 4], to: [u8; 4] },
+    V6 { from: [u8; 16], to: [u8; 16] },
+}
+
+/// A datagram that is written: when, from where to where, and its octets, at most 65,507 over IPv4 and 65,527 over IPv6.
 #[derive(Clone, Copy, Debug, PartialEq, Eq)]
 pub struct WrittenDatagram<'a> {
     /// Since 1970.
     pub seconds: u32,
     /// Below 1,000,000 for other readers.
     pub microseconds: u32,
-    /// The address, as a number.
-    pub from: u32,
+    pub ends: Ends,
     pub from_port: u16,
-    /// The address, as a number.
-    pub to: u32,
     pub to_port: u16,
+    /// What tells the packet from others between the same addresses (RFC 791 3.2), as a running number. IPv6 has none.
+    pub identification: u16,
     pub octets: &'a [u8],
 }
 
@@ -38,56 +45,164 @@ pub fn write_head<W: Write>(writer: &mut W) -> io::Result<()>
     writer.write_all(&head)
 }
 
-/// The part of a checksum that one number adds to another (RFC 1071).
-fn folded(sum: u32) -> u32
-    requires { sum < 2 ^ 31 }
-    ensures { result ≡ sum % 65536 + sum / 65536 }
+/// What stands before a packet of this size in its record.
+fn head_of_record(sent: &WrittenDatagram, size: u32) -> [u8; 16]
+    ensures { result ≡ record_head (sent_of sent.now) size }
 {
-    sum % 65536 + sum / 65536
-}
-
-/// The checksum of a header without options, of this size in all.
-fn checksum(size: u16, from: u32, to: u32) -> u16 {
-    let sum = 0x4500
-        + u32::from(size)
-        + 0x4011
-        + from / 65536
-        + from % 65536
-        + to / 65536
-        + to % 65536;
-    let once = folded(sum);
-    let twice = folded(once);
-    65535 - (twice % 65536) as u16
-}
-
-/// Writes the record of a datagram: a packet of IPv4 without options (RFC 791), of UDP without a checksum (RFC 768).
-pub fn write_datagram<W: Write>(writer: &mut W, sent: &WrittenDatagram) -> io::Result<()>
-    requires { length sent.now.octets.now ≤ 65507 }
-    ensures { OnOk result (Writes (W.contents writer.old) (W.contents writer.new) (sent_of sent.now)) }
-{
-    let carried = sent.octets.len() as u16;
-    let size = carried + 28;
     let [s3, s2, s1, s0] = sent.seconds.to_be_bytes();
     let [m3, m2, m1, m0] = sent.microseconds.to_be_bytes();
-    let [h3, h2, h1, h0] = u32::from(size).to_be_bytes();
+    let [h3, h2, h1, h0] = size.to_be_bytes();
+    [
+        s3, s2, s1, s0, m3, m2, m1, m0, h3, h2, h1, h0, h3, h2, h1, h0,
+    ]
+}
+
+/// A header of IPv4 up to its addresses, with this checksum.
+fn front_of_v4(sum: u16, size: u16, identification: u16) -> [u8; 12]
+    ensures { result ≡ front_v4 sum size identification }
+{
     let [t1, t0] = size.to_be_bytes();
-    let [c1, c0] = checksum(size, sent.from, sent.to).to_be_bytes();
-    let [a3, a2, a1, a0] = sent.from.to_be_bytes();
-    let [b3, b2, b1, b0] = sent.to.to_be_bytes();
-    let [p1, p0] = sent.from_port.to_be_bytes();
-    let [q1, q0] = sent.to_port.to_be_bytes();
-    let [u1, u0] = (carried + 8).to_be_bytes();
-    let head = [
-        s3, s2, s1, s0, m3, m2, m1, m0, h3, h2, h1, h0, h3, h2, h1, h0, 69, 0, t1, t0, 0, 0, 0, 0,
-        64, 17, c1, c0, a3, a2, a1, a0, b3, b2, b1, b0, p1, p0, q1, q0, u1, u0, 0, 0,
-    ];
-    writer.write_all(&head)?;
+    let [i1, i0] = identification.to_be_bytes();
+    let [c1, c0] = sum.to_be_bytes();
+    [69, 0, t1, t0, i1, i0, 0, 0, 64, 17, c1, c0]
+}
+
+/// A header of IPv6 up to its addresses.
+fn front_of_v6(size: u16) -> [u8; 8]
+    ensures { result ≡ front_v6 size }
+{
+    let [u1, u0] = size.to_be_bytes();
+    [96, 0, 0, 0, u1, u0, 17, 64]
+}
+
+/// A header of UDP with this checksum.
+fn head_of_udp(sum: u16, from_port: u16, to_port: u16, size: u16) -> [u8; 8]
+    ensures { result ≡ udp_head sum from_port to_port size }
+{
+    let [p1, p0] = from_port.to_be_bytes();
+    let [q1, q0] = to_port.to_be_bytes();
+    let [u1, u0] = size.to_be_bytes();
+    let [c1, c0] = sum.to_be_bytes();
+    [p1, p0, q1, q0, u1, u0, c1, c0]
+}
+
+/// What the checksum of a UDP datagram in IPv6 counts between the addresses and the datagram.
+fn behind_addresses(size: u16) -> [u8; 8]
+    ensures { result ≡ pseudo_tail size }
+{
+    let [u3, u2, u1, u0] = u32::from(size).to_be_bytes();
+    [u3, u2, u1, u0, 0, 0, 0, 17]
+}
+
+/// The checksum of a header of IPv4.
+fn checksum_v4(size: u16, identification: u16, from: [u8; 4], to: [u8; 4]) -> u16
+    ensures { IsChecksum (front_v4 0 size identification ++ (from ++ to)) result }
+{
+    let front = front_of_v4(0, size, identification);
+    complement(sum_onto(&front, sum_onto(&from, sum_onto(&to, 0))))
+}
+
+/// The checksum of a UDP datagram in IPv6.
+fn checksum_v6(sent: &WrittenDatagram, from: [u8; 16], to: [u8; 16]) -> u16
+    requires { length sent.now.octets.now ≤ 65527 }
+    ensures { IsUdpChecksum (pseudo_header (sent_of sent.now) from to ++ udp_octets 0 (sent_of sent.now)) result }
+{
+    let size = sent.octets.len() as u16 + 8;
+    let tail = behind_addresses(size);
+    let head = head_of_udp(0, sent.from_port, sent.to_port, size);
+    let datagram = sum_onto(&tail, sum_onto(&head, sum_onto(sent.octets, 0)));
+    udp_complement(sum_onto(&from, sum_onto(&to, datagram)))
+}
+
+/// Writes a UDP datagram with this checksum.
+fn write_udp<W: Write>(writer: &mut W, sent: &WrittenDatagram, sum: u16) -> io::Result<()>
+    requires { length sent.now.octets.now ≤ 65527 }
+    ensures { OnOk result (Appends (W.contents writer.old) (W.contents writer.new) (udp_octets sum (sent_of sent.now))) }
+{
+    let size = sent.octets.len() as u16 + 8;
+    writer.write_all(&head_of_udp(sum, sent.from_port, sent.to_port, size))?;
     writer.write_all(sent.octets)
+}
+
+/// Writes the header of a packet of IPv4 without options (RFC 791), with its checksum.
+fn write_header_v4<W: Write>(
+    writer: &mut W,
+    sent: &WrittenDatagram,
+    from: [u8; 4],
+    to: [u8; 4],
+) -> io::Result<()>
+    requires { length sent.now.octets.now ≤ 65507 }
+    ensures { OnOk result (WritesHeader (W.contents writer.old) (W.contents writer.new) (sent_of sent.now) from to) }
+{
+    let size = sent.octets.len() as u16 + 28;
+    let sum = checksum_v4(size, sent.identification, from, to);
+    writer.write_all(&front_of_v4(sum, size, sent.identification))?;
+    writer.write_all(&from)?;
+    writer.write_all(&to)
+}
+
+/// Writes the header of a packet of IPv6 (RFC 8200).
+fn write_header_v6<W: Write>(
+    writer: &mut W,
+    sent: &WrittenDatagram,
+    from: [u8; 16],
+    to: [u8; 16],
+) -> io::Result<()>
+    requires { length sent.now.octets.now ≤ 65527 }
+    ensures { OnOk result (Appends (W.contents writer.old) (W.contents writer.new) (header_v6 (sent_of sent.now) from to)) }
+{
+    writer.write_all(&front_of_v6(sent.octets.len() as u16 + 8))?;
+    writer.write_all(&from)?;
+    writer.write_all(&to)
+}
+
+/// Writes the record of a datagram over IPv4, whose UDP checksum is 0 (none).
+fn write_v4<W: Write>(
+    writer: &mut W,
+    sent: &WrittenDatagram,
+    from: [u8; 4],
+    to: [u8; 4],
+) -> io::Result<()>
+    requires ends { sent.now.ends ≡ Ends.V4 from to }
+    requires size { length sent.now.octets.now ≤ 65507 }
+    ensures { OnOk result (Writes (W.contents writer.old) (W.contents writer.new) (sent_of sent.now)) }
+{
+    writer.write_all(&head_of_record(sent, sent.octets.len() as u32 + 28))?;
+    write_header_v4(writer, sent, from, to)?;
+    write_udp(writer, sent, 0)
+}
+
+/// Writes the record of a datagram over IPv6, where the UDP checksum must be.
+fn write_v6<W: Write>(
+    writer: &mut W,
+    sent: &WrittenDatagram,
+    from: [u8; 16],
+    to: [u8; 16],
+) -> io::Result<()>
+    requires ends { sent.now.ends ≡ Ends.V6 from to }
+    requires size { length sent.now.octets.now ≤ 65527 }
+    ensures { OnOk result (Writes (W.contents writer.old) (W.contents writer.new) (sent_of sent.now)) }
+{
+    writer.write_all(&head_of_record(sent, sent.octets.len() as u32 + 48))?;
+    write_header_v6(writer, sent, from, to)?;
+    write_udp(writer, sent, checksum_v6(sent, from, to))
+}
+
+/// Writes the record of a datagram: a packet of IPv4 without options, of UDP without a checksum, or one of IPv6 without
+/// extension headers, of UDP with its checksum.
+pub fn write_datagram<W: Write>(writer: &mut W, sent: &WrittenDatagram) -> io::Result<()>
+    requires { length sent.now.octets.now ≤ most_octets sent.now.ends }
+    ensures { OnOk result (Writes (W.contents writer.old) (W.contents writer.new) (sent_of sent.now)) }
+{
+    match sent.ends {
+        Ends::V4 { from, to } => write_v4(writer, sent, from, to),
+        Ends::V6 { from, to } => write_v6(writer, sent, from, to),
+    }
 }
 
 /// Writes a capture of these datagrams, in their order.
 pub fn write_capture<W: Write>(writer: &mut W, datagrams: &[WrittenDatagram]) -> io::Result<()>
-    requires { All (λ sent. length sent.octets.now ≤ 65507) datagrams.now }
+    requires { All (λ sent. length sent.octets.now ≤ most_octets sent.ends) datagrams.now }
     ensures { OnOk result (WritesAll (W.contents writer.old) (W.contents writer.new) (map sent_of datagrams.now)) }
 {
     write_head(writer)?;

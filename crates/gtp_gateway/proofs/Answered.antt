@@ -1,5 +1,5 @@
 -- Create Session Requests that were answered, as rows of the machine.
-use Rattle.std.proofs.Common.{◌≡◌, ℕ, Bool, false, List, [], ◌∷◌, Some, sym, ◌∙◌, ap}
+use Rattle.std.proofs.Common.{◌≡◌, ℕ, Bool, false, List, [], ◌∷◌, Some, None, sym, ◌∙◌, ap}
 use Rattle.std.specs.FinMap.{insert}
 use Rattle.gtp_values.specs.declared.address.Endpoint.{Endpoint}
 use Rattle.gtp_values.specs.declared.cause.Cause.{Cause}
@@ -8,17 +8,19 @@ use Rattle.gtp_machine.specs.Answer.{refusing}
 use Rattle.gtp_machine.specs.Config.{Config}
 use Rattle.gtp_machine.specs.Element.{tunnel_end, cause_of}
 use Rattle.gtp_machine.specs.Input.{Effect, Of_create_session}
-use Rattle.gtp_machine.specs.Message.{CreateSessionRequest, RequestedBearer, Message, Create_session_response}
+use Rattle.gtp_machine.specs.Message.{CreateSessionRequest, RequestedBearer, Message, Create_session_response, Create_bearer_request}
 use Rattle.gtp_machine.specs.Node.{Active, Default, Node}
-use Rattle.gtp_machine.specs.Packet.{session_cause, session_response, session_made}
+use Rattle.gtp_machine.specs.Command.{bearer_asked}
+use Rattle.gtp_machine.specs.Packet.{session_cause, session_response, made_session, session_made}
 use Rattle.gtp_machine.specs.Spelling.{datagram_of}
 use Rattle.gtp_gateway.specs.declared.hearing.Heard.{Heard}
+use Rattle.gtp_gateway.specs.declared.session_grant.Added.{Added}
 use Rattle.gtp_gateway.specs.declared.session_grant.Grant.{Grant}
 use Rattle.gtp_gateway.specs.declared.session_request.SessionRequest.{SessionRequest}
 use Rattle.gtp_gateway.specs.declared.control_step.ControlStep.{ControlStep}
 use Rattle.gtp_gateway.specs.Answering.{answering}
 use Rattle.gtp_gateway.specs.Change.{changed_by}
-use Rattle.gtp_gateway.specs.Grant.{change_of, grants, IsAnsweredSo}
+use Rattle.gtp_gateway.specs.Grant.{change_of, session_of, grants, grants_with, asked_with, IsAnsweredSo}
 use Rattle.gtp_gateway.specs.Hearing.{node_heard}
 use Rattle.gtp_gateway.specs.Parts.{arrival_of}
 use Rattle.gtp_gateway.specs.Row.{IsRow}
@@ -62,3 +64,21 @@ module _ (r : SessionRequest) (q : CreateSessionRequest) (says : SaysSession r q
       sessions = insert left.sessions g.drawn.control.0 (record { remote = Some (sym says.control i).teid; subscriber = record { imsi = sym says.imsi i; access_point = sym says.access_point i; identity = chosen i }; address = Some g.address; state = Active });
       bearers = insert left.bearers g.drawn.user.0 (record { remote = Some (sym says.context i).user.teid; session = g.drawn.control.0; identity = Some (chosen i); kind = Default; state = Active; ended = false });
     }
+
+    -- the template's bearer is asked for in the same words
+    pub asked_same : (a : Added) → asked_with (session_of r g) a node ≡ asked_with (made_session q g.address) a (session_made left q g.drawn.control.0 g.drawn.user.0 g.address)
+    asked_same a = λ i. record {
+      header = (sym says.control i).teid;
+      number = a.seq;
+      transaction = None;
+      linked = chosen i;
+      context = record { identity = 0; tft = a.template.tft; user = tunnel_end 5 a.drawn.teid.0 (sym (config_stays heard node) i).own.user; qos = a.template.qos; charging = Some a.drawn.teid.0 };
+      further = [];
+    }
+
+    pub both_same : (a : Added) → grants_with r g a node ≡ Create_session_response (session_response left q g.drawn.control.0 g.drawn.user.0 g.address) ∷ Create_bearer_request (asked_with (made_session q g.address) a (session_made left q g.drawn.control.0 g.drawn.user.0 g.address)) ∷ []
+    both_same a = λ i. grant_same i ∷ Create_bearer_request (asked_same a i) ∷ []
+
+    pub begun_same : (a : Added) → bearer_asked (changed_by (change_of r g) left) g.drawn.control.0 (asked_with (session_of r g) a node) a.drawn.teid.0
+        ≡ bearer_asked (session_made left q g.drawn.control.0 g.drawn.user.0 g.address) g.drawn.control.0 (asked_with (made_session q g.address) a (session_made left q g.drawn.control.0 g.drawn.user.0 g.address)) a.drawn.teid.0
+    begun_same a = λ i. bearer_asked (made_same i) g.drawn.control.0 (asked_same a i) a.drawn.teid.0

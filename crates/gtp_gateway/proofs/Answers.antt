@@ -26,6 +26,12 @@ repeats (p ∷ ps) source request answer (inr there) =
     let later = repeats ps source request answer there in
     record { pair = later.pair; stands = inr later.stands; same = later.same; answer = later.answer }
 
+-- where there is an answer one is held
+pub is_held : (ps : List HeldPair) (source : Endpoint) (request answer : List ℕ) → HasAnswer source request answer ps → IsHeld source request ps
+is_held [] source request answer has = absurd has
+is_held (p ∷ ps) source request answer (inl here) = inl here.0
+is_held (p ∷ ps) source request answer (inr there) = inr (is_held ps source request answer there)
+
 -- no answer is held for the request
 pub none_held : (ps : List HeldPair) (source : Endpoint) (request : List ℕ) → (IsHeld source request ps → ⊥) → (h : Held) → Among h (map held_of ps) → h.request ≡ arrival_of source request → ⊥
 none_held [] source request none h among same = among

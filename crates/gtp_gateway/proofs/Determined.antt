@@ -1,8 +1,8 @@
 -- The clauses of a gateway's calls leave one answer: a step of the machine is determined but for its choices, and these are the lowest or the next.
-use Rattle.std.proofs.Common.{◌≡◌, ◌≢◌, inl, inr, ⊎_elim, ℕ, Bool, true, false, List, [], ◌∷◌, length, map, Option, Some, None, option_map, refl, sym, ◌∙◌, ap, subst}
+use Rattle.std.proofs.Common.{◌≡◌, ◌≢◌, ◌⊎◌, inl, inr, ⊎_elim, ℕ, Bool, true, false, List, [], ◌∷◌, length, map, Option, Some, None, option_map, refl, sym, ◌∙◌, ap, subst}
 use Rattle.std.proofs.Math.Nat.{ℕ_set}
 use Rattle.std.specs.FinMap.{get, insert}
-use mathlib.Core.Logic.{∥∥₁_elim}
+use mathlib.Core.Logic.{∥∥₁_elim, ∥∥₁_prop}
 use Rattle.gtp_values.specs.FiniteMap.{FiniteMap, Among}
 use Rattle.gtp_values.specs.declared.address.Endpoint.{Endpoint}
 use Rattle.gtp_values.specs.declared.counter.Counter.{Counter}
@@ -12,16 +12,16 @@ use Rattle.gtp_tables.specs.Identity.{IsLowestUnused}
 use Rattle.gtp_reliable.specs.Held.{HeldPair, AreApart}
 use Rattle.gtp_reliable.specs.Pending.{AreDistinct}
 use Rattle.gtp_reliable.specs.Waiting.{Waiting, just_sent}
-use Rattle.gtp_machine.specs.Message.{Plane, Control, User}
-use Rattle.gtp_machine.specs.Node.{PendingRequest, Arrival, Held, Node}
-use Rattle.gtp_machine.specs.Input.{Came_to, Command, Commanded, Mark_end, Send_user, Control_came, ControlReading, Entry, Out, Effect}
+use Rattle.gtp_machine.specs.Message.{Plane, Control, User, CreateSessionResponse, CreateBearerRequest, Create_session_response, Create_bearer_request}
+use Rattle.gtp_machine.specs.Node.{PendingRequest, Arrival, Held, Node, Bearer}
+use Rattle.gtp_machine.specs.Input.{Came_to, Command, Commanded, Mark_end, Send_user, Control_came, ControlReading, Entry, Out, Effect, Input, EventOutcome, Control_message}
 use Rattle.gtp_machine.specs.Choice.{HasPending}
 use Rattle.gtp_machine.specs.Spelling.{datagram_of}
 use Rattle.gtp_machine.specs.declared.outcome.Outcome.{Outcome}
 use Rattle.gtp_machine.specs.declared.outcome.Outcome.TheVariants as outcomes
 use Rattle.gtp_machine.specs.Determined.{HeldOnce}
-use Rattle.gtp_machine.proofs.Basics.FiniteMaps.{found-insert, get-insert_same}
-use Rattle.gtp_machine.proofs.Determined.Alike.{Fits, sound_fits, PickAlike, Alike}
+use Rattle.gtp_machine.proofs.Basics.FiniteMaps.{found-insert, get-insert_same, get-insert_other, found-kept}
+use Rattle.gtp_machine.proofs.Determined.Alike.{Fits, sound_fits, WaitsBeside, PickAlike, Alike}
 use Rattle.gtp_machine.proofs.Determined.Commands.{packet_sent, end_marked}
 use Rattle.gtp_machine.proofs.Determined.Steps.{step_done}
 use Rattle.gtp_machine.proofs.Determined.Ticks.{one_tick}
@@ -29,11 +29,29 @@ use Rattle.gtp_gateway.specs.declared.purpose.Purpose.{Purpose}
 use Rattle.gtp_gateway.specs.declared.sent.Begun.{Begun}
 use Rattle.gtp_gateway.specs.declared.step.Accepted.{Accepted}
 use Rattle.gtp_gateway.specs.declared.step.Step.{Step}
-use Rattle.gtp_gateway.specs.Choosing.{MakesLowestSession, MakesLowestBearer, MakesLowest}
+use Rattle.gtp_gateway.specs.Choosing.{MakesLowestSession, MakesLowestBearer, MakesLowest, ChoosesLowest}
+use Rattle.gtp_machine.specs.Reading.{Both, datagram_reading}
+use Rattle.gtp_machine.specs.Step.{Step as MachineStep, TakesPair}
+use Rattle.gtp_machine.specs.Serving.{SessionAnswered}
+use Rattle.gtp_machine.specs.Answer.{Repeats}
+use Rattle.gtp_machine.specs.Recovery.{Judges, Weighs, Hears, peer_restarted}
+use Rattle.gtp_machine.specs.Removal.{finished}
+use Rattle.gtp_machine.specs.declared.role.Role.{Role}
+use Rattle.gtp_machine.specs.declared.role.Role.TheVariants.{Serving, Packet}
+use Rattle.gtp_values.specs.Counter.{age_of}
+use Rattle.gtp_values.specs.declared.counter.Age.{Age}
+use Rattle.gtp_values.specs.declared.counter.Age.TheVariants as ages
+use Rattle.gtp_machine.proofs.Changes.Shrinking.{Shrunk-finished}
+use Rattle.gtp_machine.proofs.Requests.Opening.{IsMute, opening, same_drawn, same_held, none_made}
+use Rattle.gtp_machine.proofs.Sound.Rows.{stays_sound}
+use Rattle.gtp_machine.proofs.Sound.Reads.{pair_reads_whole}
+use Rattle.std.proofs.lemmas.Grind.{merely}
+use Rattle.gtp_gateway.specs.GoesOn.{GoesOn}
+use Rattle.gtp_gateway.specs.Pair.{first_part, second_part}
 use Rattle.gtp_gateway.specs.Begun.{outcome_by, IsDone, AsksNext}
-use Rattle.gtp_gateway.specs.Determined.{packet_of, MeetsReceive, AreOneStep, ReceivesOne, WaitsNext, MeetsCommand, BeginsOne, TicksOne}
+use Rattle.gtp_gateway.specs.Determined.{packet_of, AreOneStep, ReceivesOne, WaitsNext, MeetsCommand, BeginsOne, TicksOne}
 use Rattle.gtp_gateway.specs.Parts.{arrival_of, held_of, pending_of, pending_in}
-use Rattle.gtp_gateway.specs.Received.{coming, KeepsTiming}
+use Rattle.gtp_gateway.specs.Received.{coming, IsReceivedOnce, IsReceived, AreReceived, ControlGoesOn, first_comes, second_comes}
 use Rattle.gtp_gateway.specs.Sent.{datagram_by}
 use Rattle.gtp_gateway.specs.Station.{Timing, Station, IsTied, IsWhole}
 use Rattle.gtp_gateway.specs.Taken.{made_for}
@@ -41,7 +59,7 @@ use Rattle.gtp_gateway.specs.Ticked.{due_in}
 use Rattle.gtp_gateway.specs.UserTaken.{AreEntries}
 use Rattle.gtp_gateway.proofs.Answers.{none_held}
 use Rattle.gtp_gateway.proofs.ChosenOnce.{one_lowest_address, one_lowest_identity, lowest_address, lowest_identity, one_drawn, one_next}
-use Rattle.gtp_gateway.proofs.LeftAlike.{left_by, one_left, left_ticked}
+use Rattle.gtp_gateway.proofs.LeftAlike.{KeepsOnce, number_begun, left_by, one_left, left_ticked, left_goes}
 use Rattle.gtp_gateway.proofs.Requests.{pending_push}
 
 -- ---- what is asked of a gateway
@@ -105,7 +123,13 @@ same_packet node (Some a) (Some b) entries (m, of_a, is_a) (n, of_b, is_b) =
 
 -- ---- a datagram
 
-keeps_tied : (plane : Plane) (source : Endpoint) (octets : List ℕ) (step : Step) (old new : Station) → KeepsTiming plane source octets step old new → IsTied new
+-- the clauses hold of a datagram that was received as a whole
+record MeetsOnce (plane : Plane) (source : Endpoint) (octets : List ℕ) (old : Station) (step : Step) (new : Station) : Type 0 where
+  received : IsReceivedOnce plane source octets old step new
+  timing : KeepsOnce plane source octets step old new
+  choices : ChoosesLowest step.report.made old.role old.node new.node
+
+keeps_tied : (plane : Plane) (source : Endpoint) (octets : List ℕ) (step : Step) (old new : Station) → KeepsOnce plane source octets step old new → IsTied new
 keeps_tied Control source octets step old new goes = goes.tied
 keeps_tied User source octets step old new keeps = keeps.2
 
@@ -116,8 +140,13 @@ no_command User source octets command e = cc
 tied_draws : (new : Station) (node : Node) → new.node ≡ node → IsTied new → node.drawn ≡ drawn_up_to node.counter (length node.drawn)
 tied_draws new node is tied = subst (λ (k : Node). k.drawn ≡ drawn_up_to k.counter (length k.drawn)) is tied.drawn
 
-module _ (plane : Plane) (source : Endpoint) (octets : List ℕ) (old : Station) (whole : IsWhole old) (once : HeldOnce old.node) (apart : AreDistinct old.timing.waiting) where
-  module _ (step other : Step) (new left : Station) (m : MeetsReceive plane source octets old step new) (n : MeetsReceive plane source octets old other left) where
+-- the requests for bearers that two answers begin have one number
+number_wanted : (plane : Plane) (source : Endpoint) (octets : List ℕ) (old : Station) → IsWhole old → IsTied old → AreDistinct old.timing.waiting → (step other : Step) (new left : Station) → KeepsOnce plane source octets step old new → KeepsOnce plane source octets other old left → (request : Arrival) (reading : ControlReading) → coming plane source octets ≡ Control_came request reading → (others : FiniteMap PendingRequest) (m n : ℕ) (p q : PendingRequest) → WaitsBeside old.node.drawn new.node.pending others m p → WaitsBeside old.node.drawn left.node.pending others n q → m ≡ n
+number_wanted Control source octets old whole tied apart step other new left goes also request reading is others m n p q waits too = number_begun old whole tied apart source octets new left others m n p q goes also waits too
+number_wanted User source octets old whole tied apart step other new left goes also request reading is others m n p q waits too = absurd cc
+
+module _ (plane : Plane) (source : Endpoint) (octets : List ℕ) (old : Station) (whole : IsWhole old) (once : HeldOnce old.node) (tied : IsTied old) (apart : AreDistinct old.timing.waiting) where
+  module _ (step other : Step) (new left : Station) (m : MeetsOnce plane source octets old step new) (n : MeetsOnce plane source octets old other left) where
     abbrev e : Effect
     e = m.received.effect
 
@@ -142,6 +171,10 @@ module _ (plane : Plane) (source : Endpoint) (octets : List ℕ) (old : Station)
           let second = lowest_identity old.node f.node others t b (subst (λ k. MakesLowestBearer old.node k) n.received.becomes (subst (λ r. MakesLowest r old.node left.node) serving (also_lowest made))) y in
           first.1 ∙ (ap (λ k. Some k) (one_lowest_identity others a.session first.0 second.0 first.2 (subst (λ k. IsLowestUnused others k second.0) (sym session) second.2)) ∙ sym second.1);
       numbers = λ command is. absurd (no_command plane source octets command is);
+      wanted = λ request reading is packet made others number another p q waits too.
+          number_wanted plane source octets old whole tied apart step other new left m.timing n.timing request reading is others number another p q
+          (subst (λ (k : Node). WaitsBeside old.node.drawn k.pending others number p) (sym m.received.becomes) waits)
+          (subst (λ (k : Node). WaitsBeside old.node.drawn k.pending others another q) (sym n.received.becomes) too);
     }
       where
         made_lowest : e.out.made ≢ [] → MakesLowest old.role old.node new.node
@@ -161,13 +194,171 @@ module _ (plane : Plane) (source : Endpoint) (octets : List ℕ) (old : Station)
         let made : step.report.made ≡ other.report.made = same_made (arrival_of source octets) step.report.made other.report.made (tells.made ∙ (ap (λ (k : Effect). k.out.made) same ∙ sym also.made)) in
         record {
           sent = tells.sent.octets ∙ (ap (λ (k : Effect). map (datagram_of old.node.config) k.out.sent) same ∙ sym also.sent.octets);
-          report = λ i. record { outcome = outcome i; heard = heard i; restart = restart i; made = made i };
+          report = λ i. record { outcome = outcome i; second = (tells.alone ∙ sym also.alone) i; heard = heard i; restart = restart i; made = made i };
           accepted = same_packet old.node step.accepted other.accepted f.out.accepted (subst (λ k. AreEntries old.node step.accepted k) (ap (λ (k : Effect). k.out.accepted) same) tells.accepted) also.accepted;
           leaves = left_by plane source octets step other old new left apart (m.received.role ∙ sym n.received.role) (m.received.becomes ∙ (ap (λ (k : Effect). k.node) same ∙ sym n.received.becomes)) m.timing n.timing;
         }
 
-pub receives_one : (old : Station) → IsWhole old → HeldOnce old.node → AreDistinct old.timing.waiting → ReceivesOne old
-receives_one old whole once apart plane source octets = one_step plane source octets old whole once apart
+-- ---- a pair
+
+-- a bearer that stands after a response stood before
+finished_bearer : (old : Node) (number : ℕ) (p : PendingRequest) (t : ℕ) → get old.bearers t ≡ None → get (finished old number p).bearers t ≡ None
+finished_bearer old number p t none = by (get (finished old number p).bearers t) refl
+  where
+    by : (o : Option Bearer) → get (finished old number p).bearers t ≡ o → o ≡ None
+    by None is = refl
+    by (Some b) is = let stood = (Shrunk-finished old number p.session p.bearer).shrinks.bearers t b is in let both : None ≡ Some stood.before = sym none ∙ stood.stood in absurd (cc both)
+
+answered_bearer : (a : CreateSessionResponse) (old : Node) (e : Effect) (t : ℕ) → SessionAnswered a old e → get old.bearers t ≡ None → get e.node.bearers t ≡ None
+answered_bearer a old e t (inl f) none = ap (λ (x : Effect). get x.node.bearers t) f.1 ∙ none
+answered_bearer a old e t (inr (b, inl f)) none = ap (λ (x : Effect). get x.node.bearers t) f.1 ∙ none
+answered_bearer a old e t (inr (b, inr (c, inl f))) none = ap (λ (x : Effect). get x.node.bearers t) f.1 ∙ finished_bearer old a.number b.pending t none
+answered_bearer a old e t (inr (b, inr (c, inr (d, inl f)))) none = ap (λ (x : Effect). get x.node.bearers t) f.1 ∙ none
+answered_bearer a old e t (inr (b, inr (c, inr (d, inr (g, inl f))))) none = ap (λ (x : Effect). get x.node.bearers t) f.1 ∙ finished_bearer old a.number b.pending t none
+answered_bearer a old e t (inr (b, inr (c, inr (d, inr (g, inr (h, r)))))) none =
+    ap (λ (x : Effect). get x.node.bearers t) r.gives ∙ (get-insert_other old.bearers c.request.context.user.teid _ t (λ same. let both : None ≡ Some r.default.bearer = sym none ∙ (ap (get old.bearers) same ∙ r.default.stands) in cc) ∙ none)
+
+restarted_bearer : (old : Node) (counter t : ℕ) → get old.bearers t ≡ None → get (peer_restarted old counter).bearers t ≡ None
+restarted_bearer old counter t none = by (get (peer_restarted old counter).bearers t) refl
+  where
+    by : (o : Option Bearer) → get (peer_restarted old counter).bearers t ≡ o → o ≡ None
+    by None is = refl
+    by (Some b) is = let both : None ≡ Some b = sym none ∙ (found-kept _ old.bearers t b is).1 in absurd (cc both)
+
+judged_bearer : (a : CreateSessionResponse) (old : Node) (counter : ℕ) (age : Age) (e : Effect) (t : ℕ) → Judges (SessionAnswered a) old counter age e → get old.bearers t ≡ None → get e.node.bearers t ≡ None
+judged_bearer a old counter ages.Same e t r none = answered_bearer a old e t r none
+judged_bearer a old counter ages.Later e t r none = answered_bearer a (peer_restarted old counter) e t r (restarted_bearer old counter t none)
+judged_bearer a old counter ages.Earlier e t r none = ap (λ (x : Effect). get x.node.bearers t) r ∙ none
+
+weighed_bearer : (a : CreateSessionResponse) (old : Node) (counter : ℕ) (known : Option ℕ) (e : Effect) (t : ℕ) → Weighs (SessionAnswered a) old counter known e → get old.bearers t ≡ None → get e.node.bearers t ≡ None
+weighed_bearer a old counter None e t r none = answered_bearer a (record old { known = Some counter }) e t r none
+weighed_bearer a old counter (Some known) e t r none = judged_bearer a old counter (age_of known counter) e t r none
+
+heard_bearer : (a : CreateSessionResponse) (old : Node) (recovery : Option ℕ) (e : Effect) (t : ℕ) → Hears (SessionAnswered a) old recovery e → get old.bearers t ≡ None → get e.node.bearers t ≡ None
+heard_bearer a old None e t r none = answered_bearer a old e t r none
+heard_bearer a old (Some counter) e t (x, weighs, is) none = ap (λ (k : Effect). get k.node.bearers t) is ∙ weighed_bearer a old counter old.known x t weighs none
+
+opening_bearer : (request : Arrival) (a : CreateSessionResponse) (old : Node) (e : Effect) (t : ℕ) → MachineStep Serving old (Control_came request (Control_message (Create_session_response a))) e → get old.bearers t ≡ None → get e.node.bearers t ≡ None
+opening_bearer request a old e t (inl f) none = ap (λ (x : Effect). get x.node.bearers t) f.1 ∙ none
+opening_bearer request a old e t (inr (peer, inl r)) none = ap (λ (x : Effect). get x.node.bearers t) r.gives ∙ none
+opening_bearer request a old e t (inr (peer, inr (new, inl f))) none = ap (λ (x : Effect). get x.node.bearers t) f.1 ∙ none
+opening_bearer request a old e t (inr (peer, inr (new, inr (kind, r)))) none = heard_bearer a old a.recovery e t r none
+
+module _ (source : Endpoint) (octets : List ℕ) (old : Station) (whole : IsWhole old) (once : HeldOnce old.node) (apart : AreDistinct old.timing.waiting) (serving : old.role ≡ Serving) (a : CreateSessionResponse) (q : CreateBearerRequest) (step other : Step) (new left : Station)
+    (m : AreReceived source octets a q old step new) (n : AreReceived source octets a q old other left) (goes : GoesOn source (second_part octets) old new) (also_goes : GoesOn source (second_part octets) old left) (between : IsWhole (record old { node = m.first.node })) (chooses : ChoosesLowest step.report.made old.role old.node new.node) (also_chooses : ChoosesLowest other.report.made old.role old.node left.node) where
+  abbrev first_input : Input
+  first_input = first_comes source octets a
+
+  abbrev second_input : Input
+  second_input = second_comes source octets q
+
+  opened : (e : Effect) → MachineStep old.role old.node first_input e → IsMute old.node e ⊎ Repeats old.node (arrival_of source (first_part octets)) e
+  opened e takes = opening (arrival_of source (first_part octets)) a old.node e (subst (λ (r : Role). MachineStep r old.node first_input e) serving takes)
+
+  not_packet : old.role ≡ Packet → ⊥
+  not_packet is = let both : Serving ≡ Packet = sym serving ∙ is in cc
+
+  one_first : m.first ≡ n.first
+  one_first = (step_done old.role old.node first_input (whole_fits old whole) once m.first n.first m.takes n.takes).one (record {
+    drawn = same_drawn old.node _ m.first (opened m.first m.takes) ∙ sym (same_drawn old.node _ n.first (opened n.first n.takes));
+    addresses = λ x reading is packet. absurd (not_packet packet);
+    identities = λ x reading is by made. absurd (made (none_made old.node _ m.first (opened m.first m.takes)));
+    numbers = λ command is. absurd (cc is);
+    wanted = λ x reading is packet. absurd (not_packet packet);
+  })
+
+  abbrev mid : Node
+  mid = m.first.node
+
+  mid_once : HeldOnce mid
+  mid_once = record { once = λ g h g_in h_in. once.once g h (subst (Among g) held g_in) (subst (Among h) held h_in) }
+    where
+      held : mid.held ≡ old.node.held
+      held = same_held old.node _ m.first (opened m.first m.takes)
+
+  follows_too : MachineStep old.role mid second_input n.second
+  follows_too = subst (λ (k : Effect). MachineStep old.role k.node second_input n.second) (sym one_first) n.follows
+
+  both_second : Alike old.role mid second_input m.second n.second
+  both_second = step_done old.role mid second_input (whole_fits (record old { node = mid }) between) mid_once m.second n.second m.follows follows_too
+
+  lowest_then : (k : Station) (e : Effect) → k.node ≡ e.node → MakesLowestBearer old.node k.node → MakesLowestBearer mid e.node
+  lowest_then k e becomes makes =
+      let there = subst (λ (x : Node). MakesLowestBearer old.node x) becomes makes in
+      record {
+        teid = there.teid;
+        bearer = there.bearer;
+        others = there.others;
+        identity = there.identity;
+        bearers = there.bearers;
+        beside = there.beside;
+        before = opening_bearer (arrival_of source (first_part octets)) a old.node m.first there.teid (subst (λ (r : Role). MachineStep r old.node first_input m.first) serving m.takes) there.before;
+        has = there.has;
+        lowest = there.lowest;
+      }
+
+  picked_second : PickAlike old.role mid second_input m.second n.second
+  picked_second = record {
+    drawn = one_drawn m.second.node n.second.node (tied_draws new m.second.node m.becomes goes.tied) (tied_draws left n.second.node n.becomes also_goes.tied) both_second.tell.counter both_second.tell.draws;
+    addresses = λ x reading is packet. absurd (not_packet packet);
+    identities = λ x reading is by made others t b c one two session.
+        let first = lowest_identity mid m.second.node others t b (lowest_then new m.second m.becomes (subst (λ r. MakesLowest r old.node new.node) serving (chooses (is_made (arrival_of source (second_part octets)) step.report.made m.second.out.made m.tells.made made)))) one in
+        let second = lowest_identity mid n.second.node others t c (lowest_then left n.second n.becomes (subst (λ r. MakesLowest r old.node left.node) serving (also_chooses (is_made (arrival_of source (second_part octets)) other.report.made n.second.out.made n.tells.made (λ none. made (ap (λ (o : Out). o.made) both_second.tell.told ∙ none)))))) two in
+        first.1 ∙ (ap (λ k. Some k) (one_lowest_identity others b.session first.0 second.0 first.2 (subst (λ k. IsLowestUnused others k second.0) (sym session) second.2)) ∙ sym second.1);
+    numbers = λ command is. absurd (cc is);
+    wanted = λ x reading is packet. absurd (not_packet packet);
+  }
+
+  same_second : (x y : Option Outcome) (e : EventOutcome) → option_map Came_to x ≡ Some e → option_map Came_to y ≡ Some e → x ≡ y
+  same_second None None e is also = refl
+  same_second None (Some y) e is also = absurd (cc is)
+  same_second (Some x) None e is also = absurd (cc also)
+  same_second (Some x) (Some y) e is also = let same : Came_to x ≡ Came_to y = cc in ap (λ o. Some o) (same_outcome x y same)
+
+  pub one_pair : AreOneStep step other new left
+  one_pair =
+      let same : m.second ≡ n.second = both_second.one picked_second in
+      let tells = m.tells in
+      let also = n.tells in
+      let outcome : step.report.outcome ≡ other.report.outcome = same_outcome step.report.outcome other.report.outcome (tells.outcome ∙ (ap (λ (k : Effect). k.outcome) one_first ∙ sym also.outcome)) in
+      let second : step.report.second ≡ other.report.second = same_second step.report.second other.report.second n.second.outcome (tells.next ∙ ap (λ (k : Effect). Some k.outcome) same) also.next in
+      let heard : step.report.heard ≡ other.report.heard = same_heard step.report.heard other.report.heard (tells.heard ∙ (ap (λ (k : Effect). k.out.heard) one_first ∙ sym also.heard)) in
+      let restart : step.report.restart ≡ other.report.restart = same_heard step.report.restart other.report.restart (tells.restart ∙ (ap (λ (k : Effect). k.out.learned) one_first ∙ sym also.restart)) in
+      let made : step.report.made ≡ other.report.made = same_made (arrival_of source (second_part octets)) step.report.made other.report.made (tells.made ∙ (ap (λ (k : Effect). k.out.made) same ∙ sym also.made)) in
+      record {
+        sent = tells.sent.octets ∙ (ap (λ (k : Effect). map (datagram_of old.node.config) k.out.sent) same ∙ sym also.sent.octets);
+        report = λ i. record { outcome = outcome i; second = second i; heard = heard i; restart = restart i; made = made i };
+        accepted = ap packet_of tells.accepted ∙ sym (ap packet_of also.accepted);
+        leaves = left_goes source (second_part octets) old new left apart (m.role ∙ sym n.role) (m.becomes ∙ (ap (λ (k : Effect). k.node) same ∙ sym n.becomes)) goes also_goes;
+      }
+
+one_of_both : (a b : CreateSessionResponse) (q r : CreateBearerRequest) → Both (Create_session_response a) (Create_bearer_request q) ≡ Both (Create_session_response b) (Create_bearer_request r) → (a ≡ b) × (q ≡ r)
+one_of_both a b q r is = (cc is, cc is)
+
+between_sound : (source : Endpoint) (octets : List ℕ) (old : Station) → IsWhole old → (pair : TakesPair old.role old.node.config (arrival_of source octets) (datagram_reading octets)) → (e : Effect) → MachineStep old.role old.node (first_comes source octets pair.answer) e → IsWhole (record old { node = e.node })
+between_sound source octets old whole pair e takes =
+    ∥∥₁_elim whole ∥∥₁_prop (λ before. merely (stays_sound old.role old.node (first_comes source octets pair.answer) e before (pair_reads_whole octets (Create_session_response pair.answer) (Create_bearer_request pair.asked) (sym pair.is)).0 takes))
+
+-- a datagram of the control plane: as a whole, or message by message
+control_one : (source : Endpoint) (octets : List ℕ) (old : Station) → IsWhole old → HeldOnce old.node → IsTied old → AreDistinct old.timing.waiting → (step other : Step) (new left : Station) → IsReceived Control source octets old step new → ControlGoesOn source octets old new → ChoosesLowest step.report.made old.role old.node new.node → IsReceived Control source octets old other left → ControlGoesOn source octets old left
+    → ChoosesLowest other.report.made old.role old.node left.node → AreOneStep step other new left
+control_one source octets old whole once tied apart step other new left (inl m) (inl goes) chooses (inl n) (inl also) too =
+    one_step Control source octets old whole once tied apart step other new left (record { received = m.1; timing = goes.1; choices = chooses }) (record { received = n.1; timing = also.1; choices = too })
+control_one source octets old whole once tied apart step other new left (inr (pair, m)) (inr (x, goes)) chooses (inr (given, n)) (inr (y, also)) too =
+    let same = one_of_both given.answer pair.answer given.asked pair.asked (sym given.is ∙ pair.is) in
+    one_pair source octets old whole once apart pair.by pair.answer pair.asked step other new left m
+    (subst (λ (a : CreateSessionResponse). AreReceived source octets a pair.asked old other left) same.0 (subst (λ (q : CreateBearerRequest). AreReceived source octets given.answer q old other left) same.1 n))
+    goes also (between_sound source octets old whole pair m.first m.takes) chooses too
+control_one source octets old whole once tied apart step other new left (inl m) (inr goes) chooses n also too = absurd (m.0 goes.0)
+control_one source octets old whole once tied apart step other new left (inr m) (inl goes) chooses n also too = absurd (goes.0 m.0)
+control_one source octets old whole once tied apart step other new left (inl m) (inl goes) chooses (inr n) also too = absurd (m.0 n.0)
+control_one source octets old whole once tied apart step other new left (inl m) (inl goes) chooses (inl n) (inr also) too = absurd (m.0 also.0)
+control_one source octets old whole once tied apart step other new left (inr m) (inr goes) chooses (inl n) also too = absurd (n.0 m.0)
+control_one source octets old whole once tied apart step other new left (inr m) (inr goes) chooses (inr n) (inl also) too = absurd (also.0 n.0)
+
+pub receives_one : (old : Station) → IsWhole old → HeldOnce old.node → IsTied old → AreDistinct old.timing.waiting → ReceivesOne old
+receives_one old whole once tied apart Control source octets step other new left m n = control_one source octets old whole once tied apart step other new left m.received m.timing m.choices n.received n.timing n.choices
+receives_one old whole once tied apart User source octets step other new left m n = one_step User source octets old whole once tied apart step other new left (record { received = m.received; timing = m.timing; choices = m.choices }) (record { received = n.received; timing = n.timing; choices = n.choices })
 
 -- ---- a command
 
@@ -206,6 +397,7 @@ module _ (old : Station) (whole : IsWhole old) (once : HeldOnce old.node) (tied 
         drawn = one_drawn m.effect.node n.effect.node (tied_draws new m.effect.node m.becomes next.tied) (tied_draws left n.effect.node n.becomes also.tied) both.tell.counter both.tell.draws;
         addresses = λ request reading is. absurd (not_control request reading is);
         identities = λ request reading is. absurd (not_control request reading is);
+        wanted = λ request reading is. absurd (not_control request reading is);
         numbers = λ c is. waits_too old.node m.effect.node n.effect.node next.number also.number first.0 second.0
             (ap (λ (k : Node). k.pending) (sym m.becomes) ∙ first.1)
             (ap (λ (k : Node). k.pending) (sym n.becomes) ∙ second.1)

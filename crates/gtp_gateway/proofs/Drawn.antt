@@ -9,7 +9,8 @@ use Rattle.gtp_machine.specs.Choice.{HasDraws}
 use Rattle.gtp_machine.specs.Sound.{IsSound}
 use Rattle.gtp_gateway.specs.Change.{IsAbove}
 use Rattle.gtp_values.specs.declared.identifiers.Teid.{Teid}
-use Rattle.gtp_gateway.specs.Drawing.{IsOneDrawn, AreTwoDrawn}
+use Rattle.gtp_gateway.specs.declared.drawing.TwoDrawn.{TwoDrawn}
+use Rattle.gtp_gateway.specs.Drawing.{IsOneDrawn, AreTwoDrawn, IsThirdDrawn}
 use Rattle.gtp_gateway.specs.Station.{Station, IsWhole}
 
 -- as many were drawn as were counted
@@ -101,3 +102,35 @@ two_drawn s whole count drawn between draws control user a b =
       control_above = sessions_below s whole count drawn control.0 low;
       user_above = bearers_below s whole count drawn user.0 (let later = above_last between.counter between.count user.0 next in omega (arith, later, same, more));
     }
+
+-- the last that was drawn
+last_drawn : (counter count t : ℕ) (ts : List ℕ) → drawn_up_to counter count ≡ t ∷ ts → t ≡ teid_at counter count
+last_drawn counter zero t ts is = absurd cc
+last_drawn counter (suc n) t ts is = let same : teid_at counter (suc n) ≡ t = cc in sym same
+
+-- how many were drawn, where these two were the last
+two_more : (node : Node) (two : TwoDrawn) → AreTwoDrawn two node → two.draws.count ≡ length node.drawn + 2
+two_more node two are = let all = sym (length_drawn two.draws.counter two.draws.count) ∙ ap length are.are.drawn in omega (arith, all)
+
+pub third_drawn : (node : Node) (two : TwoDrawn) (are : AreTwoDrawn two node) (draws : Drawn) (teid : Teid) → IsDraw two.draws.counter two.draws.count draws teid.0 → IsThirdDrawn two (record { draws = draws; teid = teid }) node
+third_drawn node two are draws teid d =
+    let drawn : drawn_up_to two.draws.counter two.draws.count ≡ two.user.0 ∷ two.control.0 ∷ node.drawn = are.are.drawn in
+    let undrawn = subst (λ (ts : List ℕ). Among teid.0 ts → ⊥) drawn d.undrawn in
+    let last = last_drawn two.draws.counter two.draws.count two.user.0 (two.control.0 ∷ node.drawn) drawn in
+    let above_all = above_last two.draws.counter two.draws.count teid.0 d.value in
+    let later : two.user.0 < teid.0 = omega (arith, last, above_all) in
+    record {
+      left = record { left = let few = d.small in let more = two_more node two are in omega (arith, few, more) };
+      are = record {
+        counter = ap (λ (x : Drawn). x.counter) d.drawn ∙ are.are.counter;
+        drawn = are_draws two.draws.counter two.draws.count draws teid.0 d ∙ (λ i. teid.0 ∷ drawn i);
+      };
+      free = record { counted = d.counted ∙ are.are.counter; numbered = d.numbered; undrawn = λ among. undrawn (inr (inr among)) };
+      control_apart = λ is. undrawn (inr (inl is));
+      user_apart = λ is. undrawn (inl is);
+      later = later;
+      above = λ key b stands. let low = are.user_above key b stands in omega (arith, low, later);
+    }
+
+pub no_third : (node : Node) (two : TwoDrawn) → AreTwoDrawn two node → (two.draws.count < 16777215 → ⊥) → HasDraws node 3 → ⊥
+no_third node two are many has = let more = two_more node two are in let few = has.left in many (omega (arith, more, few))

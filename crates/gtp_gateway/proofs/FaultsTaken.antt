@@ -54,6 +54,6 @@ pub drops_for : (request : Arrival) (reading : inputs.ControlReading) (s : Stati
 drops_for request reading s number takes = record {
   effect = dropped s.node (undecodable Control number);
   takes = takes;
-  tells = record { sent = none_sent s.node.config; outcome = refl; heard = refl; restart = refl; made = refl; all = refl };
+  tells = record { sent = none_sent s.node.config; outcome = refl; alone = refl; heard = refl; restart = refl; made = refl; all = refl };
   stays = refl;
 }

@@ -10,7 +10,7 @@ use Rattle.gtp_machine.specs.Input.{Ticked, Forget, Out, nothing}
 use Rattle.gtp_machine.specs.Move.{AreLeft}
 use Rattle.gtp_machine.specs.Tick.{TickStep}
 use Rattle.gtp_gateway.specs.Parts.{arrival_of, held_of}
-use Rattle.gtp_gateway.specs.Spelled.{AreSpelledAll, AreAnswered}
+use Rattle.gtp_gateway.specs.Spelled.{IsKept, AreAnswered}
 use Rattle.gtp_gateway.specs.Ticked.{asked_by}
 use Rattle.gtp_gateway.proofs.Answers.{none_held}
 
@@ -76,13 +76,13 @@ pub forgetting : (node : Node) (hold : ℕ) (ps : List HeldPair) → AreApart ps
 forgetting node hold ps apart = moves_each (gone_in hold ps) node (map held_of ps) (left_in hold ps) (forgets_each hold ps apart)
 
 -- what is left is kept as it is spelled
-spelled_left : (hold : ℕ) (ps : List HeldPair) → AllByRecursion (λ (p : HeldPair). AreSpelledAll p.answer) ps → AllByRecursion (λ (p : HeldPair). AreSpelledAll p.answer) (filter_map (after_tick hold) ps)
+spelled_left : (hold : ℕ) (ps : List HeldPair) → AllByRecursion IsKept ps → AllByRecursion IsKept (filter_map (after_tick hold) ps)
 spelled_left hold [] each = each
 spelled_left hold (p ∷ ps) each = by (nat_lt (p.age + 1) hold) (spelled_left hold ps each.1)
   where
-    by : (b : Bool) → AllByRecursion (λ (p : HeldPair). AreSpelledAll p.answer) (filter_map (after_tick hold) ps) → AllByRecursion (λ (p : HeldPair). AreSpelledAll p.answer) (cons_option (cond b (Some (record p { age = p.age + 1 })) None) (filter_map (after_tick hold) ps))
-    by true later = (each.0, later)
+    by : (b : Bool) → AllByRecursion IsKept (filter_map (after_tick hold) ps) → AllByRecursion IsKept (cons_option (cond b (Some (record p { age = p.age + 1 })) None) (filter_map (after_tick hold) ps))
+    by true later = (record { answer = each.0.answer; alone = each.0.alone }, later)
     by false later = later
 
 pub answered_left : (hold : ℕ) (ps : List HeldPair) → AreAnswered ps → AreAnswered (filter_map (after_tick hold) ps)
-answered_left hold ps each = All-from_recursion (λ (p : HeldPair). AreSpelledAll p.answer) _ (spelled_left hold ps (recursion_from_All (λ (p : HeldPair). AreSpelledAll p.answer) ps each))
+answered_left hold ps each = All-from_recursion IsKept _ (spelled_left hold ps (recursion_from_All IsKept ps each))

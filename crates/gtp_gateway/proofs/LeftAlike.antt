@@ -1,22 +1,26 @@
 -- What ticks go by, where the same node is left.
-use Rattle.std.proofs.Common.{◌≡◌, ℕ, Bool, true, false, cond, filter, List, [], ◌∷◌, ◌++◌, length, map, Option, Some, None, refl, sym, ◌∙◌, ap, subst, arith, length-append}
+use Rattle.std.proofs.Common.{◌≡◌, ◌≢◌, ⊎_elim, ℕ, Bool, true, false, cond, filter, List, [], ◌∷◌, ◌++◌, length, map, Option, Some, None, refl, sym, ◌∙◌, ap, subst, arith, length-append}
 use Rattle.std.specs.Prelude.{◌==◌}
 use Rattle.std.specs.List.{list_any, filter_map, cons_option}
 use Rattle.std.specs.FinMap.{get, insert}
 use Rattle.std.proofs.lemmas.List.{map_push, length-map}
+use mathlib.Core.Logic.{∥∥₁_elim}
 use Rattle.gtp_values.specs.FiniteMap.{FiniteMap}
 use Rattle.gtp_values.specs.declared.address.Endpoint.{Endpoint}
 use Rattle.std.proofs.lemmas.Bool.{or_parts}
 use Rattle.gtp_reliable.specs.Held.{HeldPair, just_kept}
-use Rattle.gtp_reliable.specs.Pending.{is_pending, AreDistinct, number_after}
+use Rattle.gtp_reliable.specs.Pending.{is_pending, AreDistinct, IsNextFree, number_after}
 use Rattle.gtp_reliable.specs.Waiting.{Waiting, just_sent, next_tick, after_tick_by, after_tick}
 use Rattle.gtp_machine.specs.Node.{PendingRequest, Node}
-use Rattle.gtp_machine.proofs.Basics.FiniteMaps.{get-insert_same}
+use Rattle.gtp_machine.specs.Spelling.{spelled}
+use Rattle.gtp_machine.proofs.Basics.FiniteMaps.{found-insert, get-insert_same}
+use Rattle.gtp_machine.proofs.Determined.Alike.{WaitsBeside}
+use Rattle.gtp_machine.proofs.Determined.Steps.{drawn_before}
 use Rattle.gtp_gateway.specs.declared.purpose.Purpose.{Purpose}
 use Rattle.gtp_gateway.specs.Determined.{held_as, waits_as, AreLeftAlike, WaitsNext}
-use Rattle.gtp_gateway.specs.GoesOn.{held_with, GoesOn}
+use Rattle.gtp_gateway.specs.GoesOn.{Beginning, held_with, begun_with, IsNext, IsNewFor, IsNew, waiting_on, GoesOn}
 use Rattle.gtp_gateway.specs.Parts.{held_of, pending_of, pending_in}
-use Rattle.gtp_gateway.proofs.Requests.{none_pending}
+use Rattle.gtp_gateway.proofs.Requests.{none_pending, pending_push, found_before, of_found}
 use Rattle.gtp_reliable.specs.declared.waiting.NextTick.{NextTick}
 use Rattle.gtp_reliable.specs.declared.waiting.NextTick.TheVariants.{WaitsOn, SentAgain, GivenUp}
 use Rattle.gtp_machine.specs.Message.{Plane, Control, User}
@@ -26,7 +30,8 @@ use Rattle.gtp_gateway.specs.declared.step.Step.{Step}
 use Rattle.gtp_gateway.specs.Begun.{AsksNext}
 use Rattle.gtp_gateway.specs.Received.{KeepsTiming}
 use Rattle.gtp_gateway.specs.Sent.{datagram_by}
-use Rattle.gtp_gateway.specs.Station.{Timing, Station}
+use Rattle.gtp_gateway.specs.Spelled.{message_in}
+use Rattle.gtp_gateway.specs.Station.{Timing, Station, IsTied, IsWhole}
 use Rattle.gtp_gateway.specs.Ticked.{CountsOn}
 use Rattle.gtp_gateway.proofs.GoingOn.{on_goes}
 use Rattle.gtp_gateway.proofs.ChosenOnce.{same_beside, one_next}
@@ -110,22 +115,135 @@ same_held source octets (Some a) None ps e = absurd (longer ps (just_kept source
 
 -- ---- after a datagram
 
-left_goes : (source : Endpoint) (octets : List ℕ) (old new left : Station) → AreDistinct old.timing.waiting → new.role ≡ left.role → new.node ≡ left.node → GoesOn source octets old new → GoesOn source octets old left → AreLeftAlike new left
-left_goes source octets old new left apart role node m n =
-    let pending : pending_in (filter m.stays old.timing.waiting) ≡ pending_in (filter n.stays old.timing.waiting) =
-    ap (λ (t : Timing). pending_in t.waiting) (sym m.timing) ∙ (sym m.tied.pending ∙ (ap (λ (k : Node). k.pending) node ∙ (n.tied.pending ∙ ap (λ (t : Timing). pending_in t.waiting) n.timing))) in
-    let held : map held_of (held_with source octets m.answer old.timing.held) ≡ map held_of (held_with source octets n.answer old.timing.held) =
-    ap (λ (t : Timing). map held_of t.held) (sym m.timing) ∙ (sym m.tied.held ∙ (ap (λ (k : Node). k.held) node ∙ (n.tied.held ∙ ap (λ (t : Timing). map held_of t.held) n.timing))) in
-    record {
-      role = role;
-      node = node;
-      timers = ap (λ (t : Timing). t.timers) m.timing ∙ sym (ap (λ (t : Timing). t.timers) n.timing);
-      next = ap (λ (t : Timing). t.next) m.timing ∙ sym (ap (λ (t : Timing). t.next) n.timing);
-      waiting = ap (λ (t : Timing). map waits_as t.waiting) m.timing ∙ (ap (map waits_as) (same_filter m.stays n.stays old.timing.waiting apart pending) ∙ sym (ap (λ (t : Timing). map waits_as t.waiting) n.timing));
-      held = ap (λ (t : Timing). map held_as t.held) m.timing ∙ (same_held source octets m.answer n.answer old.timing.held held ∙ sym (ap (λ (t : Timing). map held_as t.held) n.timing));
-    }
+-- a request that is begun, as it waits
+abbrev begins : Beginning → Waiting Purpose
+begins b = just_sent b.number b.to b.octets b.purpose
 
-pub left_by : (plane : Plane) (source : Endpoint) (octets : List ℕ) (step other : Step) (old new left : Station) → AreDistinct old.timing.waiting → new.role ≡ left.role → new.node ≡ left.node → KeepsTiming plane source octets step old new → KeepsTiming plane source octets other old left → AreLeftAlike new left
+module _ (old : Station) (apart : AreDistinct old.timing.waiting) where
+  abbrev ws : List (Waiting Purpose)
+  ws = old.timing.waiting
+
+  pushed : (stays : Waiting Purpose → Bool) (b : Beginning) → IsNextFree old.timing.next (filter stays ws) b.number → pending_in (filter stays ws ++ (begins b ∷ [])) ≡ insert (pending_in (filter stays ws)) b.number (pending_of (begins b)).1
+  pushed stays b next = pending_push (filter stays ws) (begins b) (pending_of (begins b)).1 next.free refl
+
+  -- a new request did not wait
+  not_before : (stays : Waiting Purpose → Bool) (b : Beginning) (n : ℕ) → IsNewFor b old → get (pending_in (filter stays ws)) n ≡ Some (pending_of (begins b)).1 → ⊥
+  not_before stays b n is_new found = of_found (λ p. p.request ≢ message_in b.octets) ws n (pending_of (begins b)).1 is_new.other (found_before stays ws n (pending_of (begins b)).1 apart found) refl
+
+  -- none was begun where none was
+  none_begun : (stays keeps : Waiting Purpose → Bool) (b : Beginning) → IsNextFree old.timing.next (filter stays ws) b.number → IsNewFor b old → pending_in (filter stays ws ++ (begins b ∷ [])) ≡ pending_in (filter keeps ws) → ⊥
+  none_begun stays keeps b next is_new same =
+      not_before keeps b b.number is_new (ap (λ (k : FiniteMap PendingRequest). get k b.number) (sym same ∙ pushed stays b next) ∙ get-insert_same (pending_in (filter stays ws)) b.number (pending_of (begins b)).1)
+
+  -- the same request was begun, and the same ones stay
+  one_begun : (stays keeps : Waiting Purpose → Bool) (a b : Beginning) → IsNextFree old.timing.next (filter stays ws) a.number → IsNextFree old.timing.next (filter keeps ws) b.number → IsNewFor a old
+      → insert (pending_in (filter stays ws)) a.number (pending_of (begins a)).1 ≡ insert (pending_in (filter keeps ws)) b.number (pending_of (begins b)).1
+      → (a.number ≡ b.number) × ((pending_of (begins a)).1 ≡ (pending_of (begins b)).1) × (filter stays ws ≡ filter keeps ws)
+  one_begun stays keeps a b next other is_new same = ⊎_elim
+      (λ here.
+      let beside : pending_in (filter stays ws) ≡ pending_in (filter keeps ws) =
+      same_beside (pending_in (filter stays ws)) (pending_in (filter keeps ws)) a.number (pending_of (begins a)).1 (pending_of (begins b)).1 (none_pending (filter stays ws) a.number next.free) (subst (λ (k : ℕ). get (pending_in (filter keeps ws)) k ≡ None) (sym here.0) (none_pending (filter keeps ws) b.number other.free))
+      (same ∙ ap (λ (k : ℕ). insert (pending_in (filter keeps ws)) k (pending_of (begins b)).1) (sym here.0)) in
+      (here.0, sym here.1, same_filter stays keeps ws apart beside))
+      (λ there. absurd (not_before keeps a a.number is_new there.1))
+      (found-insert (pending_in (filter keeps ws)) b.number (pending_of (begins b)).1 a.number (pending_of (begins a)).1
+      (ap (λ (k : FiniteMap PendingRequest). get k a.number) (sym same) ∙ get-insert_same (pending_in (filter stays ws)) a.number (pending_of (begins a)).1))
+
+  -- a request that is begun is known by its message
+  same_begins : (a b : Beginning) → IsNewFor a old → IsNewFor b old → a.number ≡ b.number → message_in a.octets ≡ message_in b.octets → waits_as (begins a) ≡ waits_as (begins b)
+  same_begins a b is_new also number message =
+      let to : a.to ≡ b.to = is_new.to ∙ sym also.to in
+      let octets : a.octets ≡ b.octets = is_new.spelled.is ∙ (ap spelled message ∙ sym also.spelled.is) in
+      λ i. record { seq = number i; to = to i; octets = octets i; purpose = tt; waited = 0; resent = 0 }
+
+-- the request for a new bearer that waits after a datagram was begun with it
+module _ (old : Station) (whole : IsWhole old) (tied : IsTied old) (apart : AreDistinct old.timing.waiting) where
+  -- it did not wait before
+  no_request : {new others : FiniteMap PendingRequest} (n : ℕ) (p : PendingRequest) (stays : Waiting Purpose → Bool) → WaitsBeside old.node.drawn new others n p → get (pending_in (filter stays old.timing.waiting)) n ≡ Some p → ⊥
+  no_request n p stays waits found = ∥∥₁_elim whole (hlevel) (λ sound.
+      waits.undrawn (drawn_before old.role old.node sound n p waits.request (ap (λ (k : FiniteMap PendingRequest). get k n) tied.pending ∙ found_before stays old.timing.waiting n p apart found) waits.asked))
+
+  -- so it has the next free number beside those that stay
+  pub record IsBegunAmong (others : FiniteMap PendingRequest) (n : ℕ) : Type 0 where
+    pub stays : Waiting Purpose → Bool
+    pub next : IsNextFree old.timing.next (filter stays old.timing.waiting) n
+    pub beside : pending_in (filter stays old.timing.waiting) ≡ others
+
+  begun_among : (source : Endpoint) (octets : List ℕ) (new : Station) (others : FiniteMap PendingRequest) (n : ℕ) (p : PendingRequest) → GoesOn source octets old new → WaitsBeside old.node.drawn new.node.pending others n p → IsBegunAmong others n
+  begun_among source octets new others n p goes waits = by goes.begun goes.next left
+    where
+      left : pending_in (begun_with goes.begun (waiting_on goes.stays old.timing)).waiting ≡ insert others n p
+      left = ap (λ (t : Timing). pending_in t.waiting) (sym goes.timing) ∙ (sym goes.tied.pending ∙ waits.is)
+
+      by : (x : Option Beginning) → IsNext x (waiting_on goes.stays old.timing) → pending_in (begun_with x (waiting_on goes.stays old.timing)).waiting ≡ insert others n p → IsBegunAmong others n
+      by None next is = absurd (no_request n p goes.stays waits (ap (λ (k : FiniteMap PendingRequest). get k n) is ∙ get-insert_same others n p))
+      by (Some b) next is =
+          let stay : FiniteMap PendingRequest = pending_in (filter goes.stays old.timing.waiting) in
+          let both : insert stay b.number (pending_of (begins b)).1 ≡ insert others n p = sym (pushed old apart goes.stays b next) ∙ is in
+          ⊎_elim
+          (λ here. record {
+            stays = goes.stays;
+            next = subst (λ (k : ℕ). IsNextFree old.timing.next (filter goes.stays old.timing.waiting) k) (sym here.0) next;
+            beside = same_beside stay others n (pending_of (begins b)).1 p (ap (λ k. get stay k) here.0 ∙ none_pending (filter goes.stays old.timing.waiting) b.number next.free) waits.absent (ap (λ (k : ℕ). insert stay k (pending_of (begins b)).1) here.0 ∙ both);
+          })
+          (λ there. absurd (no_request n p goes.stays waits there.1))
+          (found-insert stay b.number (pending_of (begins b)).1 n p (ap (λ (k : FiniteMap PendingRequest). get k n) both ∙ get-insert_same others n p))
+
+  pub number_begun : (source : Endpoint) (octets : List ℕ) (new left : Station) (others : FiniteMap PendingRequest) (m n : ℕ) (p q : PendingRequest) → GoesOn source octets old new → GoesOn source octets old left → WaitsBeside old.node.drawn new.node.pending others m p → WaitsBeside old.node.drawn left.node.pending others n q → m ≡ n
+  number_begun source octets new left others m n p q goes also waits too =
+      let one = begun_among source octets new others m p goes waits in
+      let other = begun_among source octets left others n q also too in
+      let same = same_filter one.stays other.stays old.timing.waiting apart (one.beside ∙ sym other.beside) in
+      one_next old.timing.next (filter other.stays old.timing.waiting) m n (subst (λ (ws : List (Waiting Purpose)). IsNextFree old.timing.next ws m) same one.next) other.next
+
+-- what ticks go by, after a datagram
+abbrev timing_after : Endpoint → List ℕ → Station → Option Beginning → (Waiting Purpose → Bool) → Option (List ℕ) → Timing
+timing_after source octets old begun stays answer = record (begun_with begun (waiting_on stays old.timing)) { held = held_with source octets answer old.timing.held }
+
+module _ (source : Endpoint) (octets : List ℕ) (old new left : Station) (apart : AreDistinct old.timing.waiting) (role : new.role ≡ left.role) (node : new.node ≡ left.node) (m : GoesOn source octets old new) (n : GoesOn source octets old left) where
+  abbrev one : Option Beginning → Timing
+  one begun = timing_after source octets old begun m.stays m.answer
+
+  abbrev two : Option Beginning → Timing
+  two begun = timing_after source octets old begun n.stays n.answer
+
+  pending_alike : (x y : Option Beginning) → new.timing ≡ one x → left.timing ≡ two y → pending_in (one x).waiting ≡ pending_in (two y).waiting
+  pending_alike x y p q = ap (λ (t : Timing). pending_in t.waiting) (sym p) ∙ (sym m.tied.pending ∙ (ap (λ (k : Node). k.pending) node ∙ (n.tied.pending ∙ ap (λ (t : Timing). pending_in t.waiting) q)))
+
+  held_alike : (x y : Option Beginning) → new.timing ≡ one x → left.timing ≡ two y → map held_of (held_with source octets m.answer old.timing.held) ≡ map held_of (held_with source octets n.answer old.timing.held)
+  held_alike x y p q = ap (λ (t : Timing). map held_of t.held) (sym p) ∙ (sym m.tied.held ∙ (ap (λ (k : Node). k.held) node ∙ (n.tied.held ∙ ap (λ (t : Timing). map held_of t.held) q)))
+
+  alike : (x y : Option Beginning) → new.timing ≡ one x → left.timing ≡ two y → (one x).timers ≡ (two y).timers → (one x).next ≡ (two y).next → map waits_as (one x).waiting ≡ map waits_as (two y).waiting → AreLeftAlike new left
+  alike x y p q timers next waiting = record {
+    role = role;
+    node = node;
+    timers = ap (λ (t : Timing). t.timers) p ∙ (timers ∙ sym (ap (λ (t : Timing). t.timers) q));
+    next = ap (λ (t : Timing). t.next) p ∙ (next ∙ sym (ap (λ (t : Timing). t.next) q));
+    waiting = ap (λ (t : Timing). map waits_as t.waiting) p ∙ (waiting ∙ sym (ap (λ (t : Timing). map waits_as t.waiting) q));
+    held = ap (λ (t : Timing). map held_as t.held) p ∙ (same_held source octets m.answer n.answer old.timing.held (held_alike x y p q) ∙ sym (ap (λ (t : Timing). map held_as t.held) q));
+  }
+
+  by_begun : (x y : Option Beginning) → IsNext x (waiting_on m.stays old.timing) → IsNext y (waiting_on n.stays old.timing) → IsNew x old → IsNew y old → new.timing ≡ one x → left.timing ≡ two y → AreLeftAlike new left
+  by_begun None None i j v w p q = alike None None p q refl refl (ap (map waits_as) (same_filter m.stays n.stays old.timing.waiting apart (pending_alike None None p q)))
+  by_begun None (Some b) i j v w p q = absurd (none_begun old apart n.stays m.stays b j w (sym (pending_alike None (Some b) p q)))
+  by_begun (Some a) None i j v w p q = absurd (none_begun old apart m.stays n.stays a i v (pending_alike (Some a) None p q))
+  by_begun (Some a) (Some b) i j v w p q =
+      let same = one_begun old apart m.stays n.stays a b i j v (sym (pushed old apart m.stays a i) ∙ (pending_alike (Some a) (Some b) p q ∙ pushed old apart n.stays b j)) in
+      let begun = same_begins old apart a b v w same.0 (ap (λ (k : PendingRequest). k.request) same.1) in
+      alike (Some a) (Some b) p q refl (ap number_after same.0)
+      (map_push waits_as (filter m.stays old.timing.waiting) (begins a)
+      ∙ ((λ i. map waits_as (same.2 i) ++ (begun i ∷ []))
+      ∙ sym (map_push waits_as (filter n.stays old.timing.waiting) (begins b))))
+
+  pub left_goes : AreLeftAlike new left
+  left_goes = by_begun m.begun n.begun m.next n.next m.new_one n.new_one m.timing n.timing
+
+-- what ticks go by after a datagram that was received as a whole
+abbrev pub KeepsOnce : Plane → Endpoint → List ℕ → Step → Station → Station → Type 0
+KeepsOnce Control source octets step old new = GoesOn source octets old new
+KeepsOnce User source octets step old new = KeepsTiming User source octets step old new
+
+pub left_by : (plane : Plane) (source : Endpoint) (octets : List ℕ) (step other : Step) (old new left : Station) → AreDistinct old.timing.waiting → new.role ≡ left.role → new.node ≡ left.node → KeepsOnce plane source octets step old new → KeepsOnce plane source octets other old left → AreLeftAlike new left
 left_by Control source octets step other old new left apart role node m n = left_goes source octets old new left apart role node m n
 left_by User source octets step other old new left apart role node m n = left_goes source octets old new left apart role node (on_goes source octets old new m.1 m.2) (on_goes source octets old left n.1 n.2)
 

@@ -1,4 +1,10 @@
 pub mod Own
+pub mod Pairs
+pub mod Pairing
+pub mod SecondsTaken
+pub mod FirstTaken
+pub mod PairTaken
+pub mod PairKinds
 pub mod SentBack
 pub mod Requests
 pub mod Refusals
@@ -35,7 +41,9 @@ pub mod Giving
 pub mod Resending
 pub mod Ticking
 pub mod ContextsRead
+pub mod Templates
 pub mod SessionGrants
+pub mod TemplateGrants
 pub mod Answered
 pub mod Receiving
 pub mod GoingOn

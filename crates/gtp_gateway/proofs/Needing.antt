@@ -12,11 +12,12 @@ use Rattle.gtp_machine.specs.declared.role.Role.TheVariants.{Serving, Packet}
 use Rattle.gtp_machine.specs.declared.outcome.Outcome.TheVariants.{Opened}
 use Rattle.gtp_machine.specs.Answer.{IsNew, answered}
 use Rattle.gtp_machine.specs.Choice.{HasHeldRoom, HasSession, HasPending}
+use Rattle.gtp_machine.specs.Config.{Template, template_for}
 use Rattle.gtp_machine.specs.Element.{IsAccepting, teid_in}
 use Rattle.gtp_machine.specs.Input.{Came_to, Effect, RequestKind, FaultyRequest, ControlReading, Control_message, Faulty, Control_came}
 use Rattle.gtp_machine.specs.Message.{Message, CreateSessionRequest, CreateSessionResponse, CreatedBearer, DeleteSessionRequest, CreateBearerRequest, CreateBearerResponse, GivenBearer, DeleteBearerRequest, Echo, Echo_request, Create_session_request, Create_session_response, Delete_session_request, Create_bearer_request, Create_bearer_response, Delete_bearer_request, recovery_of}
 use Rattle.gtp_machine.specs.Node.{Active, Pending, Session, PendingRequest, Arrival, Held, Node}
-use Rattle.gtp_machine.specs.Packet.{SessionJudged, SessionAsked, DeletionJudged, DeletionAsked, BearerAnswered, FitsBearer, DescribesBearer, CanOpen, PacketFaulted, PacketReads}
+use Rattle.gtp_machine.specs.Packet.{AnswersWith, session_cause, session_response, made_session, session_made, SessionJudged, SessionAsked, DeletionJudged, DeletionAsked, BearerAnswered, FitsBearer, DescribesBearer, CanOpen, PacketFaulted, PacketReads}
 use Rattle.gtp_machine.specs.Recovery.{Judges, Weighs, Hears}
 use Rattle.gtp_machine.specs.Serving.{BearerJudged, BearerAsked, RemovalTaken, RemovalJudged, RemovalAsked, SessionAnswered, FitsSession, DescribesSession, ServingFaulted, ServingReads}
 use Rattle.gtp_machine.specs.Step.{Step as MachineStep}
@@ -42,6 +43,12 @@ sends some is = inl (λ none. some (ap (λ (x : Effect). x.out.sent) (sym is) �
 
 -- ---- requests
 
+-- with a template's bearer or without
+answered_with : (template : Option Template) (request : Arrival) (a : CreateSessionResponse) (cause session : ℕ) (s : Session) (made : Node) (e : Effect) → AnswersWith template request a cause session s made e → SendsOrOpens e
+answered_with None request a cause session s made e is = sends (λ none. cc) is
+answered_with (Some t) request a cause session s made e (inl alone) = sends (λ none. cc) alone.1
+answered_with (Some t) request a cause session s made e (inr (can, adds)) = sends (λ none. cc) adds.gives
+
 session_judged : (request : Arrival) (q : CreateSessionRequest) (old : Node) (e : Effect) → SessionJudged request q old e → SendsOrOpens e
 session_judged request q old e (inl f) = sends (λ none. cc) f.1
 session_judged request q old e (inr (a, inl f)) = sends (λ none. cc) f.1
@@ -49,7 +56,7 @@ session_judged request q old e (inr (a, inr (b, inl f))) = sends (λ none. cc) f
 session_judged request q old e (inr (a, inr (b, inr (c, inl f)))) = sends (λ none. cc) f.1
 session_judged request q old e (inr (a, inr (b, inr (c, inr (d, inl f))))) = sends (λ none. cc) f.1
 session_judged request q old e (inr (a, inr (b, inr (c, inr (d, inr (g, inl f)))))) = sends (λ none. cc) f.1
-session_judged request q old e (inr (a, inr (b, inr (c, inr (d, inr (g, inr (h, makes))))))) = sends (λ none. cc) makes.gives
+session_judged request q old e (inr (a, inr (b, inr (c, inr (d, inr (g, inr (h, makes))))))) = answered_with (template_for q.access_point old.config.templates) request (session_response old q makes.control makes.user makes.address) (session_cause q.pdn makes.address) makes.control (made_session q makes.address) (session_made old q makes.control makes.user makes.address) e makes.gives
 
 pub session_asked : (request : Arrival) (q : CreateSessionRequest) (old : Node) → HasHeldRoom old → AlwaysSendsOrOpens (SessionAsked request q) old
 session_asked request q old room e (inl f) = absurd (f.0 room)

@@ -1,23 +1,26 @@
 -- Messages of a gateway's own are sent as they are spelled, and read as they are.
-use Rattle.std.proofs.Common.{◌≡◌, ℕ, ◌+◌, ◌≤◌, List, [], ◌∷◌, Some, None, length, sym, ◌∙◌, ap, subst, arith}
+use Rattle.std.proofs.Common.{◌≡◌, ℕ, ◌+◌, ◌*◌, ◌≤◌, inl, List, [], ◌∷◌, Some, None, length, refl, sym, ◌∙◌, ap, subst, arith}
 use Rattle.gtp_values.specs.declared.address.Ip.{Ip}
 use Rattle.gtp_v2.specs.declared.message.Message as decoded
 use Rattle.gtp_v2.specs.Body.{message_value}
 use Rattle.gtp_v2.specs.Datagram.{IsMessage}
+use Rattle.gtp_v2.specs.Pair.{both, paired, Announces}
+use Rattle.gtp_v2.proofs.Joined.{announces, read_again}
 use Rattle.gtp_v2.specs.Encoding.{canonical_encoding}
 use Rattle.gtp_user.specs.Datagram.{IsUserMessage}
 use Rattle.gtp_user.specs.declared.message.UserMessage.{UserMessage}
 use Rattle.gtp_user.specs.Message as user_messages
 use Rattle.gtp_user.specs.Encoding.{octets_of, encoding, options_encoding, content_encoding}
 use Rattle.gtp_machine.specs.Input.{Control_message, User_message}
-use Rattle.gtp_machine.specs.Message.{Plane}
-use Rattle.gtp_machine.specs.Reading.{control_message, user_message, Alone, DatagramReads, UserReads}
-use Rattle.gtp_machine.specs.Spelling.{spelled_on, spelled, plain_user}
+use Rattle.gtp_machine.specs.Message.{Message, Plane}
+use Rattle.gtp_machine.specs.Reading.{control_message, user_message, Alone, Both, DatagramReads, UserReads, reading_of}
+use Rattle.gtp_machine.specs.Spelling.{spelled_on, spelled, spelled_all, plain_user}
 use Rattle.gtp_machine.proofs.Octets.ByGrammar.{decoded_reads, user_decoded_reads}
-use Rattle.gtp_machine.proofs.Octets.Datagrams.{message_reads_alone}
+use Rattle.gtp_machine.proofs.Octets.Datagrams.{message_reads_alone, datagram_by_grammar}
 use Rattle.gtp_gateway.specs.Own.{IsOwn, IsUserOwn}
+use Rattle.gtp_gateway.specs.Pair.{first_length}
 use Rattle.gtp_gateway.specs.Sent.{ReadsBackOn, ReadsBack}
-use Rattle.gtp_gateway.specs.Spelled.{message_read, message_in, AreSpelled}
+use Rattle.gtp_gateway.specs.Spelled.{message_read, message_in, those_read, messages_in, LieApart, AreSpelled, AreSpelledAll}
 
 pub own_spelled : (m : decoded.Message) → IsOwn m → canonical_encoding (message_value m) ≡ spelled (control_message m)
 own_spelled m own = ap canonical_encoding own.says ∙ sym (ap (λ p. spelled_on p (control_message m)) own.control)
@@ -30,7 +33,7 @@ own_read octets m is = ap message_read (sym (decoded_reads octets m is))
 pub own_back : (octets : List ℕ) (m : decoded.Message) → IsOwn m → octets ≡ canonical_encoding (message_value m) → IsMessage octets (message_value m) → ReadsBack (control_message m ∷ [])
 own_back octets m own written is =
     subst (λ (p : Plane). ReadsBackOn p (control_message m ∷ [])) (sym own.control)
-    (subst (λ (o : List ℕ). DatagramReads o (Alone (Control_message (control_message m)))) (written ∙ own_spelled m own) (message_reads_alone octets (control_message m) (decoded_reads octets m is)))
+    (subst (λ (o : List ℕ). DatagramReads o (Alone (Control_message (control_message m)))) (written ∙ own_spelled m own) (message_reads_alone octets (control_message m) (decoded_reads octets m is)), refl)
 
 pub own_kept : (octets : List ℕ) (m : decoded.Message) → IsOwn m → octets ≡ canonical_encoding (message_value m) → IsMessage octets (message_value m) → AreSpelled octets
 own_kept octets m own written is =
@@ -38,6 +41,40 @@ own_kept octets m own written is =
       is = written ∙ own_spelled m own ∙ ap spelled (sym (own_read octets m is));
       read = ap (λ k. Control_message k) (own_read octets m is) ∙ decoded_reads octets m is;
     }
+
+-- a first message ends where its header states
+stated_length : (front back : List ℕ) → Announces (paired front back) front back → first_length (paired front back) ≡ length front
+stated_length front back (flags, kind, high, low, following, begins, long, text) =
+    let stated : first_length (paired front back) ≡ 4 + (256 * high + low) = ap first_length begins.1 in
+    let own : length front ≡ length ((64 + flags) ∷ kind ∷ high ∷ low ∷ following) = ap length text in
+    omega (arith, stated, long, own)
+
+-- two messages in one datagram, from what is written of each
+module _ (front back : List ℕ) (m n : decoded.Message) (own : IsOwn m) (first : IsMessage front (message_value m)) (second : IsMessage back (message_value n)) (front_is : front ≡ spelled (control_message m)) (back_is : back ≡ spelled (control_message n)) where
+  pub pair_spelled : paired front back ≡ spelled_all (control_message m ∷ control_message n ∷ [])
+  pair_spelled = λ i. paired (front_is i) (back_is i)
+
+  pub pair_reads : DatagramReads (paired front back) (Both (control_message m) (control_message n))
+  pair_reads = (datagram_by_grammar (paired front back) (Both (control_message m) (control_message n))).1 (inl (both (message_value m) (message_value n), read_again front back (message_value m) (message_value n) first second, refl))
+
+  pub pair_in : messages_in (paired front back) ≡ control_message m ∷ control_message n ∷ []
+  unfolding messages_in
+  pair_in = ap those_read (sym pair_reads)
+
+  pair_apart : LieApart (control_message m ∷ control_message n ∷ [])
+  pair_apart = subst (λ (f : List ℕ). first_length (paired f (spelled (control_message n))) ≡ length f) front_is (subst (λ (b : List ℕ). first_length (paired front b) ≡ length front) back_is (stated_length front back (announces front back (message_value m) first)))
+
+  pub pair_kept : AreSpelledAll (paired front back)
+  pair_kept = record {
+    is = pair_spelled ∙ ap spelled_all (sym pair_in);
+    read = subst (λ (datagram : List Message). DatagramReads (paired front back) (reading_of datagram)) (sym pair_in) pair_reads;
+    apart = subst LieApart (sym pair_in) pair_apart;
+  }
+
+  pub pair_back : ReadsBack (control_message m ∷ control_message n ∷ [])
+  pair_back =
+      subst (λ (p : Plane). ReadsBackOn p (control_message m ∷ control_message n ∷ [])) (sym own.control)
+      (subst (λ (o : List ℕ). DatagramReads o (Both (control_message m) (control_message n))) pair_spelled pair_reads, pair_apart)
 
 pub user_own_spelled : (m : UserMessage) → IsUserOwn m → encoding (user_messages.message_value m) ≡ spelled (user_message m)
 user_own_spelled m own = ap encoding own.says ∙ sym (ap (λ p. spelled_on p (user_message m)) own.user)

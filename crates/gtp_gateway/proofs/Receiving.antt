@@ -1,35 +1,40 @@
 -- Datagrams of either plane that were taken, as datagrams that were received.
-use Rattle.std.proofs.Common.{◌≡◌, ℕ, List, Result, Ok, Err, refl, sym, ◌∙◌, ap, subst}
+use Rattle.std.proofs.Common.{◌≡◌, inl, inr, ℕ, List, Result, Ok, Err, refl, sym, ◌∙◌, ap, subst}
 use Rattle.std.specs.Prelude.{IfOk, OnErr, IsSome, option_map}
 use Rattle.std.proofs.lemmas.Grind.{merely}
 use mathlib.Core.Logic.{∥∥₁_elim, ∥∥₁_prop}
 use Rattle.gtp_values.specs.declared.address.Endpoint.{Endpoint}
-use Rattle.gtp_machine.specs.Message.{Plane, Control, User}
-use Rattle.gtp_machine.specs.Input.{Out, nothing}
+use Rattle.gtp_machine.specs.Message.{Plane, Control, User, Create_session_response, Create_bearer_request}
+use Rattle.gtp_machine.specs.Input.{Input, Out, Effect, nothing}
+use Rattle.gtp_machine.specs.Step.{Step as MachineStep, TakesPair}
 use Rattle.gtp_machine.specs.Sound.{IsSound, IsWellFormed}
 use Rattle.gtp_machine.specs.Reading.{datagram_reading}
 use Rattle.gtp_machine.proofs.Sound.Rows.{stays_sound}
-use Rattle.gtp_machine.proofs.Sound.Reads.{taken_whole}
+use Rattle.gtp_machine.proofs.Sound.Reads.{taken_whole, pair_reads_whole}
 use Rattle.gtp_gateway.specs.declared.step.Report.{Report}
 use Rattle.gtp_gateway.specs.declared.step.Step.{Step}
 use Rattle.gtp_gateway.specs.declared.control_step.ControlStep.{ControlStep}
 use Rattle.gtp_gateway.specs.Parts.{arrival_of}
-use Rattle.gtp_gateway.specs.Received.{coming, of_control, IsReceived, KeepsTiming}
+use Rattle.gtp_gateway.specs.Received.{coming, of_control, first_comes, second_comes, IsReceivedOnce, AreReceived, IsReceived, IsControlTaken, KeepsTiming}
 use Rattle.gtp_gateway.specs.Station.{Station, IsTied, IsWhole}
 use Rattle.gtp_gateway.specs.Taken.{made_for, IsTaken}
 use Rattle.gtp_gateway.specs.UserTaken.{IsUserTaken}
 use Rattle.gtp_gateway.proofs.AcceptedStays.{accepted_stays}
 
-pub control_received : (source : Endpoint) (octets : List ℕ) (old : Station) (step : ControlStep) (new : Station) → IsTaken source octets old step new → IsReceived Control source octets old (of_control step) new
-control_received source octets old step new taken =
+once_received : (source : Endpoint) (octets : List ℕ) (old : Station) (step : ControlStep) (new : Station) → IsTaken source octets old step new → IsReceivedOnce Control source octets old (of_control step) new
+once_received source octets old step new taken =
     let t = taken.tells in
     record {
       effect = taken.effect;
       takes = taken.takes;
-      tells = record { sent = t.sent; outcome = t.outcome; heard = t.heard; restart = t.restart; made = t.made; accepted = ap (λ (o : Out). o.accepted) t.all; all = t.all ∙ (λ i. record nothing { sent = taken.effect.out.sent; heard = taken.effect.out.heard; learned = taken.effect.out.learned; made = taken.effect.out.made; accepted = ap (λ (o : Out). o.accepted) (sym t.all) i }) };
+      tells = record { sent = t.sent; outcome = t.outcome; alone = t.alone; heard = t.heard; restart = t.restart; made = t.made; accepted = ap (λ (o : Out). o.accepted) t.all; all = t.all ∙ (λ i. record nothing { sent = taken.effect.out.sent; heard = taken.effect.out.heard; learned = taken.effect.out.learned; made = taken.effect.out.made; accepted = ap (λ (o : Out). o.accepted) (sym t.all) i }) };
       becomes = taken.becomes;
       role = taken.role;
     }
+
+pub control_received : (source : Endpoint) (octets : List ℕ) (old : Station) (step : ControlStep) (new : Station) → IsControlTaken source octets old step new → IsReceived Control source octets old (of_control step) new
+control_received source octets old step new (inl (none, taken)) = inl (none, once_received source octets old step new taken)
+control_received source octets old step new (inr both) = inr both
 
 user_received : (source : Endpoint) (octets : List ℕ) (old : Station) (step : Step) (new : Station) → IsUserTaken source octets old step new → IsReceived User source octets old step new
 user_received source octets old step new taken =
@@ -41,6 +46,7 @@ user_received source octets old step new taken =
       tells = record {
         sent = t.sent;
         outcome = t.outcome;
+        alone = ap (λ (r : Report). r.second) t.report;
         heard = ap (λ (r : Report). option_map (λ c. c.0) r.heard) t.report ∙ sym (ap (λ (o : Out). o.heard) t.all);
         restart = ap (λ (r : Report). option_map (λ c. c.0) r.restart) t.report ∙ sym (ap (λ (o : Out). o.learned) t.all);
         made = ap (λ (r : Report). made_for (arrival_of source octets) r.made) t.report ∙ sym (ap (λ (o : Out). o.made) t.all);
@@ -69,8 +75,26 @@ formed : (plane : Plane) (source : Endpoint) (octets : List ℕ) → IsWellForme
 formed Control source octets = taken_whole (arrival_of source octets) (datagram_reading octets) refl
 formed User source octets = tt
 
--- what a datagram leaves is sound: it was a step, or changed nothing
+-- a step of the machine leaves a sound node
+step_sound : (old new : Station) (input : Input) (e : Effect) → IsWellFormed input → MachineStep old.role old.node input e → new.node ≡ e.node → new.role ≡ old.role → IsSound old.role old.node → IsSound new.role new.node
+step_sound old new input e is_formed takes becomes role before = subst (λ r. IsSound r new.node) (sym role) (subst (IsSound old.role) (sym becomes) (stays_sound old.role old.node input e before is_formed takes))
+
+once_sound : (plane : Plane) (source : Endpoint) (octets : List ℕ) (step : Step) (old new : Station) → IsReceivedOnce plane source octets old step new → IsSound old.role old.node → IsSound new.role new.node
+once_sound plane source octets step old new taken = step_sound old new (coming plane source octets) taken.effect (formed plane source octets) taken.takes taken.becomes taken.role
+
+-- so do two
+both_sound : (source : Endpoint) (octets : List ℕ) (step : Step) (old new : Station) (pair : TakesPair old.role old.node.config (arrival_of source octets) (datagram_reading octets)) → AreReceived source octets pair.answer pair.asked old step new → IsSound old.role old.node → IsSound new.role new.node
+both_sound source octets step old new pair taken before =
+    let whole = pair_reads_whole octets (Create_session_response pair.answer) (Create_bearer_request pair.asked) (sym pair.is) in
+    let between = stays_sound old.role old.node (first_comes source octets pair.answer) taken.first before whole.0 taken.takes in
+    step_sound (record old { node = taken.first.node }) new (second_comes source octets pair.asked) taken.second whole.1 taken.follows taken.becomes taken.role between
+
+leaves_sound : (plane : Plane) (source : Endpoint) (octets : List ℕ) (step : Step) (old new : Station) → IsReceived plane source octets old step new → IsSound old.role old.node → IsSound new.role new.node
+leaves_sound Control source octets step old new (inl (none, taken)) = once_sound Control source octets step old new taken
+leaves_sound Control source octets step old new (inr (pair, taken)) = both_sound source octets step old new pair taken
+leaves_sound User source octets step old new taken = once_sound User source octets step old new taken
+
+-- what a datagram leaves is sound: it was one step or two, or changed nothing
 pub received_sound : {E : Type 0} (plane : Plane) (source : Endpoint) (octets : List ℕ) (r : Result Step E) (old new : Station) → IfOk r (λ step. IsReceived plane source octets old step new) → OnErr r (new ≡ old) → IsWhole old → IsWhole new
-received_sound plane source octets (Ok step) old new taken same whole =
-    ∥∥₁_elim whole ∥∥₁_prop (λ before. merely (subst (λ r. IsSound r new.node) (sym taken.role) (subst (IsSound old.role) (sym taken.becomes) (stays_sound old.role old.node (coming plane source octets) taken.effect before (formed plane source octets) taken.takes))))
+received_sound plane source octets (Ok step) old new taken same whole = ∥∥₁_elim whole ∥∥₁_prop (λ before. merely (leaves_sound plane source octets step old new taken before))
 received_sound plane source octets (Err fault) old new taken same whole = subst IsWhole (sym same) whole

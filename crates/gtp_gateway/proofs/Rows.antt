@@ -36,7 +36,7 @@ drops Takes request s step why is takes =
     (record {
       effect = dropped s.node why;
       takes = takes;
-      tells = record { sent = none_sent s.node.config; outcome = refl; made = refl; heard = refl; learned = refl; untold = refl; unlearned = refl; all = refl };
+      tells = record { sent = none_sent s.node.config; outcome = refl; alone = refl; made = refl; heard = refl; learned = refl; untold = refl; unlearned = refl; all = refl };
       becomes = refl;
       role_stays = refl;
     })
@@ -47,7 +47,7 @@ ends Takes request old new step outcome node is becomes role takes =
     (record {
       effect = record { out = nothing; outcome = Came_to outcome; node = node };
       takes = takes;
-      tells = record { sent = none_sent old.node.config; outcome = refl; made = refl; heard = refl; learned = refl; untold = refl; unlearned = refl; all = refl };
+      tells = record { sent = none_sent old.node.config; outcome = refl; alone = refl; made = refl; heard = refl; learned = refl; untold = refl; unlearned = refl; all = refl };
       becomes = becomes;
       role_stays = role;
     })
@@ -60,7 +60,7 @@ answers_made Takes request old new step sent answer cause made node is goes back
     (record {
       effect = answering made request answer cause node;
       takes = takes;
-      tells = record { sent = one_sent old.node.config (datagram_by sent) (record { destination = request.source; messages = answer }) goes back; outcome = refl; made = refl; heard = refl; learned = refl; untold = refl; unlearned = refl; all = refl };
+      tells = record { sent = one_sent old.node.config (datagram_by sent) (record { destination = request.source; messages = answer }) goes back; outcome = refl; alone = refl; made = refl; heard = refl; learned = refl; untold = refl; unlearned = refl; all = refl };
       becomes = becomes;
       role_stays = role;
     })
@@ -107,6 +107,7 @@ tells_heard config request old step None e same tells =
     record {
       sent = subst (λ (c : Config). AreSent c (datagrams step.out) e.out.sent) same tells.sent;
       outcome = tells.outcome;
+      alone = tells.alone;
       heard = sym tells.heard;
       restart = sym tells.learned;
       made = tells.made;
@@ -116,13 +117,14 @@ tells_heard config request old step (Some counter) e same tells =
     record {
       sent = subst (λ (c : Config). AreSent c (datagrams step.out) e.out.sent) same tells.sent;
       outcome = tells.outcome;
+      alone = tells.alone;
       heard = told_is old.node.known counter;
       restart = later_is old.node.known counter;
       made = tells.made;
       all = λ i. record (tells.all i) { heard = Some counter.0; learned = learned_by old.node.known counter.0 };
     }
 
-told_node : (recovery : Option Counter) (known : Option ℕ) (e : Effect) → (told recovery known e).node ≡ e.node
+pub told_node : (recovery : Option Counter) (known : Option ℕ) (e : Effect) → (told recovery known e).node ≡ e.node
 told_node None known e = refl
 told_node (Some counter) known e = refl
 
@@ -153,7 +155,7 @@ early_taken source octets old m recovery peer fresh reads takes counter early =
     record {
       effect = effect;
       takes = subst (λ (r : ControlReading). MachineStep old.role old.node (Control_came request r) effect) (sym reads) (message_taken old.role old.node request m effect peer fresh takes heard);
-      tells = tells_heard old.node.config request old (record { out = None; report = plain_report (Dropped OldCounter) }) recovery (dropped old.node OldCounter) refl (record { sent = none_sent old.node.config; outcome = refl; made = refl; heard = refl; learned = refl; untold = refl; unlearned = refl; all = refl });
+      tells = tells_heard old.node.config request old (record { out = None; report = plain_report (Dropped OldCounter) }) recovery (dropped old.node OldCounter) refl (record { sent = none_sent old.node.config; outcome = refl; alone = refl; made = refl; heard = refl; learned = refl; untold = refl; unlearned = refl; all = refl });
       becomes = sym (told_node recovery old.node.known (dropped old.node OldCounter));
       role = refl;
     }

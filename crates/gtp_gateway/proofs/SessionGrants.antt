@@ -1,10 +1,11 @@
 -- Sessions that are granted at a gateway that has heard a counter.
-use Rattle.std.proofs.Common.{◌≡◌, ◌⊎◌, inl, inr, nat_eq, ◌<◌, ◌≤◌, ◌+◌, ℕ, Bool, true, false, List, [], ◌∷◌, length, Option, Some, None, refl, sym, ◌∙◌, ap, subst, arith}
+use Rattle.std.proofs.Common.{◌≡◌, ◌≢◌, ◌⊎◌, inl, inr, nat_eq, ◌<◌, ◌≤◌, ◌+◌, ℕ, Bool, true, false, List, [], ◌∷◌, length, Option, Some, None, refl, sym, ◌∙◌, ap, subst, arith}
 use Rattle.std.specs.Prelude.{not, ◌||◌}
 use Rattle.std.specs.Cmp.Lexicographic.{pointwise, same_text}
 use Rattle.std.specs.List.{list_any}
-use Rattle.std.specs.FinMap.{get, insert}
-use Rattle.gtp_values.proofs.Tests.{itself}
+use Rattle.std.specs.FinMap.{get, insert, remove, same_map, gets, nat_cmp-IsAntisymmetric}
+use Rattle.std.specs.Cmp.{nat_cmp_total}
+use Rattle.std.proofs.lemmas.Bool.Decides.{nat_tests}
 use Rattle.std.proofs.Math.Bool.{or-true}
 use Rattle.gtp_values.specs.FiniteMap.{FiniteMap, Among}
 use Rattle.gtp_values.specs.PdnAddress.{PdnAddress}
@@ -15,12 +16,14 @@ use Rattle.gtp_tables.specs.declared.pool.IpVersion.TheVariants.{V4, V6}
 use Rattle.gtp_tables.specs.Free.{count_of, address_at, IsLowestFree, IsUsedUp, IsLowestPart, IsLowestGiven, AreUsedUp}
 use Rattle.gtp_machine.specs.Choice.{IsFree, HasDraws, IsFreeAddress, HasFreeAddress, asked_by, IsPart, IsGiven, CanGive}
 use Rattle.gtp_machine.specs.Node.{Session, Bearer, Node}
+use Rattle.gtp_machine.proofs.Basics.FiniteMaps.{found-insert}
 use Rattle.gtp_gateway.specs.declared.hearing.Heard.{Heard}
 use Rattle.gtp_gateway.specs.declared.hearing.Heard.TheVariants as heards
 use Rattle.gtp_gateway.specs.Change.{IsAbove}
 use Rattle.gtp_gateway.specs.Hearing.{node_heard}
 use Rattle.gtp_gateway.proofs.Weighing.{counter_stays, drawn_stays}
 use Rattle.gtp_gateway.proofs.Settled.{kept_insert, session_stood}
+use Rattle.gtp_gateway.proofs.Templates.{same_octets}
 
 -- ---- what hearing leaves as it was
 
@@ -48,6 +51,18 @@ none_above {X} table t above = by (get table t) refl
     by : (o : Option X) → get table t ≡ o → o ≡ None
     by None is = refl
     by (Some s) is = absurd (below_itself t (above t s is))
+
+-- a TEID above all others is above one more below it
+pub above_one : {X : Type 0} (table : FiniteMap X) (u t : ℕ) (x : X) → IsAbove table t → u < t → IsAbove (insert table u x) t
+above_one table u t x above less key y is = by (found-insert table u x key y is)
+  where
+    by : ((key ≡ u) × (x ≡ y)) ⊎ ((key ≢ u) × (get table key ≡ Some y)) → key < t
+    by (inl (same, it)) = omega (arith, same, less)
+    by (inr (other, there)) = above key y there
+
+-- what is put where nothing stands is taken back
+pub taken_back : {X : Type 0} (table : FiniteMap X) (t : ℕ) (x : X) → get table t ≡ None → remove (insert table t x) t ≡ table
+taken_back table t x none = same_map nat_cmp_total nat_cmp-IsAntisymmetric _ _ (λ q. let it : get (remove (insert table t x) t) q ≡ get table q = grind (arith, gets, nat_tests, none) in it)
 
 -- ---- a bearer that is made before the counter is heard
 
@@ -99,10 +114,6 @@ module _ (n : Node) (sessions : FiniteMap Session) (pools : Pools) (same : sessi
   none_given pdn used can = no_address can.version (used can.version can.asked) can.free
 
 -- ---- access points
-
-same_octets : (xs : List ℕ) → pointwise nat_eq xs xs ≡ true
-same_octets [] = refl
-same_octets (x ∷ xs) = rw (itself x) (same_octets xs)
 
 pub any_among : (x : List ℕ) (xs : List (List ℕ)) → list_any (λ y. pointwise nat_eq y x) xs ≡ true → Among x xs
 any_among x [] is = absurd cc

@@ -1,6 +1,6 @@
 -- What stands once a counter was heard, by what stood before.
 use Rattle.std.proofs.Common.{◌≡◌, ℕ, Bool, true, false, cond, Option, Some, None, Result, Ok, Err, is_ok, refl, sym, ◌∙◌, ap}
-use Rattle.std.specs.Prelude.{◌||◌, not, IfOk, OnOk}
+use Rattle.std.specs.Prelude.{◌||◌, not, IfOk, OnOk, OnErr}
 use Rattle.gtp_values.specs.declared.fault.Memory.{Memory}
 use Rattle.std.specs.FinMap.{get, insert, get-insert, same_map, nat_cmp-IsAntisymmetric}
 use Rattle.std.specs.Ordering.{nat_cmp, eq_by_cmp}
@@ -121,6 +121,11 @@ settled Takes request heard old new v number step is becomes role takes = ends T
 pub succeeded : {T E P : Type 0} (r : Result T E) → true ≡ is_ok r → OnOk r P → P
 succeeded (Ok x) is holds = holds
 succeeded (Err e) is holds = absurd (cc is)
+
+-- and where it failed
+pub failed : {T E P : Type 0} (r : Result T E) → is_ok r ≡ false → OnErr r P → P
+failed (Ok x) is holds = absurd (cc is)
+failed (Err e) is holds = holds
 
 pub if_ok : {Is : ControlStep → Type 0} {Becomes : Type 0} {Taken : ControlStep → Type 0} → ((step : ControlStep) → Is step → Becomes → Taken step) → (o : Result ControlStep Memory) → IfOk o Is → OnOk o Becomes → IfOk o Taken
 if_ok each (Ok step) is becomes = each step is becomes

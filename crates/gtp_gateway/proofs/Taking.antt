@@ -1,5 +1,5 @@
 -- Steps of either gateway on a datagram of the control plane.
-use Rattle.std.proofs.Common.{◌≡◌, inl, inr, ℕ, List, [], ◌∷◌, sym, ap, subst}
+use Rattle.std.proofs.Common.{◌≡◌, inl, inr, ℕ, List, [], ◌∷◌, sym, ap, subst, refl}
 use Rattle.std.specs.List.{AllByRecursion}
 use Rattle.std.proofs.lemmas.List.Elements.{recursion_from_All}
 use Rattle.gtp_values.specs.declared.address.Endpoint.{Endpoint}
@@ -17,16 +17,16 @@ use Rattle.gtp_machine.specs.Spelling.{datagram_plane, spelled_all}
 use Rattle.gtp_machine.specs.Step.{Step}
 use Rattle.gtp_machine.proofs.Octets.Datagrams.{message_reads_alone}
 use Rattle.gtp_gateway.specs.Sent.{ReadsBackOn, ReadsBack}
-use Rattle.gtp_gateway.specs.Spelled.{message_in, those_read, messages_in, AreSpelled, AreSpelledAll, AreAnswered}
+use Rattle.gtp_gateway.specs.Spelled.{message_in, those_read, messages_in, LieApart, AreSpelled, AreSpelledAll, IsKept, AreAnswered}
 
 -- before a datagram is read, both gateways take the same steps
 pub by_role : (role : Role) (old : Node) (request : Arrival) (reading : ControlReading) (e : Effect) → ((Reads : Arrival → Node → Effect → Type 0) → ControlStep Reads request old e) → Step role old (Control_came request reading) e
 by_role Serving old request reading e step = step (ServingReads reading)
 by_role Packet old request reading e step = step (PacketReads reading)
 
-answered_there : (ps : List HeldPair) (source : Endpoint) (request answer : List ℕ) → AllByRecursion (λ (p : HeldPair). AreSpelledAll p.answer) ps → HasAnswer source request answer ps → AreSpelledAll answer
+answered_there : (ps : List HeldPair) (source : Endpoint) (request answer : List ℕ) → AllByRecursion IsKept ps → HasAnswer source request answer ps → AreSpelledAll answer
 answered_there [] source request answer each has = absurd has
-answered_there (p ∷ ps) source request answer each (inl here) = subst AreSpelledAll here.1 each.0
+answered_there (p ∷ ps) source request answer each (inl here) = subst AreSpelledAll here.1 each.0.answer
 answered_there (p ∷ ps) source request answer each (inr there) = answered_there ps source request answer each.1 there
 
 -- octets that read as one message by themselves are a datagram of it
@@ -36,21 +36,21 @@ alone_in octets kept = ap those_read (sym (message_reads_alone octets (message_i
 
 pub alone_kept : (octets : List ℕ) → AreSpelled octets → AreSpelledAll octets
 alone_kept octets kept =
-    subst (λ (datagram : List Message). (octets ≡ spelled_all datagram) × DatagramReads octets (reading_of datagram) → AreSpelledAll octets) (alone_in octets kept)
-    (λ both. record { is = both.0; read = both.1 })
-    (kept.is, message_reads_alone octets (message_in octets) kept.read)
+    subst (λ (datagram : List Message). (octets ≡ spelled_all datagram) × DatagramReads octets (reading_of datagram) × LieApart datagram → AreSpelledAll octets) (alone_in octets kept)
+    (λ all. record { is = all.0; read = all.1; apart = all.2 })
+    (kept.is, message_reads_alone octets (message_in octets) kept.read, refl)
 
 -- the messages of octets that are kept read back
 pub all_back : (octets : List ℕ) → datagram_plane (messages_in octets) ≡ Control → AreSpelledAll octets → ReadsBack (messages_in octets)
 all_back octets control kept =
     subst (λ (p : Plane). ReadsBackOn p (messages_in octets)) (sym control)
-    (subst (λ (o : List ℕ). DatagramReads o (reading_of (messages_in octets))) kept.is kept.read)
+    (subst (λ (o : List ℕ). DatagramReads o (reading_of (messages_in octets))) kept.is kept.read, kept.apart)
 
 pub kept_back : (octets : List ℕ) → plane_of (message_in octets) ≡ Control → AreSpelled octets → ReadsBack (message_in octets ∷ [])
 kept_back octets control kept =
     subst (λ (p : Plane). ReadsBackOn p (message_in octets ∷ [])) (sym control)
-    (subst (λ (o : List ℕ). DatagramReads o (Alone (Control_message (message_in octets)))) kept.is (message_reads_alone octets (message_in octets) kept.read))
+    (subst (λ (o : List ℕ). DatagramReads o (Alone (Control_message (message_in octets)))) kept.is (message_reads_alone octets (message_in octets) kept.read), refl)
 
 -- an answer that is held is kept as it is spelled
 pub spelled_answer : (ps : List HeldPair) (source : Endpoint) (request answer : List ℕ) → AreAnswered ps → HasAnswer source request answer ps → AreSpelledAll answer
-spelled_answer ps source request answer each has = answered_there ps source request answer (recursion_from_All (λ (p : HeldPair). AreSpelledAll p.answer) ps each) has
+spelled_answer ps source request answer each has = answered_there ps source request answer (recursion_from_All IsKept ps each) has

@@ -1,7 +1,8 @@
 -- Datagrams of the user plane for which nothing is sent.
-use Rattle.std.proofs.Common.{◌≡◌, ◌≢◌, ℕ, true, List, [], ◌∷◌, Option, Some, None, refl, sym, ◌∙◌, ap, subst}
+use Rattle.std.proofs.Common.{◌≡◌, ◌≢◌, ℕ, true, false, List, [], ◌∷◌, Option, Some, None, refl, sym, ◌∙◌, ap, subst}
 use Rattle.std.specs.Prelude.{filter, IsSome}
 use Rattle.gtp_values.specs.declared.address.Endpoint.{Endpoint}
+use Rattle.gtp_reliable.specs.Pending.{others}
 use Rattle.gtp_reliable.specs.Waiting.{Waiting}
 use Rattle.gtp_machine.specs.Message.{User}
 use Rattle.gtp_machine.specs.User.{UserRead}
@@ -35,6 +36,10 @@ none_there node t none at = let same : None ≡ Some at.bearer = sym none ∙ at
 filter_all : {X : Type 0} (xs : List X) → filter (λ _. true) xs ≡ xs
 filter_all [] = refl
 filter_all (x ∷ xs) = λ i. x ∷ filter_all xs i
+
+-- where none goes, all requests stay
+pub all_stay : (ws : List (Waiting Purpose)) → ws ≡ others (λ _. false) ws
+all_stay ws = sym (filter_all ws)
 
 -- what a gateway's pending requests are
 abbrev pub IsPendingIn : Station → Type 0

@@ -1,36 +1,44 @@
 -- Create Session Requests, as the packet gateway answers them.
-use Rattle.std.specs.Prelude.{◌≡◌, ℕ, Bool, true, false, List, [], ◌∷◌, Some}
+use Rattle.std.specs.Prelude.{◌≡◌, ℕ, ◌<◌, Bool, true, false, List, [], ◌∷◌, Some, length}
+use Rattle.std.specs.FinMap.{insert}
+use Rattle.gtp_values.specs.FiniteMap.{FiniteMap}
 use Rattle.gtp_values.specs.declared.address.Endpoint.{Endpoint}
 use Rattle.gtp_values.specs.declared.cause.Cause.{Cause}
 use Rattle.gtp_values.specs.Cause.{is_accepting_value}
+use Rattle.gtp_reliable.specs.Pending.{AreDistinct, IsNextFree}
 use Rattle.gtp_tables.specs.Free.{IsLowestGiven}
 use Rattle.gtp_machine.specs.declared.outcome.Outcome.TheVariants.{Answered}
 use Rattle.gtp_machine.specs.Choice.{HasDraws, HasSessionRoom, asked_by, CanGive}
 use Rattle.gtp_machine.specs.Element.{cause_of, tunnel_end}
+use Rattle.gtp_machine.specs.Command.{bearer_request, bearer_asked, pending_dedicated}
+use Rattle.gtp_machine.specs.Config.{template_for}
 use Rattle.gtp_machine.specs.Input.{Effect, Of_create_session}
-use Rattle.gtp_machine.specs.Message.{Message, Create_session_response}
+use Rattle.gtp_machine.specs.Message.{Message, Create_session_response, Create_bearer_request}
 use Rattle.gtp_machine.specs.Message as messages
 use Rattle.gtp_machine.specs.Node.{Active, Default, Session, Bearer, Arrival, Node, holding}
 use Rattle.gtp_machine.specs.Ordered.{Unless}
-use Rattle.gtp_machine.specs.Packet.{SessionJudged, SessionAsked, MakesSession, session_cause, session_refused, session_response, session_made}
+use Rattle.gtp_machine.specs.Packet.{SessionJudged, SessionAsked, MakesSession, AnswersWith, session_cause, session_refused, session_response, made_session, session_made}
 use Rattle.gtp_machine.specs.Answer.{making, refusing}
 use Rattle.gtp_machine.specs.Spelling.{datagram_of}
 use Rattle.gtp_gateway.specs.declared.change.Change.{Change}
 use Rattle.gtp_gateway.specs.declared.change.Change.TheVariants as changes
 use Rattle.gtp_gateway.specs.declared.hearing.Heard.{Heard}
 use Rattle.gtp_gateway.specs.declared.sent.Sent.{Sent}
+use Rattle.gtp_gateway.specs.declared.drawing.TwoDrawn.{TwoDrawn}
+use Rattle.gtp_gateway.specs.declared.session_grant.Added.{Added}
 use Rattle.gtp_gateway.specs.declared.session_grant.Grant.{Grant}
 use Rattle.gtp_gateway.specs.declared.session_grant.SessionVerdict.{SessionVerdict}
-use Rattle.gtp_gateway.specs.declared.session_grant.SessionVerdict.TheVariants.{Refused, Granted}
+use Rattle.gtp_gateway.specs.declared.session_grant.SessionVerdict.TheVariants.{Refused, Granted, GrantedWith}
 use Rattle.gtp_gateway.specs.declared.session_request.SessionRequest.{SessionRequest}
 use Rattle.gtp_gateway.specs.declared.control_step.ControlStep.{ControlStep}
 use Rattle.gtp_gateway.specs.Change.{changed_by}
-use Rattle.gtp_gateway.specs.Drawing.{AreTwoDrawn}
+use Rattle.gtp_gateway.specs.Drawing.{AreTwoDrawn, IsThirdDrawn}
 use Rattle.gtp_gateway.specs.Hearing.{node_heard}
 use Rattle.gtp_gateway.specs.Parts.{arrival_of}
 use Rattle.gtp_gateway.specs.Row.{IsRow}
 use Rattle.gtp_gateway.specs.Sent.{datagram_by, ReadsBack}
 use Rattle.gtp_gateway.specs.SessionAsked.{SaysSession, granted}
+use Rattle.gtp_gateway.specs.Settled.{waiting_heard}
 use Rattle.gtp_gateway.specs.Station.{Station}
 use Rattle.gtp_gateway.specs.Taken.{plain_report}
 
@@ -54,10 +62,35 @@ change_of r g = changes.MakesSession g.drawn.draws g.drawn.control (session_of r
 abbrev pub grants : SessionRequest → Grant → Node → Message
 grants r g node = Create_session_response (granted r (tunnel_end 7 g.drawn.control.0 node.config.own.control) (tunnel_end 5 g.drawn.user.0 node.config.own.user) g.address node.counter)
 
+-- the request of the template's bearer, at a node where its session was made
+abbrev pub asked_with : Session → Added → Node → messages.CreateBearerRequest
+asked_with s a made = bearer_request made s a.template.tft a.template.qos a.drawn.teid.0 a.seq
+
+-- a session that was made is answered together with that request, which waits from now on
+abbrev pub with_bearer : Arrival → messages.CreateSessionResponse → ℕ → ℕ → Session → Added → Node → Effect
+with_bearer request answer cause session s a made = making request (Create_session_response answer ∷ Create_bearer_request (asked_with s a made) ∷ []) cause (bearer_asked made session (asked_with s a made) a.drawn.teid.0)
+
+-- bearers with the default bearer of a session that is granted, and the bearer of the template
+abbrev pub bearers_with : SessionRequest → Grant → Added → FiniteMap Bearer → FiniteMap Bearer
+bearers_with r g a bearers = insert (insert bearers g.drawn.user.0 (bearer_of r g)) a.drawn.teid.0 (pending_dedicated g.drawn.control.0)
+
+-- the node with the session and both, after three draws
+abbrev pub made_with : SessionRequest → Grant → Added → Node → Node
+made_with r g a node = record node { drawn = a.drawn.teid.0 ∷ g.drawn.user.0 ∷ g.drawn.control.0 ∷ node.drawn; sessions = insert node.sessions g.drawn.control.0 (session_of r g); bearers = bearers_with r g a node.bearers }
+
 -- the effect that a verdict stands for, at a gateway that has heard the counter
 abbrev pub session_effect : Arrival → messages.CreateSessionRequest → SessionVerdict → Node → Effect
 session_effect request q (Refused cause) n = session_refused request q cause n
 session_effect request q (Granted g) n = making request (Create_session_response (session_response n q g.drawn.control.0 g.drawn.user.0 g.address) ∷ []) (session_cause q.pdn g.address) (session_made n q g.drawn.control.0 g.drawn.user.0 g.address)
+session_effect request q (GrantedWith g a) n = with_bearer request (session_response n q g.drawn.control.0 g.drawn.user.0 g.address) (session_cause q.pdn g.address) g.drawn.control.0 (made_session q g.address) a (session_made n q g.drawn.control.0 g.drawn.user.0 g.address)
+
+-- the template's bearer can be begun besides: a third TEID may be drawn, and once the counter was heard fewer than 256 requests wait, and the number is the next
+-- that is free; no two that wait have one number
+pub record CanAdd (two : TwoDrawn) (a : Added) (heard : Heard) (s : Station) : Type 0 where
+  pub third : IsThirdDrawn two a.drawn s.node
+  pub number : IsNextFree s.timing.next (waiting_heard heard s.node.sessions s.timing.waiting) a.seq
+  pub few : length (waiting_heard heard s.node.sessions s.timing.waiting) < 256
+  pub distinct : AreDistinct s.timing.waiting
 
 -- the TEIDs may be drawn
 abbrev pub CanGrant : Grant → Node → Type 0
@@ -70,9 +103,10 @@ pub record Chooses (identity pdn : ℕ) (g : Grant) (heard : Heard) (node : Node
   pub lowest : IsLowestGiven (node_heard heard node).sessions node.config.pools (asked_by pdn) g.address
   pub identity_is : g.identity ≡ identity
 
-abbrev pub IsVerdict : ℕ → ℕ → SessionVerdict → Heard → Node → Type 0
-IsVerdict identity pdn (Refused cause) heard node = is_accepting_value cause.value ≡ false
-IsVerdict identity pdn (Granted g) heard node = Chooses identity pdn g heard node
+abbrev pub IsVerdict : ℕ → ℕ → SessionVerdict → Heard → Station → Type 0
+IsVerdict identity pdn (Refused cause) heard s = is_accepting_value cause.value ≡ false
+IsVerdict identity pdn (Granted g) heard s = Chooses identity pdn g heard s.node
+IsVerdict identity pdn (GrantedWith g a) heard s = Chooses identity pdn g heard s.node × CanAdd g.drawn a heard s
 
 -- the last rules, which look at what is free
 abbrev pub RoomJudged : Arrival → messages.CreateSessionRequest → Node → Effect → Type 0
@@ -81,15 +115,22 @@ RoomJudged request q old e =
     Unless (CanGive old q.pdn) (e ≡ session_refused request q (cause_of 84) old) (λ can.
     MakesSession request old q e))
 
--- the verdict is the machine's by the last rules, for a request of this PDN type
-pub record JudgesRoom (identity pdn : ℕ) (heard : Heard) (node : Node) (v : SessionVerdict) : Type 0 where
-  pub judged : (request : Arrival) (q : messages.CreateSessionRequest) → q.pdn ≡ pdn → RoomJudged request q (node_heard heard node) (session_effect request q v (node_heard heard node))
-  pub is : IsVerdict identity pdn v heard node
+-- the verdict is the machine's by the last rule, for a request of this access point
+pub record JudgesAdded (name : List ℕ) (g : Grant) (heard : Heard) (s : Station) (v : SessionVerdict) : Type 0 where
+  pub judged : (request : Arrival) (q : messages.CreateSessionRequest) → q.access_point ≡ name
+      → AnswersWith (template_for q.access_point (node_heard heard s.node).config.templates) request (session_response (node_heard heard s.node) q g.drawn.control.0 g.drawn.user.0 g.address) (session_cause q.pdn g.address) g.drawn.control.0 (made_session q g.address)
+      (session_made (node_heard heard s.node) q g.drawn.control.0 g.drawn.user.0 g.address) (session_effect request q v (node_heard heard s.node))
+  pub is : (identity pdn : ℕ) → Chooses identity pdn g heard s.node → IsVerdict identity pdn v heard s
+
+-- the verdict is the machine's by the last rules, for a request of this PDN type and this access point
+pub record JudgesRoom (identity pdn : ℕ) (name : List ℕ) (heard : Heard) (s : Station) (v : SessionVerdict) : Type 0 where
+  pub judged : (request : Arrival) (q : messages.CreateSessionRequest) → q.pdn ≡ pdn → q.access_point ≡ name → RoomJudged request q (node_heard heard s.node) (session_effect request q v (node_heard heard s.node))
+  pub is : IsVerdict identity pdn v heard s
 
 -- the verdict is the machine's
-pub record JudgesSession (r : SessionRequest) (heard : Heard) (node : Node) (v : SessionVerdict) : Type 0 where
-  pub judged : (request : Arrival) (q : messages.CreateSessionRequest) → SaysSession r q → SessionJudged request q (node_heard heard node) (session_effect request q v (node_heard heard node))
-  pub is : IsVerdict r.default.identity r.pdn.0 v heard node
+pub record JudgesSession (r : SessionRequest) (heard : Heard) (s : Station) (v : SessionVerdict) : Type 0 where
+  pub judged : (request : Arrival) (q : messages.CreateSessionRequest) → SaysSession r q → SessionJudged request q (node_heard heard s.node) (session_effect request q v (node_heard heard s.node))
+  pub is : IsVerdict r.default.identity r.pdn.0 v heard s
 
 -- a request was answered with a datagram of these messages, which is held, and left this node; a context was made for it, or not
 pub record IsAnsweredSo (source : Endpoint) (octets : List ℕ) (answer : List Message) (cause : ℕ) (made : Bool) (left : Node) (old : Station) (step : ControlStep) (new : Station) : Type 0 where
@@ -107,6 +148,16 @@ IsRefusedSession source octets r cause heard old step new = IsAnsweredSo source 
 -- it was granted
 abbrev pub IsGrantedSession : Endpoint → List ℕ → SessionRequest → Grant → Heard → Station → ControlStep → Station → Type 0
 IsGrantedSession source octets r g heard old step new = IsAnsweredSo source octets (grants r g old.node ∷ []) (session_cause r.pdn.0 g.address) true (changed_by (change_of r g) (node_heard heard old.node)) old step new
+
+-- the answer that grants it, and the request of the template's bearer
+abbrev pub grants_with : SessionRequest → Grant → Added → Node → List Message
+grants_with r g a node = grants r g node ∷ Create_bearer_request (asked_with (session_of r g) a node) ∷ []
+
+-- it was granted, and the bearer of the template begun
+abbrev pub IsGrantedWith : Endpoint → List ℕ → SessionRequest → Grant → Added → Heard → Station → ControlStep → Station → Type 0
+IsGrantedWith source octets r g a heard old step new =
+    IsAnsweredSo source octets (grants_with r g a old.node) (session_cause r.pdn.0 g.address) true
+    (bearer_asked (changed_by (change_of r g) (node_heard heard old.node)) g.drawn.control.0 (asked_with (session_of r g) a old.node) a.drawn.teid.0) old step new
 
 -- a Create Session Request was taken
 abbrev pub TakesSessionRequest : Endpoint → List ℕ → SessionRequest → Heard → Station → ControlStep → Station → Type 0

@@ -1,10 +1,12 @@
 -- Create Bearer Requests, as the serving gateway takes them.
 use Rattle.gtp_ie.specs.Form.{number_of, bearer_context}
 use Rattle.gtp_ie.specs.declared.form.Form.TheVariants as forms
-use Rattle.std.specs.Prelude.{◌≡◌, ◌↔◌, ℕ, Bool, true, false, IsTrue, List, [], ◌∷◌, Option, Some, None}
+use Rattle.std.specs.Prelude.{◌≡◌, ◌↔◌, ℕ, Bool, true, false, IsTrue, IsSome, List, [], ◌∷◌, Option, Some, None}
+use Rattle.std.specs.FinMap.{get}
 use Rattle.gtp_values.specs.declared.address.Endpoint.{Endpoint}
 use Rattle.gtp_values.specs.Cause.{is_accepting_value}
-use Rattle.gtp_tables.specs.Identity.{IsLowestUnused}
+use Rattle.gtp_values.specs.FiniteMap.{FiniteMap}
+use Rattle.gtp_tables.specs.Identity.{HasIdentity, IsLowestUnused}
 use Rattle.gtp_ie.specs.Value.{Value, OfEbi, OfFTeid}
 use Rattle.gtp_v2.specs.CreateBearerRequest.{bearer_request_context_rows}
 use Rattle.gtp_v2.specs.Message.{MessageValue}
@@ -16,7 +18,7 @@ use Rattle.gtp_machine.specs.Input.{Of_create_bearer, Effect, dropped}
 use Rattle.gtp_machine.specs.declared.outcome.DropReason.TheVariants.{ContextNotActive}
 use Rattle.gtp_machine.specs.Message.{Message, Create_bearer_response}
 use Rattle.gtp_machine.specs.Message as messages
-use Rattle.gtp_machine.specs.Node.{Arrival, Node, Bearer, Dedicated, Active, written}
+use Rattle.gtp_machine.specs.Node.{Arrival, Node, Session, Bearer, Dedicated, Active, written}
 use Rattle.gtp_machine.specs.Serving.{no_resources, BearerJudged, BearerAsked}
 use Rattle.gtp_gateway.specs.declared.change.Change.{Change}
 use Rattle.gtp_gateway.specs.declared.change.Change.TheVariants.{Stays, MakesBearer}
@@ -119,6 +121,27 @@ Chooses session (Some v) node = IsChosen session v.answer node
 pub record JudgesBearer (r : BearerRequest) (old : Node) (v : Option BearerVerdict) : Type 0 where
   pub judged : (request : Arrival) (q : messages.CreateBearerRequest) → SaysBearer r q → BearerJudged request q old (bearer_effect request r q v old)
   pub chosen : Chooses r.header.0 v old
+
+-- the session under a TEID is the one that was found, and where there is one its bearers have the identities that they have among others; the draws are those of
+-- another node, and all bearers stand there
+pub record StandsWith (teid : ℕ) (found : Option Session) (bearers : FiniteMap Bearer) (old node : Node) : Type 0 where
+  pub session : get node.sessions teid ≡ found
+  pub identities : IsSome found → (identity : ℕ) → HasIdentity bearers teid identity ↔ HasIdentity node.bearers teid identity
+  pub drawn : node.drawn ≡ old.drawn
+  pub counter : node.counter ≡ old.counter
+  pub stood : (t : ℕ) (b : Bearer) → get node.bearers t ≡ Some b → (c : Bearer) × (get old.bearers t ≡ Some c)
+
+-- the cause of a refusal does not accept
+abbrev pub HasFitCause : BearerAnswer → Type 0
+HasFitCause (Refused cause) = is_accepting_value cause ≡ false
+HasFitCause NoResources = Unit {0}
+HasFitCause (Granted g) = Unit {0}
+
+-- what is granted may be given in the session that was found: it is active, and the TEID is the next one here
+abbrev pub CanGive : Option Session → BearerAnswer → Node → Type 0
+CanGive found (Refused cause) node = Unit {0}
+CanGive found NoResources node = Unit {0}
+CanGive found (Granted g) node = (s : Session) × (found ≡ Some s) × (s.state ≡ Active) × IsOneDrawn g.drawn node
 
 -- a Create Bearer Request was taken
 abbrev pub TakesBearerRequest : Endpoint → List ℕ → BearerRequest → Station → ControlStep → Station → Type 0

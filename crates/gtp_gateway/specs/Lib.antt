@@ -1,5 +1,6 @@
 pub mod Codes
 pub mod Settings
+pub mod Pair
 pub mod Spelled
 pub mod Parts
 pub mod Station
@@ -37,5 +38,6 @@ pub mod Grant
 pub mod Received
 pub mod GoesOn
 pub mod Needing
+pub mod Pairing
 pub mod Choosing
 pub mod Determined

@@ -18,6 +18,7 @@ use Rattle.gtp_gateway.specs.Taken.{datagrams, made_for}
 pub record TellsRow (config : Config) (request : Arrival) (step : ControlStep) (e : Effect) : Type 0 where
   pub sent : AreSent config (datagrams step.out) e.out.sent
   pub outcome : Came_to step.report.outcome ≡ e.outcome
+  pub alone : step.report.second ≡ None
   pub made : made_for request step.report.made ≡ e.out.made
   pub heard : e.out.heard ≡ None
   pub learned : e.out.learned ≡ None

@@ -6,13 +6,14 @@ use Rattle.gtp_machine.specs.Message.{Message, Plane, Control, User}
 use Rattle.gtp_machine.specs.Reading.{DatagramReads, reading_of}
 use Rattle.gtp_machine.specs.Spelling.{Datagram, ReadsAs, spelled, datagram_plane, spelled_all, datagram_of}
 use Rattle.gtp_gateway.specs.declared.sent.Sent.{Sent}
+use Rattle.gtp_gateway.specs.Spelled.{LieApart}
 
 abbrev pub datagram_by : Sent → Datagram
 datagram_by s = record { plane = s.plane; from = s.from; to = s.to; octets = s.octets.items }
 
--- the octets of a datagram of these messages read as them; on the user plane it is one message
+-- the octets of a datagram of these messages read as them, and of two each lies as it is spelled; on the user plane it is one message
 abbrev pub ReadsBackOn : Plane → List Message → Type 0
-ReadsBackOn Control datagram = DatagramReads (spelled_all datagram) (reading_of datagram)
+ReadsBackOn Control datagram = DatagramReads (spelled_all datagram) (reading_of datagram) × LieApart datagram
 ReadsBackOn User (message ∷ []) = ReadsAs User (spelled message) message
 ReadsBackOn User datagram = ⊥
 

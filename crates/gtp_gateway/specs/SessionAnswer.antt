@@ -7,7 +7,8 @@ use Rattle.gtp_machine.specs.Decoded.{message_of}
 use Rattle.gtp_machine.specs.Element.{address_of, teid_in}
 use Rattle.gtp_machine.specs.Message.{CreatedBearer, Create_session_response}
 use Rattle.gtp_machine.specs.Message as messages
-use Rattle.gtp_machine.specs.Node.{Session, Arrival, Node}
+use Rattle.gtp_machine.specs.declared.outcome.DropReason.TheVariants.{OldCounter}
+use Rattle.gtp_machine.specs.Node.{Session, Bearer, Arrival, Node}
 use Rattle.gtp_machine.specs.Serving.{SessionAnswered}
 use Rattle.gtp_gateway.specs.declared.contexts.ResponseContext.{ResponseContext}
 use Rattle.gtp_gateway.specs.declared.hearing.Heard.{Heard}
@@ -18,8 +19,10 @@ use Rattle.gtp_gateway.specs.declared.session_response.AskedSession.{AskedSessio
 use Rattle.gtp_gateway.specs.declared.session_response.DescribedSession.{DescribedSession}
 use Rattle.gtp_gateway.specs.declared.session_response.SessionResponse.{SessionResponse}
 use Rattle.gtp_gateway.specs.declared.settle.Verdict.{Verdict}
+use Rattle.gtp_gateway.specs.declared.settle.Verdict.TheVariants.{Drops, Finishes, OpensSession, OpensBearer}
 use Rattle.gtp_gateway.specs.declared.control_step.ControlStep.{ControlStep}
-use Rattle.gtp_gateway.specs.Hearing.{node_heard}
+use Rattle.gtp_gateway.specs.Hearing.{node_heard, IsEarlier}
+use Rattle.gtp_gateway.specs.Parts.{bearer_of}
 use Rattle.gtp_gateway.specs.Row.{IsRow}
 use Rattle.gtp_gateway.specs.Settled.{effect_by, CanSettle}
 use Rattle.gtp_gateway.specs.Station.{Station}
@@ -67,10 +70,25 @@ pub record IsDescribed (sessions : FiniteMap Session) (session : ℕ) (r : Sessi
   pub default : d.context.identity ≡ d.session.subscriber.identity
   pub given : r.address ≡ Some d.address
 
+-- the verdict is one on a session: what is finished is about no bearer alone, and a default bearer that is opened keeps its identity
+abbrev pub IsOfSession : Verdict → Node → Type 0
+IsOfSession (Drops why) node = Unit {0}
+IsOfSession (Finishes purpose outcome) node = bearer_of purpose ≡ None
+IsOfSession (OpensSession session opened teid bearer) node = (b : Bearer) → get node.bearers teid.0 ≡ Some b → bearer.identity ≡ b.identity
+IsOfSession (OpensBearer teid bearer) node = ⊥
+
 -- the verdict is the machine's, and can be carried out
 pub record JudgesSession (r : SessionResponse) (old : Node) (v : Verdict) : Type 0 where
   pub judged : (a : messages.CreateSessionResponse) → SaysSession r a → SessionAnswered a old (effect_by v a.number old)
   pub can : CanSettle v old
+  pub of : IsOfSession v old
+
+-- the verdict is the machine's once the counter was heard, and can be carried out: with a counter of an earlier start the response is dropped
+pub record JudgesAnswer (r : SessionResponse) (heard : Heard) (old : Node) (v : Verdict) : Type 0 where
+  pub early : IsEarlier heard → v ≡ Drops OldCounter
+  pub judged : (IsEarlier heard → ⊥) → (a : messages.CreateSessionResponse) → SaysSession r a → SessionAnswered a (node_heard heard old) (effect_by v a.number (node_heard heard old))
+  pub can : CanSettle v (node_heard heard old)
+  pub of : IsOfSession v (node_heard heard old)
 
 -- a Create Session Response was taken
 abbrev pub TakesSession : SessionResponse → Heard → Station → ControlStep → Station → Type 0

@@ -1,8 +1,10 @@
 -- What responses come to that open sessions and bearers.
-use Rattle.std.specs.Prelude.{◌≡◌, ℕ, Bool, true, false, Some, None, IsSome}
+use Rattle.std.specs.Prelude.{◌≡◌, ℕ, Bool, true, false, List, Some, None, IsSome}
 use Rattle.std.specs.FinMap.{get, insert, remove}
 use Rattle.gtp_values.specs.FiniteMap.{FiniteMap}
 use Rattle.gtp_values.specs.declared.identifiers.Teid.{Teid}
+use Rattle.gtp_reliable.specs.Pending.{others}
+use Rattle.gtp_reliable.specs.Waiting.{Waiting}
 use Rattle.gtp_machine.specs.Message.{Message}
 use Rattle.gtp_machine.specs.Node.{Session, Bearer, Node}
 use Rattle.gtp_machine.specs.Input.{Came_to, Effect, nothing}
@@ -26,6 +28,10 @@ goes_after (First counter) sessions purpose = false
 goes_after (Same counter) sessions purpose = false
 goes_after (Later counter) sessions purpose = goes_with sessions purpose
 goes_after (Earlier counter) sessions purpose = false
+
+-- the requests that wait on as the counter is heard
+abbrev pub waiting_heard : Heard → FiniteMap Session → List (Waiting Purpose) → List (Waiting Purpose)
+waiting_heard heard sessions waiting = others (goes_after heard sessions) waiting
 
 -- a request for the purpose waits under the number
 pub record IsWaiting (node : Node) (number : ℕ) (purpose : Purpose) : Type 0 where

@@ -1,14 +1,16 @@
 -- Messages kept as the octets that were sent for them.
-use Rattle.std.specs.Prelude.{◌≡◌, ◌==◌, ◌&&◌, not, ℕ, Bool, true, false, List, [], ◌∷◌, All}
+use Rattle.std.specs.Prelude.{◌≡◌, ◌==◌, ◌&&◌, not, ℕ, Bool, true, false, List, [], ◌∷◌, length, All}
 use Rattle.std.specs.Bool.{beq}
 use Rattle.gtp_values.specs.declared.address.Ip.{Ip}
 use Rattle.gtp_reliable.specs.Waiting.{Waiting}
 use Rattle.gtp_reliable.specs.Held.{HeldPair}
+use Rattle.gtp_v2.specs.Pair.{paired}
 use Rattle.gtp_machine.specs.Config.{control_end}
 use Rattle.gtp_machine.specs.Message.{Message, Other_control, Echo_request, Create_session_request, Delete_session_request, Create_bearer_request, Delete_bearer_request}
 use Rattle.gtp_machine.specs.Input.{ControlReading, Control_message, Faulty, Control_fault}
-use Rattle.gtp_machine.specs.Reading.{control_reading, ControlReads, DatagramReading, Alone, Both, datagram_reading, DatagramReads, reading_of}
+use Rattle.gtp_machine.specs.Reading.{announces, control_reading, ControlReads, DatagramReading, Alone, Both, datagram_reading, DatagramReads, reading_of}
 use Rattle.gtp_machine.specs.Spelling.{spelled, spelled_all}
+use Rattle.gtp_gateway.specs.Pair.{first_length}
 use Rattle.gtp_gateway.specs.declared.purpose.Purpose.{Purpose}
 use Rattle.gtp_gateway.specs.declared.purpose.Purpose.TheVariants.{Echo, CreateSession, DeleteSession, ReleaseSession, CreateBearer, DeleteBearer}
 
@@ -36,10 +38,24 @@ pub record AreSpelled (octets : List ℕ) : Type 0 where
   pub is : octets ≡ spelled (message_in octets)
   pub read : ControlReads octets (Control_message (message_in octets))
 
+-- where the first of two messages ends in their datagram, as its header states, and how long it is by itself
+abbrev pub stated_end : List Message → ℕ
+stated_end (first ∷ second ∷ rest) = first_length (paired (spelled first) (spelled second))
+stated_end datagram = 0
+
+abbrev pub own_length : List Message → ℕ
+own_length (first ∷ second ∷ rest) = length (spelled first)
+own_length datagram = 0
+
+-- in a datagram of two messages each lies as it is spelled (5.5.1): the first ends where its header states
+abbrev pub LieApart : List Message → Type 0
+LieApart datagram = stated_end datagram ≡ own_length datagram
+
 -- the octets read as a datagram of one message or two, and are those that a gateway sends for it
 pub record AreSpelledAll (octets : List ℕ) : Type 0 where
   pub is : octets ≡ spelled_all (messages_in octets)
   pub read : DatagramReads octets (reading_of (messages_in octets))
+  pub apart : LieApart (messages_in octets)
 
 -- the request is one that is sent for the purpose; a purpose tells whether a TEID stood in the header, and in that of a Create Session Request none did
 abbrev pub is_for : Purpose → Message → Bool
@@ -61,6 +77,11 @@ pub record IsAsked (peer : Ip) (w : Waiting Purpose) : Type 0 where
 abbrev pub AreAsked : Ip → List (Waiting Purpose) → Type 0
 AreAsked peer waiting = All (IsAsked peer) waiting
 
--- each answer that is held is kept as it is spelled, as one datagram
+-- an answer that is held is kept as it is spelled, as one datagram, with the octets of a request that announces no second message
+pub record IsKept (p : HeldPair) : Type 0 where
+  pub answer : AreSpelledAll p.answer
+  pub alone : announces p.request ≡ false
+
+-- each answer that is held
 abbrev pub AreAnswered : List HeldPair → Type 0
-AreAnswered pairs = All (λ (p : HeldPair). AreSpelledAll p.answer) pairs
+AreAnswered pairs = All IsKept pairs

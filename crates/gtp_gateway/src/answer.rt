@@ -1,12 +1,12 @@
 //! Answers to requests, which are held for requests that come again (TS 29.274 7.6).
 
 ghost use Rattle.gtp_gateway.specs.GoesOn.{GoesOn};
-ghost use Rattle.std.specs.Prelude.{◌≡◌, ◌<◌, true, [], ◌∷◌, IfOk, OnOk, OnErr, length};
+ghost use Rattle.std.specs.Prelude.{◌≡◌, ◌<◌, true, false, [], ◌∷◌, IfOk, OnOk, OnErr, length};
 ghost use Rattle.gtp_reliable.specs.Held.{IsHeld, IsReady};
 ghost use Rattle.gtp_machine.specs.Config.{control_end};
 ghost use Rattle.gtp_machine.specs.Message.{Control};
 ghost use Rattle.gtp_machine.specs.Node.{holding};
-ghost use Rattle.gtp_machine.specs.Reading.{control_message};
+ghost use Rattle.gtp_machine.specs.Reading.{announces, control_message};
 ghost use Rattle.gtp_machine.specs.Spelling.{spelled, datagram_of};
 ghost use Rattle.gtp_gateway.specs.Change.{changed_by, CanChange};
 ghost use Rattle.gtp_gateway.specs.Answering.{after_held};
@@ -14,7 +14,7 @@ ghost use Rattle.gtp_gateway.specs.Own.{IsOwn};
 ghost use Rattle.gtp_gateway.specs.Parts.{arrival_of, node_of};
 ghost use Rattle.gtp_gateway.specs.Sent.{datagram_by, ReadsBack};
 ghost use Rattle.gtp_gateway.specs.Spelled.{messages_in, AreSpelledAll};
-ghost use Rattle.gtp_gateway.specs.Station.{station_of};
+ghost use Rattle.gtp_gateway.specs.Station.{station_of, timing_of};
 
 use crate::ask::control_end_of;
 use crate::change::Change;
@@ -58,6 +58,7 @@ impl Parts {
         ensures held { OnOk result (self.new.held ≡ record self.old.held { has_room = true }) }
         ensures pairs { self.new.held.pairs ≡ self.old.held.pairs }
         ensures bearers { self.new.bearers ≡ self.old.bearers }
+        ensures pending { self.new.pending ≡ self.old.pending }
         ensures same { station_of self.new ≡ station_of self.old }
     {
         match self.held.prepare() {
@@ -100,12 +101,41 @@ impl Parts {
         })
     }
 
+    /// A datagram as the answer that is ready, with what is held of it and room for it; nothing else
+    /// changes.
+    pub fn ready_octets(
+        &mut self,
+        alloc: Global,
+        request: &[u8],
+        octets: Vec<u8>,
+    ) -> Result<ReadyAnswer, Memory>
+        requires few { length self.old.held.pairs < 4096 }
+        ensures request { IfOk result (λ ready. ready.request.items ≡ request.now) }
+        ensures octets { IfOk result (λ ready. ready.octets.items ≡ octets.items) }
+        ensures answer { IfOk result (λ ready. ready.answer.items ≡ octets.items) }
+        ensures held { OnOk result (self.new.held ≡ record self.old.held { has_room = true }) }
+        ensures pairs { self.new.held.pairs ≡ self.old.held.pairs }
+        ensures bearers { self.new.bearers ≡ self.old.bearers }
+        ensures pending { self.new.pending ≡ self.old.pending }
+        ensures same { station_of self.new ≡ station_of self.old }
+    {
+        let answer = Vec::from_slice(alloc, octets.as_slice())?;
+        let request = Vec::from_slice(alloc, request)?;
+        self.prepare_answer()?;
+        Ok(ReadyAnswer {
+            octets,
+            answer,
+            request,
+        })
+    }
+
     /// Gives an answer that is ready to a request for which none is held; from now on this one is.
     /// Allocates nothing.
-    #[tactic(auto, using(crate::proofs::GoingOn::tied_of, crate::proofs::GoingOn::on_goes, crate::proofs::GoingOn::same_goes, crate::proofs::GoingOn::given_goes, crate::proofs::GoingOn::then_goes))]
+    #[tactic(auto, using(crate::proofs::GoingOn::tied_of, crate::proofs::GoingOn::on_goes, crate::proofs::GoingOn::same_goes, crate::proofs::GoingOn::given_goes, crate::proofs::GoingOn::answered_goes))]
     pub fn give(&mut self, source: Endpoint, ready: ReadyAnswer) -> Sent
         requires ready { IsReady self.old.held }
         requires fresh { IsHeld source ready.request.items self.old.held.pairs → ⊥ }
+        requires alone { announces ready.request.items ≡ false }
         requires spelled { AreSpelledAll ready.answer.items }
         ensures sent { datagram_by result ≡ record {
           plane = Control;
@@ -118,6 +148,10 @@ impl Parts {
             (messages_in ready.answer.items) (node_of self.old) }
         ensures held { self.new.held.pairs
             ≡ after_held source ready.request.items ready.answer.items self.old.held.pairs }
+        ensures timing { timing_of self.new ≡ record (timing_of self.old) {
+          held = after_held source ready.request.items ready.answer.items
+              (timing_of self.old).held;
+        } }
         ensures goes { GoesOn source ready.request.items
             (station_of self.old) (station_of self.new) }
         ensures role { self.new.role ≡ self.old.role }
@@ -133,7 +167,7 @@ impl Parts {
 
     /// Changes sessions and bearers, and answers a request for which no answer is held; from now on
     /// this one is.
-    #[tactic(auto, using(crate::proofs::GoingOn::tied_of, crate::proofs::GoingOn::on_goes, crate::proofs::GoingOn::same_goes, crate::proofs::GoingOn::given_goes, crate::proofs::GoingOn::then_goes))]
+    #[tactic(auto, using(crate::proofs::GoingOn::tied_of, crate::proofs::GoingOn::on_goes, crate::proofs::GoingOn::same_goes, crate::proofs::GoingOn::given_goes, crate::proofs::GoingOn::answered_goes))]
     pub fn answer(
         &mut self,
         alloc: Global,
@@ -146,6 +180,7 @@ impl Parts {
         requires can { CanChange change (node_of self.old) }
         requires few { length self.old.held.pairs < 4096 }
         requires fresh { IsHeld source request.now self.old.held.pairs → ⊥ }
+        requires alone { announces request.now ≡ false }
         ensures sent { IfOk result (λ sent. datagram_by sent ≡ datagram_of self.old.config.config
             (record { destination = source; messages = control_message message.now ∷ [] })) }
         ensures back { IfOk result (λ _. ReadsBack (control_message message.now ∷ [])) }

@@ -11,9 +11,10 @@ ghost use Rattle.gtp_gateway.specs.Change.{keeps_requests, CanChange};
 ghost use Rattle.gtp_gateway.specs.Own.{IsOwn};
 ghost use Rattle.gtp_gateway.specs.Parts.{node_of};
 ghost use Rattle.gtp_gateway.specs.Station.{station_of, timing_of};
-ghost use Rattle.gtp_gateway.specs.Asking.{asking, after_begun};
+ghost use Rattle.std.specs.FinMap as map;
+ghost use Rattle.gtp_gateway.specs.Asking.{about, asking, after_begun};
 ghost use Rattle.gtp_gateway.specs.Sent.{datagram_by, ReadsBack};
-ghost use Rattle.gtp_gateway.specs.Spelled.{is_for, message_in};
+ghost use Rattle.gtp_gateway.specs.Spelled.{is_for, message_in, AreSpelled};
 
 use crate::change::Change;
 use crate::encode::encode_own;
@@ -59,6 +60,26 @@ impl Parts {
             Err(ReliableFault::PendingFull) => Err(CommandFault::Refused(Refusal::PendingFull)),
             Err(_) => Err(CommandFault::Memory),
         }
+    }
+
+    /// A request waits from now on, as these octets, for which the number and the room are ready. It
+    /// allocates nothing.
+    pub fn begin_kept(&mut self, seq: Seq, octets: Vec<u8>, purpose: Purpose)
+        requires prepared { IsPrepared self.old.pending seq }
+        requires spelled { AreSpelled octets.items }
+        requires meant { is_for purpose (message_in octets.items) ≡ true }
+        ensures node { node_of self.new ≡ record (node_of self.old) {
+          pending = map.insert (node_of self.old).pending seq
+              (about purpose (message_in octets.items));
+        } }
+        ensures timing { timing_of self.new ≡ after_begun seq purpose
+            (control_end self.old.config.config.peer.control) octets.items (timing_of self.old) }
+        ensures held { self.new.held ≡ self.old.held }
+        ensures config { self.new.config ≡ self.old.config }
+        ensures role { self.new.role ≡ self.old.role }
+    {
+        let to = control_end_of(self.config.peer().control);
+        self.pending.begin(seq, to, octets, purpose);
     }
 
     /// Changes sessions and bearers, and sends a request to the peer, which waits for its answer.

@@ -1,12 +1,15 @@
 //! The settings of a gateway.
 
-ghost use Rattle.std.specs.Prelude.{◌≡◌, ◌↔◌, IsTrue, IsOk, IfOk, IfErr};
+ghost use Rattle.std.specs.Prelude.{◌≡◌, ◌↔◌, ◌≤◌, IsTrue, IsOk, IfOk, IfErr, IfSome, IfNone, length};
+ghost use Rattle.gtp_values.specs.FiniteMap.{Among};
 ghost use Rattle.gtp_values.specs.declared.fault.ValueFault.TheVariants.{OutOfRange};
 ghost use Rattle.gtp_tables.specs.Pool.{ArePrefixes, no_prefixes};
+ghost use Rattle.gtp_machine.specs.Config.{template_for};
 ghost use Rattle.gtp_gateway.specs.Settings.{settings_of, with_prefixes, AreSettings};
+ghost use Rattle.gtp_gateway.specs.Settings.{template_by, templates_in, IsPlaceOf, with_template};
 
 use gtp_tables::{Pool, Pools, Prefixes};
-use gtp_values::{Apn, Ip, Memory, ValueFault};
+use gtp_values::{Apn, Ip, Memory, Qos, Tft, ValueFault};
 use std::alloc::Global;
 use std::marker::Model;
 
@@ -44,25 +47,73 @@ impl Default for Timers {
     }
 }
 
-/// The addresses of both gateways, the access points that the packet gateway serves, the pools of addresses that it
-/// gives to sessions, and the timers. A serving gateway uses neither access points nor pools.
+/// What the sessions of an access point get besides their default bearer: a dedicated bearer with this TFT and this QoS.
+#[derive(Clone, Copy, Debug, PartialEq, Eq)]
+pub struct Template {
+    pub tft: Tft,
+    pub qos: Qos,
+}
+
+/// The template of each access point, at its place.
+#[derive(Clone, Copy, Debug)]
+struct Templates {
+    places: [Option<Template>; MOST_ACCESS_POINTS],
+}
+
+/// The addresses of both gateways, the access points that the packet gateway serves, each perhaps with a template, the
+/// pools of addresses that it gives to sessions, and the timers. A serving gateway uses neither access points nor pools.
 #[derive(Debug, Drop)]
 pub struct Config {
     own: Addresses,
     peer: Addresses,
     access_points: Vec<Apn>,
     pools: Pools,
+    templates: Templates,
     timers: Timers,
 }
 
 impl Model for Config {
-    ghost use Rattle.gtp_gateway.specs.Settings.{Settings, settings_of, AreSettings};
+    ghost use Rattle.gtp_gateway.specs.Settings.{Settings, settings_of, templates_in, with_templates, AreSettings};
 
     ghost Value = { Settings };
 
-    ghost view = { λ c. settings_of c.own c.peer c.access_points.items c.pools c.timers };
+    ghost view = { λ c. with_templates (templates_in c.access_points.items c.templates.places)
+        (settings_of c.own c.peer c.access_points.items c.pools c.timers) };
 
     ghost invariant = { λ c. AreSettings c.access_points.items c.timers };
+}
+
+/// The place of the first of these access points that has the name.
+fn place_of(access_points: &[Apn], name: &Apn) -> Option<usize>
+    ensures some { IfSome result (λ place. IsPlaceOf name.now access_points.now place) }
+    ensures none { IfNone result (Among name.now access_points.now → ⊥) }
+{
+    for place in 0..access_points.len() {
+        if access_points[place] == *name {
+            return Some(place);
+        }
+    }
+    None
+}
+
+/// The first template that stands at the place of an access point with the name.
+fn template_at(
+    access_points: &[Apn],
+    templates: &[Option<Template>],
+    name: &Apn,
+) -> Option<Template>
+    requires { length access_points.now ≤ length templates.now }
+    ensures { template_by name.now result
+        ≡ template_for name.now (templates_in access_points.now templates.now) }
+{
+    for place in 0..access_points.len() {
+        if access_points[place] == *name {
+            if let Some(template) = templates[place] {
+                return Some(template);
+            }
+        }
+    }
+    None
 }
 
 impl Config {
@@ -96,6 +147,9 @@ impl Config {
                 v4: pool,
                 v6: Prefixes::none(),
             },
+            templates: Templates {
+                places: [None; MOST_ACCESS_POINTS],
+            },
             timers,
         })
     }
@@ -114,6 +168,30 @@ impl Config {
         Ok(self)
     }
 
+    /// The same settings, with a template for an access point: besides its default bearer, each of its sessions gets a
+    /// dedicated bearer with this TFT and this QoS (TS 29.274 7.2.3). It takes the place of the template that the access
+    /// point had before. `OutOfRange` where no access point has this name. Allocates nothing.
+    pub fn with_template(
+        mut self,
+        access_point: &Apn,
+        tft: &Tft,
+        qos: &Qos,
+    ) -> Result<Config, ValueFault>
+        ensures ok { IsOk result ↔ Among access_point.now self.config.access_points }
+        ensures value { IfOk result (λ config. config ≡ with_template
+            (record { access_point = access_point.now; tft = tft.now; qos = qos.now }) self) }
+        ensures fault { IfErr result (λ f. f ≡ OutOfRange) }
+    {
+        let Some(place) = place_of(self.access_points.as_slice(), access_point) else {
+            return Err(ValueFault::OutOfRange);
+        };
+        self.templates.places[place] = Some(Template {
+            tft: *tft,
+            qos: *qos,
+        });
+        Ok(self)
+    }
+
     /// A copy of the settings. `Memory` if the allocation of the list of access points was refused.
     pub fn copy(&self, alloc: Global) -> Result<Config, Memory>
         ensures { IfOk result (λ config. config ≡ self.now) }
@@ -124,6 +202,7 @@ impl Config {
             peer: self.peer,
             access_points,
             pools: self.pools,
+            templates: self.templates,
             timers: self.timers,
         })
     }
@@ -156,6 +235,18 @@ impl Config {
         ensures { result.now ≡ self.now.config.access_points }
     {
         self.access_points.as_slice()
+    }
+
+    /// The template of the access point with this name, where it has one.
+    pub(crate) fn template_for(&self, access_point: &Apn) -> Option<Template>
+        ensures { template_by access_point.now result
+            ≡ template_for access_point.now self.now.config.templates }
+    {
+        template_at(
+            self.access_points.as_slice(),
+            &self.templates.places,
+            access_point,
+        )
     }
 
     /// The addresses that the packet gateway gives to sessions.

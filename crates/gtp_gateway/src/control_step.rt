@@ -16,7 +16,7 @@ pub struct ControlStep {
 impl ControlStep {
     ghost use Rattle.std.specs.Prelude.{◌≡◌, None, Some};
     ghost use Rattle.gtp_gateway.specs.Hearing.{report_heard};
-    ghost use Rattle.gtp_gateway.specs.Taken.{plain_report};
+    ghost use Rattle.gtp_gateway.specs.Taken.{plain_report, followed_by};
 
     /// The datagram is dropped.
     pub fn dropped(why: DropReason) -> ControlStep
@@ -74,6 +74,20 @@ impl ControlStep {
             report: Report {
                 heard: heard.told(),
                 restart: heard.later(),
+                ..self.report
+            },
+        }
+    }
+
+    /// The same of the first of two messages, where this came of the second.
+    pub fn followed_by(self, second: ControlStep) -> ControlStep
+        ensures { result ≡ followed_by self second }
+    {
+        ControlStep {
+            out: second.out,
+            report: Report {
+                second: Some(second.report.outcome),
+                made: second.report.made,
                 ..self.report
             },
         }

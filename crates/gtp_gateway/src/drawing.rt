@@ -2,7 +2,7 @@
 
 ghost use Rattle.std.specs.Prelude.{IfSome, IfNone};
 ghost use Rattle.gtp_machine.specs.Choice.{HasDraws};
-ghost use Rattle.gtp_gateway.specs.Drawing.{IsOneDrawn, AreTwoDrawn};
+ghost use Rattle.gtp_gateway.specs.Drawing.{IsOneDrawn, AreTwoDrawn, IsThirdDrawn};
 ghost use Rattle.gtp_gateway.specs.Parts.{node_of};
 ghost use Rattle.gtp_gateway.specs.Station.{IsWhole, station_of};
 
@@ -57,5 +57,18 @@ impl Parts {
             control,
             user,
         })
+    }
+
+    /// One more TEID after two, where one is left. Nothing changes yet.
+    pub fn draw_third(&self, two: &TwoDrawn) -> Option<OneDrawn>
+        requires { AreTwoDrawn two.now (node_of self.now) }
+        ensures some { IfSome result (λ d. IsThirdDrawn two.now d (node_of self.now)) }
+        ensures none { IfNone result (HasDraws (node_of self.now) 3 → ⊥) }
+    {
+        let mut draws = two.draws;
+        match draws.draw() {
+            Ok(teid) => Some(OneDrawn { draws, teid }),
+            Err(_) => None,
+        }
     }
 }

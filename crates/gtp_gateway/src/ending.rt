@@ -216,7 +216,7 @@ impl Parts {
     }
 
     /// Answers a request without bearer contexts.
-    #[tactic(auto, using(crate::proofs::GoingOn::tied_of, crate::proofs::GoingOn::on_goes, crate::proofs::GoingOn::same_goes, crate::proofs::GoingOn::given_goes, crate::proofs::GoingOn::then_goes))]
+    #[tactic(auto, using(crate::proofs::GoingOn::tied_of, crate::proofs::GoingOn::on_goes, crate::proofs::GoingOn::same_goes, crate::proofs::GoingOn::given_goes, crate::proofs::GoingOn::answered_goes))]
     fn answer_removal(
         &mut self,
         alloc: Global,
@@ -334,7 +334,7 @@ impl Parts {
     }
 
     /// Ends the dedicated bearers with these identities. All allocations come first.
-    #[tactic(auto, using(crate::proofs::GoingOn::tied_of, crate::proofs::GoingOn::on_goes, crate::proofs::GoingOn::same_goes, crate::proofs::GoingOn::given_goes, crate::proofs::GoingOn::then_goes))]
+    #[tactic(auto, using(crate::proofs::GoingOn::tied_of, crate::proofs::GoingOn::on_goes, crate::proofs::GoingOn::same_goes, crate::proofs::GoingOn::given_goes, crate::proofs::GoingOn::answered_goes))]
     fn end_named(
         &mut self,
         alloc: Global,
@@ -367,7 +367,7 @@ impl Parts {
 
     /// Takes a Delete Bearer Request for the bearers in its list, which is counted before memory is
     /// taken for it.
-    #[tactic(auto, using(crate::proofs::GoingOn::tied_of, crate::proofs::GoingOn::on_goes, crate::proofs::GoingOn::same_goes, crate::proofs::GoingOn::given_goes, crate::proofs::GoingOn::then_goes))]
+    #[tactic(auto, using(crate::proofs::GoingOn::tied_of, crate::proofs::GoingOn::on_goes, crate::proofs::GoingOn::same_goes, crate::proofs::GoingOn::given_goes, crate::proofs::GoingOn::answered_goes))]
     fn end_listed(
         &mut self,
         alloc: Global,
@@ -411,7 +411,7 @@ impl Parts {
     }
 
     /// Takes a Delete Bearer Request.
-    #[tactic(auto, using(crate::proofs::GoingOn::tied_of, crate::proofs::GoingOn::on_goes, crate::proofs::GoingOn::same_goes, crate::proofs::GoingOn::given_goes, crate::proofs::GoingOn::then_goes))]
+    #[tactic(auto, using(crate::proofs::GoingOn::tied_of, crate::proofs::GoingOn::on_goes, crate::proofs::GoingOn::same_goes, crate::proofs::GoingOn::given_goes, crate::proofs::GoingOn::answered_goes))]
     pub fn take_removal_request(
         &mut self,
         alloc: Global,

@@ -171,7 +171,7 @@ fn message_flaw(fault: &V2Fault) -> Flaw
 }
 
 /// Whether the first message of a datagram announces a second one (TS 29.274 5.5.1).
-fn announces_second(octets: &[u8]) -> bool
+pub fn announces_second(octets: &[u8]) -> bool
     ensures { result ≡ announces octets.now }
 {
     match octets {

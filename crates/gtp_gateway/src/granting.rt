@@ -2,14 +2,16 @@
 
 ghost use Rattle.gtp_gateway.specs.GoesOn.{GoesOn};
 ghost use Rattle.std.specs.Prelude.{◌≡◌, ◌↔◌, true, IsTrue, IfOk, IfSome, IfNone, OnOk, OnErr};
-ghost use Rattle.gtp_machine.specs.Choice.{HasFreeIdentity, HasDraws};
+ghost use Rattle.gtp_machine.specs.Choice.{HasDraws};
+ghost use Rattle.gtp_tables.specs.Identity.{HasAll, IsLowestUnused};
 ghost use Rattle.gtp_machine.specs.Reading.{control_message};
 ghost use Rattle.gtp_machine.specs.Message as messages;
 ghost use Rattle.gtp_gateway.specs.Choosing.{MakesLowestBearer};
-ghost use Rattle.gtp_gateway.specs.Granting.{HasBearerContext, ReadsBearer, SaysBearer, IsGrant, IsChosen};
+ghost use Rattle.gtp_gateway.specs.Granting.{HasBearerContext, ReadsBearer, SaysBearer, HasFitCause, StandsWith, CanGive};
 ghost use Rattle.gtp_gateway.specs.Granting.{granted_to, bearer_answer, cause_in, is_granted, change_for};
 ghost use Rattle.gtp_gateway.specs.Granting.{JudgesBearer, TakesBearerRequest};
-ghost use Rattle.gtp_machine.specs.Node.{Arrival};
+ghost use Rattle.gtp_machine.specs.Node.{Arrival, Node};
+ghost use Rattle.gtp_gateway.specs.Drawing.{IsOneDrawn};
 ghost use Rattle.gtp_machine.specs.Serving.{BearerAsked};
 ghost use Rattle.gtp_gateway.specs.Needing.{AlwaysSendsOrOpens};
 ghost use Rattle.gtp_gateway.specs.Own.{IsOwn};
@@ -98,7 +100,7 @@ pub fn is_default(linked: Below<16>, session: &Session) -> bool
 
 impl BearerAnswer {
     /// The cause of the answer.
-    fn cause(&self) -> u8
+    pub fn cause(&self) -> u8
         ensures { result ≡ cause_in self.now }
     {
         match *self {
@@ -109,14 +111,14 @@ impl BearerAnswer {
     }
 
     /// Whether a bearer is made.
-    fn is_granted(&self) -> bool
+    pub fn is_granted(&self) -> bool
         ensures { result ≡ is_granted self.now }
     {
         matches!(self, BearerAnswer::Granted(_))
     }
 
     /// What changes.
-    fn change(&self, request: &BearerRequest) -> Change
+    pub fn change(&self, request: &BearerRequest) -> Change
         ensures { result ≡ change_for request.now self.now }
     {
         match *self {
@@ -131,7 +133,7 @@ impl BearerAnswer {
 }
 
 /// The bearer that is granted: a dedicated one, active at once.
-fn granted_bearer(request: &BearerRequest, identity: Ebi) -> Bearer
+pub fn granted_bearer(request: &BearerRequest, identity: Ebi) -> Bearer
     ensures { result ≡ granted_to request.now identity }
 {
     Bearer {
@@ -146,13 +148,14 @@ fn granted_bearer(request: &BearerRequest, identity: Ebi) -> Bearer
 
 impl Parts {
     /// The lowest identity that no bearer of the session has, and the next TEID, where there are both.
-    fn choose(&self, session: Teid) -> Option<Grant>
+    fn choose(&self, session: Teid, view: &View<'_>) -> Option<Grant>
         requires whole { IsWhole (station_of self.now) }
-        ensures some { IfSome result (λ g. IsGrant session.0 g (node_of self.now)) }
-        ensures none { IfNone result
-            (HasFreeIdentity (node_of self.now) session.0 × HasDraws (node_of self.now) 1 → ⊥) }
+        ensures identity { IfSome result (λ g.
+            IsLowestUnused view.now.bearers session.0 g.identity) }
+        ensures drawn { IfSome result (λ g. IsOneDrawn g.drawn (node_of self.now)) }
+        ensures none { IfNone result (HasDraws (node_of self.now) 1
+            → HasAll view.now.bearers session.0) }
     {
-        let view = View::new(&self.sessions, &self.bearers);
         let Ok(identity) = view.lowest_free_identity(session) else {
             return None;
         };
@@ -162,13 +165,22 @@ impl Parts {
         Some(Grant { identity, drawn })
     }
 
-    /// What a Create Bearer Request comes to; none where its session is not active, and then it is
-    /// dropped. It changes nothing.
-    fn judge_bearer(&self, request: &BearerRequest) -> Option<BearerVerdict>
+    /// What a Create Bearer Request comes to where this is found under its TEID, and bearers stand so;
+    /// none where its session is not active, and then it is dropped. It changes nothing.
+    pub fn judge_bearer(
+        &self,
+        request: &BearerRequest,
+        found: Option<Session>,
+        view: &View<'_>,
+    ) -> Option<BearerVerdict>
         requires whole { IsWhole (station_of self.now) }
-        ensures { JudgesBearer request.now (node_of self.now) result }
+        ensures judged { (node : Node)
+            → StandsWith request.now.header.0 found view.now.bearers (node_of self.now) node
+            → JudgesBearer request.now node result }
+        ensures given { IfSome result (λ v. CanGive found v.answer (node_of self.now)) }
+        ensures fit { IfSome result (λ v. HasFitCause v.answer) }
     {
-        let Some(session) = self.sessions.get(request.header) else {
+        let Some(session) = found else {
             return Some(BearerVerdict {
                 header: Teid(0),
                 answer: BearerAnswer::Refused { cause: 64 },
@@ -190,7 +202,7 @@ impl Parts {
                 answer: BearerAnswer::Refused { cause: 64 },
             });
         }
-        let Some(grant) = self.choose(request.header) else {
+        let Some(grant) = self.choose(request.header, view) else {
             return Some(BearerVerdict {
                 header,
                 answer: BearerAnswer::NoResources,
@@ -203,13 +215,13 @@ impl Parts {
     }
 
     /// The answer to a Create Bearer Request.
-    fn bearer_response(
+    pub fn bearer_response(
         &self,
         alloc: Global,
         request: &BearerRequest,
         verdict: &BearerVerdict,
     ) -> Result<Message, Memory>
-        requires { IsChosen request.now.header.0 verdict.now.answer (node_of self.now) }
+        requires { HasFitCause verdict.now.answer }
         ensures says { IfOk result (λ message. (q : messages.CreateBearerRequest)
             → SaysBearer request.now q → control_message message
             ≡ bearer_answer verdict.now.answer verdict.now.header.0 q (node_of self.now)) }
@@ -242,7 +254,7 @@ impl Parts {
     }
 
     /// Takes a Create Bearer Request.
-    #[tactic(auto, using(crate::proofs::GoingOn::tied_of, crate::proofs::GoingOn::on_goes, crate::proofs::GoingOn::same_goes, crate::proofs::GoingOn::given_goes, crate::proofs::GoingOn::then_goes))]
+    #[tactic(auto, using(crate::proofs::GoingOn::tied_of, crate::proofs::GoingOn::on_goes, crate::proofs::GoingOn::same_goes, crate::proofs::GoingOn::given_goes, crate::proofs::GoingOn::answered_goes))]
     pub fn take_bearer_request(
         &mut self,
         alloc: Global,
@@ -266,7 +278,9 @@ impl Parts {
         if self.held.is_full() {
             return Ok(ControlStep::dropped(DropReason::HeldFull));
         }
-        let Some(verdict) = self.judge_bearer(request) else {
+        let found = self.sessions.get(request.header);
+        let view = View::new(&self.sessions, &self.bearers);
+        let Some(verdict) = self.judge_bearer(request, found, &view) else {
             return Ok(ControlStep::dropped(DropReason::ContextNotActive));
         };
         let message = self.bearer_response(alloc, request, &verdict)?;

@@ -1,12 +1,14 @@
 //! What a gateway does with the peer's restart counter, before it takes a message (TS 29.274 7.1.1,
 //! TS 23.007 18).
 
-ghost use Rattle.std.specs.Prelude.{◌≡◌, ◌↔◌, false, IsTrue, Option};
+ghost use Rattle.std.specs.Prelude.{◌≡◌, ◌↔◌, false, true, IsTrue, Option};
 ghost use Rattle.std.specs.FinMap as map;
 ghost use Rattle.gtp_machine.specs.Removal.{without};
+ghost use Rattle.gtp_reliable.specs.Pending.{others};
 ghost use Rattle.gtp_tables.specs.Contexts.{is_opened};
 ghost use Rattle.gtp_values.specs.declared.counter.Counter.{Counter as AnyCounter};
 ghost use Rattle.gtp_gateway.specs.Hearing.{goes_with, weighed_by, node_heard};
+ghost use Rattle.gtp_gateway.specs.Settled.{waiting_heard};
 ghost use Rattle.gtp_gateway.specs.Parts.{node_of};
 ghost use Rattle.gtp_gateway.specs.Station.{station_of};
 ghost use Rattle.gtp_gateway.specs.UserTaken.{WaitOn};
@@ -102,6 +104,10 @@ impl Parts {
             ≡ without (λ t. is_opened (map.get self.old.sessions.table t)) (λ t. false)
             (node_of self.old) }
         ensures waits { WaitOn (station_of self.old) (station_of self.new) }
+        ensures waiting { self.new.pending.waiting
+            ≡ others (goes_with self.old.sessions.table) self.old.pending.waiting }
+        ensures next { self.new.pending.next ≡ self.old.pending.next }
+        ensures ready { self.old.pending.has_room ≡ true → self.new.pending.has_room ≡ true }
         ensures room { self.new.sessions.has_room ≡ self.old.sessions.has_room }
         ensures held { self.new.held ≡ self.old.held }
         ensures config { self.new.config ≡ self.old.config }
@@ -119,11 +125,15 @@ impl Parts {
 
     /// Keeps the counter that was heard; after a restart of the peer what was opened goes. Takes no
     /// memory.
-    #[tactic(auto, using(crate::proofs::UserRows::all_wait))]
+    #[tactic(auto, using(crate::proofs::UserRows::all_wait, crate::proofs::UserRows::all_stay))]
     pub fn hear(&mut self, heard: Heard)
         requires { (told : Option AnyCounter) × (heard ≡ weighed_by told self.old.peer) }
         ensures node { node_of self.new ≡ node_heard heard (node_of self.old) }
         ensures waits { WaitOn (station_of self.old) (station_of self.new) }
+        ensures waiting { self.new.pending.waiting
+            ≡ waiting_heard heard self.old.sessions.table self.old.pending.waiting }
+        ensures next { self.new.pending.next ≡ self.old.pending.next }
+        ensures ready { self.old.pending.has_room ≡ true → self.new.pending.has_room ≡ true }
         ensures room { self.new.sessions.has_room ≡ self.old.sessions.has_room }
         ensures held { self.new.held ≡ self.old.held }
         ensures config { self.new.config ≡ self.old.config }

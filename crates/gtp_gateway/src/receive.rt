@@ -1,18 +1,19 @@
 //! Datagrams of the control plane, as they come in (TS 29.274 7.6, 7.7).
 
-ghost use Rattle.gtp_gateway.specs.GoesOn.{GoesOn};
-ghost use Rattle.std.specs.Prelude.{◌≡◌, ◌↔◌, IsTrue, Some, true, IfOk, IfErr, IfSome, IfNone, IsSome, OnOk, OnErr};
+ghost use Rattle.std.specs.Prelude.{◌≡◌, ◌↔◌, ℕ, false, IsTrue, Some, true, IfOk, IfErr, IfSome, IfNone, IsSome, OnOk, OnErr};
 ghost use Rattle.gtp_gateway.specs.Choosing.{ChoosesLowest, MadeNothing};
-ghost use Rattle.gtp_gateway.specs.Needing.{ControlSendsOrOpens};
+ghost use Rattle.gtp_gateway.specs.Pair.{IsSecondAt};
 ghost use Rattle.gtp_gateway.specs.Parts.{node_of};
 ghost use Rattle.gtp_gateway.specs.Procedure.{procedure_at, has, HasNot};
 ghost use Rattle.gtp_gateway.specs.Station.{IsWhole, station_of};
-ghost use Rattle.gtp_gateway.specs.Received.{IsReceived, KeepsTiming, NeedsMemory};
-ghost use Rattle.gtp_gateway.specs.Taken.{IsEntered, IsTaken};
+ghost use Rattle.gtp_gateway.specs.Received.{ControlGoesOn, ControlNeedsMemory, IsControlTaken, IsReceived, KeepsTiming, NeedsMemory};
+ghost use Rattle.gtp_gateway.specs.Taken.{IsEntered, IsSentAgain};
+ghost use Rattle.gtp_machine.specs.Reading.{announces};
+ghost use Rattle.gtp_reliable.specs.Held.{IsHeld};
 
 use crate::ask::control_end_of;
 use crate::control_step::ControlStep;
-use crate::faulty::flaw_of;
+use crate::faulty::{announces_second, flaw_of};
 use crate::parts::Parts;
 use crate::procedure::{Procedure, procedure_of};
 use crate::sent::Sent;
@@ -32,12 +33,55 @@ pub enum Entrance {
     New,
 }
 
+/// The place at which the second message of a datagram begins, where it reads as two (TS 29.274 5.5.1): from there on
+/// are the second one's own octets. Reads nothing where the first announces no other.
+pub fn second_at(octets: &[u8]) -> Option<usize>
+    ensures some { IfSome result (IsSecondAt octets.now) }
+    ensures none { IfNone result ((place : ℕ) → IsSecondAt octets.now place → ⊥) }
+{
+    if !announces_second(octets) {
+        return None;
+    }
+    let view = match view(octets) {
+        Ok(view) => view,
+        Err(_) => return None,
+    };
+    if view.second().is_none() {
+        return None;
+    }
+    Some(octets.len() - view.back().len())
+}
+
 impl Parts {
     /// Whether a datagram of the control plane comes from the peer's address, whatever the port.
     fn is_from_peer(&self, source: Endpoint) -> bool
         ensures { IsTrue result ↔ (source.ip ≡ self.now.config.config.peer.control) }
     {
         source.ip == self.config.peer().control
+    }
+
+    /// The answer that is held for a request, as it is sent again; none where none is held.
+    pub fn sent_again_to(
+        &self,
+        alloc: Global,
+        source: Endpoint,
+        octets: &[u8],
+    ) -> Result<Option<Sent>, Memory>
+        ensures some { IfOk result (λ out. IfSome out
+            (λ sent. IsSentAgain source octets.now (node_of self.now) sent)) }
+        ensures none { IfOk result (λ out.
+            IfNone out (IsHeld source octets.now self.now.held.pairs → ⊥)) }
+        ensures memory { OnErr result (IsHeld source octets.now self.now.held.pairs) }
+    {
+        let Some(answer) = self.held.lookup(source, octets) else {
+            return Ok(None);
+        };
+        Ok(Some(Sent {
+            plane: Plane::Control,
+            from: control_end_of(self.config.own().control),
+            to: source,
+            octets: Vec::from_slice(alloc, answer)?,
+        }))
     }
 
     /// A datagram before it is read: first its source address is looked at, and then the answers
@@ -47,27 +91,21 @@ impl Parts {
             self.now.held.pairs entrance) }
         // An allocation is for the answer that is sent again.
         ensures memory { OnErr result
-            (ControlSendsOrOpens source octets.now (station_of self.now)) }
+            (ControlNeedsMemory source octets.now (station_of self.now)) }
         ensures unmade { IfOk result MadeNothing }
     {
         if !self.is_from_peer(source) {
             return Ok(Entrance::Settled(ControlStep::dropped(DropReason::NotPeer)));
         }
-        let Some(answer) = self.held.lookup(source, octets) else {
-            return Ok(Entrance::New);
-        };
-        let out = Sent {
-            plane: Plane::Control,
-            from: control_end_of(self.config.own().control),
-            to: source,
-            octets: Vec::from_slice(alloc, answer)?,
-        };
-        Ok(Entrance::Settled(ControlStep::sent(out, Outcome::Repeated)))
+        match self.sent_again_to(alloc, source, octets)? {
+            Some(out) => Ok(Entrance::Settled(ControlStep::sent(out, Outcome::Repeated))),
+            None => Ok(Entrance::New),
+        }
     }
 
-    /// Takes a datagram of the control plane. Two messages are dropped as one, before a restart counter
-    /// of theirs is heard.
-    #[tactic(auto, using(crate::proofs::GoingOn::tied_of, crate::proofs::GoingOn::on_goes, crate::proofs::GoingOn::same_goes, crate::proofs::GoingOn::given_goes, crate::proofs::GoingOn::then_goes))]
+    /// Takes a datagram of the control plane. Of two messages the pair that the gateway takes is done
+    /// message by message, and any other is dropped as one, before a restart counter is heard.
+    #[tactic(auto, using(crate::proofs::GoingOn::tied_of, crate::proofs::GoingOn::on_goes, crate::proofs::GoingOn::same_goes, crate::proofs::GoingOn::given_goes, crate::proofs::GoingOn::answered_goes))]
     pub fn receive_control(
         &mut self,
         alloc: Global,
@@ -76,13 +114,13 @@ impl Parts {
     ) -> Result<ControlStep, Memory>
         requires whole { IsWhole (station_of self.old) }
         ensures taken { IfOk result (λ step.
-            IsTaken source octets.now (station_of self.old) step (station_of self.new)) }
+            IsControlTaken source octets.now (station_of self.old) step (station_of self.new)) }
         ensures goes { OnOk result
-            (GoesOn source octets.now (station_of self.old) (station_of self.new)) }
+            (ControlGoesOn source octets.now (station_of self.old) (station_of self.new)) }
         ensures choices { IfOk result (λ step. ChoosesLowest step.report.made self.old.role
             (node_of self.old) (node_of self.new)) }
         ensures memory { OnErr result
-            (ControlSendsOrOpens source octets.now (station_of self.old)) }
+            (ControlNeedsMemory source octets.now (station_of self.old)) }
         ensures err { OnErr result (station_of self.new ≡ station_of self.old) }
     {
         match self.enter(alloc, source, octets)? {
@@ -93,10 +131,13 @@ impl Parts {
             Ok(view) => view,
             Err(fault) => return self.take_flaw(alloc, source, &flaw_of(octets, &fault)),
         };
-        if view.second().is_some() {
-            return Ok(ControlStep::dropped(DropReason::Unexpected));
-        }
         let message = view.message();
+        if let Some(second) = view.second() {
+            if !self.takes_pair(message, &second) {
+                return Ok(ControlStep::dropped(DropReason::Unexpected));
+            }
+            return self.take_pair(alloc, source, message, &second, view.back());
+        }
         match self.procedure_for(message.kind()) {
             Some(procedure) => { self.take_message(alloc, source, octets, message, procedure) }
             None => Ok(ControlStep::dropped(DropReason::Unexpected)),

@@ -7,14 +7,21 @@ ghost use Rattle.gtp_values.specs.declared.counter.Counter.{Counter as AnyCounte
 ghost use Rattle.gtp_gateway.specs.Change.{changed_by};
 ghost use Rattle.gtp_gateway.specs.Choosing.{MakesLowestSession};
 ghost use Rattle.gtp_gateway.specs.Grant.{refused_with, session_of, bearer_of, change_of, grants};
-ghost use Rattle.gtp_gateway.specs.Grant.{JudgesRoom, JudgesSession, CanGrant};
+ghost use Rattle.gtp_gateway.specs.Grant.{JudgesAdded, JudgesRoom, JudgesSession, CanGrant, CanAdd};
 ghost use Rattle.gtp_machine.specs.Choice.{asked_by, IsServed};
 ghost use Rattle.gtp_machine.specs.Message as messages;
 ghost use Rattle.gtp_machine.specs.Node.{Arrival};
 ghost use Rattle.gtp_machine.specs.Packet.{SessionAsked};
 ghost use Rattle.gtp_machine.specs.Reading.{control_message};
 ghost use Rattle.gtp_gateway.specs.Own.{IsOwn};
-ghost use Rattle.gtp_gateway.specs.Grant.{IsRefusedSession, IsGrantedSession, TakesSessionRequest};
+ghost use Rattle.gtp_gateway.specs.Drawing.{IsThirdDrawn};
+ghost use Rattle.gtp_gateway.specs.Grant.{asked_with, grants_with, made_with};
+ghost use Rattle.gtp_gateway.specs.Sent.{ReadsBack};
+ghost use Rattle.gtp_gateway.specs.Spelled.{message_in, messages_in, AreSpelled, AreSpelledAll};
+ghost use Rattle.gtp_machine.specs.Spelling.{spelled_all};
+ghost use Rattle.gtp_gateway.specs.Grant.{IsRefusedSession, IsGrantedSession, IsGrantedWith, TakesSessionRequest};
+ghost use Rattle.gtp_gateway.specs.Settled.{waiting_heard};
+ghost use Rattle.gtp_machine.specs.Message.{Create_bearer_request};
 ghost use Rattle.gtp_gateway.specs.Hearing.{weighed_by, node_heard};
 ghost use Rattle.gtp_gateway.specs.Needing.{AlwaysSendsOrOpens};
 ghost use Rattle.gtp_gateway.specs.Parts.{node_of};
@@ -24,19 +31,24 @@ ghost use Rattle.gtp_gateway.specs.Taken.{IsFresh};
 ghost use Rattle.gtp_values.specs.Cause.{is_accepting_value};
 ghost use Rattle.std.specs.Prelude.{false, true, length, ◌<◌};
 
+use crate::config::Template;
 use crate::control_step::ControlStep;
-use crate::drawing::TwoDrawn;
+use crate::drawing::{OneDrawn, TwoDrawn};
+use crate::encode::{EncodedPair, encode_both};
 use crate::faulty::Request;
 use crate::hearing::Heard;
 use crate::messages::{
-    fault_cause, own_end, plain_cause, refusal, session_cause, session_response,
+    bearer_request, fault_cause, own_end, plain_cause, refusal, session_cause, session_response,
 };
 use crate::parts::Parts;
+use crate::purpose::Purpose;
 use crate::session_request::SessionRequest;
+use crate::user::written_teid;
+use crate::wish::{is_there, pending_dedicated};
 use gtp_machine::DropReason;
 use gtp_tables::{Asked, Bearer, Kind, Session, State, Subscriber};
 use gtp_v2::{Message, PdnType};
-use gtp_values::{Addr, Apn, Below, Cause, Ebi, Endpoint, Memory};
+use gtp_values::{Addr, Apn, Below, Cause, Ebi, Endpoint, Memory, Seq};
 use std::alloc::Global;
 
 /// What a Create Session Request comes to.
@@ -45,6 +57,8 @@ pub enum SessionVerdict {
     /// It is refused with this cause.
     Refused(Cause),
     Granted(Grant),
+    /// It is granted, and the bearer of the access point's template is begun with it.
+    GrantedWith { grant: Grant, added: Added },
 }
 
 /// A session that is granted: what is drawn and chosen for it.
@@ -54,6 +68,14 @@ pub struct Grant {
     pub address: Addr,
     /// The identity of the default bearer.
     pub identity: Ebi,
+}
+
+/// The bearer of a template: what is drawn for it, the number of its request, and the template.
+#[derive(Clone, Copy)]
+pub struct Added {
+    pub drawn: OneDrawn,
+    pub seq: Seq,
+    pub template: Template,
 }
 
 /// Refused with a cause that names no element.
@@ -135,11 +157,43 @@ impl Parts {
         }
     }
 
+    /// Whether the bearer of the access point's template is begun with a session, at a gateway that has
+    /// heard this counter: where there is a template, one more TEID can be drawn, and fewer than 256
+    /// requests wait. Nothing changes.
+    fn judge_added(&self, access_point: &Apn, grant: Grant, heard: Heard) -> SessionVerdict
+        requires { CanGrant grant (node_of self.now) }
+        ensures { JudgesAdded access_point.now grant heard (station_of self.now) result }
+    {
+        let Some(template) = self.config.template_for(access_point) else {
+            return SessionVerdict::Granted(grant);
+        };
+        let Some(drawn) = self.draw_third(&grant.drawn) else {
+            return SessionVerdict::Granted(grant);
+        };
+        let Some(seq) = self.number_after(heard) else {
+            return SessionVerdict::Granted(grant);
+        };
+        SessionVerdict::GrantedWith {
+            grant,
+            added: Added {
+                drawn,
+                seq,
+                template,
+            },
+        }
+    }
+
     /// Whether there is room for a session with this identity and an address of this PDN type, at a
     /// gateway that has heard this counter. Nothing changes.
-    fn judge_room(&self, identity: Ebi, pdn: PdnType, heard: Heard) -> SessionVerdict
+    fn judge_room(
+        &self,
+        identity: Ebi,
+        pdn: PdnType,
+        access_point: &Apn,
+        heard: Heard,
+    ) -> SessionVerdict
         requires whole { IsWhole (station_of self.now) }
-        ensures { JudgesRoom identity pdn.0 heard (node_of self.now) result }
+        ensures { JudgesRoom identity pdn.0 access_point.now heard (station_of self.now) result }
     {
         let view = self.view_after(heard);
         let Some(drawn) = self.draw_two() else {
@@ -149,11 +203,14 @@ impl Parts {
             return refused(73);
         }
         match view.lowest_free_address(&self.config.pools(), asked_by(pdn)) {
-            Ok(address) => SessionVerdict::Granted(Grant {
-                drawn,
-                address,
-                identity,
-            }),
+            Ok(address) => {
+                let grant = Grant {
+                    drawn,
+                    address,
+                    identity,
+                };
+                self.judge_added(access_point, grant, heard)
+            }
             Err(_) => refused(84),
         }
     }
@@ -162,7 +219,7 @@ impl Parts {
     /// changes.
     fn judge_session(&self, request: &SessionRequest, heard: Heard) -> SessionVerdict
         requires whole { IsWhole (station_of self.now) }
-        ensures { JudgesSession request.now heard (node_of self.now) result }
+        ensures { JudgesSession request.now heard (station_of self.now) result }
     {
         if !request.default.is_alone {
             return refused(94);
@@ -176,7 +233,7 @@ impl Parts {
         if !self.serves_type(request.pdn) {
             return refused(83);
         }
-        self.judge_room(identity, request.pdn, heard)
+        self.judge_room(identity, request.pdn, &request.access_point, heard)
     }
 
     /// A session is made with its default bearer, once a counter was heard: `Memory` where an
@@ -234,7 +291,7 @@ impl Parts {
     }
 
     /// Refuses a Create Session Request, once its counter was heard.
-    #[tactic(auto, using(crate::proofs::GoingOn::tied_of, crate::proofs::GoingOn::on_goes, crate::proofs::GoingOn::same_goes, crate::proofs::GoingOn::given_goes, crate::proofs::GoingOn::then_goes))]
+    #[tactic(auto, using(crate::proofs::GoingOn::tied_of, crate::proofs::GoingOn::on_goes, crate::proofs::GoingOn::same_goes, crate::proofs::GoingOn::given_goes, crate::proofs::GoingOn::answered_goes))]
     fn refuse_session(
         &mut self,
         alloc: Global,
@@ -272,7 +329,7 @@ impl Parts {
     }
 
     /// Grants a Create Session Request, once its counter was heard.
-    #[tactic(auto, using(crate::proofs::GoingOn::tied_of, crate::proofs::GoingOn::on_goes, crate::proofs::GoingOn::same_goes, crate::proofs::GoingOn::given_goes, crate::proofs::GoingOn::then_goes))]
+    #[tactic(auto, using(crate::proofs::GoingOn::tied_of, crate::proofs::GoingOn::on_goes, crate::proofs::GoingOn::same_goes, crate::proofs::GoingOn::given_goes, crate::proofs::GoingOn::answered_goes))]
     fn grant_session(
         &mut self,
         alloc: Global,
@@ -300,8 +357,142 @@ impl Parts {
         Ok(ControlStep::answered(out, session_cause(request.pdn, grant.address), true))
     }
 
+    /// The request of the template's bearer.
+    fn template_request(
+        &self,
+        alloc: Global,
+        request: &SessionRequest,
+        grant: &Grant,
+        added: &Added,
+    ) -> Result<Message, Memory>
+        ensures says { IfOk result (λ message. control_message message ≡ Create_bearer_request
+            (asked_with (session_of request.now grant.now) added.now (node_of self.now))) }
+        ensures own { IfOk result (λ message. IsOwn message) }
+    {
+        let session = granted_session(request, grant);
+        let user = own_end(Below::new(5), added.drawn.teid, self.config.own().user);
+        let header = written_teid(session.remote);
+        let linked = session.subscriber.identity;
+        let template = added.template;
+        bearer_request(
+            alloc,
+            header,
+            added.seq,
+            linked,
+            template.tft,
+            template.qos,
+            user,
+            added.drawn.teid.0,
+        )
+    }
+
+    /// The answer that grants the session, and the request of the template's bearer, as octets.
+    fn encode_granted(
+        &self,
+        alloc: Global,
+        request: &SessionRequest,
+        grant: &Grant,
+        added: &Added,
+    ) -> Result<EncodedPair, Memory>
+        ensures spelled { IfOk result (λ p. p.both.items
+            ≡ spelled_all (grants_with request.now grant.now added.now (node_of self.now))) }
+        ensures read { IfOk result (λ p. messages_in p.both.items
+            ≡ grants_with request.now grant.now added.now (node_of self.now)) }
+        ensures back { IfOk result (λ _.
+            ReadsBack (grants_with request.now grant.now added.now (node_of self.now))) }
+        ensures kept { IfOk result (λ p. AreSpelledAll p.both.items) }
+        ensures alone { IfOk result (λ p. message_in p.second.items ≡ Create_bearer_request
+            (asked_with (session_of request.now grant.now) added.now (node_of self.now))) }
+        ensures alone_kept { IfOk result (λ p. AreSpelled p.second.items) }
+    {
+        let message = self.granting(alloc, request, grant)?;
+        let asked = self.template_request(alloc, request, grant, added)?;
+        encode_both(alloc, &message, &asked)
+    }
+
+    /// A session is made with its default bearer and the bearer of the template, once a counter was
+    /// heard: `Memory` where an allocation was refused, and then nothing has changed.
+    #[tactic(auto, using(crate::proofs::UserRows::all_wait, crate::proofs::Giving::wait_on))]
+    fn make_granted_with(
+        &mut self,
+        request: &SessionRequest,
+        grant: &Grant,
+        added: &Added,
+        heard: Heard,
+    ) -> Result<(), Memory>
+        requires weighed { (told : Option AnyCounter) × (heard ≡ weighed_by told self.old.peer) }
+        requires can { CanGrant grant.now (node_of self.old) }
+        requires third { IsThirdDrawn grant.now.drawn added.now.drawn (node_of self.old) }
+        ensures node { OnOk result (node_of self.new
+            ≡ made_with request.now grant.now added.now (node_heard heard (node_of self.old))) }
+        ensures waits { WaitOn (station_of self.old) (station_of self.new) }
+        ensures waiting { OnOk result (self.new.pending.waiting
+            ≡ waiting_heard heard self.old.sessions.table self.old.pending.waiting) }
+        ensures next { self.new.pending.next ≡ self.old.pending.next }
+        ensures ready { self.old.pending.has_room ≡ true → self.new.pending.has_room ≡ true }
+        ensures held { self.new.held ≡ self.old.held }
+        ensures config { self.new.config ≡ self.old.config }
+        ensures role { self.new.role ≡ self.old.role }
+        ensures err { OnErr result (station_of self.new ≡ station_of self.old) }
+    {
+        let control = grant.drawn.control;
+        let user = grant.drawn.user;
+        self.sessions.reserve_one().map_err(|_| Memory)?;
+        self.bearers
+            .add(user, granted_bearer(request, grant))
+            .map_err(|_| Memory)?;
+        let dedicated = pending_dedicated(control);
+        if self.bearers.add(added.drawn.teid, dedicated).is_err() {
+            self.bearers.remove(user);
+            return Err(Memory);
+        }
+        self.hear(heard);
+        self.sessions.add(control, granted_session(request, grant));
+        self.draws = added.drawn.draws;
+        Ok(())
+    }
+
+    /// Grants a Create Session Request, once its counter was heard, and begins the bearer of the
+    /// template: both messages are one datagram, which is held; the request alone is sent again.
+    fn grant_with(
+        &mut self,
+        alloc: Global,
+        source: Endpoint,
+        octets: &[u8],
+        request: &SessionRequest,
+        grant: &Grant,
+        added: &Added,
+        heard: Heard,
+    ) -> Result<ControlStep, Memory>
+        requires whole { IsWhole (station_of self.old) }
+        requires weighed { (told : Option AnyCounter) × (heard ≡ weighed_by told self.old.peer) }
+        requires can { CanGrant grant.now (node_of self.old) }
+        requires add { CanAdd grant.now.drawn added.now heard (station_of self.old) }
+        requires few { length self.old.held.pairs < 4096 }
+        requires fresh { IsFresh source octets.now (station_of self.old) self.old.held.pairs }
+        ensures granted { IfOk result (λ step.
+            IsGrantedWith source octets.now request.now grant.now added.now
+            heard (station_of self.old) step (station_of self.new)) }
+        ensures goes { OnOk result
+            (GoesOn source octets.now (station_of self.old) (station_of self.new)) }
+        ensures err { OnErr result (station_of self.new ≡ station_of self.old) }
+    {
+        let encoded = self.encode_granted(alloc, request, grant, added)?;
+        let ready = self.ready_octets(alloc, octets, encoded.both)?;
+        self.pending.reserve().map_err(|_| Memory)?;
+        self.make_granted_with(request, grant, added, heard)?;
+        let purpose = Purpose::CreateBearer {
+            session: grant.drawn.control,
+            bearer: added.drawn.teid,
+            is_named: is_there(request.control.teid()),
+        };
+        self.begin_kept(added.seq, encoded.second, purpose);
+        let out = self.give(source, ready);
+        Ok(ControlStep::answered(out, session_cause(request.pdn, grant.address), true))
+    }
+
     /// Takes a Create Session Request, with the counter that it brought.
-    #[tactic(auto, using(crate::proofs::GoingOn::tied_of, crate::proofs::GoingOn::on_goes, crate::proofs::GoingOn::same_goes, crate::proofs::GoingOn::given_goes, crate::proofs::GoingOn::then_goes))]
+    #[tactic(auto, using(crate::proofs::GoingOn::tied_of, crate::proofs::GoingOn::on_goes, crate::proofs::GoingOn::same_goes, crate::proofs::GoingOn::given_goes, crate::proofs::GoingOn::answered_goes))]
     pub fn take_session_request(
         &mut self,
         alloc: Global,
@@ -333,6 +524,9 @@ impl Parts {
             }
             SessionVerdict::Granted(grant) => {
                 self.grant_session(alloc, source, octets, request, &grant, heard)
+            }
+            SessionVerdict::GrantedWith { grant, added } => {
+                self.grant_with(alloc, source, octets, request, &grant, &added, heard)
             }
         }
     }

@@ -12,7 +12,7 @@ ghost use Rattle.gtp_gateway.specs.Hearing.{weighed_by, node_heard};
 ghost use Rattle.gtp_gateway.specs.Needing.{AlwaysSendsOrOpens};
 ghost use Rattle.gtp_gateway.specs.Parts.{node_of};
 ghost use Rattle.gtp_gateway.specs.Procedure.{procedure_at};
-ghost use Rattle.gtp_gateway.specs.SessionAnswer.{ReadsSession, FitsSessionOf, IsAskedSession, IsDescribed, SaysSession, JudgesSession, TakesSession};
+ghost use Rattle.gtp_gateway.specs.SessionAnswer.{ReadsSession, FitsSessionOf, IsAskedSession, IsDescribed, SaysSession, JudgesSession, JudgesAnswer, TakesSession};
 ghost use Rattle.gtp_gateway.specs.Station.{IsWhole, station_of};
 
 use crate::contexts::{ResponseContext, accepts, address_of, only_context_in, teid_of};
@@ -173,6 +173,17 @@ impl Parts {
             teid: asked.bearer,
             bearer: opened_default(&bearer, described.context.user),
         }
+    }
+
+    /// The same, where a counter of an earlier start may have come with it. It changes nothing.
+    pub fn judge_answer(&self, answer: &SessionResponse, heard: Heard) -> Verdict
+        requires whole { IsWhole (station_of self.now) }
+        ensures { JudgesAnswer answer.now heard (node_of self.now) result }
+    {
+        if heard.is_earlier() {
+            return Verdict::Drops(DropReason::OldCounter);
+        }
+        self.judge_session_response(answer, heard)
     }
 
     /// Takes a Create Session Response: what does not accept removes the pending session.

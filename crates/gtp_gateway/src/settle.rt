@@ -1,13 +1,14 @@
 //! What responses come to that open sessions and bearers (TS 29.274 7.2.2, 7.2.4). It is judged
 //! before anything changes, by what the restart counter of the response leaves.
 
-ghost use Rattle.std.specs.Prelude.{◌≡◌, Option, None, IfSome, IfNone, IfOk, OnOk, OnErr};
+ghost use Rattle.std.specs.Prelude.{◌≡◌, ◌<◌, ◌≤◌, Option, None, IfSome, IfNone, IfOk, OnOk, OnErr, length};
+ghost use Rattle.gtp_reliable.specs.Pending.{AreDistinct, IsNextFree};
 ghost use Rattle.gtp_machine.specs.Choice.{HasPending};
 ghost use Rattle.gtp_machine.specs.declared.outcome.Outcome.TheVariants.{Opened};
 ghost use Rattle.gtp_values.specs.declared.counter.Counter.{Counter as AnyCounter};
 ghost use Rattle.gtp_gateway.specs.Hearing.{weighed_by, node_heard};
 ghost use Rattle.gtp_gateway.specs.Parts.{node_of};
-ghost use Rattle.gtp_gateway.specs.Settled.{goes_after, IsWaiting, outcome_by, node_by, with_bearer, IsOpenedAt, CanSettle};
+ghost use Rattle.gtp_gateway.specs.Settled.{goes_after, waiting_heard, IsWaiting, outcome_by, node_by, with_bearer, IsOpenedAt, CanSettle};
 ghost use Rattle.gtp_gateway.specs.Station.{station_of};
 ghost use Rattle.gtp_gateway.specs.UserTaken.{WaitOn};
 ghost use Rattle.gtp_gateway.specs.Taken.{plain_report};
@@ -61,7 +62,7 @@ impl Verdict {
     }
 
     /// What is told of it.
-    fn outcome(&self) -> Outcome
+    pub fn outcome(&self) -> Outcome
         ensures { result ≡ outcome_by self.now }
     {
         match *self {
@@ -99,6 +100,25 @@ impl Parts {
         Some(purpose)
     }
 
+    /// The number of the next request once the counter was heard, where fewer than 256 wait then.
+    pub fn number_after(&self, heard: Heard) -> Option<Seq>
+        ensures some { IfSome result (λ seq. IsNextFree self.now.pending.next
+            (waiting_heard heard self.now.sessions.table self.now.pending.waiting) seq) }
+        ensures few { IfSome result (λ _.
+            length (waiting_heard heard self.now.sessions.table self.now.pending.waiting) < 256) }
+        ensures none { IfNone result
+            (256 ≤ length (waiting_heard heard self.now.sessions.table self.now.pending.waiting)) }
+        // What holds of the requests at all times.
+        ensures distinct { AreDistinct self.now.pending.waiting }
+    {
+        let sessions = &self.sessions;
+        self.pending.next_without(
+            |purpose: &Purpose| -> bool
+                ensures { result ≡ goes_after heard sessions.entry.now.table purpose.now }
+            { goes_after(heard, sessions, purpose) },
+        )
+    }
+
     /// Sessions and bearers as they stand once the counter was heard.
     pub fn view_after(&self, heard: Heard) -> View<'_>
         ensures sessions { result.sessions ≡ (node_heard heard (node_of self.now)).sessions }
@@ -121,6 +141,8 @@ impl Parts {
         ensures node { OnOk result (node_of self.new
             ≡ with_bearer teid bearer (node_heard heard (node_of self.old))) }
         ensures waits { WaitOn (station_of self.old) (station_of self.new) }
+        ensures held { self.new.held ≡ self.old.held }
+        ensures draws { self.new.draws ≡ self.old.draws }
         ensures role { self.new.role ≡ self.old.role }
         ensures err { OnErr result (station_of self.new ≡ station_of self.old) }
     {
@@ -147,6 +169,8 @@ impl Parts {
         // An allocation is for what is opened.
         ensures memory { OnErr result (outcome_by verdict ≡ Opened) }
         ensures waits { WaitOn (station_of self.old) (station_of self.new) }
+        ensures held { self.new.held ≡ self.old.held }
+        ensures draws { self.new.draws ≡ self.old.draws }
         ensures role { self.new.role ≡ self.old.role }
         ensures err { OnErr result (station_of self.new ≡ station_of self.old) }
     {

@@ -21,6 +21,9 @@ pub struct Accepted<'a> {
 #[derive(Clone, Copy, Debug, PartialEq, Eq)]
 pub struct Report {
     pub outcome: Outcome,
+    /// The outcome of the second message of the datagram, where this gateway takes two messages of one, one after the
+    /// other (TS 29.274 5.5.1).
+    pub second: Option<Outcome>,
     /// The restart counter in the message (TS 23.007 18), also an earlier one: of a control message of the peer, of a
     /// type that this gateway takes, that is neither a repeat nor a faulty request.
     pub heard: Option<Counter>,
@@ -51,6 +54,7 @@ impl Report {
     {
         Report {
             outcome,
+            second: None,
             heard: None,
             restart: None,
             made: false,

@@ -32,7 +32,7 @@ use std::alloc::Global;
 
 impl Parts {
     /// Takes a message, once its restart counter was weighed and is not of an earlier start.
-    #[tactic(auto, using(crate::proofs::GoingOn::tied_of, crate::proofs::GoingOn::on_goes, crate::proofs::GoingOn::same_goes, crate::proofs::GoingOn::given_goes, crate::proofs::GoingOn::then_goes, crate::proofs::UserRows::all_wait, crate::proofs::Giving::wait_on))]
+    #[tactic(auto, using(crate::proofs::GoingOn::tied_of, crate::proofs::GoingOn::on_goes, crate::proofs::GoingOn::same_goes, crate::proofs::GoingOn::given_goes, crate::proofs::GoingOn::answered_goes, crate::proofs::UserRows::all_wait, crate::proofs::Giving::wait_on))]
     fn take_heard(
         &mut self,
         alloc: Global,
@@ -105,7 +105,7 @@ impl Parts {
     }
 
     /// Takes a message of a kind that the gateway takes: first its restart counter is heard.
-    #[tactic(auto, using(crate::proofs::GoingOn::tied_of, crate::proofs::GoingOn::on_goes, crate::proofs::GoingOn::same_goes, crate::proofs::GoingOn::given_goes, crate::proofs::GoingOn::then_goes, crate::proofs::UserRows::all_wait, crate::proofs::Giving::wait_on))]
+    #[tactic(auto, using(crate::proofs::GoingOn::tied_of, crate::proofs::GoingOn::on_goes, crate::proofs::GoingOn::same_goes, crate::proofs::GoingOn::given_goes, crate::proofs::GoingOn::answered_goes, crate::proofs::UserRows::all_wait, crate::proofs::Giving::wait_on))]
     pub fn take_message(
         &mut self,
         alloc: Global,

@@ -67,7 +67,7 @@ pub enum Wish {
 }
 
 /// Whether a TEID stands in a header.
-fn is_there(header: Teid) -> bool
+pub fn is_there(header: Teid) -> bool
     ensures { result ≡ not (header.0 == 0) }
 {
     header.0 != 0
@@ -185,7 +185,7 @@ fn pending_default(session: Teid, spec: &SessionSpec) -> Bearer
 }
 
 /// A dedicated bearer that is pending: it has no identity and no remote.
-fn pending_dedicated(session: Teid) -> Bearer
+pub fn pending_dedicated(session: Teid) -> Bearer
     ensures { result ≡ pending_dedicated session.0 }
 {
     Bearer {

@@ -1,3 +1,7 @@
 pub mod Appends
 pub mod Pieces
 pub mod Seen
+pub mod Before
+pub mod Alike
+pub mod Whole
+pub mod OneText

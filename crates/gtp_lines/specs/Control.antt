@@ -57,9 +57,12 @@ priority_shown (Some priority) = codes " priority " ++ decimal priority
 unfoldable pub title_shown : ℕ → List ℕ
 title_shown kind = field_shown (codes "gtpv2 type ") kind ++ (codes " " ++ message_name kind)
 
--- the first line of a message
+-- the first line of a message of this type, TEID, sequence number and priority
+abbrev pub first_line : ℕ → Option ℕ → ℕ → Option ℕ → List ℕ
+first_line kind teid seq priority = title_shown kind ++ (teid_shown teid ++ (field_shown (codes " seq ") seq ++ (priority_shown priority ++ codes "\n")))
+
 abbrev pub head_line : MessageValue → List ℕ
-head_line m = title_shown m.kind ++ (teid_shown m.teid ++ (field_shown (codes " seq ") m.seq ++ (priority_shown m.priority ++ codes "\n")))
+head_line m = first_line m.kind m.teid m.seq m.priority
 
 -- the lines after the first: those of the elements in the datagram's order, or the octets of a message of another type
 abbrev pub CarriedLines : List ℕ → MessageValue → Content → List ℕ → Type 0

@@ -3,4 +3,8 @@ pub mod Values
 pub mod Control
 pub mod User
 pub mod Lines
+pub mod All
+pub mod Brief
 pub mod Frames
+pub mod Laws
+pub mod reading

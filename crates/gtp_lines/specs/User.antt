@@ -1,5 +1,5 @@
 -- The lines of a datagram of the user plane.
-use Rattle.std.specs.Prelude.{◌≡◌, ℕ, Bool, true, false, List, [], ◌∷◌, ◌++◌, Option, Some, None, codes, decimal}
+use Rattle.std.specs.Prelude.{◌≡◌, ℕ, ◌==◌, if◌then◌else◌, Bool, true, false, List, [], ◌∷◌, ◌++◌, Option, Some, None, codes, decimal}
 use Rattle.std.specs.List.{flat_map}
 use Rattle.hex.specs.Hex.{encode_lower}
 use Rattle.gtp_user.specs.declared.fault.UserFault.{UserFault}
@@ -17,13 +17,27 @@ use Rattle.gtp_lines.specs.Values.{field_shown}
 abbrev pub named : ℕ → List ℕ → List ℕ
 named kind name = field_shown (codes "gtpu type ") kind ++ (codes " " ++ name)
 
+-- the name of a type of message
+abbrev pub user_name : ℕ → List ℕ
+user_name kind =
+    if kind == 1 then codes "echo-request"
+    else (if kind == 2 then codes "echo-response"
+    else (if kind == 26 then codes "error-indication"
+    else (if kind == 31 then codes "supported-extensions"
+    else (if kind == 254 then codes "end-marker"
+    else (if kind == 255 then codes "g-pdu" else codes "other")))))
+
+-- the same by its number alone
+abbrev pub kind_title : ℕ → List ℕ
+kind_title kind = named kind (user_name kind)
+
 abbrev pub user_title : Content → List ℕ
-user_title EchoRequest = named 1 (codes "echo-request")
-user_title EchoResponse = named 2 (codes "echo-response")
-user_title (ErrorIndication teid peer) = named 26 (codes "error-indication")
-user_title (Notification types) = named 31 (codes "supported-extensions")
-user_title (EndMarker teid) = named 254 (codes "end-marker")
-user_title (Packet teid payload) = named 255 (codes "g-pdu")
+user_title EchoRequest = kind_title 1
+user_title EchoResponse = kind_title 2
+user_title (ErrorIndication teid peer) = kind_title 26
+user_title (Notification types) = kind_title 31
+user_title (EndMarker teid) = kind_title 254
+user_title (Packet teid payload) = kind_title 255
 user_title (Other kind teid octets) = named kind (codes "other")
 
 -- the TEID of the header, of the messages of a tunnel and of other types

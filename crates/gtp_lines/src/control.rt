@@ -4,14 +4,14 @@ ghost use Rattle.std.specs.Prelude.{◌≡◌, ◌+◌, ◌++◌, OnOk, option_m
 ghost use Rattle.std.specs.List.{flat_map};
 ghost use Rattle.gtp_ie.specs.Element.{elements_of};
 ghost use Rattle.gtp_ie.specs.View.{element_of};
-ghost use Rattle.gtp_lines.specs.Control.{element_head, inner_line, element_lines, message_name as spec_message_name, teid_shown, priority_shown, title_shown, head_line, group_shown};
+ghost use Rattle.gtp_lines.specs.Control.{element_head, inner_line, element_lines, message_name as spec_message_name, teid_shown, priority_shown, title_shown, first_line, head_line, group_shown};
 ghost use Rattle.gtp_lines.specs.Control.{element_fault_detail, element_fault, mark_shown, fault_detail, fault_shown, fault_line};
 
 use crate::text::{put, put_teid};
 use crate::values::{put_body, put_field, put_raw};
 use gtp_ie::{ElementView, Elements, IeFault};
 use gtp_v2::{BEARER_CONTEXT, MessageView, V2Fault, type_name};
-use gtp_values::{Below, Teid};
+use gtp_values::{Below, Seq, Teid};
 use std::alloc::AllocError;
 
 /// Appends what stands before an element's value.
@@ -99,7 +99,7 @@ pub fn message_name(kind: u8) -> &'static str
 
 /// Appends a TEID, where there is one.
 #[tactic(auto, using(crate::proofs::Appends::appending))]
-fn put_some_teid(out: &mut Vec<u8>, teid: Option<Teid>) -> Result<(), AllocError>
+pub fn put_some_teid(out: &mut Vec<u8>, teid: Option<Teid>) -> Result<(), AllocError>
     ensures ok { OnOk result
         (out.new.items ≡ out.old.items ++ teid_shown (option_map (λ t. t.0) teid)) }
 {
@@ -130,16 +130,30 @@ fn put_title(out: &mut Vec<u8>, kind: u8) -> Result<(), AllocError>
     put(out, message_name(kind).as_bytes())
 }
 
-/// Appends the first line of a message.
+/// Appends the first line of a message of this type, TEID, sequence number and priority.
 #[tactic(auto, using(crate::proofs::Appends::appending))]
+pub fn put_first_line(
+    out: &mut Vec<u8>,
+    kind: u8,
+    teid: Option<Teid>,
+    seq: Seq,
+    priority: Option<Below<16>>,
+) -> Result<(), AllocError>
+    ensures ok { OnOk result (out.new.items
+        ≡ out.old.items ++ first_line kind (option_map (λ t. t.0) teid) seq priority) }
+{
+    put_title(out, kind)?;
+    put_some_teid(out, teid)?;
+    put_field(out, b" seq ", u64::from(seq.number()))?;
+    put_some_priority(out, priority)?;
+    put(out, b"\n")
+}
+
+/// Appends the first line of a message.
 pub fn put_head(out: &mut Vec<u8>, seen: &MessageView) -> Result<(), AllocError>
     ensures ok { OnOk result (out.new.items ≡ out.old.items ++ head_line seen.now.message) }
 {
-    put_title(out, seen.kind())?;
-    put_some_teid(out, seen.teid())?;
-    put_field(out, b" seq ", u64::from(seen.seq().number()))?;
-    put_some_priority(out, seen.priority())?;
-    put(out, b"\n")
+    put_first_line(out, seen.kind(), seen.teid(), seen.seq(), seen.priority())
 }
 
 /// Appends what follows the number of a fault of elements.

@@ -1,15 +1,33 @@
 //! The lines of a datagram of a capture.
 
-ghost use Rattle.std.specs.Prelude.{◌≡◌, ◌<◌, ◌≤◌, ◌++◌, ◌∷◌, [], ◌-◌, length, replicate, decimal, codes, OnOk, IfOk};
+ghost use Rattle.std.specs.Prelude.{◌≡◌, ◌<◌, ◌≤◌, ◌++◌, ◌-◌, length, replicate, decimal, OnOk, IfOk};
 ghost use Rattle.gtp_capture.specs.Seen.{seen_of};
-ghost use Rattle.gtp_lines.specs.Frames.{width_of, second_in, fraction_text, time_text, end_text, plane_text, cut_text, frame_line, FrameLines};
+ghost use Rattle.gtp_capture.specs.reading.Packet.{packet_of};
+ghost use Rattle.gtp_lines.specs.Text.{Adds};
+ghost use Rattle.gtp_lines.specs.Frames.{width_of, second_in, fraction_text, time_text, end_text, plane_text, cut_text, is_whole as spec_is_whole, part_text, path_text, frame_line, brief_mark, brief_start, start_of, LinesIn, FrameLines};
 
+use crate::all::all_lines;
+use crate::brief::put_brief;
 use crate::lines::{Shown, decode_lines};
-use crate::text::{put, put_display, put_number};
+use crate::text::{put, put_ip, put_number};
 use gtp_capture::{Captured, Packet, Time, Unit};
 use gtp_values::{Endpoint, Memory, Plane};
 use itoa::Buffer;
 use std::alloc::{AllocError, Global};
+
+/// In which form a datagram of a capture is shown.
+#[derive(Clone, Copy, Debug, PartialEq, Eq)]
+pub enum Form {
+    /// The line of its frame, and then the lines of `decode_lines`.
+    Lines,
+    /// The line of its frame, and then those of `all_lines`.
+    All,
+    /// One line: frame, time, ends, and the name, TEID and sequence number of its message, or its first fault.
+    Brief,
+}
+
+/// The room for a line at first: most brief lines are shorter.
+const LINE: usize = 128;
 
 /// How many digits the fractions of a second have.
 fn width_of(unit: Unit) -> usize
@@ -73,7 +91,7 @@ fn put_time(out: &mut Vec<u8>, time: Time) -> Result<(), AllocError>
 fn put_end(out: &mut Vec<u8>, end: &Endpoint) -> Result<(), AllocError>
     ensures ok { OnOk result (out.new.items ≡ out.old.items ++ end_text end.now) }
 {
-    put_display(out, &end.ip)?;
+    put_ip(out, &end.ip)?;
     put(out, b" ")?;
     put_number(out, u64::from(end.port))
 }
@@ -102,19 +120,38 @@ fn put_cut(out: &mut Vec<u8>, held: usize, had: u16) -> Result<(), AllocError>
     put_number(out, u64::from(had))
 }
 
+/// Whether the capture has all of a datagram.
+fn is_whole(packet: &Packet) -> bool
+    ensures { result ≡ spec_is_whole (packet_of packet.now) }
+{
+    if packet.fragment {
+        return false;
+    }
+    usize::from(packet.had) <= packet.octets.len()
+}
+
+/// Appends why the capture has not all of a datagram, where it has not.
+#[tactic(auto, using(crate::proofs::Appends::appending))]
+fn put_part(out: &mut Vec<u8>, packet: &Packet) -> Result<(), AllocError>
+    ensures ok { OnOk result (out.new.items ≡ out.old.items ++ part_text (packet_of packet.now)) }
+{
+    if packet.fragment {
+        return put(out, b" fragment");
+    }
+    put_cut(out, packet.octets.len(), packet.had)
+}
+
 /// Appends where a datagram is from and to, its plane, and whether the capture has all of it.
 #[tactic(auto, using(crate::proofs::Appends::appending))]
 fn put_path(out: &mut Vec<u8>, packet: &Packet) -> Result<(), AllocError>
-    ensures ok { OnOk result (out.new.items ≡ out.old.items
-        ++ (codes " from " ++ (end_text packet.now.from ++ (codes " to " ++ (end_text packet.now.to
-        ++ (plane_text packet.now.plane ++ cut_text (length packet.now.octets.now) packet.now.had)))))) }
+    ensures ok { OnOk result (out.new.items ≡ out.old.items ++ path_text (packet_of packet.now)) }
 {
     put(out, b" from ")?;
     put_end(out, &packet.from)?;
     put(out, b" to ")?;
     put_end(out, &packet.to)?;
     put_plane(out, packet.plane)?;
-    put_cut(out, packet.octets.len(), packet.had)
+    put_part(out, packet)
 }
 
 /// Appends the line of a frame.
@@ -130,25 +167,89 @@ fn put_frame(out: &mut Vec<u8>, captured: &Captured) -> Result<(), AllocError>
     put(out, b"\n")
 }
 
-/// The lines of a datagram of a capture: that of its frame, and then those of `decode_lines`, where the capture has
-/// all its octets. `Memory` where an allocation was refused.
-pub fn frame_lines(alloc: Global, captured: &Captured) -> Result<Shown, Memory>
-    ensures { IfOk result (λ shown.
-        FrameLines (seen_of captured.now) shown.text.items shown.faulty) }
+/// Appends what follows the ends in a brief line.
+#[tactic(auto, using(crate::proofs::Appends::appending))]
+fn put_brief_mark(out: &mut Vec<u8>, packet: &Packet) -> Result<(), AllocError>
+    ensures ok { OnOk result (out.new.items ≡ out.old.items ++ brief_mark (packet_of packet.now)) }
 {
-    let mut text = Vec::new(alloc);
-    put_frame(&mut text, captured)?;
+    if is_whole(packet) {
+        return put(out, b" ");
+    }
+    put_part(out, packet)?;
+    put(out, b"\n")
+}
+
+/// Appends what stands before a brief line.
+#[tactic(auto, using(crate::proofs::Appends::appending))]
+fn put_brief_start(out: &mut Vec<u8>, captured: &Captured) -> Result<(), AllocError>
+    ensures ok { OnOk result
+        (out.new.items ≡ out.old.items ++ brief_start (seen_of captured.now)) }
+{
+    put_number(out, captured.frame)?;
+    put(out, b" ")?;
+    put_time(out, captured.time)?;
+    put(out, b" ")?;
+    put_end(out, &captured.packet.from)?;
+    put(out, b" ")?;
+    put_end(out, &captured.packet.to)?;
+    put_brief_mark(out, &captured.packet)
+}
+
+/// Appends what a form shows first.
+fn put_start(out: &mut Vec<u8>, form: Form, captured: &Captured) -> Result<(), AllocError>
+    ensures ok { OnOk result
+        (out.new.items ≡ out.old.items ++ start_of form (seen_of captured.now)) }
+{
+    match form {
+        Form::Lines | Form::All => put_frame(out, captured),
+        Form::Brief => put_brief_start(out, captured),
+    }
+}
+
+/// Appends the lines of a datagram in this form, and tells whether it has a fault.
+fn put_lines(
+    alloc: Global,
+    out: &mut Vec<u8>,
+    form: Form,
+    plane: Plane,
+    octets: &[u8],
+) -> Result<bool, Memory>
+    ensures { IfOk result (λ faulty. Adds (λ text. LinesIn form plane octets.now text faulty)
+        out.old.items out.new.items) }
+{
+    match form {
+        Form::Lines => {
+            let shown = decode_lines(alloc, plane, octets)?;
+            put(out, &shown.text)?;
+            Ok(shown.faulty)
+        }
+        Form::All => {
+            let shown = all_lines(alloc, plane, octets)?;
+            put(out, &shown.text)?;
+            Ok(shown.faulty)
+        }
+        Form::Brief => {
+            let faulty = put_brief(out, plane, octets)?;
+            Ok(faulty)
+        }
+    }
+}
+
+/// The lines of a datagram of a capture: frame, time and ends, and then, where the capture has all its octets, those of
+/// the datagram in this form. `Memory` where an allocation was refused.
+pub fn frame_lines(alloc: Global, form: Form, captured: &Captured) -> Result<Shown, Memory>
+    ensures { IfOk result (λ shown.
+        FrameLines form (seen_of captured.now) shown.text.items shown.faulty) }
+{
+    let mut text = Vec::with_capacity(alloc, LINE)?;
+    put_start(&mut text, form, captured)?;
     let packet = &captured.packet;
-    if packet.octets.len() < usize::from(packet.had) {
+    if !is_whole(packet) {
         return Ok(Shown {
             text,
             faulty: false,
         });
     }
-    let shown = decode_lines(alloc, packet.plane, packet.octets)?;
-    put(&mut text, &shown.text)?;
-    Ok(Shown {
-        text,
-        faulty: shown.faulty,
-    })
+    let faulty = put_lines(alloc, &mut text, form, packet.plane, packet.octets)?;
+    Ok(Shown { text, faulty })
 }

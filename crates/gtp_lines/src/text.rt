@@ -2,11 +2,13 @@
 
 ghost use Rattle.std.specs.Prelude.{◌≡◌, ◌<◌, ◌++◌, All, OnOk, IfSome, decimal};
 ghost use Rattle.hex.specs.Hex.{encode_lower};
+ghost use Rattle.std.specs.Net.Text.{ipv4_text};
+ghost use Rattle.gtp_values.specs.Address.{ip_text};
 ghost use Rattle.gtp_values.specs.Imsi.{digits_text};
 ghost use Rattle.gtp_values.specs.Teid.{teid_text};
 ghost use Rattle.gtp_lines.specs.Text.{octets_text};
 
-use gtp_values::Teid;
+use gtp_values::{Ip, Teid};
 use itoa::Buffer;
 use std::alloc::AllocError;
 use std::fmt::Display;
@@ -56,6 +58,30 @@ pub fn put_teid(out: &mut Vec<u8>, teid: Teid) -> Result<(), AllocError>
     ensures ok { OnOk result (out.new.items ≡ out.old.items ++ teid_text teid.0) }
 {
     put_hex(out, &teid.0.to_be_bytes())
+}
+
+/// Appends an address of version 4. Takes no memory of its own.
+#[tactic(auto, using(crate::proofs::Appends::appending))]
+fn put_v4(out: &mut Vec<u8>, address: &[u8; 4]) -> Result<(), AllocError>
+    ensures ok { OnOk result (out.new.items ≡ out.old.items ++ ipv4_text address.now) }
+{
+    put_number(out, u64::from(address[0]))?;
+    put(out, b".")?;
+    put_number(out, u64::from(address[1]))?;
+    put(out, b".")?;
+    put_number(out, u64::from(address[2]))?;
+    put(out, b".")?;
+    put_number(out, u64::from(address[3]))
+}
+
+/// Appends an address. Takes no memory of its own.
+pub fn put_ip(out: &mut Vec<u8>, ip: &Ip) -> Result<(), AllocError>
+    ensures ok { OnOk result (out.new.items ≡ out.old.items ++ ip_text ip.now) }
+{
+    match ip {
+        Ip::V4(address) => put_v4(out, address),
+        Ip::V6(address) => put_hex(out, address),
+    }
 }
 
 /// Appends what a value displays.

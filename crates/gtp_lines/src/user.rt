@@ -4,7 +4,7 @@ ghost use Rattle.std.specs.Prelude.{◌≡◌, ◌++◌, OnOk};
 ghost use Rattle.std.specs.List.{flat_map};
 ghost use Rattle.gtp_user.specs.Chain.{extension_of};
 ghost use Rattle.gtp_user.specs.Message.{content_of, message_value};
-ghost use Rattle.gtp_lines.specs.User.{named, user_title, target_shown, some_shown, user_head_line, extension_line, octets_line, carried_shown, user_fault_detail, user_fault_shown, user_fault_line, user_lines};
+ghost use Rattle.gtp_lines.specs.User.{named, user_name as spec_user_name, kind_title, user_title, target_shown, some_shown, user_head_line, extension_line, octets_line, carried_shown, user_fault_detail, user_fault_shown, user_fault_line, user_lines};
 
 use crate::text::{put, put_display, put_hex, put_octets, put_teid};
 use crate::values::put_field;
@@ -21,24 +21,46 @@ fn put_named(out: &mut Vec<u8>, kind: u8, name: &[u8]) -> Result<(), AllocError>
     put(out, name)
 }
 
+/// The name of a type of message.
+pub fn user_name(kind: u8) -> &'static str
+    ensures { result.now ≡ spec_user_name kind }
+{
+    match kind {
+        1 => "echo-request",
+        2 => "echo-response",
+        26 => "error-indication",
+        31 => "supported-extensions",
+        254 => "end-marker",
+        255 => "g-pdu",
+        _ => "other",
+    }
+}
+
+/// Appends the type of a message by its number alone.
+pub fn put_kind_title(out: &mut Vec<u8>, kind: u8) -> Result<(), AllocError>
+    ensures ok { OnOk result (out.new.items ≡ out.old.items ++ kind_title kind) }
+{
+    put_named(out, kind, user_name(kind).as_bytes())
+}
+
 /// Appends the type of a message.
 fn put_title(out: &mut Vec<u8>, body: &UserBody) -> Result<(), AllocError>
     ensures ok { OnOk result (out.new.items ≡ out.old.items ++ user_title (content_of body.now)) }
 {
     match body {
-        UserBody::EchoRequest => put_named(out, 1, b"echo-request"),
-        UserBody::EchoResponse => put_named(out, 2, b"echo-response"),
-        UserBody::ErrorIndication { .. } => put_named(out, 26, b"error-indication"),
-        UserBody::Notification { .. } => put_named(out, 31, b"supported-extensions"),
-        UserBody::EndMarker { .. } => put_named(out, 254, b"end-marker"),
-        UserBody::Packet { .. } => put_named(out, 255, b"g-pdu"),
+        UserBody::EchoRequest => put_kind_title(out, 1),
+        UserBody::EchoResponse => put_kind_title(out, 2),
+        UserBody::ErrorIndication { .. } => put_kind_title(out, 26),
+        UserBody::Notification { .. } => put_kind_title(out, 31),
+        UserBody::EndMarker { .. } => put_kind_title(out, 254),
+        UserBody::Packet { .. } => put_kind_title(out, 255),
         UserBody::Other { kind, .. } => put_named(out, *kind, b"other"),
     }
 }
 
 /// Appends the TEID of the header, of the messages of a tunnel and of other types.
 #[tactic(auto, using(crate::proofs::Appends::appending))]
-fn put_target(out: &mut Vec<u8>, body: &UserBody) -> Result<(), AllocError>
+pub fn put_target(out: &mut Vec<u8>, body: &UserBody) -> Result<(), AllocError>
     ensures ok { OnOk result (out.new.items ≡ out.old.items ++ target_shown (content_of body.now)) }
 {
     match body {
@@ -53,7 +75,7 @@ fn put_target(out: &mut Vec<u8>, body: &UserBody) -> Result<(), AllocError>
 }
 
 /// Appends a number, where there is one.
-fn put_some(out: &mut Vec<u8>, mark: &[u8], number: Option<u64>) -> Result<(), AllocError>
+pub fn put_some(out: &mut Vec<u8>, mark: &[u8], number: Option<u64>) -> Result<(), AllocError>
     ensures ok { OnOk result (out.new.items ≡ out.old.items ++ some_shown mark.now number) }
 {
     match number {

@@ -6,3 +6,4 @@ pub mod Counting
 pub mod Ages
 pub mod Kinds
 pub mod Datagrams
+pub mod Templates

@@ -3,5 +3,6 @@ pub mod Held
 pub mod Nodes
 pub mod Texts
 pub mod Ranges
+pub mod Added
 pub mod Made
 pub mod Possible

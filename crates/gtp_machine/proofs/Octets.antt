@@ -5,4 +5,5 @@ pub mod ByGrammar
 pub mod Datagrams
 pub mod Readings
 pub mod Spelled
+pub mod Pairs
 pub mod AsOctets

@@ -2,3 +2,4 @@
 pub mod Holding
 pub mod ActsOnce
 pub mod Replying
+pub mod Opening

@@ -99,13 +99,26 @@ bearer_request node s tft qos user number =
 abbrev pub pending_dedicated : ℕ → Bearer
 pending_dedicated session = record { remote = None; session = session; identity = None; kind = Dedicated; state = Pending; ended = false }
 
+-- a draw, and a pending dedicated bearer of the session, whose request waits
+abbrev pub bearer_asked : Node → ℕ → CreateBearerRequest → ℕ → Node
+bearer_asked node session r user =
+    record node {
+      drawn = user ∷ node.drawn;
+      bearers = insert node.bearers user (pending_dedicated session);
+      pending = insert node.pending r.number (record { session = Some session; bearer = Some user; request = Create_bearer_request r });
+    }
+
 -- A dedicated bearer is begun (7.2.3): any free TEID and any free number, and the request.
 pub record BeginsBearer (old : Node) (session : ℕ) (at : Session) (tft : List ℕ) (qos : Qos) (e : Effect) : Type 0 where
   pub user : ℕ
   pub number : ℕ
   pub user_free : IsFree old user
   pub number_free : IsFreeNumber old number
-  pub gives : e ≡ asks old number (record { session = Some session; bearer = Some user; request = Create_bearer_request (bearer_request old at tft qos user number) }) (Some user) (record old { drawn = user ∷ old.drawn; bearers = insert old.bearers user (pending_dedicated session) })
+  pub gives : e ≡ record {
+    out = says (control_end old.config.peer.control) (Create_bearer_request (bearer_request old at tft qos user number));
+    outcome = Came_to (Begun (Some user));
+    node = bearer_asked old session (bearer_request old at tft qos user number) user;
+  }
 
 -- the session's dedicated bearer with this identity
 pub record NamesBearer (node : Node) (session identity : ℕ) : Type 0 where

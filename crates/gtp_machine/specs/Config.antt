@@ -1,9 +1,11 @@
 -- What a gateway is set up with.
-use Rattle.std.specs.Prelude.{ℕ, List}
+use Rattle.std.specs.Prelude.{ℕ, List, [], ◌∷◌, Option, Some, None, nat_eq, if◌then◌else◌}
+use Rattle.std.specs.Cmp.Lexicographic.{pointwise}
 use Rattle.gtp_values.specs.declared.address.Ip.{Ip}
 use Rattle.gtp_values.specs.declared.address.Endpoint.{Endpoint}
 use Rattle.gtp_values.specs.declared.plane.Plane.{Plane}
 use Rattle.gtp_values.specs.declared.plane.Plane.TheVariants.{Control, User}
+use Rattle.gtp_values.specs.declared.qos.Qos.{Qos}
 use Rattle.gtp_tables.specs.declared.pool.Pools.{Pools}
 
 -- the address of each plane
@@ -11,12 +13,24 @@ pub record Addresses : Type 0 where
   pub control : Ip
   pub user : Ip
 
--- the two ends of the path, the access points, and the pools of addresses
+-- what the sessions of an access point get besides their default bearer: a dedicated bearer with this TFT and this QoS
+pub record Template : Type 0 where
+  pub access_point : List ℕ
+  pub tft : List ℕ
+  pub qos : Qos
+
+-- the two ends of the path, the access points, the pools of addresses, and the templates
 pub record Config : Type 0 where
   pub own : Addresses
   pub peer : Addresses
   pub access_points : List (List ℕ)
   pub pools : Pools
+  pub templates : List Template
+
+-- the template of an access point: the first that has its name
+abbrev pub template_for : List ℕ → List Template → Option Template
+template_for name [] = None
+template_for name (t ∷ templates) = if pointwise nat_eq t.access_point name then Some t else template_for name templates
 
 -- where control requests go: UDP port 2123 (TS 29.274, 4.2.1.1)
 abbrev pub control_end : Ip → Endpoint

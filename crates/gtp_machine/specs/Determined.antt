@@ -6,8 +6,9 @@ use Rattle.gtp_values.specs.FiniteMap.{Among}
 use Rattle.gtp_tables.specs.declared.pool.IpVersion.{IpVersion}
 use Rattle.gtp_tables.specs.Part.{part_of}
 use Rattle.gtp_machine.specs.Config.{Config}
-use Rattle.gtp_machine.specs.Node.{Role, Session, Bearer, Held, Node, fresh_node}
-use Rattle.gtp_machine.specs.Input.{Input, Commanded, Sending, Out, Effect, EventOutcome, Came_to, Begun}
+use Rattle.gtp_machine.specs.Message.{CreateSessionResponse, Create_session_response}
+use Rattle.gtp_machine.specs.Node.{Role, Serving, Session, Bearer, PendingRequest, Arrival, Held, Node, fresh_node}
+use Rattle.gtp_machine.specs.Input.{Input, Commanded, Control_came, Control_message, Sending, Out, Effect, EventOutcome, Came_to, Begun}
 use Rattle.gtp_machine.specs.Choice.{HasPending}
 use Rattle.gtp_machine.specs.Tick.{Due, Ticks}
 use Rattle.gtp_machine.specs.Step.{Step, Done, Steps}
@@ -49,12 +50,12 @@ pub record TellAlike (input : Input) (e f : Effect) : Type 0 where
   pub draws : length e.node.drawn ≡ length f.node.drawn
 
 -- Both chose the same: they have drawn the same TEIDs; where both give a new session an address of one version, it is the same address; a bearer that is new
--- has the same identity; and a request that is new after the one waits under the same number after the other.
+-- has the same identity; and where a request waits after the one that did not wait so before, one waits under the same number after the other.
 pub record ChooseAlike (old one other : Node) : Type 0 where
   pub drawn : one.drawn ≡ other.drawn
   pub addresses : (t : ℕ) (a b : Session) → get old.sessions t ≡ None → get one.sessions t ≡ Some a → get other.sessions t ≡ Some b → (version : IpVersion) (x y : List ℕ) → part_of version a.address ≡ Some x → part_of version b.address ≡ Some y → x ≡ y
   pub identities : (t : ℕ) (a b : Bearer) → get old.bearers t ≡ None → get one.bearers t ≡ Some a → get other.bearers t ≡ Some b → a.identity ≡ b.identity
-  pub numbers : (number : ℕ) → get old.pending number ≡ None → HasPending one number → HasPending other number
+  pub numbers : (number : ℕ) (p : PendingRequest) → get one.pending number ≡ Some p → (get old.pending number ≡ Some p → ⊥) → HasPending other number
 
 -- Whatever comes to a sound gateway, one thing is told, whatever is chosen.
 abbrev pub OneIsTold : Type 0
@@ -63,6 +64,10 @@ OneIsTold = (role : Role) (old : Node) (input : Input) (e f : Effect) → StepsT
 -- And where the choices are alike there is one effect: the same datagrams are sent, and the same gateway is left.
 abbrev pub OneIsDone : Type 0
 OneIsDone = (role : Role) (old : Node) (input : Input) (e f : Effect) → StepsTwice role old input e f → ChooseAlike old e.node f.node → e ≡ f
+
+-- Nothing is chosen for a Create Session Response, so what comes after it in the same datagram finds one gateway.
+abbrev pub OneAnswer : Type 0
+OneAnswer = (old : Node) (request : Arrival) (a : CreateSessionResponse) (e f : Effect) → StepsTwice Serving old (Control_came request (Control_message (Create_session_response a))) e f → e ≡ f
 
 -- Nothing is chosen in a tick: where this is due it sends and tells one thing, and leaves one gateway.
 abbrev pub OneTick : Type 0

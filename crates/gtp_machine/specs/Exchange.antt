@@ -10,7 +10,7 @@ use Rattle.gtp_values.specs.declared.qos.Ambr.{Ambr}
 use Rattle.gtp_values.specs.declared.qos.Qos.{Qos}
 use Rattle.gtp_ie.specs.Value.{AreRates}
 use Rattle.gtp_tables.specs.Pool.{IsPool, ArePrefixes}
-use Rattle.gtp_machine.specs.Config.{Config}
+use Rattle.gtp_machine.specs.Config.{Template, Config}
 use Rattle.gtp_machine.specs.Element.{PdnAddress}
 use Rattle.gtp_machine.specs.Message.{CreateSessionResponse, Message, Create_session_response, plane_of}
 use Rattle.gtp_machine.specs.Node.{Role, Serving, Packet, Session, Bearer, Default}
@@ -28,14 +28,6 @@ pub record IsOnePath (serving packet : Config) : Type 0 where
   pub there : serving.peer ≡ packet.own
   pub back : packet.peer ≡ serving.own
 
--- the gateway's own addresses are addresses, and its pools are pools
-pub record IsConfigured (config : Config) : Type 0 where
-  pub control : IsIp config.own.control
-  pub user : IsIp config.own.user
-  pub v4 : IsPool config.pools.v4
-  pub v6 : ArePrefixes config.pools.v6
-  pub octets : All (λ octet. octet < 256) config.pools.v6.start
-
 -- bit rates that have room in an AMBR (8.7)
 pub record IsAmbr (ambr : Ambr) : Type 0 where
   pub up : ambr.up < 2 ^ 32
@@ -47,6 +39,21 @@ pub record IsQos (qos : Qos) : Type 0 where
   pub level : qos.pl < 16
   pub most : AreRates qos.mbr
   pub guaranteed : AreRates qos.gbr
+
+-- what a template says has room in a Create Bearer Request: a TFT (8.19) of at most 255 octets, and a QoS
+pub record IsTemplate (t : Template) : Type 0 where
+  pub short : length t.tft ≤ 255
+  pub octets : All (λ octet. octet < 256) t.tft
+  pub qos : IsQos t.qos
+
+-- the gateway's own addresses are addresses, its pools are pools, and its templates have room
+pub record IsConfigured (config : Config) : Type 0 where
+  pub control : IsIp config.own.control
+  pub user : IsIp config.own.user
+  pub v4 : IsPool config.pools.v4
+  pub v6 : ArePrefixes config.pools.v6
+  pub octets : All (λ octet. octet < 256) config.pools.v6.start
+  pub templates : All IsTemplate config.templates
 
 -- what a session is to be made with has room in a Create Session Request
 pub record IsSpecified (spec : Specification) : Type 0 where
@@ -132,7 +139,8 @@ pub record Exchanged (spec : Specification) (w begun answered opened : World) : 
   pub cause : ℕ
   pub second : CameTo answered (Came_to (Answered cause))
   pub answer : CreateSessionResponse
-  pub told : answered.datagrams ≡ begun.datagrams ++ signed Packet ((Create_session_response answer ∷ []) ∷ [])
+  pub more : List Message  -- what goes with it in the datagram: the request of the template's bearer, or nothing
+  pub told : answered.datagrams ≡ begun.datagrams ++ signed Packet ((Create_session_response answer ∷ more) ∷ [])
   pub says : answer.cause.value ≡ cause
   pub address : PdnAddress
   pub given : IsGiven (heard_by w.packet.node w.serving.node.counter) spec.pdn address  -- by the rules, once the request's counter is heard

@@ -4,20 +4,20 @@ use Rattle.std.specs.FinMap.{get}
 use Rattle.gtp_values.specs.Counter.{age_of}
 use Rattle.gtp_values.specs.declared.counter.Age.TheVariants.{Later}
 use Rattle.gtp_values.specs.FiniteMap.{FiniteMap, Among}
-use Rattle.gtp_machine.specs.Config.{Config}
+use Rattle.gtp_machine.specs.Config.{Addresses, Config}
 use Rattle.gtp_machine.specs.Message.{Plane, Control, User, first_created, created_identity, CreateSessionRequest, CreateSessionResponse, CreateBearerRequest, CreateBearerResponse, Message, Create_session_request, Create_session_response, Create_bearer_request, Create_bearer_response, Packet_data, End_marker, Error_indication, Owns, header_of, recovery_of, first_given, first_returned, first_identity}
 use Rattle.gtp_machine.specs.Element.{IsAccepting, PdnAddress, address_of, teid_in}
 use Rattle.gtp_machine.specs.Node.{Node, fresh_node, Arrival, Role, Serving, Packet, Pending, Active, Closing, Session, Bearer, Dedicated}
-use Rattle.gtp_machine.specs.Input.{Entry, Effect, Repeated, datagrams}
+use Rattle.gtp_machine.specs.Input.{Entry, Effect, Specification, Create_session, Answered, Opened, Repeated, datagrams}
 use Rattle.gtp_machine.specs.Choice.{counter_of}
 use Rattle.gtp_machine.specs.Recovery.{Hears}
 use Rattle.gtp_machine.specs.Safety.{MutualSessions, MutualBearers}
 use Rattle.gtp_machine.specs.Serving.{granted_bearer, BearerAsked}
 use Rattle.gtp_machine.specs.Packet.{made_session, made_bearer, SessionAsked}
-use Rattle.gtp_machine.specs.Step.{Done, Steps}
+use Rattle.gtp_machine.specs.Step.{Step, Done, Steps}
 use Rattle.gtp_machine.specs.Once.{Makes, Takes, NeverForgets, IsOnce}
-use Rattle.gtp_machine.specs.Spelling.{spelled_all, IsSendable}
-use Rattle.gtp_machine.specs.World.{World, steps_of, Event, Deliver, Cut, Note, Came_to, signed, flat, come_from, arrival, Happens, Run, start, other, side_of, Side, HasBy, Sent, SentDatagram, HasSent}
+use Rattle.gtp_machine.specs.Spelling.{spelled_all, last_part, IsSendable}
+use Rattle.gtp_machine.specs.World.{World, steps_of, Event, Does, Deliver, Cut, Note, Came_to, signed, flat, come_from, arrival, first_came, Happens, Run, start, other, side_of, Side, HasBy, Sent, SentDatagram, HasSent}
 
 -- P holds at the end of each run, however the gateways are configured
 abbrev pub Always : (World → Type 0) → Type 0
@@ -99,22 +99,36 @@ CreateAsked Serving (Create_bearer_request r) request old e = BearerAsked reques
 CreateAsked Packet (Create_session_request q) request old e = Hears (SessionAsked request q) old q.recovery e
 CreateAsked role m request old e = ⊥
 
--- The other gateway's request came as it had sent it, and this gateway, as it stood then, made or refused a context for it by its rules: the answer is all that it
--- sent.
+-- the request comes to a gateway that stands so: as the one message of a datagram, or as the second of two, once the first was taken, to which nothing was said
+abbrev pub ComesLast : Role → Addresses → Node → List Message → Message → Node → Type 0
+ComesLast role from old [] request at = ⊥
+ComesLast role from old (message ∷ []) request at = (request ≡ message) × (at ≡ old)
+ComesLast role from old (first ∷ second ∷ rest) request at = (request ≡ second) × ((taken : Effect) × Step role old (first_came from first) taken × (taken.out.sent ≡ []) × (at ≡ taken.node))
+
+-- The other gateway's request came as it had sent it, and this gateway, as it stood then, made or refused a context for it by its rules: one datagram, in which the
+-- answer stands first, is all that it sent.
 pub record Gave (first : World) (events : List Event) (last : World) (role : Role) (request answer : Message) : Type 0 where
   pub moment : Moment first events last
   pub number : ℕ
   pub came : moment.event ≡ Deliver number
-  pub sent : slice_get moment.before.datagrams number ≡ Some (record { role = other role; what = request ∷ [] })
+  pub datagram : List Message
+  pub sent : slice_get moment.before.datagrams number ≡ Some (record { role = other role; what = datagram })
+  pub at : Node
+  pub comes : ComesLast role (side_of moment.before (other role)).node.config.own (side_of moment.before role).node datagram request at
   pub effect : Effect
-  pub asked : CreateAsked role request (arrival (side_of moment.before (other role)).node.config.own request) (side_of moment.before role).node effect
+  pub asked : CreateAsked role request (arrival (side_of moment.before (other role)).node.config.own request) at effect
   pub becomes : (side_of moment.after role).node ≡ effect.node
-  pub says : datagrams effect.out.sent ≡ (answer ∷ []) ∷ []
+  pub more : List Message  -- what goes with the answer
+  pub says : datagrams effect.out.sent ≡ (answer ∷ more) ∷ []
 
--- the event brings this gateway these octets from this address: those of a datagram of the other gateway, or its first ones
+-- octets that come with a datagram of these messages: all of it, or those of its last message
+abbrev pub BroughtBy : List Message → List ℕ → Type 0
+BroughtBy datagram octets = (octets ≡ spelled_all datagram) ⊎ (octets ≡ last_part datagram)
+
+-- the event brings this gateway these octets from this address: those of a datagram of the other gateway or of its last message, or its first ones
 abbrev pub Brings : World → Event → Role → Arrival → Type 0
 Brings before (Deliver number) role request =
-    (datagram : List Message) × (slice_get before.datagrams number ≡ Some (record { role = other role; what = datagram })) × (request ≡ come_from (side_of before (other role)).node.config.own (spelled_all datagram))
+    (datagram : List Message) × (slice_get before.datagrams number ≡ Some (record { role = other role; what = datagram })) × ((octets : List ℕ) × BroughtBy datagram octets × (request ≡ come_from (side_of before (other role)).node.config.own octets))
 Brings before (Cut number count) role request =
     (datagram : List Message) × (slice_get before.datagrams number ≡ Some (record { role = other role; what = datagram })) × (request ≡ come_from (side_of before (other role)).node.config.own (take count (spelled_all datagram)))
 Brings before event role request = ⊥
@@ -124,7 +138,7 @@ pub record GoesBackTo (first : World) (events : List Event) (last : World) (numb
   pub gave : Gave first events last role request answer
   pub moment : Moment first events last
   pub again : Brings moment.before moment.event role (arrival (side_of gave.moment.before (other role)).node.config.own request)
-  pub sent : moment.after.datagrams ≡ moment.before.datagrams ++ signed role ((answer ∷ []) ∷ [])
+  pub sent : moment.after.datagrams ≡ moment.before.datagrams ++ signed role ((answer ∷ gave.more) ∷ [])
   pub place : length moment.before.datagrams ≡ number
   pub since : length gave.moment.earlier ≤ length moment.earlier
 
@@ -321,3 +335,45 @@ pub record GetsThrough : Type 0 where
 -- there is such a run
 abbrev pub ARunIsPossible : Type 0
 ARunIsPossible = GetsThrough
+
+-- A run to a session and to the bearer of its access point's template, with one command: the answer to the request for the session and the request for the bearer are
+-- one datagram, and the serving gateway takes the two, one after the other. The sessions of both gateways name each other then, and so do these bearers. As the
+-- request for the session comes again, the same datagram is sent. No delivery was late, and each message that was sent can be sent.
+pub record GetsTemplate : Type 0 where
+  pub serving : Config
+  pub packet : Config
+  pub spec : Specification
+  pub opened : World
+  pub run : Run (start serving packet 1 1) (Does Serving (Create_session spec) ∷ Deliver 0 ∷ Deliver 1 ∷ []) opened
+  pub answer : CreateSessionResponse
+  pub request : CreateBearerRequest
+  pub together : slice_get opened.datagrams 1 ≡ Some (record { role = Packet; what = Create_session_response answer ∷ Create_bearer_request request ∷ [] })
+  pub note : Note
+  pub before : List Note
+  pub notes : opened.notes ≡ note ∷ before
+  pub first : note.outcome ≡ Came_to Opened
+  pub second : note.second ≡ Some (Answered 16)
+  pub world : World
+  pub agrees : Happens opened (Deliver 2) world
+  pub session : ℕ
+  pub session_there : ℕ
+  pub at_serving : Session
+  pub at_packet : Session
+  pub sessions : MutualSessions world.serving.node world.packet.node session session_there at_serving at_packet
+  pub bearer : ℕ
+  pub bearer_there : ℕ
+  pub bearer_at_serving : Bearer
+  pub bearer_at_packet : Bearer
+  pub bearers : MutualBearers world.serving.node world.packet.node bearer bearer_there bearer_at_serving bearer_at_packet
+  pub dedicated : bearer_at_serving.kind ≡ Dedicated
+  pub of_session : bearer_at_serving.session ≡ session
+  pub of_session_there : bearer_at_packet.session ≡ session_there
+  pub again : World
+  pub repeats : ComesAgain world again
+  pub whole : repeats.answer.what ≡ Create_session_response answer ∷ Create_bearer_request request ∷ []
+  pub on_time : again.late ≡ 0
+  pub sendable : EachSendable again
+
+-- there is such a run
+abbrev pub ATemplateIsPossible : Type 0
+ATemplateIsPossible = GetsTemplate

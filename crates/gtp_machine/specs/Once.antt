@@ -57,9 +57,9 @@ pub record IsOnce (first second : Done) : Type 0 where
 abbrev pub ActsOnce : Type 0
 ActsOnce = (role : Role) (request : Arrival) (message : Message) (first second : Done) → ComesTwice role request message first second → IsOnce first second
 
--- no taking of the request in these steps is late: its answer was not given up before
-abbrev pub NeverLate : List Done → Arrival → Type 0
-NeverLate log request = (front back : List Done) (done : Done) (message : Message) → log ≡ front ++ (done ∷ back) → Takes done request message → NeverForgets front request
+-- no taking of the create request in these steps is late: its answer was not given up before
+abbrev pub NeverLate : Role → List Done → Arrival → Type 0
+NeverLate role log request = (front back : List Done) (done : Done) (message : Message) → Makes role message → log ≡ front ++ (done ∷ back) → Takes done request message → NeverForgets front request
 
 -- two steps of one start that take the same create request, where none that takes it is late
 pub record TakenInTime (role : Role) (request : Arrival) (message : Message) (first second : Done) : Type 0 where
@@ -73,7 +73,7 @@ pub record TakenInTime (role : Role) (request : Arrival) (message : Message) (fi
   pub steps : Steps role (fresh_node config counter) (before ++ (first ∷ (between ++ (second ∷ after)))) finish
   pub first_takes : Takes first request message
   pub second_takes : Takes second request message
-  pub in_time : NeverLate (before ++ (first ∷ (between ++ (second ∷ after)))) request
+  pub in_time : NeverLate role (before ++ (first ∷ (between ++ (second ∷ after)))) request
 
 -- Where none of its deliveries is late, a Create Session or Create Bearer Request makes one context in a start and has one answer.
 abbrev pub ActsOnceInTime : Type 0

@@ -4,14 +4,16 @@ use Rattle.std.specs.FinMap.{insert, remove}
 use Rattle.gtp_values.specs.declared.cause.Cause.{Cause}
 use Rattle.gtp_values.specs.PdnAddress.{allocation}
 use Rattle.gtp_machine.specs.Ordered.{Unless}
+use Rattle.gtp_machine.specs.Config.{Template, template_for}
 use Rattle.gtp_values.specs.FiniteMap.{Among}
 use Rattle.gtp_machine.specs.Element.{IsAccepting, PdnAddress, cause_of, cause_at, teid_in, tunnel_end}
 use Rattle.gtp_machine.specs.Message.{CreateSessionRequest, CreateSessionResponse, DeleteSessionRequest, CreateBearerRequest, GivenBearer, CreateBearerResponse, DeleteBearerRequest, DeleteBearerResponse, Message, Control, Echo_request, Echo_response, Create_session_request, Create_session_response, Delete_session_request, Delete_session_response, Create_bearer_request, Create_bearer_response, Delete_bearer_request, Delete_bearer_response, subscriber_of, first_given, first_identity}
 use Rattle.gtp_machine.specs.Node.{Active, Closing, Session, Bearer, Default, PendingRequest, Arrival, Node, written}
 use Rattle.gtp_machine.specs.Input.{Came_to, ControlReading, RequestKind, Of_create_session, Of_delete_session, Of_create_bearer, Of_delete_bearer, FaultyRequest, Effect, Opened, Closed, Clash, Rejected, nothing, dropped, undecodable, NoPending, Mismatch, Unexpected}
-use Rattle.gtp_machine.specs.Choice.{IsFree, HasDraws, IsGiven, CanGive, IsServed, IsIdentity, IsUnused, HasSessionRoom, HasSession, HasBearer, HasPending}
+use Rattle.gtp_machine.specs.Choice.{IsFree, HasDraws, IsFreeNumber, IsGiven, CanGive, IsServed, IsIdentity, IsUnused, HasSessionRoom, HasPendingRoom, HasSession, HasBearer, HasPending}
 use Rattle.gtp_machine.specs.Removal.{without_session}
 use Rattle.gtp_machine.specs.Response.{Named, finishing, EchoAnswered}
+use Rattle.gtp_machine.specs.Command.{bearer_request, bearer_asked}
 use Rattle.gtp_machine.specs.Answer.{UnlessFull, answered, making, echoed, refusing, faulted, fault_number, TakesReading}
 
 -- 18 (new PDN type due to network preference) where both versions were asked for and one is given, else 16 (8.4)
@@ -49,6 +51,23 @@ session_made old q control user address =
       bearers = insert old.bearers user (made_bearer q control);
     }
 
+-- The bearer of the template is begun with the session (7.2.3): any free TEID and any free number. Its request goes with the answer, in one datagram (5.5.1), and
+-- that is the answer that is held.
+pub record AddsBearer (t : Template) (request : Arrival) (a : CreateSessionResponse) (cause : ℕ) (session : ℕ) (s : Session) (made : Node) (e : Effect) : Type 0 where
+  pub user : ℕ
+  pub number : ℕ
+  pub user_free : IsFree made user
+  pub number_free : IsFreeNumber made number
+  pub gives : e ≡ making request (Create_session_response a ∷ Create_bearer_request (bearer_request made s t.tft t.qos user number) ∷ []) cause (bearer_asked made session (bearer_request made s t.tft t.qos user number) user)
+
+-- The answer to a session that is made, and held: where its access point has a template, one more TEID can be drawn and one more request can wait, it goes with the
+-- request of the template's bearer, and else alone.
+abbrev pub AnswersWith : Option Template → Arrival → CreateSessionResponse → ℕ → ℕ → Session → Node → Effect → Type 0
+AnswersWith None request a cause session s made e = e ≡ making request (Create_session_response a ∷ []) cause made
+AnswersWith (Some t) request a cause session s made e =
+    Unless (HasDraws made 1 × HasPendingRoom made) (e ≡ making request (Create_session_response a ∷ []) cause made) (λ can.
+    AddsBearer t request a cause session s made e)
+
 -- A session is made, and the answer is held.
 pub record MakesSession (request : Arrival) (old : Node) (q : CreateSessionRequest) (e : Effect) : Type 0 where
   pub control : ℕ
@@ -58,7 +77,7 @@ pub record MakesSession (request : Arrival) (old : Node) (q : CreateSessionReque
   pub user_free : IsFree old user
   pub apart : control ≢ user
   pub given : IsGiven old q.pdn address
-  pub gives : e ≡ making request (Create_session_response (session_response old q control user address) ∷ []) (session_cause q.pdn address) (session_made old q control user address)
+  pub gives : AnswersWith (template_for q.access_point old.config.templates) request (session_response old q control user address) (session_cause q.pdn address) control (made_session q address) (session_made old q control user address) e
 
 -- a refusal of a Create Session Request goes to the sender's control plane TEID
 abbrev pub session_refused : Arrival → CreateSessionRequest → Cause → Node → Effect

@@ -1,5 +1,5 @@
 -- How datagrams read: what the decoders of the two planes tell, as the machine sees it.
-use Rattle.std.specs.Prelude.{◌≡◌, ◌⊎◌, ◌↔◌, ℕ, ◌<◌, ◌/◌, ◌==◌, nat_lt, Bool, true, false, List, [], ◌∷◌, length, take, Option, Some, None, option_map, unwrap_or, Result, Ok, Err, if◌then◌else◌}
+use Rattle.std.specs.Prelude.{◌≡◌, ◌⊎◌, ◌↔◌, ℕ, ◌-◌, ◌<◌, ◌/◌, ◌==◌, nat_lt, Bool, true, false, List, [], ◌∷◌, length, take, Option, Some, None, option_map, unwrap_or, Result, Ok, Err, if◌then◌else◌}
 use Rattle.gtp_values.specs.declared.identifiers.Teid.{Teid}
 use Rattle.gtp_ie.specs.declared.fault.IeFault.{IeFault}
 use Rattle.gtp_ie.specs.declared.fault.IeFault.TheVariants as elements
@@ -20,7 +20,7 @@ use Rattle.gtp_v2.specs.Body.{message_value}
 use Rattle.gtp_v2.specs.Message.{MessageValue}
 use Rattle.gtp_v2.specs.reading.Message.{message_at}
 use Rattle.gtp_v2.specs.Datagram.{IsMessage, IsFault}
-use Rattle.gtp_v2.specs.Pair.{DatagramValue, IsDatagram, IsDatagramFault}
+use Rattle.gtp_v2.specs.Pair.{DatagramValue, Announces, IsDatagram, IsDatagramFault}
 use Rattle.gtp_v2.specs.reading.Pair.{datagram_at}
 use Rattle.gtp_user.specs.declared.message.UserBody.{UserBody}
 use Rattle.gtp_user.specs.declared.message.UserBody.TheVariants as user_bodies
@@ -144,6 +144,11 @@ reading_of (first ∷ second ∷ rest) = Both first second
 abbrev pub cut_fault : ℕ → ℕ
 cut_fault count = if nat_lt count 4 then short_number else length_number
 
+-- the same of a datagram of two messages, of which the first has so many octets: H1 and H3 as of the first alone; H5, as the second that is announced is
+-- not there; then H1 and H3 as of the second
+abbrev pub pair_cut_fault : ℕ → ℕ → ℕ
+pair_cut_fault count front = if nat_lt count front then cut_fault count else (if count == front then number_of (faults.BadPiggyback front) else cut_fault (count - front))
+
 -- what a user plane message carries, by its type (TS 29.281, 6.1); the sequence number counts in Echo messages alone
 abbrev pub user_body_message : Option ℕ → UserBody → Message
 user_body_message number user_bodies.EchoRequest = User_echo_request (unwrap_or number 0)
@@ -256,6 +261,10 @@ MessageReadsAlone = (octets : List ℕ) (m : Message) → ControlReads octets (C
 -- A datagram of one message that comes cut reads as the fault of a cut.
 abbrev pub DatagramCutsRead : Type 0
 DatagramCutsRead = (octets : List ℕ) (m : MessageValue) (count : ℕ) → IsMessage octets m → count < length octets → DatagramReads (take count octets) (Alone (Control_fault (cut_fault count)))
+
+-- A datagram of two messages that comes cut reads as the fault of a cut of two.
+abbrev pub PairCutsRead : Type 0
+PairCutsRead = (octets front back : List ℕ) (a b : MessageValue) (count : ℕ) → Announces octets front back → IsMessage front a → IsMessage back b → count < length octets → DatagramReads (take count octets) (Alone (Control_fault (pair_cut_fault count (length front))))
 
 -- The first octets of a user plane message, but not all, read as the fault of a cut.
 abbrev pub UserCutsRead : Type 0

@@ -11,7 +11,7 @@ use Rattle.gtp_machine.specs.Input.{Create_session, Input, Commanded, Control_ca
 use Rattle.gtp_machine.specs.Tick.{TickStep, Due, Ticks}
 use Rattle.gtp_machine.specs.Choice.{IsIdentity, HasPending}
 use Rattle.gtp_machine.specs.User.{is_default_to, default_among}
-use Rattle.gtp_machine.specs.Reading.{ControlReads, DatagramReading, DatagramReads, taken_as}
+use Rattle.gtp_machine.specs.Reading.{ControlReads, DatagramReading, Both, DatagramReads, taken_as}
 
 -- something stands under the key, and P holds of it
 abbrev pub At : {X : Type 0} → FiniteMap X → ℕ → (X → Type 0) → Type 0
@@ -224,6 +224,10 @@ ReachedIsSound = (role : Role) (config : Config) (counter : ℕ) (log : List Don
 -- What is read from octets is whole.
 abbrev pub ReadsWhole : Type 0
 ReadsWhole = (request : Arrival) (reading : ControlReading) → ControlReads request.octets reading → IsWellFormed (Control_came request reading)
+
+-- So are two messages of one datagram.
+abbrev pub PairReadsWhole : Type 0
+PairReadsWhole = (octets : List ℕ) (first second : Message) → DatagramReads octets (Both first second) → IsWhole first × IsWhole second
 
 -- So is what a gateway takes a datagram for.
 abbrev pub TakenWhole : Type 0

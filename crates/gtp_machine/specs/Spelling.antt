@@ -15,13 +15,13 @@ use Rattle.gtp_v2.specs.DeleteBearerResponse.{delete_bearer_response}
 use Rattle.gtp_v2.specs.Table.{Field, Plain, Groups}
 use Rattle.gtp_v2.specs.Message.{Fields, Raw, MessageValue}
 use Rattle.gtp_v2.specs.Encoding.{canonical_encoding, Meets}
-use Rattle.gtp_v2.specs.Pair.{paired}
+use Rattle.gtp_v2.specs.Pair.{Announces, paired}
 use Rattle.gtp_user.specs.Message as user_messages
 use Rattle.gtp_user.specs.Encoding as user_encodings
 use Rattle.gtp_machine.specs.Message.{RequestedBearer, CreatedBearer, WantedBearer, GivenBearer, RemovedBearer, Message, Echo_request, Echo_response, Create_session_request, Create_session_response, Delete_session_request, Delete_session_response, Create_bearer_request, Create_bearer_response, Delete_bearer_request, Delete_bearer_response, Other_control, Packet_data, End_marker, Error_indication, User_echo_request, User_echo_response, Supported_extensions, Other_user, Plane, Control, User, plane_of}
 use Rattle.gtp_machine.specs.Config.{Config, own_end}
 use Rattle.gtp_machine.specs.Input.{Control_message, User_message, Sending}
-use Rattle.gtp_machine.specs.Reading.{ControlReads, UserReads}
+use Rattle.gtp_machine.specs.Reading.{ControlReads, DatagramReads, Both, UserReads}
 
 -- the value of a row that may be absent
 abbrev pub where_there : {X : Type 0} → (X → Value) → Option X → List Value
@@ -133,6 +133,16 @@ spelled_all [] = []
 spelled_all (message ∷ []) = spelled message
 spelled_all (first ∷ second ∷ rest) = paired (spelled first) (spelled second)
 
+-- the octets in which the first of two messages lies: it announces the other
+abbrev pub announcing : Message → List ℕ
+announcing first = paired (spelled first) []
+
+-- the octets by which a request is known that comes in a datagram of these messages: those of the last by itself, in which nothing is announced
+abbrev pub last_part : List Message → List ℕ
+last_part [] = []
+last_part (message ∷ []) = spelled message
+last_part (first ∷ second ∷ rest) = spelled second
+
 -- the datagram that a gateway with this configuration sends
 abbrev pub datagram_of : Config → Sending → Datagram
 datagram_of config s = record { plane = datagram_plane s.messages; from = own_end config (datagram_plane s.messages); to = s.destination; octets = spelled_all s.messages }
@@ -166,6 +176,10 @@ ReadsAs User octets m = UserReads octets (User_message m)
 -- What a gateway sends for a message reads as that message.
 abbrev pub SpelledReads : Type 0
 SpelledReads = (m : Message) → IsSendable m → ReadsAs (plane_of m) (spelled m) m
+
+-- What a gateway sends for two messages in one datagram reads as both: the first announces the second, and each lies there as it is spelled.
+abbrev pub PairSpelledReads : Type 0
+PairSpelledReads = (a b : Message) → IsSendable a → IsSendable b → plane_of a ≡ Control → plane_of b ≡ Control → Announces (spelled_all (a ∷ b ∷ [])) (spelled a) (spelled b) × DatagramReads (spelled_all (a ∷ b ∷ [])) (Both a b)
 
 -- Messages that a gateway can send, with one encoding, are one.
 abbrev pub SpelledApart : Type 0

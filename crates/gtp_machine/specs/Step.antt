@@ -1,6 +1,8 @@
 -- The steps of one gateway.
 use Rattle.std.specs.Prelude.{◌≡◌, List, [], ◌∷◌}
-use Rattle.gtp_machine.specs.Node.{Role, Serving, Packet, Node}
+use Rattle.gtp_machine.specs.Config.{Config}
+use Rattle.gtp_machine.specs.Message.{CreateSessionResponse, CreateBearerRequest, Create_session_response, Create_bearer_request}
+use Rattle.gtp_machine.specs.Node.{Role, Serving, Packet, Arrival, Node}
 use Rattle.gtp_machine.specs.Input.{Move, Input, Commanded, Control_came, User_came, Moves_on, Out, Effect}
 use Rattle.gtp_machine.specs.Move.{MoveStep}
 use Rattle.gtp_machine.specs.Tick.{TickStep}
@@ -9,6 +11,7 @@ use Rattle.gtp_machine.specs.Command.{CommandStep}
 use Rattle.gtp_machine.specs.Answer.{ControlStep}
 use Rattle.gtp_machine.specs.Serving.{ServingReads}
 use Rattle.gtp_machine.specs.Packet.{PacketReads}
+use Rattle.gtp_machine.specs.Reading.{DatagramReading, Both}
 
 -- A step of a gateway: what it may give for an input.
 abbrev pub Step : Role → Node → Input → Effect → Type 0
@@ -17,6 +20,15 @@ Step Serving old (Control_came request reading) e = ControlStep (ServingReads re
 Step Packet old (Control_came request reading) e = ControlStep (PacketReads reading) request old e
 Step role old (User_came source reading) e = UserStep role source reading old e
 Step role old (Moves_on move) e = MoveStep old move e
+
+-- The pair of messages in one datagram (5.5.1) that a gateway takes, one after the other: the serving gateway, of its peer, a Create Session Response with a Create
+-- Bearer Request.
+pub record TakesPair (role : Role) (config : Config) (request : Arrival) (reading : DatagramReading) : Type 0 where
+  pub by : role ≡ Serving
+  pub peer : request.source.ip ≡ config.peer.control
+  pub answer : CreateSessionResponse
+  pub asked : CreateBearerRequest
+  pub is : reading ≡ Both (Create_session_response answer) (Create_bearer_request asked)
 
 -- a step: the gateway before it, what it took, and what that gave
 pub record Done : Type 0 where

@@ -4,14 +4,14 @@ use Rattle.gtp_machine.specs.Ordered.{Unless}
 use Rattle.gtp_values.specs.FiniteMap.{Among}
 use Rattle.gtp_user.specs.Codes as user_codes
 use Rattle.gtp_machine.specs.Config.{Addresses, Config, control_end, user_end}
-use Rattle.gtp_machine.specs.Message.{Message, Plane, Control, User}
+use Rattle.gtp_machine.specs.Message.{Message, Create_session_response, Create_bearer_request, Plane, Control, User}
 use Rattle.gtp_machine.specs.Node.{Role, Serving, Packet, Arrival, Node, fresh_node}
-use Rattle.gtp_machine.specs.Input.{Command, Move, Input, Commanded, Control_came, User_came, Control_fault, User_message, User_fault, Entry, Out, Effect, messages, datagrams}
+use Rattle.gtp_machine.specs.Input.{Command, Move, Input, Commanded, Control_came, User_came, Control_message, Control_fault, User_message, User_fault, Entry, Outcome, Out, Effect, messages, datagrams}
 pub use Rattle.gtp_machine.specs.Input.{EventOutcome, Came_to, Ticked, Restarted, No_such_datagram, Restarts_used, Cut_too_long}
 use Rattle.gtp_machine.specs.Tick.{TickStep, ticked}
-use Rattle.gtp_machine.specs.Step.{Step, Done, tick_steps}
-use Rattle.gtp_machine.specs.Reading.{taken_as, reading_of, cut_fault, user_cut_fault}
-use Rattle.gtp_machine.specs.Spelling.{spelled, datagram_plane, spelled_all}
+use Rattle.gtp_machine.specs.Step.{Step, TakesPair, Done, tick_steps}
+use Rattle.gtp_machine.specs.Reading.{taken_as, reading_of, cut_fault, pair_cut_fault, user_cut_fault}
+use Rattle.gtp_machine.specs.Spelling.{spelled, datagram_plane, spelled_all, announcing, last_part}
 
 -- the other gateway
 abbrev pub other : Role → Role
@@ -44,6 +44,7 @@ pub record Side : Type 0 where
 -- what is kept of an event
 pub record Note : Type 0 where
   pub outcome : EventOutcome
+  pub second : Option Outcome  -- that of the second message, where two are taken one after the other
   pub learned : Option ℕ
   pub sent : List (List Message)  -- datagram by datagram
   pub gave_up : List ℕ
@@ -142,17 +143,34 @@ noted w note = record w { notes = note ∷ w.notes }
 
 -- the note of an event that sends nothing
 abbrev pub quiet_note : EventOutcome → Note
-quiet_note outcome = record { outcome = outcome; learned = None; sent = []; gave_up = []; forgot = [] }
+quiet_note outcome = record { outcome = outcome; second = None; learned = None; sent = []; gave_up = []; forgot = [] }
 
 -- the note of what an event gave
 abbrev pub note_of : EventOutcome → Out → Note
-note_of outcome out = record { outcome = outcome; learned = out.learned; sent = datagrams out.sent; gave_up = out.gave_up; forgot = out.forgot }
+note_of outcome out = record { outcome = outcome; second = None; learned = out.learned; sent = datagrams out.sent; gave_up = out.gave_up; forgot = out.forgot }
+
+-- the outcome that is told, where one is
+abbrev pub outcome_in : EventOutcome → Option Outcome
+outcome_in (Came_to outcome) = Some outcome
+outcome_in outcome = None
+
+-- the note of two messages of one delivery: of the first, with the outcome of the second beside it, and what both sent
+abbrev pub note_of_both : Effect → Effect → Note
+note_of_both first next = record (note_of first.outcome first.out) { second = outcome_in next.outcome; sent = datagrams first.out.sent ++ datagrams next.out.sent }
 
 -- A gateway takes an input, and what comes of it is noted.
 pub record Moves (old : World) (role : Role) (input : Input) (new : World) : Type 0 where
   pub effect : Effect
   pub step : Step role (side_of old role).node input effect
   pub becomes : new ≡ logged (noted (moved old role effect) (note_of effect.outcome effect.out)) role (record { before = (side_of old role).node; input = input; effect = effect } ∷ [])
+
+-- A gateway takes the two messages of one delivery, one after the other, and what comes of both is noted.
+pub record MovesTwice (old : World) (role : Role) (first second : Input) (new : World) : Type 0 where
+  pub effect : Effect
+  pub step : Step role (side_of old role).node first effect
+  pub next : Effect
+  pub follows : Step role effect.node second next
+  pub becomes : new ≡ logged (noted (moved (moved old role effect) role next) (note_of_both effect next)) role (record { before = (side_of old role).node; input = first; effect = effect } ∷ record { before = effect.node; input = second; effect = next } ∷ [])
 
 -- A tick is any list of moves.
 pub record TicksOn (old : World) (role : Role) (new : World) : Type 0 where
@@ -170,31 +188,51 @@ come_from from octets = record { source = control_end from.control; octets = oct
 abbrev pub arrival : Addresses → Message → Arrival
 arrival from message = come_from from (spelled message)
 
--- a datagram as it comes; on the user plane it is one message
+-- a datagram as it comes, as a whole; on the user plane it is one message
 abbrev pub delivered_on : Plane → Addresses → List Message → Input
 delivered_on Control from datagram = Control_came (come_from from (spelled_all datagram)) (taken_as (reading_of datagram))
 delivered_on User from (message ∷ []) = User_came (user_end from.user) (User_message message)
 delivered_on User from datagram = User_came (user_end from.user) (User_fault user_codes.short_number)
 
+-- the first of two messages of a datagram as it comes, by the octets in which it lies
+abbrev pub first_came : Addresses → Message → Input
+first_came from first = Control_came (come_from from (announcing first)) (Control_message first)
+
+-- the second, by its own octets
+abbrev pub second_came : Addresses → Message → Input
+second_came from second = Control_came (arrival from second) (Control_message second)
+
+-- the fault of so many first octets of a datagram of these messages
+abbrev pub fault_of_cut : List Message → ℕ → ℕ
+fault_of_cut [] count = cut_fault count
+fault_of_cut (message ∷ []) count = cut_fault count
+fault_of_cut (first ∷ second ∷ rest) count = pair_cut_fault count (length (spelled first))
+
 -- its first octets as they come: they read as no message, and with the fault of a cut
 abbrev pub cut_on : Plane → Addresses → List Message → ℕ → Input
-cut_on Control from datagram count = Control_came (come_from from (take count (spelled_all datagram))) (Control_fault (cut_fault count))
+cut_on Control from datagram count = Control_came (come_from from (take count (spelled_all datagram))) (Control_fault (fault_of_cut datagram count))
 cut_on User from datagram count = User_came (user_end from.user) (User_fault (user_cut_fault count))
 
--- the delivery is late: it is of a request whose answer the receiver has given up
+-- the delivery is late: its last message is a request whose answer the receiver has given up
 abbrev pub IsLateOn : Plane → Addresses → Side → List Message → Type 0
-IsLateOn Control from side datagram = Among (come_from from (spelled_all datagram)) side.forgotten
+IsLateOn Control from side datagram = Among (come_from from (last_part datagram)) side.forgotten
 IsLateOn User from side datagram = ⊥
 
 -- the world where one more delivery was late: of this request, to that gateway
 abbrev pub late_once : World → Role → Arrival → World
 late_once w role request = record (with_side w role (record (side_of w role) { came_late = request ∷ (side_of w role).came_late })) { late = 1 + w.late }
 
+-- A datagram comes to a gateway: the two messages of a pair that it takes, one after the other, and else the datagram as a whole.
+abbrev pub ComesTo : World → Role → Addresses → List Message → World → Type 0
+ComesTo old role from datagram new =
+    Unless (TakesPair role (side_of old role).node.config (come_from from (spelled_all datagram)) (reading_of datagram)) (Moves old role (delivered_on (datagram_plane datagram) from datagram) new) (λ pair.
+    MovesTwice old role (first_came from (Create_session_response pair.answer)) (second_came from (Create_bearer_request pair.asked)) new)
+
 -- A datagram comes to the gateway that did not send it; it stays in the list. A late delivery is counted.
 abbrev pub Delivers : World → Role → List Message → World → Type 0
 Delivers old sender datagram new =
-    Unless (IsLateOn (datagram_plane datagram) (side_of old sender).node.config.own (side_of old (other sender)) datagram) (Moves old (other sender) (delivered_on (datagram_plane datagram) (side_of old sender).node.config.own datagram) new) (λ late.
-    Moves (late_once old (other sender) (come_from (side_of old sender).node.config.own (spelled_all datagram))) (other sender) (delivered_on (datagram_plane datagram) (side_of old sender).node.config.own datagram) new)
+    Unless (IsLateOn (datagram_plane datagram) (side_of old sender).node.config.own (side_of old (other sender)) datagram) (ComesTo old (other sender) (side_of old sender).node.config.own datagram new) (λ late.
+    ComesTo (late_once old (other sender) (come_from (side_of old sender).node.config.own (last_part datagram))) (other sender) (side_of old sender).node.config.own datagram new)
 
 -- The first octets of a datagram come to the gateway that did not send it.
 abbrev pub Cuts : World → SentDatagram → ℕ → World → Type 0

@@ -2,6 +2,7 @@
 
 ghost use Rattle.gtp_machine.specs.Laws.{
   ARunIsPossible,
+  ATemplateIsPossible,
   Always,
   BearersOnce,
   EachActsOnce,
@@ -30,14 +31,21 @@ ghost use Rattle.gtp_machine.specs.Reading.{
   DatagramCutsRead,
   DecodedReads,
   MessageReadsAlone,
+  PairCutsRead,
   SessionRequestReads,
   UserByGrammar,
   UserByName,
   UserCutsRead,
   UserDecodedReads,
 };
-ghost use Rattle.gtp_machine.specs.Spelling.{SpelledApart, SpelledReads};
-ghost use Rattle.gtp_machine.specs.Determined.{OneIsDone, OneIsTold, OneTick, ReachedHoldsOnce};
+ghost use Rattle.gtp_machine.specs.Spelling.{PairSpelledReads, SpelledApart, SpelledReads};
+ghost use Rattle.gtp_machine.specs.Determined.{
+  OneAnswer,
+  OneIsDone,
+  OneIsTold,
+  OneTick,
+  ReachedHoldsOnce,
+};
 ghost use Rattle.gtp_machine.specs.Once.{ActsOnce, ActsOnceInTime, HeldUntilForgotten};
 ghost use Rattle.gtp_machine.specs.Exchange.{
   ExchangeSendable,
@@ -50,6 +58,7 @@ ghost use Rattle.gtp_machine.specs.Sound.{
   AlwaysTicks,
   BreaksByDefault,
   GivesUpDue,
+  PairReadsWhole,
   ReachedIsSound,
   ReadsWhole,
   StartsSound,
@@ -141,11 +150,14 @@ pub fn acts_once()
     ensures runs { Always EachActsOnce }
 {}
 
-/// No law of safety is empty: there is a run to sessions and dedicated bearers that name each other,
-/// and to an accepted packet, and on from there, in which no delivery is late and each message can
-/// be sent.
+/// No law of safety is empty.
 pub fn a_run_is_possible()
-    ensures { ARunIsPossible }
+    // There is a run to sessions and dedicated bearers that name each other, and to an accepted
+    // packet, and on from there, in which no delivery is late and each message can be sent.
+    ensures commanded { ARunIsPossible }
+
+    // And there is one with a template, whose bearer is asked for in the answer's datagram.
+    ensures template { ATemplateIsPossible }
 {}
 
 /// What holds of one gateway alone, whatever comes to it.
@@ -179,6 +191,9 @@ pub fn sound_nodes()
     // What is read from octets names the F-TEIDs that its table asks for.
     ensures whole { ReadsWhole }
 
+    // So do two messages of one datagram.
+    ensures pair_whole { PairReadsWhole }
+
     // So does what a datagram of one or two messages is taken for.
     ensures taken_whole { TakenWhole }
 {}
@@ -193,6 +208,9 @@ pub fn determined()
     // Where the choices are alike, the same datagrams are sent and the same gateway is left.
     ensures done { OneIsDone }
 
+    // Nothing is chosen for a Create Session Response, so what comes with it finds one gateway.
+    ensures answer { OneAnswer }
+
     // Nothing is chosen in a tick.
     ensures tick { OneTick }
 
@@ -205,8 +223,8 @@ pub fn readings()
     // Octets of the control plane read as the message that they spell, or as their first fault.
     ensures grammar { ControlByGrammar }
 
-    // A datagram of the control plane reads as the one or two messages that it spells, or as its first
-    // fault, which is not answered where a second message is announced.
+    // A datagram of the control plane reads as the one or two messages that it spells, or as its
+    // first fault, which is not answered where a second message is announced.
     ensures datagrams { DatagramByGrammar }
 
     // Octets that read as a message by themselves read as a datagram of that message.
@@ -230,11 +248,17 @@ pub fn readings()
     // So does a datagram of one.
     ensures datagram_cuts { DatagramCutsRead }
 
+    // A datagram of two messages that is cut short reads as the fault of a cut of two.
+    ensures pair_cuts { PairCutsRead }
+
     // So does a user plane message.
     ensures user_cuts { UserCutsRead }
 
     // What a gateway sends for a message reads as that message.
     ensures spelled { SpelledReads }
+
+    // What it sends for two messages in one datagram reads as both, each by its own octets.
+    ensures pair_spelled { PairSpelledReads }
 
     // Messages that a gateway can send, with one encoding, are one.
     ensures apart { SpelledApart }

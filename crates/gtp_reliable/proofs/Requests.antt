@@ -1,6 +1,6 @@
 -- Requests after a change: they stay distinct, and a tick keeps and moves them.
-use Rattle.std.proofs.Common.{◌≡◌, ℕ, ◌+◌, ◌<◌, ◌≤◌, Bool, true, false, cond, List, [], ◌∷◌, ◌++◌, length, map, take, get_or, None, refl, sym, ap, subst, ◌∙◌, arith}
-use Rattle.std.specs.Prelude.{◌==◌, filter, is_some, unwrap_or, nat_lt}
+use Rattle.std.proofs.Common.{◌≡◌, ◌≢◌, not, ℕ, ◌+◌, ◌<◌, ◌≤◌, Bool, true, false, cond, List, [], ◌∷◌, ◌++◌, length, map, take, get_or, None, refl, sym, ap, subst, ◌∙◌, arith}
+use Rattle.std.specs.Prelude.{◌==◌, ◌||◌, filter, is_some, unwrap_or, nat_lt}
 use Rattle.std.specs.List.{list_any, filter_map}
 use Rattle.std.proofs.lemmas.Bool.Decides.{nat_tests}
 use Rattle.std.proofs.lemmas.List.{map_push, length-map}
@@ -10,7 +10,7 @@ use Rattle.gtp_reliable.specs.declared.pending.Resend.{Resend}
 use Rattle.gtp_reliable.specs.declared.waiting.NextTick.{NextTick}
 use Rattle.gtp_reliable.specs.declared.waiting.NextTick.TheVariants.{WaitsOn, SentAgain, GivenUp}
 use Rattle.gtp_reliable.specs.Waiting.{Waiting, Message, next_tick, after_tick_by, after_tick, sent_again_by, sent_again, given_up_by, given_up}
-use Rattle.gtp_reliable.specs.Pending.{is_pending, AreDistinct}
+use Rattle.gtp_reliable.specs.Pending.{is_pending, others, AreDistinct}
 use Rattle.gtp_reliable.specs.Due.{message_of}
 use Rattle.gtp_values.proofs.Tests.{turned}
 use Rattle.gtp_reliable.proofs.Lists.{filter_map_some, filter_map_none, stay_and_pass, fewer_filter}
@@ -138,3 +138,27 @@ given_none t3 n3 ws i w n so_far now same before lt is by none = same ∙ (befor
 -- where fewer than t3 ticks will have passed, the request waits on
 pub waits : {P : Type 0} (t3 n3 : ℕ) (w : Waiting P) → w.waited + 1 < t3 → next_tick t3 n3 w ≡ WaitsOn
 waits t3 n3 w q = let before : nat_lt (w.waited + 1) t3 ≡ true = grind (arith, nat_tests) in rw before refl
+
+-- ---- the requests whose purpose does not meet a test
+
+pub none_other : {P : Type 0} (meets : P → Bool) (n : ℕ) → is_pending n (others meets []) ≡ false
+unfolding is_pending
+none_other meets n = refl
+
+pub other_first : {P : Type 0} (meets : P → Bool) (n : ℕ) (w : Waiting P) (ws : List (Waiting P)) → w.seq ≡ n → meets w.purpose ≡ false → is_pending n (others meets (w ∷ ws)) ≡ true
+unfolding is_pending
+other_first meets n w ws same stays =
+    ap (λ (b : Bool). list_any (λ v. v.seq == n) (cond (not b) (w ∷ others meets ws) (others meets ws))) stays
+    ∙ ap (λ (b : Bool). b || list_any (λ v. v.seq == n) (others meets ws)) (let it : (w.seq == n) ≡ true = grind (arith, nat_tests) in it)
+
+pub other_number : {P : Type 0} (meets : P → Bool) (n : ℕ) (w : Waiting P) (ws : List (Waiting P)) → w.seq ≢ n → is_pending n (others meets (w ∷ ws)) ≡ is_pending n (others meets ws)
+unfolding is_pending
+other_number {P} meets n w ws apart = by (meets w.purpose)
+  where
+    by : (b : Bool) → list_any (λ (v : Waiting P). v.seq == n) (cond (not b) (w ∷ others meets ws) (others meets ws)) ≡ list_any (λ (v : Waiting P). v.seq == n) (others meets ws)
+    by true = refl
+    by false = ap (λ (b : Bool). b || list_any (λ (v : Waiting P). v.seq == n) (others meets ws)) (let it : (w.seq == n) ≡ false = grind (arith, nat_tests) in it)
+
+pub other_gone : {P : Type 0} (meets : P → Bool) (n : ℕ) (w : Waiting P) (ws : List (Waiting P)) → meets w.purpose ≡ true → is_pending n (others meets (w ∷ ws)) ≡ is_pending n (others meets ws)
+unfolding is_pending
+other_gone meets n w ws gone = ap (λ (b : Bool). list_any (λ v. v.seq == n) (cond (not b) (w ∷ others meets ws) (others meets ws))) gone

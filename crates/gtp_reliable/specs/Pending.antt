@@ -1,5 +1,5 @@
 -- The requests that are pending, and their numbers (TS 29.274 7.6).
-use Rattle.std.specs.Prelude.{◌≡◌, ℕ, ◌+◌, ◌%◌, ◌<◌, ◌≤◌, Bool, true, false, List, [], ◌∷◌, length}
+use Rattle.std.specs.Prelude.{◌≡◌, ℕ, ◌+◌, ◌%◌, ◌<◌, ◌≤◌, Bool, true, false, not, List, [], ◌∷◌, filter, length}
 use Rattle.std.specs.Prelude.{Option, Some, None, ◌==◌, if◌then◌else◌, All}
 use Rattle.std.specs.List.{list_any, filter_map}
 use Rattle.gtp_reliable.specs.Waiting.{Waiting, Message, sent_again, given_up}
@@ -39,6 +39,10 @@ pub record IsNextFree {P : Type 0} (start : ℕ) (ws : List (Waiting P)) (seq : 
 unfoldable pub purpose_of : {P : Type 0} → ℕ → List (Waiting P) → Option P
 purpose_of seq [] = None
 purpose_of seq (w ∷ ws) = if w.seq == seq then Some w.purpose else purpose_of seq ws
+
+-- the requests whose purpose does not meet a test
+abbrev pub others : {P : Type 0} → (P → Bool) → List (Waiting P) → List (Waiting P)
+others meets ws = filter (λ w. not (meets w.purpose)) ws
 
 -- the number may be begun: it is the next free one, fewer than 256 requests are pending, and there
 -- is room

@@ -2,12 +2,13 @@
 
 ghost use Rattle.std.specs.Prelude.{◌≡◌, ◌<◌, ◌≤◌, ◌↔◌, ◌⊎◌, [], ◌∷◌, ◌++◌, ◌+◌, ◌==◌};
 ghost use Rattle.std.specs.Prelude.{Bool, All, true, false, not, length, filter, map, option_map};
-ghost use Rattle.std.specs.Prelude.{IsTrue, IsOk, OnOk, OnErr, IfOk, IfErr, Err};
+ghost use Rattle.std.specs.Prelude.{IsTrue, IsOk, OnOk, OnErr, IfOk, IfErr, IfSome, IfNone, Err};
+ghost use Rattle.std.specs.Prelude.{vec_len, vec_capacity};
 ghost use Rattle.std.specs.Fn.{FnReturnsAt};
 ghost use Rattle.std.specs.List.{filter_map};
 ghost use Rattle.gtp_reliable.specs.Waiting.{just_sent, after_tick, sent_again, given_up};
 ghost use Rattle.gtp_reliable.specs.Pending.{numbers, number_after, is_pending, IsNextFree};
-ghost use Rattle.gtp_reliable.specs.Pending.{purpose_of, IsPrepared, AreLimits, SameTimes};
+ghost use Rattle.gtp_reliable.specs.Pending.{purpose_of, others, IsPrepared, AreLimits, SameTimes};
 ghost use Rattle.gtp_reliable.specs.Pending.{AreRequests, IsQuiet, resends, given_ups};
 ghost use Rattle.gtp_reliable.specs.Due.{message_of};
 ghost use Rattle.gtp_reliable.specs.Purposes.{AreRising, is_given_up};
@@ -160,12 +161,45 @@ fn drop_number<P: Copy>(waiting: &mut Vec<Waiting<P>>, number: u32)
     waiting.retain(|w| w.seq().number() != number);
 }
 
+/// How many requests have a purpose that does not meet the test.
+fn count_others<P: Copy, F: Fn(&P) -> bool>(waiting: &[Waiting<P>], test: &F) -> usize
+    ghost meets: { P → Bool }
+    requires callable { F.IsAlwaysCallable test.now }
+    requires answers { (p : P) (b : Bool) → FnReturnsAt F.Fn test.now p b → b ≡ meets p }
+    ensures { result ≡ length (others meets waiting.now) }
+{
+    let mut count = 0;
+    for w in waiting {
+        if !w.meets(test) {
+            count += 1;
+        }
+    }
+    count
+}
+
+/// Whether a request of this number has a purpose that does not meet the test.
+fn is_other<P: Copy, F: Fn(&P) -> bool>(waiting: &[Waiting<P>], number: u32, test: &F) -> bool
+    ghost meets: { P → Bool }
+    requires callable { F.IsAlwaysCallable test.now }
+    requires answers { (p : P) (b : Bool) → FnReturnsAt F.Fn test.now p b → b ≡ meets p }
+    ensures { result ≡ is_pending number (others meets waiting.now) }
+{
+    for w in waiting {
+        if w.seq().number() == number && !w.meets(test) {
+            return true;
+        }
+    }
+    false
+}
+
 /// Drops the requests whose purpose meets the test.
 fn drop_where<P: Copy, F: Fn(&P) -> bool>(waiting: &mut Vec<Waiting<P>>, test: &F)
     ghost meets: { P → Bool }
     requires callable { F.IsAlwaysCallable test.now }
     requires answers { (p : P) (b : Bool) → FnReturnsAt F.Fn test.now p b → b ≡ meets p }
-    ensures { waiting.new.items ≡ filter (λ w. not (meets w.purpose)) waiting.old.items }
+    ensures left { waiting.new.items ≡ others meets waiting.old.items }
+    ensures bound { vec_len waiting.new ≤ vec_len waiting.old }
+    ensures capacity { vec_capacity waiting.new ≡ vec_capacity waiting.old }
 {
     waiting.retain(|w| !w.meets(test));
 }
@@ -175,7 +209,9 @@ fn take_out_where<P: Copy, F: Fn(&P) -> bool>(purposes: &mut Vec<(u32, P)>, test
     ghost meets: { P → Bool }
     requires callable { F.IsAlwaysCallable test.now }
     requires answers { (p : P) (b : Bool) → FnReturnsAt F.Fn test.now p b → b ≡ meets p }
-    ensures { purposes.new.items ≡ filter (λ e. not (meets e.1)) purposes.old.items }
+    ensures left { purposes.new.items ≡ filter (λ e. not (meets e.1)) purposes.old.items }
+    ensures bound { vec_len purposes.new ≤ vec_len purposes.old }
+    ensures capacity { vec_capacity purposes.new ≡ vec_capacity purposes.old }
 {
     purposes.retain(|entry| !meets(&entry.1, test));
 }
@@ -225,6 +261,18 @@ impl<P: Copy> Pending<P> {
         self.waiting.len() >= MOST
     }
 
+    /// Room for one more request, of which `prepare` then needs no memory; nothing else changes. After an error
+    /// all is as before, as after one of `prepare`.
+    pub fn reserve(&mut self) -> Result<(), AllocError>
+        ensures room { OnOk result (self.new ≡ record self.old { has_room = true }) }
+        ensures memory { OnErr result (self.old.has_room ≡ false) }
+        ensures err { OnErr result (self.new ≡ self.old) }
+    {
+        self.waiting.try_reserve(1)?;
+        self.purposes.try_reserve(1)?;
+        Ok(())
+    }
+
     /// The next free number, and room for its request; nothing else changes. After an error all is
     /// as before: each part of the value that contracts see, `has_room` among them.
     pub fn prepare(&mut self) -> Result<Seq, ReliableFault>
@@ -241,8 +289,7 @@ impl<P: Copy> Pending<P> {
         if self.is_full() {
             return Err(ReliableFault::PendingFull);
         }
-        self.waiting.try_reserve(1)?;
-        self.purposes.try_reserve(1)?;
+        self.reserve()?;
         Ok(Seq::new(self.next_free()))
     }
 
@@ -263,6 +310,30 @@ impl<P: Copy> Pending<P> {
             number = following(number);
         }
         number
+    }
+
+    /// The number that the next request would have, if those whose purpose passes the test were no longer pending:
+    /// `None` where 256 would be pending still. Allocates nothing. `meets` is the test as contracts see it; the caller
+    /// chooses it.
+    pub fn next_without<F: Fn(&P) -> bool>(&self, test: F) -> Option<Seq>
+        ghost meets: { P → Bool }
+        requires callable { F.IsAlwaysCallable test }
+        requires answers { (p : P) (b : Bool) → FnReturnsAt F.Fn test p b → b ≡ meets p }
+        ensures some { IfSome result (λ seq.
+            IsNextFree self.now.next (others meets self.now.waiting) seq) }
+        ensures few { IfSome result (λ _. length (others meets self.now.waiting) < 256) }
+        ensures none { IfNone result (256 ≤ length (others meets self.now.waiting)) }
+        // What holds of the requests at all times.
+        ensures always { AreRequests self.now }
+    {
+        if count_others(self.waiting.as_slice(), &test) >= MOST {
+            return None;
+        }
+        let mut number = self.next;
+        while is_other(self.waiting.as_slice(), number, &test) {
+            number = following(number);
+        }
+        Some(Seq::new(number))
     }
 
     /// Stores the prepared request as pending; the caller sends it now.
@@ -312,9 +383,10 @@ impl<P: Copy> Pending<P> {
         ghost meets: { P → Bool }
         requires callable { F.IsAlwaysCallable test }
         requires answers { (p : P) (b : Bool) → FnReturnsAt F.Fn test p b → b ≡ meets p }
-        ensures waiting { self.new.waiting ≡ filter (λ w. not (meets w.purpose)) self.old.waiting }
+        ensures waiting { self.new.waiting ≡ others meets self.old.waiting }
         ensures next { self.new.next ≡ self.old.next }
         ensures times { SameTimes self.old self.new }
+        ensures room { self.old.has_room ≡ true → self.new.has_room ≡ true }
         // What holds of the requests at all times.
         ensures always { AreRequests self.old }
     {

@@ -6,10 +6,11 @@ use Rattle.gtp_machine.specs.Message.{Control, User}
 use Rattle.gtp_machine.specs.Node.{Arrival}
 use Rattle.gtp_machine.specs.Spelling.{Datagram}
 use Rattle.gtp_machine.specs.World.{By, Event}
+use Rattle.gtp_machine.specs.declared.outcome.Outcome.{Outcome}
 use Rattle.gtp_world.specs.Kept.{Told}
 use Rattle.gtp_lines.specs.Text.{octets_text}
 use Rattle.gtp_scenario.specs.Words.{word_of}
-use Rattle.gtp_replay.specs.Outcomes.{first_word, detail}
+use Rattle.gtp_replay.specs.Outcomes.{outcome_word, outcome_detail, first_word, detail}
 
 abbrev pub plane_word : Plane → List ℕ
 plane_word Control = codes "control"
@@ -20,9 +21,14 @@ abbrev pub learned_text : Option ℕ → List ℕ
 learned_text None = []
 learned_text (Some counter) = codes " restart " ++ decimal counter
 
+-- what the second of two messages came to
+abbrev pub second_text : Option Outcome → List ℕ
+second_text None = []
+second_text (Some outcome) = codes " then " ++ outcome_word outcome ++ outcome_detail outcome
+
 -- what an event came to
 abbrev pub told_text : Told → List ℕ
-told_text told = first_word told.outcome ++ detail told.outcome ++ learned_text told.learned ++ codes "\n"
+told_text told = first_word told.outcome ++ detail told.outcome ++ second_text told.second ++ learned_text told.learned ++ codes "\n"
 
 -- what happened, and what it came to
 abbrev pub head_line : ℕ → Event → Told → List ℕ

@@ -2,21 +2,33 @@
 
 ghost use Rattle.std.specs.Prelude.{◌≡◌, map, option_map, string_bytes};
 ghost use Rattle.std.specs.List.{list_all};
-ghost use Rattle.gtp_world.specs.Kept.{outcome_of, told_by};
+ghost use Rattle.gtp_world.specs.Kept.{told_by};
 ghost use Rattle.gtp_scenario.specs.Views.{entry as entry_view};
-ghost use Rattle.gtp_replay.specs.Expected.{is_met, told_is_met, all_met};
+ghost use Rattle.gtp_replay.specs.Expected.{is_second_refused, told_is_met, all_met};
 
 use crate::reporting::{first_word, is_refused};
+use gtp_gateway::Outcome;
 use gtp_scenario::Entry;
 use gtp_world::{EventOutcome, Note};
 
+/// Whether the second of two messages was dropped, where there was one.
+fn is_second_refused(second: Option<Outcome>) -> bool
+    ensures { result ≡ is_second_refused second }
+{
+    match second {
+        None => false,
+        Some(outcome) => is_refused(EventOutcome::CameTo(outcome)),
+    }
+}
+
 /// Whether this is expected: the first word of an outcome, or else any that is no refusal.
-fn is_met(expect: &Option<String>, outcome: EventOutcome) -> bool
-    ensures { result ≡ is_met (option_map (λ s. string_bytes s) expect.now) (outcome_of outcome) }
+fn is_met(expect: &Option<String>, note: &Note) -> bool
+    ensures { result ≡ told_is_met (option_map (λ s. string_bytes s) expect.now)
+        (told_by note.now) }
 {
     match expect {
-        None => !is_refused(outcome),
-        Some(word) => word.as_str() == first_word(outcome),
+        None => !is_refused(note.outcome) && !is_second_refused(note.second),
+        Some(word) => word.as_str() == first_word(note.outcome),
     }
 }
 
@@ -26,7 +38,7 @@ fn each_met(expect: &Option<String>, notes: &[Note]) -> bool
         (map told_by notes.now) }
 {
     for note in notes {
-        if !is_met(expect, note.outcome) {
+        if !is_met(expect, note) {
             return false;
         }
     }

@@ -3,6 +3,7 @@ pub mod Front
 pub mod Lists
 pub mod Pools
 pub mod Spelled
+pub mod Templates
 pub mod Texts
 pub mod Tokens
 pub mod Trees

@@ -11,10 +11,12 @@ use Rattle.gtp_reliable.specs.Pending.{AreLimits}
 use Rattle.gtp_reliable.specs.Held.{IsHold}
 use Rattle.gtp_gateway.specs.declared.config.Addresses.{Addresses}
 use Rattle.gtp_gateway.specs.declared.config.Timers.{Timers}
-use Rattle.gtp_gateway.specs.Settings.{settings_of}
+use Rattle.gtp_machine.specs.Config.{Template}
+use Rattle.gtp_gateway.specs.Settings.{Settings, settings_of, with_template}
 use Rattle.gtp_world.specs.Runs.{Setup}
 use Rattle.gtp_scenario.specs.Steps.{◌>>=◌}
-use Rattle.gtp_scenario.specs.Json.{text_at, number_at, number_or, within, has_only, count_of}
+use Rattle.gtp_scenario.specs.Events.{tft_at, qos}
+use Rattle.gtp_scenario.specs.Json.{text_at, number_at, number_or, within, is_among, has_only, count_of}
 use Rattle.gtp_scenario.specs.Texts.{apn_of, address_of, ipv6_of}
 
 -- ---- values of keys
@@ -124,7 +126,7 @@ pub record PacketHead : Type 0 where
 abbrev pub packet_keys : List (List ℕ)
 packet_keys =
     codes "control" ∷ codes "user" ∷ codes "counter" ∷ codes "apns" ∷
-    codes "pool" ∷ codes "count" ∷ codes "pool6" ∷ codes "count6" ∷ []
+    codes "pool" ∷ codes "count" ∷ codes "pool6" ∷ codes "count6" ∷ codes "templates" ∷ []
 
 unfoldable pub packet_of : Data → Option PacketHead
 packet_of d =
@@ -154,6 +156,39 @@ set_up timers serving packet =
       packet_counter = packet.counter;
     }
 
+-- the template of an access point: its name and the TFT of its bearers, whose QoS is that of all
+unfoldable pub template_of : Data → Option Template
+template_of d =
+    if has_only (codes "apn" ∷ codes "tft" ∷ []) d
+    then (do
+      name ← text_at (codes "apn") d >>= apn_of
+      tft ← tft_at d
+      Some (record { access_point = name; tft = tft; qos = qos }))
+    else None
+
+-- the settings with this template, where its access point is one of theirs
+abbrev pub configured : Settings → Template → Option Settings
+configured s t = if is_among s.config.access_points t.access_point then Some (with_template t s) else None
+
+-- the settings with the template that this is
+abbrev pub with_this : Data → Settings → Option Settings
+with_this d s = template_of d >>= configured s
+
+-- the settings with each of these templates, one after the other
+abbrev pub with_each : Items → Settings → Option Settings
+with_each no_items s = Some s
+with_each (item d items) s = with_this d s >>= with_each items
+
+-- the settings with the templates, which may be absent
+abbrev pub with_those : Option Data → Settings → Option Settings
+with_those None s = Some s
+with_those (Some d) s = do
+  items ← as_array d
+  with_each items s
+
+unfoldable pub with_templates_at : Data → Settings → Option Settings
+with_templates_at d s = with_those (get (codes "templates") d) s
+
 -- all of a scenario but its events
 unfoldable pub setup_of : Data → Option Setup
 setup_of d =
@@ -161,8 +196,10 @@ setup_of d =
     then (do
       timers ← timers_at d
       serving ← get (codes "serving") d >>= serving_of
-      packet ← get (codes "packet") d >>= packet_of
-      Some (set_up timers serving packet))
+      said ← get (codes "packet") d
+      packet ← packet_of said
+      settings ← with_templates_at said (set_up timers serving packet).packet
+      Some (record (set_up timers serving packet) { packet = settings }))
     else None
 
 -- the list of events

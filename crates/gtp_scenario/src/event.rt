@@ -73,7 +73,7 @@ fn subscriber_at(value: &Tree<'_, '_>) -> Option<Subscriber>
 
 /// A traffic flow template.
 #[tactic(auto, unfolding(crate::specs::Events::tft_at))]
-fn tft_at(alloc: Global, value: &Tree<'_, '_>) -> Result<Tft, Fault>
+pub(crate) fn tft_at(alloc: Global, value: &Tree<'_, '_>) -> Result<Tft, Fault>
     ensures { Gives (λ tft. tft) result (tft_at (view value.now)) }
 {
     let text = text_at(value, "tft").ok_or(Fault::Wrong)?;

@@ -2,21 +2,26 @@
 
 ghost use Rattle.std.specs.Prelude.{◌≡◌, ◌≤◌, length, nat_le, if◌then◌else◌, None, IfOk, IfSome, option_map};
 ghost use Rattle.std.specs.Int.{from_be_bytes};
+ghost use Rattle.gtp_world.specs.Runs.{AreFacing};
+ghost use Rattle.gtp_scenario.specs.Events.{qos as fixed_qos};
 ghost use Rattle.gtp_scenario.specs.Steps.{Gives};
 ghost use Rattle.gtp_scenario.specs.Json.{count_of};
 ghost use Rattle.gtp_scenario.specs.Heads.{AreTimers, address_at, addresses_at, counter_at, access_point_of, access_points_in, access_points_at};
 ghost use Rattle.gtp_scenario.specs.Heads.{pool_from, pool_at, prefixes_from, prefixes_at, pools_at, no_pool, time_at, timers_at};
-ghost use Rattle.gtp_scenario.specs.Heads.{serving_of, packet_of, set_up, setup_of, events_at};
+ghost use Rattle.gtp_scenario.specs.Heads.{serving_of, packet_of, set_up, configured, with_this, with_each, with_templates_at, setup_of, events_at};
 ghost use Rattle.gtp_scenario.specs.Trees.{view, items_view};
 ghost use Rattle.gtp_scenario.specs.Views.{serving_head, packet_head};
 
+use crate::event::tft_at;
 use crate::fault::Fault;
+use crate::fixed::qos;
 use crate::members::{
     Items, as_list, as_text, has, has_only, number_at, number_or, text_at, value_at, within,
 };
 use crate::text::{address_of, apn_of, ipv6_of};
 use crate::tree::Tree;
 use gtp_gateway::{Addresses, Apn, Config, Counter, Ip, Pool, Pools, Prefixes, Timers};
+use gtp_values::Tft;
 use gtp_world::WorldConfig;
 use std::alloc::Global;
 
@@ -190,7 +195,15 @@ fn packet_of(alloc: Global, value: &Tree<'_, '_>) -> Result<PacketHead, Fault>
     if !has_only(
         value,
         &[
-            "control", "user", "counter", "apns", "pool", "count", "pool6", "count6",
+            "control",
+            "user",
+            "counter",
+            "apns",
+            "pool",
+            "count",
+            "pool6",
+            "count6",
+            "templates",
         ],
     ) {
         return Err(Fault::Wrong);
@@ -217,18 +230,24 @@ fn no_pool() -> Pool
     }
 }
 
-/// Both gateways, as each other's peers.
-fn set_up(alloc: Global, timers: Timers, serving: ServingHead, packet: PacketHead) -> WorldConfig
+/// The settings of both gateways, as each other's peers.
+fn set_up(
+    alloc: Global,
+    timers: Timers,
+    serving: ServingHead,
+    packet: PacketHead,
+) -> (Config, Config)
     requires range { AreTimers timers }
     requires few { length packet.access_points.items ≤ 16 }
-    ensures { result ≡ set_up timers (serving_head serving) (packet_head packet) }
+    ensures serving { result.0 ≡ (set_up timers (serving_head serving) (packet_head packet)).serving }
+    ensures packet { result.1 ≡ (set_up timers (serving_head serving) (packet_head packet)).packet }
 {
     let none = Vec::new(alloc);
     let PacketHead {
         own,
-        counter,
         access_points,
         pools,
+        ..
     } = packet;
     let Ok(from_serving) = Config::try_new(serving.own, own, none, no_pool(), timers) else {
         unreachable!()
@@ -239,7 +258,68 @@ fn set_up(alloc: Global, timers: Timers, serving: ServingHead, packet: PacketHea
     let Ok(from_packet) = from_packet.with_pool6(pools.v6.start(), pools.v6.count()) else {
         unreachable!()
     };
-    match WorldConfig::try_new(from_serving, from_packet, [serving.counter, counter]) {
+    (from_serving, from_packet)
+}
+
+/// The settings with a template of an access point, if that is one of theirs.
+fn put_template(config: Config, access_point: &Apn, tft: &Tft) -> Option<Config>
+    ensures { result ≡ configured config
+        (record { access_point = access_point.now; tft = tft.now; qos = fixed_qos }) }
+{
+    config.with_template(access_point, tft, &qos()).ok()
+}
+
+/// The settings with the template that a value is.
+#[tactic(auto, unfolding(crate::specs::Heads::template_of))]
+fn with_this(alloc: Global, config: Config, value: &Tree<'_, '_>) -> Result<Config, Fault>
+    ensures { Gives (λ config. config) result (with_this (view value.now) config) }
+{
+    if !has_only(value, &["apn", "tft"]) {
+        return Err(Fault::Wrong);
+    }
+    let name = text_at(value, "apn").ok_or(Fault::Wrong)?;
+    let name = apn_of(name).ok_or(Fault::Wrong)?;
+    let tft = tft_at(alloc, value)?;
+    put_template(config, &name, &tft).ok_or(Fault::Wrong)
+}
+
+/// The settings with each of these templates, one after the other.
+fn with_each(alloc: Global, mut config: Config, mut values: Items<'_, '_>) -> Result<Config, Fault>
+    ensures { Gives (λ config. config) result (with_each (items_view values.entry) config) }
+{
+    while let Some(value) = values.next() {
+        config = with_this(alloc, config, &value)?;
+    }
+    Ok(config)
+}
+
+/// The settings with the templates, which may be absent.
+#[tactic(auto, unfolding(crate::specs::Heads::with_templates_at))]
+fn with_templates_at(alloc: Global, config: Config, value: &Tree<'_, '_>) -> Result<Config, Fault>
+    ensures { Gives (λ config. config) result (with_templates_at (view value.now) config) }
+{
+    match value_at(value, "templates") {
+        None => Ok(config),
+        Some(templates) => { with_each(alloc, config, as_list(&templates).ok_or(Fault::Wrong)?) }
+    }
+}
+
+/// Two gateways that are each other's peers.
+fn world_of(
+    from_serving: Config,
+    from_packet: Config,
+    serving: Counter,
+    packet: Counter,
+) -> WorldConfig
+    requires { AreFacing from_serving from_packet }
+    ensures { result ≡ record {
+      serving = from_serving;
+      packet = from_packet;
+      serving_counter = serving.0;
+      packet_counter = packet.0;
+    } }
+{
+    match WorldConfig::try_new(from_serving, from_packet, [serving, packet]) {
         Ok(config) => config,
         Err(_) => unreachable!(),
     }
@@ -256,9 +336,12 @@ pub(crate) fn setup_of(alloc: Global, value: &Tree<'_, '_>) -> Result<WorldConfi
     let timers = timers_at(value).ok_or(Fault::Wrong)?;
     let serving = value_at(value, "serving").ok_or(Fault::Wrong)?;
     let serving = serving_of(&serving).ok_or(Fault::Wrong)?;
-    let packet = value_at(value, "packet").ok_or(Fault::Wrong)?;
-    let packet = packet_of(alloc, &packet)?;
-    Ok(set_up(alloc, timers, serving, packet))
+    let said = value_at(value, "packet").ok_or(Fault::Wrong)?;
+    let packet = packet_of(alloc, &said)?;
+    let counter = packet.counter;
+    let (from_serving, from_packet) = set_up(alloc, timers, serving, packet);
+    let from_packet = with_templates_at(alloc, from_packet, &said)?;
+    Ok(world_of(from_serving, from_packet, serving.counter, counter))
 }
 
 /// The list of events.

@@ -7,6 +7,7 @@ mod addresses;
 mod faulty;
 mod full;
 mod hostile;
+mod pairs;
 mod sessions;
 mod transport;
 mod user;
@@ -54,6 +55,8 @@ struct Tells {
     restart: Option<Counter>,
     /// A context was made for a request.
     made: bool,
+    /// The outcome of a second message.
+    second: Option<Outcome>,
 }
 
 /// What is sent for it.
@@ -518,6 +521,7 @@ impl Path {
             heard: report.heard,
             restart: report.restart,
             made: report.made,
+            second: report.second,
         });
         assert!(rt; told == Some(*tells), "row {at}: {told:?}");
     }
@@ -880,6 +884,7 @@ const PLAIN: Tells = Tells {
     heard: None,
     restart: None,
     made: false,
+    second: None,
 };
 
 /// The last datagram told nothing more.

@@ -1,6 +1,7 @@
 -- Worlds that follow the same events from one setup are alike.
 pub mod Placed
 pub mod Commands
+pub mod Opening
 pub mod Left
 pub mod Lasting
 pub mod Steps

@@ -4,14 +4,15 @@ use Rattle.std.proofs.lemmas.List.{map-append}
 use Rattle.gtp_machine.specs.Config.{Config}
 use Rattle.gtp_machine.specs.Exchange.{IsOnePath, CanExchange, AllRead, CameTo}
 use Rattle.gtp_machine.specs.Input.{Specification, Create_session}
-use Rattle.gtp_machine.specs.Message.{Plane, Control, User, Message, plane_of}
+use Rattle.gtp_machine.specs.Message.{Plane, Control, User, Message, Create_session_response, Create_bearer_request, plane_of}
 use Rattle.gtp_machine.specs.Spelling.{Datagram, ReadsAs, spelled}
 use Rattle.gtp_machine.specs.declared.role.Role.{Role}
 use Rattle.gtp_machine.specs.declared.role.Role.TheVariants.{Serving, Packet}
 use Rattle.gtp_machine.specs.World.{By, Sent, SentDatagram, HasSent, signed, flat, World, Event, Does, Deliver, Note, EventOutcome, Happens, Run, start}
-use Rattle.gtp_machine.proofs.Basics.Datagrams.{IsAlone, EachAlone}
+use Rattle.gtp_machine.proofs.Basics.Datagrams.{IsFew, EachFew}
 use Rattle.gtp_machine.proofs.Basics.FiniteMaps.{Among-cases}
 use Rattle.gtp_machine.proofs.Exchange.Made.{fair_exchange}
+use Rattle.gtp_machine.proofs.Worlds.Coming.{by_few}
 use Rattle.gtp_machine.proofs.Worlds.Runs.{always}
 use Rattle.gtp_gateway.specs.Sent.{ReadsBackOn, ReadsBack}
 use Rattle.gtp_world.specs.Kept.{oldest_first, Told, Kept, outcomes_in}
@@ -20,6 +21,7 @@ use Rattle.gtp_world.specs.Stepped.{Comes, Follows}
 use Rattle.gtp_world.specs.Exchange.{CameSoFar, IsExchanged}
 use Rattle.gtp_world.proofs.Configs.{set_up}
 use Rattle.gtp_world.proofs.Cuts.{by_itself}
+use Rattle.gtp_world.proofs.Pairs.{first_alone, second_alone}
 use Rattle.gtp_world.proofs.Going.{goes}
 use Rattle.gtp_world.proofs.Running.{runs_on}
 
@@ -32,29 +34,35 @@ as_many setup (d ∷ log) (s ∷ all) are = ap (λ n. suc n) (as_many setup log 
 
 -- a datagram of one message reads as that
 as_message : (p : Plane) (m : Message) → ReadsBackOn p (m ∷ []) → ReadsAs p (spelled m) m
-as_message Control m reads = by_itself (spelled m) m reads
+as_message Control m reads = by_itself (spelled m) m reads.0
 as_message User m reads = reads
 
-of_datagram : (role from : Role) (datagram : List Message) (m : Message) → IsAlone datagram → ReadsBack datagram → HasSent (signed from datagram) role m → ReadsAs (plane_of m) (spelled m) m
-of_datagram role from [] m alone reads has = absurd alone
-of_datagram role from (n ∷ []) m alone reads (inl is) = subst (λ (k : Sent). ReadsAs (plane_of k.what) (spelled k.what) k.what) (sym is) (as_message (plane_of n) n reads)
-of_datagram role from (n ∷ []) m alone reads (inr none) = absurd none
-of_datagram role from (n ∷ k ∷ rest) m alone reads has = absurd alone
+-- and each message of one datagram as itself
+of_datagram : (role from : Role) (m : Message) (datagram : List Message) → IsFew datagram → ReadsBack datagram → HasSent (signed from datagram) role m → ReadsAs (plane_of m) (spelled m) m
+of_datagram role from m = by_few (λ datagram. ReadsBack datagram → HasSent (signed from datagram) role m → ReadsAs (plane_of m) (spelled m) m)
+    (λ n reads has. ⊎_elim (λ is. itself n is (as_message (plane_of n) n reads)) (λ none. absurd none) has)
+    (λ a r reads has. ⊎_elim
+    (λ is. itself (Create_session_response a) is (first_alone a (Create_bearer_request r) reads))
+    (λ rest. ⊎_elim (λ is. itself (Create_bearer_request r) is (second_alone (Create_session_response a) (Create_bearer_request r) [] reads)) (λ none. absurd none) rest)
+    has)
+  where
+    itself : (n : Message) → ◌≡◌ {A = Sent} (record { role = role; what = m }) (record { role = from; what = n }) → ReadsAs (plane_of n) (spelled n) n → ReadsAs (plane_of m) (spelled m) m
+    itself n is reads = subst (λ (k : Sent). ReadsAs (plane_of k.what) (spelled k.what) k.what) (sym is) reads
 
 -- each message that was sent reads as itself
-each_reads : (setup : Setup) (log : List (By Datagram)) (all : List SentDatagram) → AreFor setup log all → EachAlone all → (role : Role) (m : Message) → HasSent (flat all) role m → ReadsAs (plane_of m) (spelled m) m
-each_reads setup [] [] are alone role m none = absurd none
-each_reads setup [] (s ∷ all) are alone role m has = absurd are
-each_reads setup (d ∷ log) [] are alone role m none = absurd none
-each_reads setup (d ∷ log) (s ∷ all) are alone role m has = ⊎_elim
-    (λ here. of_datagram role s.role s.what m (alone s (inl refl)) are.0.reads here)
-    (λ later. each_reads setup log all are.1 (λ k among. alone k (inr among)) role m later)
+each_reads : (setup : Setup) (log : List (By Datagram)) (all : List SentDatagram) → AreFor setup log all → EachFew all → (role : Role) (m : Message) → HasSent (flat all) role m → ReadsAs (plane_of m) (spelled m) m
+each_reads setup [] [] are few role m none = absurd none
+each_reads setup [] (s ∷ all) are few role m has = absurd are
+each_reads setup (d ∷ log) [] are few role m none = absurd none
+each_reads setup (d ∷ log) (s ∷ all) are few role m has = ⊎_elim
+    (λ here. of_datagram role s.role m s.what (few s (inl refl)) are.0.reads here)
+    (λ later. each_reads setup log all are.1 (λ k among. few k (inr among)) role m later)
     (Among-cases (record { role = role; what = m }) (signed s.role s.what) (flat all) has)
 
 all_read : (setup : Setup) (events : List Event) (v : Kept) → (r : IsRunOf setup events v) → AllRead r.world
 all_read setup events v r role m has =
     let always_so = always setup.serving.config setup.packet.config setup.serving_counter setup.packet_counter events r.world r.run in
-    each_reads setup v.log.datagrams r.world.datagrams r.stands.datagrams always_so.alone role m (subst (λ h. HasSent h role m) (sym always_so.kept) has)
+    each_reads setup v.log.datagrams r.world.datagrams r.stands.datagrams always_so.few role m (subst (λ h. HasSent h role m) (sym always_so.kept) has)
 
 -- a list with one more is not empty
 not_empty : {X : Type 0} (xs : List X) (x : X) → [] ≡ xs ++ (x ∷ []) → ⊥

@@ -4,10 +4,12 @@ pub mod SameKeys
 pub mod Logs
 pub mod Quiet
 pub mod Forgets
+pub mod Pairs
 pub mod Cuts
 pub mod Configs
 pub mod Standing
 pub mod Going
+pub mod Making
 pub mod Telling
 pub mod Sidewise
 pub mod Safe

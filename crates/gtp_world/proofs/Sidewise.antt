@@ -1,7 +1,10 @@
 -- What comes of an input or a tick at one of both gateways, for all that is kept.
-use Rattle.std.proofs.Common.{◌≡◌, List, Bool, false, [], ◌∷◌, ◌++◌, length, refl, sym, ◌∙◌, ap, subst, append-nil}
+use Rattle.std.proofs.Common.{◌≡◌, inl, inr, ℕ, List, Bool, false, [], ◌∷◌, ◌++◌, length, None, refl, sym, ◌∙◌, ap, subst, append-nil, append_assoc}
 use Rattle.std.proofs.lemmas.List.{length-map}
+use Rattle.gtp_values.specs.declared.address.Endpoint.{Endpoint}
 use Rattle.gtp_machine.specs.Input.{Input, Out}
+use Rattle.gtp_machine.specs.Message.{CreateSessionResponse, CreateBearerRequest, Plane, Control, User}
+use Rattle.gtp_machine.proofs.Basics.Datagrams.{both_signed}
 use Rattle.gtp_machine.specs.declared.role.Role.{Role}
 use Rattle.gtp_machine.specs.declared.role.Role.TheVariants.{Serving, Packet}
 use Rattle.gtp_machine.specs.Spelling.{Datagram}
@@ -11,8 +14,8 @@ use Rattle.gtp_gateway.specs.Sent.{datagram_by}
 use Rattle.gtp_gateway.specs.declared.tick.Ticked.{Ticked as Tick}
 use Rattle.gtp_world.specs.Kept.{Half, Log, Kept, half_in, with_half, counted, half_of, log_of, kept_of}
 use Rattle.gtp_world.specs.Recorded.{log_of_came, log_of_tick}
-use Rattle.gtp_world.specs.Sides.{IsInput, IsTick}
-use Rattle.gtp_world.specs.Stepped.{Takes, TicksBy, log_after, sent_at}
+use Rattle.gtp_world.specs.Sides.{IsInput, AreInputs, IsBrought, IsTick}
+use Rattle.gtp_world.specs.Stepped.{Takes, TakesBoth, TakesOn, TicksBy, log_after, log_after_both, sent_at}
 use Rattle.gtp_world.specs.declared.records.Records.{Records}
 use Rattle.gtp_world.specs.declared.side.Came.{Came}
 use Rattle.gtp_world.specs.declared.side.Side.{Side}
@@ -27,7 +30,7 @@ came_log log role input Timed old came new late t =
       handed = log.handed ++ t.tells.handed i;
       accepted = log.accepted ++ t.tells.accepted i;
       late = counted late log.late;
-      notes = log.notes ++ (record { outcome = t.tells.outcome i; learned = t.tells.learned i; sent = length (t.tells.sent i); gave_up = sym t.tells.gave_up i; forgot = sym t.tells.forgot i } ∷ []);
+      notes = log.notes ++ (record { outcome = t.tells.outcome i; second = t.tells.alone i; learned = t.tells.learned i; sent = length (t.tells.sent i); gave_up = sym t.tells.gave_up i; forgot = sym t.tells.forgot i } ∷ []);
     }
 
 pub takes_by : (v : Kept) (role : Role) (input : Input) (Timed : List Datagram → EventOutcome → Station → Station → Type 0) (came : Came) (half : Half) (log : Log) (late : Bool) (new : Kept) → IsInput role input Timed (half_in v role) came half → log ≡ log_of_came v.log role came late → new ≡ record (with_half v role half) { log = log } → Takes v role input Timed late new
@@ -45,6 +48,46 @@ takes_by v role input Timed came half log late new t is becomes =
       becomes = becomes ∙ (λ i. record (with_half v role (t.becomes i)) { log = logs i });
     }
 
+-- the log, after what came of two messages of one datagram
+both_log : (log : Log) (role : Role) (source : Endpoint) (octets : List ℕ) (answer : CreateSessionResponse) (asked : CreateBearerRequest) (old : Half) (came : Came) (new : Half) (late : Bool) (t : AreInputs role source octets answer asked old came new) → log_of_came log role came late ≡ log_after_both log role t.first t.second (sent_at old t.first.out) (sent_at old t.second.out) late
+both_log log role source octets answer asked old came new late t =
+    let first = t.first.out in
+    let second = t.second.out in
+    let datagrams = ap (λ l. log.datagrams ++ signed role l) t.tells.sent ∙ ap (λ l. log.datagrams ++ l) (both_signed role (sent_at old first) (sent_at old second)) ∙ sym (append_assoc log.datagrams (signed role (sent_at old first)) (signed role (sent_at old second))) in
+    let handed = ap (λ l. log.handed ++ l) t.tells.handed ∙ sym (append_assoc log.handed (signed role first.handed) (signed role second.handed)) in
+    let accepted = ap (λ l. log.accepted ++ l) t.tells.accepted ∙ sym (append_assoc log.accepted (signed role first.accepted) (signed role second.accepted)) in
+    λ i. record {
+      datagrams = datagrams i;
+      handed = handed i;
+      accepted = accepted i;
+      late = counted late log.late;
+      notes = log.notes ++ (record { outcome = t.tells.outcome i; second = t.tells.next i; learned = t.tells.learned i; sent = length (t.tells.sent i); gave_up = sym t.tells.gave_up i; forgot = sym t.tells.forgot i } ∷ []);
+    }
+
+both_by : (v : Kept) (role : Role) (source : Endpoint) (octets : List ℕ) (answer : CreateSessionResponse) (asked : CreateBearerRequest) (came : Came) (half : Half) (log : Log) (late : Bool) (new : Kept) → AreInputs role source octets answer asked (half_in v role) came half → log ≡ log_of_came v.log role came late → new ≡ record (with_half v role half) { log = log } → TakesBoth v role source octets answer asked late new
+both_by v role source octets answer asked came half log late new t is becomes =
+    let logs = is ∙ both_log v.log role source octets answer asked (half_in v role) came half late t in
+    record {
+      first = t.first;
+      step = t.step;
+      silent = t.silent;
+      second = t.second;
+      follows = t.follows;
+      readable = t.readable;
+      station = half.station;
+      node = t.node;
+      role_stays = t.role_stays;
+      lowest = t.lowest;
+      timed = t.timed;
+      becomes = becomes ∙ (λ i. record (with_half v role (t.becomes i)) { log = logs i });
+    }
+
+-- a datagram of a plane
+brought_by : (v : Kept) (role : Role) (plane : Plane) (source : Endpoint) (octets : List ℕ) (came : Came) (half : Half) (log : Log) (late : Bool) (new : Kept) → IsBrought role plane source octets (half_in v role) came half → log ≡ log_of_came v.log role came late → new ≡ record (with_half v role half) { log = log } → TakesOn v role plane source octets late new
+brought_by v role Control source octets came half log late new (inl (none, t)) is becomes = inl (none, takes_by v role _ _ came half log late new t is becomes)
+brought_by v role Control source octets came half log late new (inr (pair, t)) is becomes = inr (pair, both_by v role source octets pair.answer pair.asked came half log late new t is becomes)
+brought_by v role User source octets came half log late new t is becomes = takes_by v role _ _ came half log late new t is becomes
+
 -- the log, after a tick
 tick_log : (log : Log) (role : Role) (old : Half) (ticked : Tick) (new : Half) (t : IsTick old ticked new) → log_of_tick log role ticked ≡ log_after log role t.out (sent_at old t.out) Ticked false
 tick_log log role old ticked new t =
@@ -57,7 +100,7 @@ tick_log log role old ticked new t =
       handed = handed i;
       accepted = accepted i;
       late = log.late;
-      notes = log.notes ++ (record { outcome = Ticked; learned = learned i; sent = sent i; gave_up = t.gave_up i; forgot = t.forgot i } ∷ []);
+      notes = log.notes ++ (record { outcome = Ticked; second = None; learned = learned i; sent = sent i; gave_up = t.gave_up i; forgot = t.forgot i } ∷ []);
     }
 
 pub ticks_by : (v : Kept) (role : Role) (ticked : Tick) (half : Half) (log : Log) (new : Kept) → IsTick (half_in v role) ticked half → log ≡ log_of_tick v.log role ticked → new ≡ record (with_half v role half) { log = log } → TicksBy v role new
@@ -92,6 +135,10 @@ at_packet old mid role side room is stands same =
 pub takes_at : (old mid : Sides) (role : Role) (input : Input) (Timed : List Datagram → EventOutcome → Station → Station → Type 0) (before after : Half) (came : Came) (settled : Records) (late : Bool) → IsAt old role before after mid → IsInput role input Timed before came after → log_of settled ≡ log_of_came (log_of mid.records) role came late → Takes (kept_of old) role input Timed late (kept_of (record mid { records = settled }))
 takes_at old mid role input Timed before after came settled late at t logs =
     takes_by (kept_of old) role input Timed came after (log_of settled) late _ (subst (λ h. IsInput role input Timed h came after) at.was t) (logs ∙ ap (λ l. log_of_came l role came late) at.log) (at.sides settled)
+
+pub brought_at : (old mid : Sides) (role : Role) (plane : Plane) (source : Endpoint) (octets : List ℕ) (before after : Half) (came : Came) (settled : Records) (late : Bool) → IsAt old role before after mid → IsBrought role plane source octets before came after → log_of settled ≡ log_of_came (log_of mid.records) role came late → TakesOn (kept_of old) role plane source octets late (kept_of (record mid { records = settled }))
+brought_at old mid role plane source octets before after came settled late at t logs =
+    brought_by (kept_of old) role plane source octets came after (log_of settled) late _ (subst (λ h. IsBrought role plane source octets h came after) at.was t) (logs ∙ ap (λ l. log_of_came l role came late) at.log) (at.sides settled)
 
 pub ticks_at : (old mid : Sides) (role : Role) (before after : Half) (ticked : Tick) (settled : Records) → IsAt old role before after mid → IsTick before ticked after → log_of settled ≡ log_of_tick (log_of mid.records) role ticked → TicksBy (kept_of old) role (kept_of (record mid { records = settled }))
 ticks_at old mid role before after ticked settled at t logs =

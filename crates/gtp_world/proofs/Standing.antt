@@ -1,18 +1,18 @@
 -- What is kept stands for the machine's world after a step, as it did before.
-use Rattle.std.proofs.Common.{◌≡◌, ℕ, ◌+◌, ◌%◌, Bool, true, false, List, [], ◌∷◌, ◌++◌, map, Option, Some, None, option_to_list, refl, sym, ◌∙◌, ap, append-nil}
+use Rattle.std.proofs.Common.{◌≡◌, ℕ, ◌+◌, ◌%◌, Bool, true, false, List, [], ◌∷◌, ◌++◌, map, Option, Some, None, option_to_list, length, refl, sym, ◌∙◌, ap, append-nil, length-append}
 use Rattle.gtp_machine.specs.Config.{Config}
 use Rattle.gtp_machine.specs.declared.role.Role.{Role}
 use Rattle.gtp_machine.specs.declared.role.Role.TheVariants.{Serving, Packet}
 use Rattle.gtp_machine.specs.Node.{Arrival, Node, fresh_node}
-use Rattle.gtp_machine.specs.Input.{Out, Effect, nothing, datagrams}
+use Rattle.gtp_machine.specs.Input.{Sending, Out, Effect, nothing, datagrams}
 use Rattle.gtp_machine.specs.Spelling.{Datagram, datagram_of}
 use Rattle.gtp_machine.specs.Step.{Done}
 use Rattle.gtp_machine.specs.World as machine
-use Rattle.gtp_machine.specs.World.{By, World, Side, EventOutcome, Restarted, Note, note_of, quiet_note, noted, moved, stepped, with_heard, logged, with_steps, with_side, late_once, side_of, restarted, next_counter, signed}
+use Rattle.gtp_machine.specs.World.{By, World, Side, EventOutcome, Restarted, Note, note_of, note_of_both, outcome_in, quiet_note, noted, moved, stepped, with_heard, logged, with_steps, with_side, late_once, side_of, restarted, next_counter, signed}
 use Rattle.gtp_gateway.specs.Station.{Station}
-use Rattle.gtp_world.specs.Kept.{oldest_first, Half, Told, Kept, half_in, with_half}
+use Rattle.gtp_world.specs.Kept.{oldest_first, Half, Told, Kept, half_in, with_half, counted}
 use Rattle.gtp_world.specs.Runs.{Setup, config_in, AreFor, told_in, HalfStands, StandsFor}
-use Rattle.gtp_world.specs.Stepped.{half_after, told_of, log_with, kept_after, sent_at, AreReadable, passed_over, counter_after, half_restarted}
+use Rattle.gtp_world.specs.Stepped.{half_after, told_of, told_of_both, log_moved, log_with, kept_after, kept_after_both, sent_at, AreReadable, passed_over, counter_after, half_restarted}
 use Rattle.gtp_world.proofs.Lists.{oldest_append, as_many, for_append, sent_for}
 
 -- the half of a role
@@ -60,8 +60,20 @@ lates true w role a = late_once w role a
 abbrev pub world_after : World → Role → Effect → EventOutcome → List Done → World
 world_after w role e outcome steps = logged (noted (moved w role e) (note_of outcome e.out)) role steps
 
+-- the world after a step for each of two messages
+abbrev pub world_after_both : World → Role → Effect → Effect → List Done → World
+world_after_both w role first second steps = logged (noted (moved (moved w role first) role second) (note_of_both first second)) role steps
+
 told_so : (outcome : EventOutcome) (out : Out) (config : Config) → told_of outcome out (map (datagram_of config) out.sent) ≡ told_in (note_of outcome out)
-told_so outcome out config = λ i. record { outcome = outcome; learned = out.learned; sent = as_many (datagram_of config) out.sent i; gave_up = out.gave_up; forgot = out.forgot }
+told_so outcome out config = λ i. record { outcome = outcome; second = None; learned = out.learned; sent = as_many (datagram_of config) out.sent i; gave_up = out.gave_up; forgot = out.forgot }
+
+both_many : (config : Config) (first more : List Sending) → length (map (datagram_of config) first ++ map (datagram_of config) more) ≡ length (datagrams first ++ datagrams more)
+both_many config first more =
+    length-append (map (datagram_of config) first) (map (datagram_of config) more)
+    ∙ ((λ i. as_many (datagram_of config) first i + as_many (datagram_of config) more i) ∙ sym (length-append (datagrams first) (datagrams more)))
+
+told_both_so : (first second : Effect) (config : Config) → told_of_both first second (map (datagram_of config) first.out.sent ++ map (datagram_of config) second.out.sent) ≡ told_in (note_of_both first second)
+told_both_so first second config = λ i. record { outcome = first.outcome; second = outcome_in second.outcome; learned = first.out.learned; sent = both_many config first.out.sent second.out.sent i; gave_up = first.out.gave_up; forgot = first.out.forgot }
 
 notes_after : (notes : List Told) (before : List Note) (told : Told) (note : Note) → notes ≡ oldest_first (map told_in before) → told ≡ told_in note → notes ++ (told ∷ []) ≡ oldest_first (map told_in (note ∷ before))
 notes_after notes before told note is same = λ i. is i ++ (same i ∷ [])
@@ -69,44 +81,94 @@ notes_after notes before told note is same = λ i. is i ++ (same i ∷ [])
 datagrams_after : (setup : Setup) (role : Role) (config : Config) (log : List (By Datagram)) (all : List machine.SentDatagram) (out : Out) → config ≡ config_in setup role → AreFor setup log all → AreReadable out → AreFor setup (log ++ signed role (map (datagram_of config) out.sent)) (all ++ signed role (datagrams out.sent))
 datagrams_after setup role config log all out same are read = for_append setup log all _ _ are (sent_for setup role config out.sent same read)
 
--- after a step of a gateway
-pub after_step : (setup : Setup) (v : Kept) (w : World) (role : Role) (station : Station) (e : Effect) (outcome : EventOutcome) (late : Bool) (a : Arrival) (steps : List Done) → (side_of w role).node.config ≡ config_in setup role → StandsFor setup v w → AreReadable e.out → station.node ≡ e.node → station.role ≡ (half_in v role).station.role → StandsFor setup (kept_after v role station e.out (sent_at (half_in v role) e.out) outcome late) (world_after (lates late w role a) role e outcome steps)
-after_step setup v w Serving station e outcome false a steps same stands read node stays = record {
+-- where one more delivery was late, or none
+late_stands : (setup : Setup) (v : Kept) (w : World) (role : Role) (a : Arrival) (late : Bool) → StandsFor setup v w → StandsFor setup (record v { log = record v.log { late = counted late v.log.late } }) (lates late w role a)
+late_stands setup v w role a false stands = stands
+late_stands setup v w Serving a true stands = record {
+  serving = record { set_up = stands.serving.set_up; role = stands.serving.role; node = stands.serving.node; first = stands.serving.first; restarts = stands.serving.restarts; seen = stands.serving.seen; forgotten = stands.serving.forgotten; made = stands.serving.made };
+  packet = stands.packet;
+  datagrams = stands.datagrams;
+  handed = stands.handed;
+  accepted = stands.accepted;
+  late = ap (λ n. 1 + n) stands.late;
+  notes = stands.notes;
+}
+late_stands setup v w Packet a true stands = record {
+  serving = stands.serving;
+  packet = record { set_up = stands.packet.set_up; role = stands.packet.role; node = stands.packet.node; first = stands.packet.first; restarts = stands.packet.restarts; seen = stands.packet.seen; forgotten = stands.packet.forgotten; made = stands.packet.made };
+  datagrams = stands.datagrams;
+  handed = stands.handed;
+  accepted = stands.accepted;
+  late = ap (λ n. 1 + n) stands.late;
+  notes = stands.notes;
+}
+
+-- what a step sends, hands in and accepts
+abbrev moved_kept : Kept → Role → Station → Config → Out → Kept
+moved_kept v role station config out = record (with_half v role (half_after (half_in v role) station out)) { log = log_moved v.log role out (map (datagram_of config) out.sent) }
+
+moved_stands : (setup : Setup) (v : Kept) (w : World) (role : Role) (station : Station) (config : Config) (e : Effect) → config ≡ config_in setup role → StandsFor setup v w → AreReadable e.out → station.node ≡ e.node → station.role ≡ (half_in v role).station.role → StandsFor setup (moved_kept v role station config e.out) (moved w role e)
+moved_stands setup v w Serving station config e same stands read node stays = record {
   serving = half_stepped setup.serving.config Serving v.serving w.serving station e stands.serving node stays;
   packet = stands.packet;
-  datagrams = datagrams_after setup Serving v.serving.station.node.config v.log.datagrams w.datagrams e.out (ap (λ (n : Node). n.config) stands.serving.node ∙ same) stands.datagrams read;
+  datagrams = datagrams_after setup Serving config v.log.datagrams w.datagrams e.out same stands.datagrams read;
   handed = ap (λ k. k ++ signed Serving e.out.handed) stands.handed;
   accepted = ap (λ k. k ++ signed Serving e.out.accepted) stands.accepted;
   late = stands.late;
-  notes = notes_after v.log.notes w.notes _ (note_of outcome e.out) stands.notes (told_so outcome e.out v.serving.station.node.config);
+  notes = stands.notes;
 }
-after_step setup v w Serving station e outcome true a steps same stands read node stays = record {
-  serving = half_stepped setup.serving.config Serving v.serving (side_of (late_once w Serving a) Serving) station e (record { set_up = stands.serving.set_up; role = stands.serving.role; node = stands.serving.node; first = stands.serving.first; restarts = stands.serving.restarts; seen = stands.serving.seen; forgotten = stands.serving.forgotten; made = stands.serving.made }) node stays;
-  packet = stands.packet;
-  datagrams = datagrams_after setup Serving v.serving.station.node.config v.log.datagrams w.datagrams e.out (ap (λ (n : Node). n.config) stands.serving.node ∙ same) stands.datagrams read;
-  handed = ap (λ k. k ++ signed Serving e.out.handed) stands.handed;
-  accepted = ap (λ k. k ++ signed Serving e.out.accepted) stands.accepted;
-  late = ap (λ n. 1 + n) stands.late;
-  notes = notes_after v.log.notes w.notes _ (note_of outcome e.out) stands.notes (told_so outcome e.out v.serving.station.node.config);
-}
-after_step setup v w Packet station e outcome false a steps same stands read node stays = record {
+moved_stands setup v w Packet station config e same stands read node stays = record {
   serving = stands.serving;
   packet = half_stepped setup.packet.config Packet v.packet w.packet station e stands.packet node stays;
-  datagrams = datagrams_after setup Packet v.packet.station.node.config v.log.datagrams w.datagrams e.out (ap (λ (n : Node). n.config) stands.packet.node ∙ same) stands.datagrams read;
+  datagrams = datagrams_after setup Packet config v.log.datagrams w.datagrams e.out same stands.datagrams read;
   handed = ap (λ k. k ++ signed Packet e.out.handed) stands.handed;
   accepted = ap (λ k. k ++ signed Packet e.out.accepted) stands.accepted;
   late = stands.late;
-  notes = notes_after v.log.notes w.notes _ (note_of outcome e.out) stands.notes (told_so outcome e.out v.packet.station.node.config);
+  notes = stands.notes;
 }
-after_step setup v w Packet station e outcome true a steps same stands read node stays = record {
-  serving = stands.serving;
-  packet = half_stepped setup.packet.config Packet v.packet (side_of (late_once w Packet a) Packet) station e (record { set_up = stands.packet.set_up; role = stands.packet.role; node = stands.packet.node; first = stands.packet.first; restarts = stands.packet.restarts; seen = stands.packet.seen; forgotten = stands.packet.forgotten; made = stands.packet.made }) node stays;
-  datagrams = datagrams_after setup Packet v.packet.station.node.config v.log.datagrams w.datagrams e.out (ap (λ (n : Node). n.config) stands.packet.node ∙ same) stands.datagrams read;
-  handed = ap (λ k. k ++ signed Packet e.out.handed) stands.handed;
-  accepted = ap (λ k. k ++ signed Packet e.out.accepted) stands.accepted;
-  late = ap (λ n. 1 + n) stands.late;
-  notes = notes_after v.log.notes w.notes _ (note_of outcome e.out) stands.notes (told_so outcome e.out v.packet.station.node.config);
-}
+
+-- what is told, and the steps that are logged
+noted_stands : (setup : Setup) (v : Kept) (w : World) (role : Role) (told : Told) (note : Note) (steps : List Done) → told ≡ told_in note → StandsFor setup v w → StandsFor setup (record v { log = record v.log { notes = v.log.notes ++ (told ∷ []) } }) (logged (noted w note) role steps)
+noted_stands setup v w Serving told note steps same stands = record { serving = stands.serving; packet = stands.packet; datagrams = stands.datagrams; handed = stands.handed; accepted = stands.accepted; late = stands.late; notes = notes_after v.log.notes w.notes told note stands.notes same }
+noted_stands setup v w Packet told note steps same stands = record { serving = stands.serving; packet = stands.packet; datagrams = stands.datagrams; handed = stands.handed; accepted = stands.accepted; late = stands.late; notes = notes_after v.log.notes w.notes told note stands.notes same }
+
+-- how the gateway of what is kept is set up
+kept_config : (setup : Setup) (v : Kept) (w : World) (role : Role) → (side_of w role).node.config ≡ config_in setup role → StandsFor setup v w → (half_in v role).station.node.config ≡ config_in setup role
+kept_config setup v w role same stands = ap (λ (n : Node). n.config) (half_stands setup v w stands role).node ∙ same
+
+-- after a step of a gateway
+pub after_step : (setup : Setup) (v : Kept) (w : World) (role : Role) (station : Station) (e : Effect) (outcome : EventOutcome) (late : Bool) (a : Arrival) (steps : List Done) → (side_of w role).node.config ≡ config_in setup role → StandsFor setup v w → AreReadable e.out → station.node ≡ e.node → station.role ≡ (half_in v role).station.role → StandsFor setup (kept_after v role station e.out (sent_at (half_in v role) e.out) outcome late) (world_after (lates late w role a) role e outcome steps)
+after_step setup v w Serving station e outcome late a steps same stands read node stays =
+    let config = v.serving.station.node.config in
+    let was = late_stands setup v w Serving a late stands in
+    noted_stands setup _ _ Serving _ (note_of outcome e.out) steps (told_so outcome e.out config)
+    (moved_stands setup _ (lates late w Serving a) Serving station config e (kept_config setup v w Serving same stands) was read node stays)
+after_step setup v w Packet station e outcome late a steps same stands read node stays =
+    let config = v.packet.station.node.config in
+    let was = late_stands setup v w Packet a late stands in
+    noted_stands setup _ _ Packet _ (note_of outcome e.out) steps (told_so outcome e.out config)
+    (moved_stands setup _ (lates late w Packet a) Packet station config e (kept_config setup v w Packet same stands) was read node stays)
+
+-- a gateway between two steps
+abbrev between : Station → Effect → Station
+between station e = record station { node = e.node }
+
+-- after a step of a gateway for each of two messages
+pub after_both : (setup : Setup) (v : Kept) (w : World) (role : Role) (station : Station) (first second : Effect) (late : Bool) (a : Arrival) (steps : List Done) → (side_of w role).node.config ≡ config_in setup role → StandsFor setup v w → AreReadable first.out → AreReadable second.out → station.node ≡ second.node → station.role ≡ (half_in v role).station.role → StandsFor setup (kept_after_both v role station first second (sent_at (half_in v role) first.out) (sent_at (half_in v role) second.out) late) (world_after_both (lates late w role a) role first second steps)
+after_both setup v w Serving station first second late a steps same stands read read_too node stays =
+    let config = v.serving.station.node.config in
+    let config_is = kept_config setup v w Serving same stands in
+    let was = late_stands setup v w Serving a late stands in
+    let mid = moved_stands setup _ (lates late w Serving a) Serving (between station first) config first config_is was read refl stays in
+    noted_stands setup _ _ Serving _ (note_of_both first second) steps (told_both_so first second config)
+    (moved_stands setup _ (moved (lates late w Serving a) Serving first) Serving station config second config_is mid read_too node refl)
+after_both setup v w Packet station first second late a steps same stands read read_too node stays =
+    let config = v.packet.station.node.config in
+    let config_is = kept_config setup v w Packet same stands in
+    let was = late_stands setup v w Packet a late stands in
+    let mid = moved_stands setup _ (lates late w Packet a) Packet (between station first) config first config_is was read refl stays in
+    noted_stands setup _ _ Packet _ (note_of_both first second) steps (told_both_so first second config)
+    (moved_stands setup _ (moved (lates late w Packet a) Packet first) Packet station config second config_is mid read_too node refl)
 
 -- an event that is passed over
 pub after_none : (setup : Setup) (v : Kept) (w : World) (outcome : EventOutcome) → StandsFor setup v w → StandsFor setup (passed_over v outcome) (noted w (quiet_note outcome))

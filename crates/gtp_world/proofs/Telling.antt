@@ -8,16 +8,19 @@ use Rattle.gtp_values.specs.declared.identifiers.Teid.{Teid}
 use Rattle.gtp_machine.specs.declared.role.Role.{Role}
 use Rattle.gtp_machine.specs.Command.{CommandStep}
 use Rattle.gtp_machine.specs.Input.{Command, Create_session, Delete_session, Create_bearer, Delete_bearer, Release_session, Mark_end, Send_echo, Send_user, Commanded, Effect, Entry, Out, nothing, refused}
-use Rattle.gtp_machine.specs.Message.{Plane, Control, User}
+use Rattle.gtp_machine.specs.Message.{CreateSessionResponse, CreateBearerRequest, Plane, Control, User}
 use Rattle.gtp_machine.specs.Node.{Arrival, Node}
-use Rattle.gtp_machine.specs.Spelling.{Datagram}
-use Rattle.gtp_machine.specs.World.{By, EventOutcome, Came_to, signed}
+use Rattle.gtp_machine.specs.Spelling.{Datagram, datagram_of}
+use Rattle.gtp_machine.specs.World.{By, EventOutcome, Came_to, signed, outcome_in}
+use Rattle.gtp_machine.specs.declared.outcome.Outcome.{Outcome}
 use Rattle.gtp_machine.specs.declared.outcome.Outcome.TheVariants.{Begun as Asked, Refused, GoneOut}
 use Rattle.gtp_machine.specs.declared.outcome.Refusal.{Refusal}
 use Rattle.gtp_gateway.specs.Begun.{IsDone, AsksNext, outcome_by}
 use Rattle.gtp_gateway.specs.Choosing.{ChoosesLowest}
+use Rattle.gtp_gateway.specs.GoesOn.{GoesOn}
+use Rattle.gtp_gateway.specs.Pair.{second_part}
 use Rattle.gtp_gateway.specs.Parts.{arrival_of}
-use Rattle.gtp_gateway.specs.Received.{IsReceived, KeepsTiming, coming}
+use Rattle.gtp_gateway.specs.Received.{IsReceivedOnce, AreReceived, IsReceived, KeepsTiming, coming}
 use Rattle.gtp_gateway.specs.Sent.{datagram_by}
 use Rattle.gtp_gateway.specs.Station.{Station}
 use Rattle.gtp_gateway.specs.Taken.{made_for}
@@ -28,10 +31,13 @@ use Rattle.gtp_gateway.specs.declared.step.Accepted.{Accepted}
 use Rattle.gtp_gateway.proofs.SentBack.{none_sent}
 use Rattle.gtp_world.specs.Commands.{IsTimed}
 use Rattle.gtp_world.specs.Kept.{oldest_first, Half}
-use Rattle.gtp_world.specs.Sides.{IsHanded, IsAccepted, IsInput}
+use Rattle.gtp_world.specs.Last.{last_octets}
+use Rattle.gtp_world.specs.Sides.{entries, IsHanded, IsAccepted, IsInput, AreInputs, IsBrought}
 use Rattle.gtp_world.specs.Stepped.{AsksFor, KeepsOn, TakesLowest, sent_at}
 use Rattle.gtp_world.specs.declared.log.Entry.{Entry as LoggedEntry}
 use Rattle.gtp_world.specs.declared.side.Came.{Came}
+use Rattle.gtp_world.proofs.Making.{made_last}
+use Rattle.gtp_world.proofs.Pairs.{last_two}
 use Rattle.gtp_world.proofs.Quiet.{IsQuiet, Handing, handing, plainly}
 
 none_handed : (role : Role) (entry : Option (By Entry)) (e : Effect) → entry ≡ None → IsQuiet e → option_to_list entry ≡ signed role e.out.handed
@@ -85,7 +91,7 @@ asks_for (Send_user bearer payload) old new begun teid sent outcome is out same 
 
 -- what a command that was carried out came to
 abbrev pub came_of_begun : Command → Begun → Option (By Entry) → Came
-came_of_begun command begun handed = record { outcome = outcome_by command (option_map (λ (t : Teid). t.0) begun.teid); restart = None; out = Some begun.out; handed = handed; accepted = None }
+came_of_begun command begun handed = record { outcome = outcome_by command (option_map (λ (t : Teid). t.0) begun.teid); second = None; restart = None; out = Some begun.out; handed = handed; accepted = None }
 
 pub done : (node : Role) (command : Command) (old : Half) (begun : Begun) (station : Station) (handed : Option (By Entry)) → IsDone command old.station begun station → IsTimed command old.station begun station → IsHanded node old.station.node command handed → IsInput node (Commanded command) AsksFor old (came_of_begun command begun handed) (record old { station = station })
 done node command old begun station handed d times is =
@@ -102,6 +108,7 @@ done node command old begun station handed d times is =
       tells = record {
         sent = d.sent.octets;
         outcome = sym d.outcome;
+        alone = refl;
         learned = sym (ap (λ (o : Out). o.learned) plain);
         handed = told node old.station.role command old.station.node (option_map (λ (t : Teid). t.0) begun.teid) handed d.effect (handing old.station.role command old.station.node d.effect d.step) d.outcome is;
         accepted = ap (λ (o : Out). signed node o.accepted) (sym plain);
@@ -112,7 +119,7 @@ done node command old begun station handed d times is =
 
 -- what a command that was refused came to
 abbrev pub came_of_refused : Refusal → Came
-came_of_refused why = record { outcome = Refused why; restart = None; out = None; handed = None; accepted = None }
+came_of_refused why = record { outcome = Refused why; second = None; restart = None; out = None; handed = None; accepted = None }
 
 pub turned_down : (node : Role) (command : Command) (old : Half) (why : Refusal) → CommandStep old.station.role command old.station.node (refused old.station.node why) → IsInput node (Commanded command) AsksFor old (came_of_refused why) old
 turned_down node command old why step =
@@ -125,7 +132,7 @@ turned_down node command old why step =
       lowest = λ makes. absurd (makes refl);
       timed = unasked old.station old.station [] (Came_to (Refused why)) (λ teid is. cc is) refl;
       becomes = as_before old old.station nothing refl refl refl;
-      tells = record { sent = refl; outcome = refl; learned = refl; handed = refl; accepted = refl; gave_up = refl; forgot = refl };
+      tells = record { sent = refl; outcome = refl; alone = refl; learned = refl; handed = refl; accepted = refl; gave_up = refl; forgot = refl };
     }
 
 -- a packet that was accepted left the node as it was, so its entry is read from what is there now
@@ -141,11 +148,6 @@ pub heard_kept : (seen : List Counter) (heard : Option Counter) → map (λ (c :
 heard_kept seen None = map-append (λ (c : Counter). c.0) seen []
 heard_kept seen (Some c) = map-append (λ (k : Counter). k.0) seen (c ∷ [])
 
--- what ticks go by, after a datagram
-keeps_on : (plane : Plane) (source : Endpoint) (octets : List ℕ) (sent : List Datagram) (outcome : EventOutcome) (step : Step) (old new : Station) → Came_to step.report.outcome ≡ outcome → KeepsTiming plane source octets step old new → KeepsOn plane source octets sent outcome old new
-keeps_on Control source octets sent outcome step old new is keeps = keeps
-keeps_on User source octets sent outcome step old new is keeps = (λ apart. keeps.0 (λ broken. apart (sym is ∙ ap (λ o. Came_to o) broken)), keeps.1, keeps.2)
-
 -- of what is free the lowest was taken, if anything was made
 lowest_made : (request : Arrival) (made : Bool) (role : Role) (out : Out) (old new : Node) → made_for request made ≡ out.made → ChoosesLowest made role old new → TakesLowest role out old new
 lowest_made request true role out old new is lowest = λ makes. lowest refl
@@ -153,32 +155,33 @@ lowest_made request false role out old new is lowest = λ makes. absurd (makes (
 
 -- what a datagram came to
 abbrev pub came_of_step : Step → Option LoggedEntry → Came
-came_of_step step accepted = record { outcome = step.report.outcome; restart = step.report.restart; out = step.out; handed = None; accepted = accepted }
+came_of_step step accepted = record { outcome = step.report.outcome; second = step.report.second; restart = step.report.restart; out = step.out; handed = None; accepted = accepted }
 
 -- a gateway, after a datagram of which this was told
 abbrev pub half_told : Half → Station → Step → Arrival → Half
 half_told old station step request = record old { station = station; seen = old.seen ++ option_to_list (option_map (λ (c : Counter). c.0) step.report.heard); made = old.made ++ made_for request step.report.made }
 
-pub taken : (node : Role) (plane : Plane) (source : Endpoint) (octets : List ℕ) (old : Half) (step : Step) (station : Station) (entry : Option LoggedEntry) → IsReceived plane source octets old.station step station → KeepsTiming plane source octets step old.station station → ChoosesLowest step.report.made old.station.role old.station.node station.node → (IsSome step.accepted → station ≡ old.station) → IsAccepted node station.node step.accepted entry → IsInput node (coming plane source octets) (KeepsOn plane source octets) old (came_of_step step entry) (half_told old station step (arrival_of source octets))
-taken node plane source octets old step station entry r keeps lowest stays is =
-    let request = arrival_of source octets in
+-- a datagram was taken as a whole
+taken_whole : (node : Role) (plane : Plane) (source : Endpoint) (octets : List ℕ) (old : Half) (step : Step) (station : Station) (entry : Option LoggedEntry) (request : Arrival) (r : IsReceivedOnce plane source octets old.station step station) → made_for request step.report.made ≡ r.effect.out.made → KeepsOn plane source octets (sent_at old r.effect.out) r.effect.outcome old.station station → ChoosesLowest step.report.made old.station.role old.station.node station.node → (IsSome step.accepted → station ≡ old.station) → IsAccepted node station.node step.accepted entry → IsInput node (coming plane source octets) (KeepsOn plane source octets) old (came_of_step step entry) (half_told old station step request)
+taken_whole node plane source octets old step station entry request r told keeps lowest stays is =
     let out = r.effect.out in
     let forgot = ap (λ (o : Out). o.forgot) r.tells.all in
     let seen = ap (λ h. old.seen ++ option_to_list h) r.tells.heard in
     let forgotten = sym (append-nil old.forgotten) ∙ ap (λ l. old.forgotten ++ l) (sym forgot) in
-    let made = ap (λ l. old.made ++ l) (sym (one_made request step.report.made) ∙ ap oldest_first r.tells.made) in
+    let made = ap (λ l. old.made ++ l) (sym (one_made request step.report.made) ∙ ap oldest_first told) in
     record {
       effect = r.effect;
       step = r.takes;
       readable = r.tells.sent.read;
       node = r.becomes;
       role_stays = r.role;
-      lowest = lowest_made request step.report.made station.role out old.station.node station.node r.tells.made (subst (λ role. ChoosesLowest step.report.made role old.station.node station.node) (sym r.role) lowest);
-      timed = keeps_on plane source octets (sent_at old r.effect.out) r.effect.outcome step old.station station r.tells.outcome keeps;
+      lowest = lowest_made request step.report.made station.role out old.station.node station.node told (subst (λ role. ChoosesLowest step.report.made role old.station.node station.node) (sym r.role) lowest);
+      timed = keeps;
       becomes = λ i. record old { station = station; seen = seen i; forgotten = forgotten i; made = made i };
       tells = record {
         sent = r.tells.sent.octets;
         outcome = r.tells.outcome;
+        alone = r.tells.alone;
         learned = r.tells.restart;
         handed = ap (λ (o : Out). signed node o.handed) (sym r.tells.all);
         accepted = is out.accepted (entries_now old.station.node station.node step.accepted out.accepted (λ some. ap (λ (s : Station). s.node) (stays some)) r.tells.accepted);
@@ -186,3 +189,59 @@ taken node plane source octets old step station entry r keeps lowest stays is =
         forgot = forgot;
       };
     }
+
+-- the outcome of a second message, as it is told
+second_told : (o : Option Outcome) (e : EventOutcome) → option_map Came_to o ≡ Some e → o ≡ outcome_in e
+second_told None e is = absurd (cc is)
+second_told (Some o) e is = let same : Came_to o ≡ e = cc is in ap outcome_in same
+
+-- no packet was accepted
+none_accepted : (node : Role) (at : Node) (accepted : Option Accepted) (entry : Option LoggedEntry) → accepted ≡ None → IsAccepted node at accepted entry → entries entry ≡ []
+none_accepted node at accepted entry none is = is [] (subst (λ a. AreEntries at a []) (sym none) refl)
+
+-- its two messages were taken, one after the other
+taken_both : (node : Role) (source : Endpoint) (octets : List ℕ) (answer : CreateSessionResponse) (asked : CreateBearerRequest) (old : Half) (step : Step) (station : Station) (entry : Option LoggedEntry) (request : Arrival) → AreReceived source octets answer asked old.station step station → request ≡ arrival_of source (second_part octets) → GoesOn source (second_part octets) old.station station → ChoosesLowest step.report.made old.station.role old.station.node station.node → IsAccepted node station.node step.accepted entry → AreInputs node source octets answer asked old (came_of_step step entry) (half_told old station step request)
+taken_both node source octets answer asked old step station entry request r same keeps lowest is =
+    let first = r.first.out in
+    let second = r.second.out in
+    let t = r.tells in
+    let told = ap (λ k. made_for k step.report.made) same ∙ t.made in
+    let none_heard = ap (λ (o : Out). o.heard) t.all_second in
+    let none_made = ap (λ (o : Out). o.made) t.all_first in
+    let seen = ap (λ h. old.seen ++ option_to_list h) t.heard ∙ sym (append-nil (old.seen ++ option_to_list first.heard)) ∙ ap (λ h. (old.seen ++ option_to_list first.heard) ++ option_to_list h) (sym none_heard) in
+    let forgotten = sym (append-nil old.forgotten) ∙ sym (append-nil (old.forgotten ++ [])) ∙ (λ i. (old.forgotten ++ (sym t.all_first i).forgot) ++ (sym t.all_second i).forgot) in
+    let made = ap (λ l. old.made ++ l) (sym (one_made request step.report.made) ∙ ap oldest_first told) ∙ ap (λ l. l ++ oldest_first second.made) (sym (append-nil old.made) ∙ ap (λ l. old.made ++ oldest_first l) (sym none_made)) in
+    let silent = ap (λ (o : Out). o.sent) t.all_first in
+    record {
+      first = r.first;
+      step = r.takes;
+      silent = silent;
+      second = r.second;
+      follows = r.follows;
+      readable = t.sent.read;
+      node = r.becomes;
+      role_stays = r.role;
+      lowest = lowest_made request step.report.made station.role second old.station.node station.node told (subst (λ role. ChoosesLowest step.report.made role old.station.node station.node) (sym r.role) lowest);
+      timed = keeps;
+      becomes = λ i. record old { station = station; seen = seen i; forgotten = forgotten i; made = made i };
+      tells = record {
+        sent = t.sent.octets ∙ ap (λ l. map (datagram_of old.station.node.config) l ++ sent_at old second) (sym silent);
+        outcome = t.outcome;
+        next = second_told step.report.second r.second.outcome t.next;
+        learned = t.restart;
+        handed = λ i. signed node (sym t.all_first i).handed ++ signed node (sym t.all_second i).handed;
+        accepted = none_accepted node station.node step.accepted entry t.accepted is ∙ (λ i. signed node (sym t.all_first i).accepted ++ signed node (sym t.all_second i).accepted);
+        gave_up = ap (λ (o : Out). o.gave_up) t.all_first;
+        forgot = ap (λ (o : Out). o.forgot) t.all_first;
+      };
+    }
+
+-- a datagram was taken
+pub taken : (node : Role) (plane : Plane) (source : Endpoint) (octets : List ℕ) (old : Half) (step : Step) (station : Station) (entry : Option LoggedEntry) → IsReceived plane source octets old.station step station → KeepsTiming plane source octets step old.station station → ChoosesLowest step.report.made old.station.role old.station.node station.node → (IsSome step.accepted → station ≡ old.station) → IsAccepted node station.node step.accepted entry → IsBrought node plane source octets old (came_of_step step entry) (half_told old station step (arrival_of source (last_octets octets)))
+taken node Control source octets old step station entry (inl (none, r)) (inl (alone, keeps)) lowest stays is = inl (none, taken_whole node Control source octets old step station entry (arrival_of source (last_octets octets)) r (made_last Control source octets old.station step station r) keeps lowest stays is)
+taken node Control source octets old step station entry (inl (none, r)) (inr (pair, keeps)) lowest stays is = absurd (none pair)
+taken node Control source octets old step station entry (inr (pair, r)) (inl (none, keeps)) lowest stays is = absurd (none pair)
+taken node Control source octets old step station entry (inr (pair, r)) (inr (too, keeps)) lowest stays is = inr (pair, taken_both node source octets pair.answer pair.asked old step station entry (arrival_of source (last_octets octets)) r (ap (λ o. arrival_of source o) (last_two octets _ _ pair.is)) keeps lowest is)
+taken node User source octets old step station entry r keeps lowest stays is =
+    taken_whole node User source octets old step station entry (arrival_of source (last_octets octets)) r (made_last User source octets old.station step station r)
+    ((λ apart. keeps.0 (λ broken. apart (sym r.tells.outcome ∙ ap (λ o. Came_to o) broken))), keeps.1, keeps.2) lowest stays is

@@ -1,7 +1,7 @@
 -- Where no delivery was late, none was of any request.
 use Rattle.std.proofs.Common.{◌≡◌, inl, inr, ℕ, List, [], ◌∷◌, refl, sym, ◌∙◌, subst}
 use Rattle.gtp_values.specs.FiniteMap.{Among}
-use Rattle.gtp_machine.specs.Config.{Config}
+use Rattle.gtp_machine.specs.Config.{Addresses, Config}
 use Rattle.gtp_machine.specs.Input.{Input, Effect}
 use Rattle.gtp_machine.specs.Message.{Message}
 use Rattle.gtp_machine.specs.Node.{Arrival}
@@ -9,7 +9,7 @@ use Rattle.gtp_machine.specs.Step.{Done, tick_steps}
 use Rattle.gtp_machine.specs.Tick.{ticked}
 use Rattle.gtp_machine.specs.declared.role.Role.{Role}
 use Rattle.gtp_machine.specs.declared.role.Role.TheVariants.{Serving, Packet}
-use Rattle.gtp_machine.specs.World.{World, Event, Does, Tick, Deliver, Cut, Restart, Ticked, Restarted, No_such_datagram, Cut_too_long, Restarts_used, Note, note_of, quiet_note, next_counter, Happens, Delivers, Moves, TicksOn, Run, start, side_of, moved, noted, logged, late_once, restarted, with_side, with_steps}
+use Rattle.gtp_machine.specs.World.{World, Event, Does, Tick, Deliver, Cut, Restart, Ticked, Restarted, No_such_datagram, Cut_too_long, Restarts_used, Note, note_of, note_of_both, quiet_note, next_counter, Happens, ComesTo, Delivers, Moves, MovesTwice, TicksOn, Run, start, side_of, moved, noted, logged, late_once, restarted, with_side, with_steps}
 use Rattle.gtp_machine.proofs.Basics.Facts.{one_more}
 
 -- where no delivery was late, none is kept as late
@@ -41,6 +41,20 @@ moves_timely old role input new timely m =
     let steps : List Done = record { before = (side_of old role).node; input = input; effect = m.effect } ∷ [] in
     subst NoneLate (sym m.becomes) (after_timely old role m.effect (note_of m.effect.outcome m.effect.out) steps timely)
 
+-- two steps leave as many late deliveries as one
+came_moved : (w : World) (role : Role) (e : Effect) (r : Role) → (side_of (moved w role e) r).came_late ≡ (side_of w r).came_late
+came_moved w Serving e Serving = refl
+came_moved w Serving e Packet = refl
+came_moved w Packet e Serving = refl
+came_moved w Packet e Packet = refl
+
+moved_timely : (w : World) (role : Role) (e : Effect) → NoneLate w → NoneLate (moved w role e)
+moved_timely w Serving e timely = stays w (moved w Serving e) refl (came_moved w Serving e) timely
+moved_timely w Packet e timely = stays w (moved w Packet e) refl (came_moved w Packet e) timely
+
+moves_twice_timely : (old : World) (role : Role) (first second : Input) (new : World) → NoneLate old → MovesTwice old role first second new → NoneLate new
+moves_twice_timely old role first second new timely m = subst NoneLate (sym m.becomes) (after_timely (moved old role m.effect) role m.next (note_of_both m.effect m.next) _ (moved_timely old role m.effect timely))
+
 ticks_timely : (old : World) (role : Role) (new : World) → NoneLate old → TicksOn old role new → NoneLate new
 ticks_timely old role new timely t =
     let steps = tick_steps (side_of old role).node t.moves t.out t.after t.tick in
@@ -63,9 +77,13 @@ restarted_timely w Serving note timely none Packet a has = timely none Packet a 
 restarted_timely w Packet note timely none Serving a has = timely none Serving a has
 restarted_timely w Packet note timely none Packet a has = absurd has
 
+comes_timely : (old : World) (role : Role) (from : Addresses) (datagram : List Message) (new : World) → NoneLate old → ComesTo old role from datagram new → NoneLate new
+comes_timely old role from datagram new timely (inl whole) = moves_timely old role _ new timely whole.1
+comes_timely old role from datagram new timely (inr pair) = moves_twice_timely old role _ _ new timely pair.1
+
 delivers_timely : (old : World) (sender : Role) (datagram : List Message) (new : World) → NoneLate old → Delivers old sender datagram new → NoneLate new
-delivers_timely old sender datagram new timely (inl on_time) = moves_timely old _ _ new timely on_time.1
-delivers_timely old sender datagram new timely (inr late) = moves_timely _ _ _ new (late_timely old _ _) late.1
+delivers_timely old sender datagram new timely (inl on_time) = comes_timely old _ _ datagram new timely on_time.1
+delivers_timely old sender datagram new timely (inr late) = comes_timely _ _ _ datagram new (late_timely old _ _) late.1
 
 happens_timely : (old : World) (event : Event) (new : World) → NoneLate old → Happens old event new → NoneLate new
 happens_timely old (Does role command) new timely m = moves_timely old role _ new timely m

@@ -1,6 +1,7 @@
 -- What is kept of two gateways and of all that they have sent, as contracts see it.
 use Rattle.std.specs.Prelude.{ℕ, ◌+◌, if◌then◌else◌, Bool, List, [], ◌∷◌, ◌++◌, map, Option, option_map}
 use Rattle.gtp_machine.specs.Input.{Entry}
+use Rattle.gtp_machine.specs.declared.outcome.Outcome.{Outcome as OfMessage}
 use Rattle.gtp_machine.specs.declared.role.Role.{Role}
 use Rattle.gtp_machine.specs.declared.role.Role.TheVariants.{Serving, Packet}
 use Rattle.gtp_machine.specs.Node.{Arrival}
@@ -35,10 +36,11 @@ pub record Half : Type 0 where
   pub forgotten : List Arrival
   pub made : List Arrival
 
--- what is told of an event: what it came to, the later counter that was learned, how many datagrams it sent, the requests that it gave up, and those whose
--- answers it forgot
+-- what is told of an event: what it came to, and the second message of a datagram, where two were taken one after the other; the later counter that was learned,
+-- how many datagrams it sent, the requests that it gave up, and those whose answers it forgot
 pub record Told : Type 0 where
   pub outcome : EventOutcome
+  pub second : Option OfMessage
   pub learned : Option ℕ
   pub sent : ℕ
   pub gave_up : List ℕ
@@ -88,7 +90,7 @@ abbrev pub sent_by : LoggedDatagram → By Datagram
 sent_by d = record { role = d.node; what = datagram_by d.sent }
 
 abbrev pub told_by : Note → Told
-told_by n = record { outcome = outcome_of n.outcome; learned = option_map (λ c. c.0) n.restart; sent = n.sent; gave_up = n.gave_up.items; forgot = arrivals_of n.forgotten.items }
+told_by n = record { outcome = outcome_of n.outcome; second = n.second; learned = option_map (λ c. c.0) n.restart; sent = n.sent; gave_up = n.gave_up.items; forgot = arrivals_of n.forgotten.items }
 
 -- one more where a delivery was late
 abbrev pub counted : Bool → ℕ → ℕ

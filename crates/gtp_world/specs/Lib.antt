@@ -1,5 +1,6 @@
 pub mod Indexes
 pub mod Kept
+pub mod Last
 pub mod Stepped
 pub mod Commands
 pub mod Sides

@@ -51,7 +51,7 @@ AreFor setup datagrams sent = ⊥
 
 -- what is told of an event, by the machine's note of it
 abbrev pub told_in : machine.Note → Told
-told_in n = record { outcome = n.outcome; learned = n.learned; sent = length n.sent; gave_up = n.gave_up; forgot = n.forgot }
+told_in n = record { outcome = n.outcome; second = n.second; learned = n.learned; sent = length n.sent; gave_up = n.gave_up; forgot = n.forgot }
 
 -- what is kept of a gateway is what the machine's world has of it
 pub record HalfStands (config : Config) (which : Role) (half : Half) (side : Side) : Type 0 where

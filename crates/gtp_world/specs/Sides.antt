@@ -1,14 +1,19 @@
 -- What an input or a tick leaves of one gateway.
-use Rattle.std.specs.Prelude.{◌≡◌, ℕ, List, [], ◌∷◌, map, Option, Some, None, option_map, option_to_list}
+use Rattle.std.specs.Prelude.{◌≡◌, ℕ, List, [], ◌∷◌, ◌++◌, map, Option, Some, None, option_map, option_to_list}
 use Rattle.gtp_values.specs.declared.identifiers.Teid.{Teid}
 use Rattle.gtp_machine.specs.Choice.{HasSession, HasBearer}
+use Rattle.gtp_values.specs.declared.address.Endpoint.{Endpoint}
+use Rattle.gtp_machine.specs.Message.{CreateSessionResponse, CreateBearerRequest, Plane, Control, User}
 use Rattle.gtp_machine.specs.Input.{Command, Send_user, Input, Entry, entry_for, EventOutcome, Came_to, Out, Effect, nothing}
 use Rattle.gtp_machine.specs.declared.role.Role.{Role}
 use Rattle.gtp_machine.specs.Node.{Node, written}
 use Rattle.gtp_machine.specs.Spelling.{Datagram}
 use Rattle.gtp_machine.specs.Step.{Step}
 use Rattle.gtp_machine.specs.Tick.{Ticks}
-use Rattle.gtp_machine.specs.World.{By, signed}
+use Rattle.gtp_machine.specs.World.{By, signed, outcome_in}
+use Rattle.gtp_gateway.specs.GoesOn.{GoesOn}
+use Rattle.gtp_gateway.specs.Pair.{second_part}
+use Rattle.gtp_gateway.specs.Received.{coming, first_comes, second_comes, ByPair}
 use Rattle.gtp_gateway.specs.Sent.{datagram_by}
 use Rattle.gtp_gateway.specs.Taken.{datagrams}
 use Rattle.gtp_gateway.specs.Station.{Station}
@@ -17,7 +22,7 @@ use Rattle.gtp_gateway.specs.declared.tick.Ticked.{Ticked}
 use Rattle.gtp_gateway.specs.declared.step.Accepted.{Accepted}
 use Rattle.gtp_gateway.specs.UserTaken.{AreEntries}
 use Rattle.gtp_world.specs.Kept.{Half, entry_by}
-use Rattle.gtp_world.specs.Stepped.{half_after, sent_at, AreReadable, TakesLowest}
+use Rattle.gtp_world.specs.Stepped.{half_after, sent_at, AreReadable, TakesLowest, KeepsOn}
 use Rattle.gtp_world.specs.declared.log.Entry.{Entry as LoggedEntry}
 use Rattle.gtp_world.specs.declared.side.Came.{Came}
 
@@ -25,10 +30,11 @@ use Rattle.gtp_world.specs.declared.side.Came.{Came}
 abbrev pub entries : Option LoggedEntry → List (By Entry)
 entries entry = option_to_list (option_map entry_by entry)
 
--- what came of an input tells what its effect has
+-- what came of an input tells what its effect has, and nothing of a second message
 pub record TellsCame (role : Role) (old : Half) (came : Came) (e : Effect) : Type 0 where
   pub sent : datagrams came.out ≡ sent_at old e.out
   pub outcome : Came_to came.outcome ≡ e.outcome
+  pub alone : came.second ≡ None
   pub learned : option_map (λ c. c.0) came.restart ≡ e.out.learned
   pub handed : option_to_list came.handed ≡ signed role e.out.handed
   pub accepted : entries came.accepted ≡ signed role e.out.accepted
@@ -46,6 +52,38 @@ pub record IsInput (role : Role) (input : Input) (Timed : List Datagram → Even
   pub timed : Timed (sent_at old effect.out) effect.outcome old.station new.station
   pub becomes : new ≡ half_after old new.station effect.out
   pub tells : TellsCame role old came effect
+
+-- what came of two messages of one datagram tells what their effects have
+pub record TellsCameBoth (role : Role) (old : Half) (came : Came) (first second : Effect) : Type 0 where
+  pub sent : datagrams came.out ≡ sent_at old first.out ++ sent_at old second.out
+  pub outcome : Came_to came.outcome ≡ first.outcome
+  pub next : came.second ≡ outcome_in second.outcome
+  pub learned : option_map (λ c. c.0) came.restart ≡ first.out.learned
+  pub handed : option_to_list came.handed ≡ signed role first.out.handed ++ signed role second.out.handed
+  pub accepted : entries came.accepted ≡ signed role first.out.accepted ++ signed role second.out.accepted
+  pub gave_up : first.out.gave_up ≡ []
+  pub forgot : first.out.forgot ≡ []
+
+-- The gateway took the two messages of a datagram, one after the other. Nothing was sent for the first; of what is free it took the lowest; and what its ticks go
+-- by is as after a datagram, but an answer is held by the octets of the second message.
+pub record AreInputs (role : Role) (source : Endpoint) (octets : List ℕ) (answer : CreateSessionResponse) (asked : CreateBearerRequest) (old : Half) (came : Came) (new : Half) : Type 0 where
+  pub first : Effect
+  pub step : Step old.station.role old.station.node (first_comes source octets answer) first
+  pub silent : first.out.sent ≡ []
+  pub second : Effect
+  pub follows : Step old.station.role first.node (second_comes source octets asked) second
+  pub readable : AreReadable second.out
+  pub node : new.station.node ≡ second.node
+  pub role_stays : new.station.role ≡ old.station.role
+  pub lowest : TakesLowest new.station.role second.out old.station.node new.station.node
+  pub timed : GoesOn source (second_part octets) old.station new.station
+  pub becomes : new ≡ half_after (half_after old new.station first.out) new.station second.out
+  pub tells : TellsCameBoth role old came first second
+
+-- The gateway took a datagram of a plane: of the control plane a pair that it takes message by message, and any other as a whole.
+abbrev pub IsBrought : Role → Plane → Endpoint → List ℕ → Half → Came → Half → Type 0
+IsBrought role Control source octets old came new = ByPair source octets old.station (IsInput role (coming Control source octets) (KeepsOn Control source octets) old came new) (λ answer asked. AreInputs role source octets answer asked old came new)
+IsBrought role User source octets old came new = IsInput role (coming User source octets) (KeepsOn User source octets) old came new
 
 -- The gateway ticked.
 pub record IsTick (old : Half) (ticked : Ticked) (new : Half) : Type 0 where

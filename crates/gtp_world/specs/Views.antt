@@ -13,6 +13,7 @@ use Rattle.gtp_machine.specs.World.{By, Event, other, side_of, steps_of}
 use Rattle.gtp_machine.specs.declared.role.Role.{Role}
 use Rattle.gtp_gateway.specs.Parts.{arrival_of}
 use Rattle.gtp_world.specs.Kept.{Kept, half_in}
+use Rattle.gtp_world.specs.Last.{last_octets}
 use Rattle.gtp_world.specs.Runs.{Setup, IsRunOf}
 use Rattle.gtp_world.specs.Stepped.{IsThere}
 
@@ -21,11 +22,11 @@ abbrev pub IsCount : {X : Type 0} → X → List X → ℕ → Type 0
 IsCount x [] count = count ≡ 0
 IsCount x (y ∷ ys) count = Unless (y ≡ x) (IsCount x ys count) (λ is. (others : ℕ) × IsCount x ys others × (count ≡ others + 1))
 
--- a datagram of the control plane, as its receiver keeps it
+-- the last message of a datagram of the control plane, as its receiver keeps it
 abbrev pub as_it_came : By Datagram → Arrival
-as_it_came d = arrival_of d.what.from d.what.octets
+as_it_came d = arrival_of d.what.from (last_octets d.what.octets)
 
--- the gateway that did not send the datagram made so many contexts for it since it started
+-- the gateway that did not send the datagram made so many contexts for its last message since it started
 pub record IsMade (v : Kept) (number count : ℕ) : Type 0 where
   pub found : IsThere v.log.datagrams number
   pub counts : IsCount (as_it_came found.sent) (half_in v (other found.sent.role)).made count
@@ -34,7 +35,7 @@ pub record IsMade (v : Kept) (number count : ℕ) : Type 0 where
 abbrev pub IsMadeOnce : Kept → ℕ → ℕ → Type 0
 IsMadeOnce v number count = (setup : Setup) (events : List Event) (r : IsRunOf setup events v) (found : IsThere v.log.datagrams number) → (Among (as_it_came found.sent) (side_of r.world (other found.sent.role)).came_late → ⊥) → count ≤ 1
 
--- a step of a gateway that took the datagram, as a create request, and the messages of a datagram that was sent in answer to it
+-- a step of a gateway that took the last message of the datagram, as a create request, and the messages of a datagram that was sent in answer to it
 pub record IsAnswer (receiver : Role) (d : By Datagram) (request : Message) (done : Done) (answer : List Message) : Type 0 where
   pub makes : Makes receiver request
   pub takes : Takes done (as_it_came d) request

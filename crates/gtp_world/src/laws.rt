@@ -20,9 +20,10 @@ pub fn worlds_are_determined()
 {}
 
 /// What `World::datagrams` shows of a request that comes again (TS 29.274 7.6). A Create Session Request or a Create
-/// Bearer Request is delivered, and later delivered again: the same datagram, or one with the same octets that its sender
-/// sent again. If the second delivery is not late, and the receiver was not restarted between the two, then all that is
-/// sent at both deliveries has the same octets.
+/// Bearer Request is delivered, by itself or as the second message of a datagram, and later delivered again: in the same
+/// datagram, or in one that its sender sent again and in which it has the same octets. If the second delivery is not
+/// late, and the receiver was not restarted between the two, then all that is sent at both deliveries has the same
+/// octets.
 pub fn repeats_are_answered_alike()
     // At each time in a run.
     ensures { (first : Kept) → IsAnsweredAgainAlike first }

@@ -6,6 +6,7 @@ mod command;
 mod config;
 mod event;
 mod handed;
+mod last;
 pub mod laws;
 mod log;
 mod mutual;

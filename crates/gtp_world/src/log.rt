@@ -1,7 +1,7 @@
 //! The log of a world.
 
 use crate::event::EventOutcome;
-use gtp_gateway::{Apn, Counter, Ebi, Request, Role, Sent, Seq, Teid};
+use gtp_gateway::{Apn, Counter, Ebi, Outcome, Request, Role, Sent, Seq, Teid};
 use gtp_values::Imsi;
 
 /// A datagram that was sent, and which gateway sent it.
@@ -35,6 +35,9 @@ pub struct Entry {
 #[derive(Debug, Drop)]
 pub struct Note {
     pub outcome: EventOutcome,
+    /// The outcome of the second message, where a gateway took two messages of one datagram, one after the
+    /// other (TS 29.274 5.5.1); `outcome` is then that of the first.
+    pub second: Option<Outcome>,
     /// The restart counter of the peer, if a later one was received.
     pub restart: Option<Counter>,
     /// The number of datagrams that were sent.

@@ -49,6 +49,7 @@ impl Note {
     {
         Note {
             outcome,
+            second: None,
             restart: None,
             sent: 0,
             gave_up: Vec::new(alloc),
@@ -117,6 +118,7 @@ impl Records {
         let outcome = EventOutcome::CameTo(came.outcome);
         let note = Note {
             outcome,
+            second: came.second,
             restart: came.restart,
             sent: count_of(&came.out),
             gave_up: Vec::new(alloc),
@@ -139,6 +141,7 @@ impl Records {
     {
         let note = Note {
             outcome: EventOutcome::Ticked,
+            second: None,
             restart: None,
             sent: ticked.resent.as_slice().len(),
             gave_up: ticked.gave_up,

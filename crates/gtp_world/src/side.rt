@@ -6,16 +6,15 @@ ghost use Rattle.std.specs.Prelude.{IsTrue, IsSome, IfOk, IfErr, OnOk, OnErr};
 ghost use Rattle.std.specs.FinMap.{get};
 ghost use Rattle.gtp_machine.specs.Input.{Commanded};
 ghost use Rattle.gtp_gateway.specs.Parts.{arrival_of};
-ghost use Rattle.gtp_gateway.specs.Received.{coming};
-ghost use Rattle.gtp_gateway.specs.Sent.{datagram_by};
 ghost use Rattle.gtp_gateway.specs.Taken.{made_for};
 ghost use Rattle.gtp_reliable.specs.Forgotten.{question_of};
 ghost use Rattle.gtp_gateway.specs.Ticked.{asked_by, arrivals_of};
 ghost use Rattle.gtp_world.specs.Commands.{command_of, is_command};
 ghost use Rattle.gtp_world.specs.Kept.{half_of, entry_by};
-ghost use Rattle.gtp_world.specs.Sides.{IsInput, IsTick, IsEntryAt, IsHanded, IsAccepted};
+ghost use Rattle.gtp_world.specs.Last.{last_octets};
+ghost use Rattle.gtp_world.specs.Sides.{IsInput, IsBrought, IsTick, IsEntryAt, IsHanded, IsAccepted};
 ghost use Rattle.gtp_world.specs.Views.{IsCount};
-ghost use Rattle.gtp_world.specs.Stepped.{AsksFor, KeepsOn, IsLate, counter_after, half_begun, half_restarted};
+ghost use Rattle.gtp_world.specs.Stepped.{AsksFor, IsGivenUp, counter_after, half_begun, half_restarted};
 
 use crate::asked::Asked;
 use crate::command::{outcome_of, tell};
@@ -51,6 +50,8 @@ pub struct Side {
 #[derive(Drop)]
 pub struct Came {
     pub outcome: Outcome,
+    /// The outcome of the second message of a datagram, where two were taken one after the other.
+    pub second: Option<Outcome>,
     pub restart: Option<Counter>,
     pub out: Option<Sent>,
     pub handed: Option<HandedIn>,
@@ -192,7 +193,8 @@ impl Side {
         }
     }
 
-    /// Takes a datagram.
+    /// Takes a datagram. The octets of its last message are for a create request for which a context is
+    /// made: it is kept by its own.
     pub fn takes(
         &mut self,
         alloc: Global,
@@ -200,16 +202,18 @@ impl Side {
         source: Endpoint,
         plane: Plane,
         octets: &[u8],
+        last: &[u8],
     ) -> Result<Came, Memory>
-        ensures taken { IfOk result (λ came. IsInput node (coming plane source octets.now)
-            (KeepsOn plane source octets.now) (half_of self.old) came (half_of self.new)) }
+        requires last { last.now ≡ last_octets octets.now }
+        ensures taken { IfOk result (λ came. IsBrought node plane source octets.now
+            (half_of self.old) came (half_of self.new)) }
         ensures err { OnErr result (half_of self.new ≡ half_of self.old) }
     {
         self.seen.try_reserve(1)?;
         self.made.try_reserve(1)?;
         let request = Request {
             source,
-            octets: Vec::from_slice(alloc, octets)?,
+            octets: Vec::from_slice(alloc, last)?,
         };
         let step = self.gateway.receive(alloc, source, plane, octets)?;
         let accepted = self.accepting(alloc, node, step.accepted)?;
@@ -217,6 +221,7 @@ impl Side {
         self.make(step.report.made, request);
         Ok(Came {
             outcome: step.report.outcome,
+            second: step.report.second,
             restart: step.report.restart,
             out: step.out,
             handed: None,
@@ -224,14 +229,20 @@ impl Side {
         })
     }
 
-    /// Whether a datagram is a request whose answer the gateway has given up.
-    pub fn is_late(&self, alloc: Global, sent: &Sent) -> Result<bool, Memory>
-        ensures { IfOk result (λ late.
-            IsTrue late ↔ IsLate (half_of self.now) (datagram_by sent.now)) }
+    /// Whether a message is a request whose answer the gateway has given up.
+    pub fn has_given_up(
+        &self,
+        alloc: Global,
+        source: Endpoint,
+        plane: Plane,
+        octets: &[u8],
+    ) -> Result<bool, Memory>
+        ensures { IfOk result (λ is. IsTrue is
+            ↔ IsGivenUp (half_of self.now) plane (arrival_of source octets.now)) }
     {
-        match sent.plane {
+        match plane {
             Plane::Control => {
-                let request = Asked::copy(alloc, sent.from, sent.octets.as_slice())?;
+                let request = Asked::copy(alloc, source, octets)?;
                 Ok(self.forgotten.has(&request))
             }
             Plane::User => Ok(false),
@@ -296,6 +307,7 @@ impl Came {
     fn begun(begun: Begun, outcome: Outcome, handed: Option<HandedIn>) -> Came
         ensures { result ≡ record {
           outcome = outcome;
+          second = None;
           restart = None;
           out = Some begun.out;
           handed = handed;
@@ -304,6 +316,7 @@ impl Came {
     {
         Came {
             outcome,
+            second: None,
             restart: None,
             out: Some(begun.out),
             handed,
@@ -315,6 +328,7 @@ impl Came {
     fn refused(why: Refusal) -> Came
         ensures { result ≡ record {
           outcome = Outcome.Refused why;
+          second = None;
           restart = None;
           out = None;
           handed = None;
@@ -323,6 +337,7 @@ impl Came {
     {
         Came {
             outcome: Outcome::Refused(why),
+            second: None,
             restart: None,
             out: None,
             handed: None,

@@ -9,11 +9,12 @@ ghost use Rattle.gtp_world.specs.Kept.{kept_of, half_of, half_in, outcome_of, ou
 ghost use Rattle.gtp_world.specs.Recorded.{HasRoom};
 ghost use Rattle.gtp_world.specs.Runs.{begun, AreFacing};
 ghost use Rattle.gtp_world.specs.Views.{IsMade};
-ghost use Rattle.gtp_world.specs.Stepped.{Comes, Takes, AsksFor, Brings, TicksBy, IsThere, IsLate};
+ghost use Rattle.gtp_world.specs.Stepped.{Comes, Takes, AsksFor, BringsFirst, TicksBy, IsThere};
 
 use crate::config::WorldConfig;
 use crate::event::{Event, EventOutcome};
 use crate::handed::other_than;
+use crate::last::last_message;
 use crate::records::Records;
 use crate::side::Side;
 use gtp_gateway::{Memory, Role};
@@ -65,8 +66,8 @@ impl Sides {
         }
     }
 
-    /// How many contexts were made for the datagram of this number, if there is one, by the gateway
-    /// that did not send it, since that started.
+    /// How many contexts were made for the last message of the datagram of this number, if there is
+    /// one, by the gateway that did not send it, since that started.
     pub fn made(&self, number: u64) -> Option<usize>
         ensures some { IfSome result (λ count. IsMade (kept_of self.now) number count) }
         ensures none { IfNone result (length (kept_of self.now).log.datagrams ≤ number) }
@@ -75,7 +76,8 @@ impl Sides {
         let datagram = &self.records.datagrams[index];
         let receiver = self.side(other_than(datagram.node));
         let sent = &datagram.sent;
-        Some(receiver.contexts_made(sent.from, sent.octets.as_slice()))
+        let request = last_message(sent.octets.as_slice());
+        Some(receiver.contexts_made(sent.from, request))
     }
 
     /// A gateway carries a command out, or refuses it.
@@ -95,19 +97,19 @@ impl Sides {
         Ok(self.records.settle(alloc, node, came, false))
     }
 
-    /// The first octets of the datagram at an index come to the gateway that did not send it.
+    /// The first octets of the datagram at an index come to the gateway that did not send it. If all of
+    /// them do, the delivery may be late.
     fn bring(
         &mut self,
         alloc: Global,
         index: usize,
         count: usize,
-        late: bool,
+        whole: bool,
     ) -> Result<EventOutcome, Memory>
         requires room { HasRoom 1 self.old.records }
         requires there { index < length self.old.records.datagrams.items }
-        ensures takes { OnOk result ((found : IsThere (kept_of self.old).log.datagrams index)
-            → Brings (kept_of self.old) found.sent (take count found.sent.what.octets) late
-            (kept_of self.new)) }
+        ensures brings { OnOk result ((found : IsThere (kept_of self.old).log.datagrams index)
+            → BringsFirst (kept_of self.old) found.sent count whole (kept_of self.new)) }
         ensures outcome { IfOk result (λ outcome. outcomes_in (kept_of self.new).log
             ≡ outcomes_in (kept_of self.old).log ++ outcome_of outcome ∷ []) }
         ensures err { OnErr result (kept_of self.new ≡ kept_of self.old) }
@@ -119,27 +121,28 @@ impl Sides {
             Some(front) => front,
             None => sent.octets.as_slice(),
         };
+        let last = last_message(octets);
+        let late = if whole {
+            match node {
+                Role::Serving => self
+                    .serving
+                    .has_given_up(alloc, sent.from, sent.plane, last)?,
+                Role::Packet => self
+                    .packet
+                    .has_given_up(alloc, sent.from, sent.plane, last)?,
+            }
+        } else {
+            false
+        };
         let came = match node {
             Role::Serving => self
                 .serving
-                .takes(alloc, node, sent.from, sent.plane, octets)?,
+                .takes(alloc, node, sent.from, sent.plane, octets, last)?,
             Role::Packet => self
                 .packet
-                .takes(alloc, node, sent.from, sent.plane, octets)?,
+                .takes(alloc, node, sent.from, sent.plane, octets, last)?,
         };
         Ok(self.records.settle(alloc, node, came, late))
-    }
-
-    /// Whether the delivery of the datagram at an index is late.
-    fn is_late(&self, alloc: Global, index: usize) -> Result<bool, Memory>
-        requires { index < length self.now.records.datagrams.items }
-        ensures { IfOk result (λ late. (found : IsThere (kept_of self.now).log.datagrams index)
-            → IsTrue late
-            ↔ IsLate (half_in (kept_of self.now) (other found.sent.role)) found.sent.what) }
-    {
-        let datagram = &self.records.datagrams[index];
-        self.side(other_than(datagram.node))
-            .is_late(alloc, &datagram.sent)
     }
 
     /// A datagram comes to the gateway that did not send it.
@@ -154,8 +157,7 @@ impl Sides {
             return Ok(self.records.pass_over(alloc, EventOutcome::NoSuchDatagram));
         };
         let count = self.records.datagrams[index].sent.octets.len();
-        let late = self.is_late(alloc, index)?;
-        self.bring(alloc, index, count, late)
+        self.bring(alloc, index, count, true)
     }
 
     /// The first octets of a datagram come to the gateway that did not send it.

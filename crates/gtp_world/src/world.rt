@@ -189,8 +189,9 @@ impl World {
     }
 
     /// The number of contexts that the receiver of the datagram with this number has made, since it last started, on
-    /// deliveries of a create request with the same octets. A session with its default bearer is one context. `None` if
-    /// there is no such datagram. Allocates nothing.
+    /// deliveries of a create request with the same octets. Of two messages in one datagram the second counts, with its
+    /// own octets. A session with its default bearer is one context. `None` if there is no such datagram. Allocates
+    /// nothing.
     pub fn made(&self, number: u64) -> Option<usize>
         ensures some { IfSome result (λ count. IsMade self.now number count) }
         ensures none { IfNone result (length self.now.log.datagrams ≤ number) }
@@ -256,8 +257,8 @@ impl World {
         Some(self.sides.records.is_owed(accepted))
     }
 
-    /// The number of late deliveries: of a request whose answer its receiver had forgotten since it last started.
-    /// Allocates nothing.
+    /// The number of late deliveries: of a request whose answer its receiver had forgotten since it last started. Of two
+    /// messages in one datagram the second counts. Allocates nothing.
     pub fn late(&self) -> usize
         ensures { result ≡ self.now.log.late }
     {

@@ -1,1 +1,2 @@
 pub mod FramesShown
+pub mod Texts

@@ -1,48 +1,79 @@
 -- What showing a capture writes and answers.
-use Rattle.std.specs.Prelude.{◌≡◌, ℕ, ◌+◌, ◌||◌, ◌⊎◌, Bool, true, false, List, [], ◌∷◌, ◌++◌, length, Option}
+use Rattle.std.specs.Prelude.{◌≡◌, ℕ, ◌+◌, ◌==◌, ◌⊎◌, nat_lt, if◌then◌else◌, Bool, true, false, List, [], ◌∷◌, ◌++◌, length, Option, codes, decimal}
+use Rattle.std.specs.Int.{from_bool}
 use Rattle.std.specs.Io.KnownBytes.{Appends}
-use Rattle.gtp_capture.specs.declared.head.Kind.{Kind}
-use Rattle.gtp_capture.specs.Frame.{Frame, IsBroken, IsCapture}
+use Rattle.gtp_capture.specs.Frame.{Frame}
+use Rattle.gtp_capture.specs.Capture.{State, IsBroken, IsCapture}
+use Rattle.gtp_capture.specs.Packet.{Packet}
 use Rattle.gtp_capture.specs.Seen.{Seen, datagrams}
+use Rattle.gtp_capture.specs.declared.ports.Ports.{Ports}
 use Rattle.gtp_lines.specs.Frames.{FrameLines}
-use Rattle.gtpshow.specs.Shown.{status_shown}
+use Rattle.gtp_lines.specs.declared.frames.Form.{Form}
+use Rattle.gtpshow.specs.declared.capturing.Counts.{Counts}
 use Rattle.gtpshow.specs.declared.capturing.FrameWriter.{FrameWriter}
 
--- the lines of datagrams, one after the other, and whether those of one are a fault's
-abbrev pub AreShown : List Seen → List ℕ → Bool → Type 0
-AreShown [] text faulty = (text ≡ []) × (faulty ≡ false)
-AreShown (d ∷ ds) text faulty = (lines : List ℕ) × (bad : Bool) × (rest : List ℕ) × (worse : Bool)
-    × FrameLines d lines bad × AreShown ds rest worse × (text ≡ lines ++ rest) × (faulty ≡ (bad || worse))
+-- nothing was shown yet
+abbrev pub nothing_shown : Counts
+nothing_shown = record { gtp = 0; faults = 0; cut = 0; fragments = 0 }
+
+-- the capture has not all octets of a datagram, which is in no fragments
+abbrev pub is_cut : Packet → Bool
+is_cut p = if p.fragment then false else nat_lt (length p.octets) p.had
+
+-- with one datagram more
+abbrev pub counted : Counts → Packet → Bool → Counts
+counted c p faulty = record { gtp = c.gtp + 1; faults = c.faults + from_bool faulty; cut = c.cut + from_bool (is_cut p); fragments = c.fragments + from_bool p.fragment }
+
+-- the line that counts
+abbrev pub counts_line : ℕ → Counts → List ℕ
+counts_line frames c =
+    codes "frames " ++ (decimal frames ++ (codes " gtp " ++ (decimal c.gtp ++ (codes " faults " ++ (decimal c.faults ++ (codes " cut " ++ (decimal c.cut ++ (codes " fragments " ++ (decimal c.fragments ++ codes "\n")))))))))
+
+-- the exit status: 1 where a datagram has a fault
+abbrev pub capture_status : Counts → ℕ
+capture_status c = if c.faults == 0 then 0 else 1
+
+-- the lines of datagrams, one after the other, and the counts after them
+abbrev pub AreShown : Form → Counts → List Seen → List ℕ → Counts → Type 0
+AreShown form before [] text after = (text ≡ []) × (after ≡ before)
+AreShown form before (d ∷ ds) text after = (lines : List ℕ) × (faulty : Bool) × (rest : List ℕ)
+    × FrameLines form d lines faulty × AreShown form (counted before d.packet faulty) ds rest after × (text ≡ lines ++ rest)
 
 -- a writer that shows a datagram has its lines after what it had
 abbrev pub TakesFrame : {W : Type 0} → (W → Option (List ℕ)) → FrameWriter W → Seen → FrameWriter W → Type 0
-TakesFrame contents before d after = (lines : List ℕ) × (bad : Bool)
-    × FrameLines d lines bad × Appends (contents before.out) (contents after.out) lines × (after.faulty ≡ (before.faulty || bad)) × (after.no_memory ≡ before.no_memory)
+TakesFrame contents before d after = (lines : List ℕ) × (faulty : Bool)
+    × FrameLines before.form d lines faulty × (after.form ≡ before.form) × Appends (contents before.out) (contents after.out) lines
+    × (after.counts ≡ counted before.counts d.packet faulty) × (after.no_memory ≡ before.no_memory)
 
 -- a writer that does not show one wants memory, and has written nothing more; or a write failed
 abbrev pub RefusesFrame : {W : Type 0} → FrameWriter W → Seen → FrameWriter W → Type 0
 RefusesFrame before d after = ((after.no_memory ≡ true) × (after.out ≡ before.out)) ⊎ (after.no_memory ≡ before.no_memory)
 
 -- The writer has the lines of the datagrams that these frames carry, in their order, and no others.
-pub record AreWritten (k : Kind) (frames : List Frame) (before now : Option (List ℕ)) (faulty : Bool) : Type 0 where
+pub record AreWritten (form : Form) (ports : Ports) (frames : List Frame) (before now : Option (List ℕ)) (counts : Counts) : Type 0 where
   pub text : List ℕ
-  pub lines : AreShown (datagrams k 1 frames) text faulty
+  pub lines : AreShown form nothing_shown (datagrams ports 1 frames) text counts
   pub written : Appends before now text
 
--- The file is a capture of frames whose datagrams were shown.
-abbrev pub IsCaptureShown : List ℕ → Option (List ℕ) → Option (List ℕ) → ℕ → Type 0
-IsCaptureShown file before now status = (k : Kind) × (frames : List Frame) × (faulty : Bool)
-    × IsCapture file k frames [] × AreWritten k frames before now faulty × (status ≡ status_shown faulty)
+-- The file is a capture of so many frames, whose datagrams were shown.
+abbrev pub AreFramesShown : Form → Ports → List ℕ → Option (List ℕ) → Option (List ℕ) → ℕ → Counts → Type 0
+AreFramesShown form ports file before now count counts = (state : State) × (frames : List Frame)
+    × IsCapture file state frames [] × AreWritten form ports frames before now counts × (count ≡ length frames)
 
--- The datagrams of the first frames were shown; from this octet of the file on, no record stands.
-abbrev pub IsBrokenShown : List ℕ → Option (List ℕ) → Option (List ℕ) → ℕ → Type 0
-IsBrokenShown file before now at = (k : Kind) × (frames : List Frame) × (rest : List ℕ) × (faulty : Bool)
-    × IsCapture file k frames rest × IsBroken k.order rest × (at + length rest ≡ length file) × AreWritten k frames before now faulty
+-- Then came the line that counts.
+abbrev pub IsCaptureShown : Form → Ports → List ℕ → Option (List ℕ) → Option (List ℕ) → ℕ → Type 0
+IsCaptureShown form ports file before now status = (shown : Option (List ℕ)) × (count : ℕ) × (counts : Counts)
+    × AreFramesShown form ports file before shown count counts × Appends shown now (counts_line count counts) × (status ≡ capture_status counts)
+
+-- The datagrams of the first frames were shown; from this octet of the file on, no record or block stands.
+abbrev pub IsBrokenShown : Form → Ports → List ℕ → Option (List ℕ) → Option (List ℕ) → ℕ → Type 0
+IsBrokenShown form ports file before now at = (state : State) × (frames : List Frame) × (rest : List ℕ) × (counts : Counts)
+    × IsCapture file state frames rest × IsBroken state rest × (at + length rest ≡ length file) × AreWritten form ports frames before now counts
 
 -- The datagrams of some first frames were shown, or nothing was.
-abbrev pub IsFirstShown : List ℕ → Option (List ℕ) → Option (List ℕ) → Type 0
-IsFirstShown file before now = (before ≡ now) ⊎ ((k : Kind) × (frames : List Frame) × (rest : List ℕ) × (faulty : Bool) × IsCapture file k frames rest × AreWritten k frames before now faulty)
+abbrev pub IsFirstShown : Form → Ports → List ℕ → Option (List ℕ) → Option (List ℕ) → Type 0
+IsFirstShown form ports file before now = (before ≡ now) ⊎ ((state : State) × (frames : List Frame) × (rest : List ℕ) × (counts : Counts) × IsCapture file state frames rest × AreWritten form ports frames before now counts)
 
 -- The file is no capture, and nothing was shown.
 abbrev pub IsNoCapture : List ℕ → Option (List ℕ) → Option (List ℕ) → Type 0
-IsNoCapture file before now = (before ≡ now) × ((k : Kind) (frames : List Frame) (rest : List ℕ) → IsCapture file k frames rest → ⊥)
+IsNoCapture file before now = (before ≡ now) × ((state : State) (frames : List Frame) (rest : List ℕ) → IsCapture file state frames rest → ⊥)

@@ -1,9 +1,12 @@
--- What showing one datagram writes and answers.
-use Rattle.std.specs.Prelude.{◌≡◌, ℕ, Bool, true, false, List, Option, Ok}
+-- What showing datagrams writes and answers.
+use Rattle.std.specs.Prelude.{◌≡◌, ℕ, Bool, true, false, if◌then◌else◌, List, [], Option, Ok}
 use Rattle.std.specs.Io.KnownBytes.{Appends}
 use Rattle.hex.specs.Hex.{decode_of}
 use Rattle.gtp_values.specs.declared.plane.Plane.{Plane}
 use Rattle.gtp_lines.specs.Lines.{LinesOf}
+use Rattle.gtp_dump.specs.Decoded.{ShowsOne, AreTold}
+use Rattle.gtp_dump.specs.declared.decoding.Asked.{Asked}
+use Rattle.gtp_dump.specs.declared.decoding.Tally.{Tally}
 
 -- the exit status where lines were shown: 1 for those of a fault
 abbrev pub status_shown : Bool → ℕ
@@ -15,3 +18,16 @@ abbrev pub IsShown : Plane → List ℕ → Option (List ℕ) → Option (List �
 IsShown plane digits before now status =
     (octets : List ℕ) × (text : List ℕ) × (faulty : Bool) × (decode_of digits ≡ Ok octets) × LinesOf plane octets text faulty
     × Appends before now text × (status ≡ status_shown faulty)
+
+-- the word spells a datagram, as a line of a dump does, and all that can be shown of it was written
+abbrev pub IsAllShown : Option Plane → List ℕ → Option (List ℕ) → Option (List ℕ) → ℕ → Type 0
+IsAllShown plane word before now status =
+    (text : List ℕ) × (faulty : Bool) × ShowsOne (record { plane = plane; all = true }) word text faulty × Appends before now text × (status ≡ status_shown faulty)
+
+-- the exit status of a dump: 2 where a line was bad
+abbrev pub dump_status : Tally → ℕ
+dump_status tally = if tally.bad then 2 else status_shown tally.faulty
+
+-- all lines of a dump were told
+abbrev pub IsDumpShown : Asked → List ℕ → (out out_after err err_after : Option (List ℕ)) → ℕ → Type 0
+IsDumpShown asked octets out out_after err err_after status = (tally : Tally) × AreTold asked octets [] tally out out_after err err_after × (status ≡ dump_status tally)

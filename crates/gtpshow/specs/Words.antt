@@ -1,35 +1,40 @@
 -- The words that the program takes.
-use Rattle.std.specs.Prelude.{Some, true, [], codes}
+use Rattle.std.specs.Prelude.{ℕ, List, Some, true, [], codes}
 use Rattle.clap.specs.Words.{App, Rule, Shape, new_rule, new_app, with_rule, with_subcommand}
 use Rattle.clap.specs.declared.builder.action.ArgAction.TheVariants.{SetTrue}
 
--- that the datagram is of the user plane
-abbrev pub user_flag : Rule
-user_flag = record (new_rule (codes "user")) { long = Some (codes "user"); action = Some SetTrue }
+-- an option without a value
+abbrev pub flag_word : List ℕ → Rule
+flag_word name = record (new_rule name) { long = Some name; action = Some SetTrue }
 
--- the octets of the datagram
-abbrev pub octets_word : Rule
-octets_word = record (new_rule (codes "octets")) { value_names = 1; required = true }
+-- an option with a value
+abbrev pub option_word : List ℕ → Rule
+option_word name = record (new_rule name) { long = Some name; value_names = 1 }
 
--- to show one datagram
+-- a word
+abbrev pub plain_word : List ℕ → Rule
+plain_word name = record (new_rule name) { value_names = 1 }
+
+-- a word that has to be there
+abbrev pub needed_word : List ℕ → Rule
+needed_word name = record (plain_word name) { required = true }
+
+-- to show datagrams
 abbrev pub decode_words : App
-decode_words = with_rule (with_rule (new_app (codes "decode")) user_flag) octets_word
+decode_words = with_rule (with_rule (with_rule (new_app (codes "decode")) (flag_word (codes "user"))) (flag_word (codes "all"))) (needed_word (codes "octets"))
 
--- a file
-abbrev pub file_word : Rule
-file_word = record (new_rule (codes "file")) { value_names = 1 }
+-- further ports of each plane
+abbrev pub with_port_words : App → App
+with_port_words app = with_rule (with_rule app (option_word (codes "control-port"))) (option_word (codes "user-port"))
 
 -- to show a capture
 abbrev pub capture_words : App
-capture_words = with_rule (new_app (codes "capture")) file_word
-
--- that a diagram is drawn
-abbrev pub diagram_flag : Rule
-diagram_flag = record (new_rule (codes "diagram")) { long = Some (codes "diagram"); action = Some SetTrue }
+capture_words =
+    with_rule (with_port_words (with_rule (with_rule (new_app (codes "capture")) (flag_word (codes "brief"))) (flag_word (codes "all")))) (plain_word (codes "file"))
 
 -- to replay a scenario
 abbrev pub replay_words : App
-replay_words = with_rule (with_rule (new_app (codes "replay")) diagram_flag) file_word
+replay_words = with_rule (with_rule (new_app (codes "replay")) (flag_word (codes "diagram"))) (plain_word (codes "file"))
 
 -- the program's name, before a subcommand; the program has a version
 abbrev pub gtpshow_word : Shape

@@ -1,44 +1,130 @@
 //! Showing a capture.
 
-ghost use Rattle.std.specs.Prelude.{◌≡◌, ◌≢◌, ◌≤◌, ◌⊎◌, ℕ, false, Err, IfOk, IfSome};
+ghost use Rattle.std.specs.Prelude.{◌≡◌, ◌≢◌, ◌≤◌, ◌⊎◌, ◌++◌, ℕ, false, decimal, Err, IfOk, IfErr, IfSome, OnOk};
+ghost use Rattle.std.specs.IoError.{error_kind};
+ghost use Rattle.std.specs.Io.KnownBytes.{Appends};
 ghost use Rattle.gtp_capture.specs.Seen.{Seen};
-ghost use Rattle.gtpshow.specs.Captured.{TakesFrame, RefusesFrame, IsCaptureShown, IsBrokenShown, IsFirstShown, IsNoCapture};
+ghost use Rattle.gtp_capture.specs.reading.Packet.{packet_of};
+ghost use Rattle.gtpshow.specs.Captured.{nothing_shown, is_cut, counted, counts_line, capture_status, TakesFrame, RefusesFrame, AreFramesShown, IsCaptureShown, IsBrokenShown, IsFirstShown, IsNoCapture};
 
 use crate::command::Failure;
 use crate::replaying::unopened;
-use gtp_capture::{CaptureFault, Captured, Refused, Sink, Stop, read_capture};
-use gtp_lines::frame_lines;
-use std::alloc::Global;
-use std::io::{BufReader, BufWriter, Read, Write};
+use gtp_capture::{CaptureFault, Captured, Packet, Ports, Refused, Sink, Stop, read_capture};
+use gtp_lines::text::{put, put_number};
+use gtp_lines::{Form, frame_lines};
+use std::alloc::{AllocError, Global};
+use std::io::{BufReader, BufWriter, ErrorKind, Read, Write};
 use std::rt::Files;
 use std::{fs, io};
 
 /// How many octets are read or written at once.
 const BUFFERED: usize = 65_536;
 
-/// A writer of the lines of datagrams.
+/// Why a write failed: the output is closed, or else it is a failed write.
+pub fn unwritten(error: &io::Error) -> Failure
+    ensures closed { error_kind error.now ≡ ErrorKind.BrokenPipe → result ≡ Failure.Closed }
+    ensures write { error_kind error.now ≢ ErrorKind.BrokenPipe → result ≡ Failure.Write }
+{
+    match error.kind() {
+        ErrorKind::BrokenPipe => Failure::Closed,
+        _ => Failure::Write,
+    }
+}
+
+/// What was shown of a capture.
+#[derive(Clone, Copy, Debug, PartialEq, Eq)]
+pub struct Counts {
+    /// The datagrams.
+    pub gtp: u64,
+    /// Those of them with a fault.
+    pub faults: u64,
+    /// Those of which the capture has not all octets.
+    pub cut: u64,
+    /// Those that are in fragments.
+    pub fragments: u64,
+}
+
+/// Whether the capture has not all octets of a datagram that is in no fragments.
+fn is_cut(packet: &Packet) -> bool
+    ensures { result ≡ is_cut (packet_of packet.now) }
+{
+    if packet.fragment {
+        return false;
+    }
+    packet.octets.len() < usize::from(packet.had)
+}
+
+impl Counts {
+    /// The counts with one datagram more. None past 64 bits.
+    fn counted(self, packet: &Packet, faulty: bool) -> Option<Counts>
+        ensures { IfSome result (λ counts. counts ≡ counted self (packet_of packet.now) faulty) }
+    {
+        Some(Counts {
+            gtp: self.gtp.checked_add(1)?,
+            faults: self.faults.checked_add(u64::from(faulty))?,
+            cut: self.cut.checked_add(u64::from(is_cut(packet)))?,
+            fragments: self.fragments.checked_add(u64::from(packet.fragment))?,
+        })
+    }
+}
+
+/// Appends a word and a number.
+#[tactic(auto, using(crate::proofs::Texts::appending))]
+fn put_count(out: &mut Vec<u8>, word: &str, count: u64) -> Result<(), AllocError>
+    ensures ok { OnOk result (out.new.items ≡ out.old.items ++ (word.now ++ decimal count)) }
+{
+    put(out, word.as_bytes())?;
+    put_number(out, count)
+}
+
+/// The last line of a capture, which counts.
+#[tactic(auto, using(crate::proofs::Texts::appending))]
+fn counts_text(alloc: Global, frames: u64, counts: Counts) -> Result<Vec<u8>, AllocError>
+    ensures { IfOk result (λ text. text.items ≡ counts_line frames counts) }
+{
+    let mut text = Vec::new(alloc);
+    put_count(&mut text, "frames ", frames)?;
+    put_count(&mut text, " gtp ", counts.gtp)?;
+    put_count(&mut text, " faults ", counts.faults)?;
+    put_count(&mut text, " cut ", counts.cut)?;
+    put_count(&mut text, " fragments ", counts.fragments)?;
+    put(&mut text, b"\n")?;
+    Ok(text)
+}
+
+/// A writer of the lines of datagrams, in a form.
 #[derive(Drop)]
 pub struct FrameWriter<W> {
     alloc: Global,
+    form: Form,
     out: W,
-    /// Whether a datagram had a fault.
-    faulty: bool,
+    counts: Counts,
     /// Whether an allocation was refused.
     no_memory: bool,
+    /// Whether a write found the output closed.
+    closed: bool,
 }
 
 impl<W: Write> FrameWriter<W> {
     /// A writer that has shown no datagram.
-    fn new(alloc: Global, out: W) -> FrameWriter<W>
+    fn new(alloc: Global, form: Form, out: W) -> FrameWriter<W>
+        ensures form { result.form ≡ form }
         ensures out { result.out ≡ out }
-        ensures faulty { result.faulty ≡ false }
+        ensures counts { result.counts ≡ nothing_shown }
         ensures memory { result.no_memory ≡ false }
     {
         FrameWriter {
             alloc,
+            form,
             out,
-            faulty: false,
+            counts: Counts {
+                gtp: 0,
+                faults: 0,
+                cut: 0,
+                fragments: 0,
+            },
             no_memory: false,
+            closed: false,
         }
     }
 }
@@ -49,57 +135,124 @@ impl<W: Write> Sink for FrameWriter<W> {
     ghost refuses = { λ before d after. RefusesFrame before d after };
 
     fn take(&mut self, captured: &Captured) -> Result<(), Refused> {
-        let Ok(shown) = frame_lines(self.alloc, captured) else {
+        let Ok(shown) = frame_lines(self.alloc, self.form, captured) else {
             self.no_memory = true;
             return Err(Refused);
         };
-        if self.out.write_all(&shown.text).is_err() {
+        let Some(counts) = self.counts.counted(&captured.packet, shown.faulty) else {
+            return Err(Refused);
+        };
+        if let Err(error) = self.out.write_all(&shown.text) {
+            self.closed = error.kind() == ErrorKind::BrokenPipe;
             return Err(Refused);
         }
-        self.faulty = self.faulty || shown.faulty;
+        self.counts = counts;
         Ok(())
     }
 }
 
-/// Writes the lines of the datagrams of a capture, and returns the exit status: 0, or 1 if one had a fault.
-/// `BadCapture` for no capture, `BrokenCapture` for one that is cut off or has a record of more than 262,144 octets;
-/// `Memory` if an allocation was refused, `Read` if a read failed, `Write` if a write did. What came before is written.
-fn capture_from<I: Read, W: Write>(
+/// Writes the lines of the datagrams of a capture, by these ports, and returns how many frames it has. The errors are those of
+/// `capture_from`.
+fn frames_from<I: Read, W: Write>(
     alloc: Global,
+    ports: Ports,
     reader: &mut I,
     writer: &mut FrameWriter<W>,
-) -> Result<u8, Failure>
-    requires faulty { writer.old.faulty ≡ false }
+) -> Result<u64, Failure>
+    requires counts { writer.old.counts ≡ nothing_shown }
     requires memory { writer.old.no_memory ≡ false }
-    ensures shown { IfOk result (λ status. IfSome (I.remaining reader.old) (λ file.
-        IsCaptureShown file (W.contents writer.old.out) (W.contents writer.new.out) status)) }
-    ensures small { IfOk result (λ status. status ≤ 1) }
+    ensures shown { IfOk result (λ frames. IfSome (I.remaining reader.old) (λ file.
+        AreFramesShown writer.old.form ports file (W.contents writer.old.out) (W.contents writer.new.out)
+        frames writer.new.counts)) }
     ensures broken { (at : ℕ) → result ≡ Err (Failure.BrokenCapture at) →
         IfSome (I.remaining reader.old) (λ file.
-        IsBrokenShown file (W.contents writer.old.out) (W.contents writer.new.out) at) }
+        IsBrokenShown writer.old.form ports file (W.contents writer.old.out) (W.contents writer.new.out) at) }
     ensures bad { result ≡ Err Failure.BadCapture → IfSome (I.remaining reader.old) (λ file.
         IsNoCapture file (W.contents writer.old.out) (W.contents writer.new.out)) }
     ensures first { (result ≡ Err Failure.Memory) ⊎ (result ≡ Err Failure.Read) →
         IfSome (I.remaining reader.old) (λ file.
-        IsFirstShown file (W.contents writer.old.out) (W.contents writer.new.out)) }
+        IsFirstShown writer.old.form ports file (W.contents writer.old.out) (W.contents writer.new.out)) }
     ensures kind { (result ≢ Err Failure.BadHex) × (result ≢ Err Failure.BadWords) }
 {
-    match read_capture(alloc, reader, writer) {
-        Ok(()) => Ok(if writer.faulty { 1 } else { 0 }),
+    match read_capture(alloc, ports, reader, writer) {
+        Ok(frames) => Ok(frames),
         Err(CaptureFault::NoCapture) => Err(Failure::BadCapture),
         Err(CaptureFault::Broken { at }) => Err(Failure::BrokenCapture { at }),
         Err(CaptureFault::Stopped(Stop::Memory)) => Err(Failure::Memory),
         Err(CaptureFault::Stopped(Stop::Refused)) if writer.no_memory => Err(Failure::Memory),
+        Err(CaptureFault::Stopped(Stop::Refused)) if writer.closed => Err(Failure::Closed),
         Err(CaptureFault::Stopped(Stop::Refused)) => Err(Failure::Write),
         Err(CaptureFault::Stopped(Stop::Read)) => Err(Failure::Read),
         Err(CaptureFault::Stopped(Stop::TooLong)) => Err(Failure::Read),
     }
 }
 
+/// Writes the last line of a capture of so many frames, and returns the exit status.
+fn count_from<W: Write>(
+    alloc: Global,
+    frames: u64,
+    writer: &mut FrameWriter<W>,
+) -> Result<u8, Failure>
+    ensures counted { OnOk result (Appends (W.contents writer.old.out) (W.contents writer.new.out)
+        (counts_line frames writer.old.counts)) }
+    ensures status { IfOk result (λ status. status ≡ capture_status writer.old.counts) }
+    ensures memory { result ≡ Err Failure.Memory → writer.new ≡ writer.old }
+    ensures kind { IfErr result (λ failure. (failure ≡ Failure.Memory) ⊎ (failure ≡ Failure.Write)
+        ⊎ (failure ≡ Failure.Closed)) }
+{
+    let Ok(text) = counts_text(alloc, frames, writer.counts) else {
+        return Err(Failure::Memory);
+    };
+    let faults = writer.counts.faults;
+    match writer.out.write_all(&text) {
+        Ok(()) => Ok(if faults == 0 { 0 } else { 1 }),
+        Err(error) => Err(unwritten(&error)),
+    }
+}
+
+/// Writes the lines of the datagrams of a capture, by these ports, and then a line that counts, and returns the exit status: 0,
+/// or 1 if a datagram had a fault. `BadCapture` for no capture, `BrokenCapture` for one that is cut off or has a record of more
+/// than 262,144 octets; `Memory` if an allocation was refused, `Read` if a read failed, `Write` or `Closed` if a write did. What
+/// came before is written.
+fn capture_from<I: Read, W: Write>(
+    alloc: Global,
+    ports: Ports,
+    reader: &mut I,
+    writer: &mut FrameWriter<W>,
+) -> Result<u8, Failure>
+    requires counts { writer.old.counts ≡ nothing_shown }
+    requires memory { writer.old.no_memory ≡ false }
+    ensures shown { IfOk result (λ status. IfSome (I.remaining reader.old) (λ file.
+        IsCaptureShown writer.old.form ports file (W.contents writer.old.out) (W.contents writer.new.out) status)) }
+    ensures small { IfOk result (λ status. status ≤ 1) }
+    ensures broken { (at : ℕ) → result ≡ Err (Failure.BrokenCapture at) →
+        IfSome (I.remaining reader.old) (λ file.
+        IsBrokenShown writer.old.form ports file (W.contents writer.old.out) (W.contents writer.new.out) at) }
+    ensures bad { result ≡ Err Failure.BadCapture → IfSome (I.remaining reader.old) (λ file.
+        IsNoCapture file (W.contents writer.old.out) (W.contents writer.new.out)) }
+    ensures first { (result ≡ Err Failure.Memory) ⊎ (result ≡ Err Failure.Read) →
+        IfSome (I.remaining reader.old) (λ file.
+        IsFirstShown writer.old.form ports file (W.contents writer.old.out) (W.contents writer.new.out)) }
+    ensures kind { (result ≢ Err Failure.BadHex) × (result ≢ Err Failure.BadWords) }
+{
+    match frames_from(alloc, ports, reader, writer) {
+        Ok(frames) => count_from(alloc, frames, writer),
+        Err(failure) => Err(failure),
+    }
+}
+
+/// How a capture is shown.
+#[derive(Clone, Copy)]
+pub struct CaptureAsked {
+    pub form: Form,
+    pub ports: Ports,
+}
+
 /// Shows the capture of a reader on standard output, and returns the exit status.
 fn capture_printed<R: Print, I: Read + Drop>(
     rt: &R,
     alloc: Global,
+    asked: CaptureAsked,
     reader: I,
 ) -> Result<u8, Failure>
     ensures { IfOk result (λ status. status ≤ 2) }
@@ -110,9 +263,9 @@ fn capture_printed<R: Print, I: Read + Drop>(
     let out = BufWriter::with_capacity(alloc, BUFFERED, io::writer(rt)).map_err(
         |_| Failure::Memory,
     )?;
-    let mut writer = FrameWriter::new(alloc, out);
-    let shown = capture_from(alloc, &mut reader, &mut writer);
-    writer.out.flush().map_err(|_| Failure::Write)?;
+    let mut writer = FrameWriter::new(alloc, asked.form, out);
+    let shown = capture_from(alloc, asked.ports, &mut reader, &mut writer);
+    writer.out.flush().map_err(|error| unwritten(&error))?;
     shown
 }
 
@@ -120,13 +273,14 @@ fn capture_printed<R: Print, I: Read + Drop>(
 pub fn capture_file<R: Print + Input + Files>(
     rt: &R,
     alloc: Global,
+    asked: CaptureAsked,
     name: &str,
 ) -> Result<u8, Failure>
     ensures { IfOk result (λ status. status ≤ 2) }
 {
     if name == "-" {
-        return capture_printed(rt, alloc, rt.reader());
+        return capture_printed(rt, alloc, asked, rt.reader());
     }
     let file = fs::open(rt, name).map_err(unopened)?;
-    capture_printed(rt, alloc, file)
+    capture_printed(rt, alloc, asked, file)
 }

@@ -1,9 +1,10 @@
 //! The command line.
 
-ghost use Rattle.std.specs.Prelude.{◌≡◌, IfOk, Some};
-ghost use Rattle.clap.specs.Words.{app_of};
+ghost use Rattle.std.specs.Prelude.{◌≡◌, false, IfOk, Some};
+ghost use Rattle.clap.specs.Words.{app_of, rule_of, with_rule};
+ghost use Rattle.clap.specs.declared.builder.command.Command.TheViews.{out-Command as fields_of};
 ghost use Rattle.gtpshow.specs.Status.{status_of, failure_by, failure_text};
-ghost use Rattle.gtpshow.specs.Words.{program_words};
+ghost use Rattle.gtpshow.specs.Words.{flag_word, option_word, plain_word, with_port_words, decode_words, capture_words, replay_words, program_words};
 
 use clap::{Arg, ArgAction, Command};
 use gtp_replay::ReplayFault;
@@ -17,7 +18,8 @@ const NOTES: &str = "\
 Examples:
   gtpshow decode 40010009000001000300010007
   gtpshow decode --user 30ff000301000002616263
-  gtpshow capture examples/captures/attach.pcap
+  gtpshow decode --all - < FILE
+  gtpshow capture --brief examples/captures/attach.pcap
   gtpshow replay examples/scenarios/attach.json
 
 Exit status: 0 shown, or replayed as expected; 1 a fault was shown, or an event came to something
@@ -37,48 +39,168 @@ A scenario:
 
 docs/FORMATS.md of the repository lists all events, and explains the report";
 
+/// An option without a value.
+fn flag<'a>(alloc: Global, name: &'a str, help: &'a str) -> Arg<'a>
+    ensures rule { rule_of result ≡ flag_word name.entry.now }
+    ensures own { result.global ≡ false }
+{
+    Arg::new(alloc, name)
+        .long(name)
+        .action(ArgAction::SetTrue)
+        .help(help)
+}
+
+/// An option with a value.
+fn option<'a>(alloc: Global, name: &'a str, value: &'a str, help: &'a str) -> Arg<'a>
+    ensures rule { rule_of result ≡ option_word name.entry.now }
+    ensures own { result.global ≡ false }
+{
+    Arg::new(alloc, name)
+        .long(name)
+        .value_name(value)
+        .help(help)
+}
+
+/// A word.
+fn word<'a>(alloc: Global, name: &'a str, value: &'a str, help: &'a str) -> Arg<'a>
+    ensures rule { rule_of result ≡ plain_word name.entry.now }
+    ensures own { result.global ≡ false }
+{
+    Arg::new(alloc, name).value_name(value).help(help)
+}
+
+/// A command that takes this argument too.
+fn taking<'a>(command: Command<'a>, arg: Arg<'a>) -> Result<Command<'a>, AllocError>
+    requires command { (fields_of command).has_globals ≡ false }
+    requires arg { arg.global ≡ false }
+    ensures words { IfOk result (λ r. app_of r ≡ with_rule (app_of command.entry) (rule_of arg.entry)) }
+    ensures own { IfOk result (λ r. (fields_of r).has_globals ≡ false) }
+{
+    command.arg(arg)
+}
+
+/// The arguments of `decode`.
+fn decode_command<'a>(alloc: Global) -> Result<Command<'a>, AllocError>
+    ensures words { IfOk result (λ command. app_of command ≡ decode_words) }
+    ensures own { IfOk result (λ command. (fields_of command).has_globals ≡ false) }
+{
+    let octets = word(
+        alloc,
+        "octets",
+        "HEX",
+        "The octets of the datagram in hexadecimal; - for standard input, a datagram a line",
+    )
+    .required(true);
+    let command = Command::new(alloc, "decode").about("Shows one datagram, or its first fault");
+    let command = taking(
+        command,
+        flag(alloc, "user", "The datagram is of the user plane (GTP-U)"),
+    )?;
+    let command = taking(
+        command,
+        flag(
+            alloc,
+            "all",
+            "Shows each element that is whole also of a datagram at fault",
+        ),
+    )?;
+    taking(command, octets)
+}
+
+/// A command that takes further ports too.
+fn with_ports<'a>(alloc: Global, command: Command<'a>) -> Result<Command<'a>, AllocError>
+    requires command { (fields_of command).has_globals ≡ false }
+    ensures words { IfOk result (λ r. app_of r ≡ with_port_words (app_of command.entry)) }
+    ensures own { IfOk result (λ r. (fields_of r).has_globals ≡ false) }
+{
+    let command = taking(
+        command,
+        option(
+            alloc,
+            "control-port",
+            "PORT",
+            "A port of control datagrams beside 2123",
+        ),
+    )?;
+    taking(
+        command,
+        option(
+            alloc,
+            "user-port",
+            "PORT",
+            "A port of user datagrams beside 2152",
+        ),
+    )
+}
+
+/// The arguments of `capture`.
+fn capture_command<'a>(alloc: Global) -> Result<Command<'a>, AllocError>
+    ensures words { IfOk result (λ command. app_of command ≡ capture_words) }
+    ensures own { IfOk result (λ command. (fields_of command).has_globals ≡ false) }
+{
+    let command = Command::new(alloc, "capture").about(
+        "Shows the GTP datagrams of a packet capture",
+    );
+    let command = taking(command, flag(alloc, "brief", "Shows one line a datagram"))?;
+    let command = taking(
+        command,
+        flag(
+            alloc,
+            "all",
+            "Shows each element that is whole also of a datagram at fault",
+        ),
+    )?;
+    let command = with_ports(alloc, command)?;
+    taking(
+        command,
+        word(
+            alloc,
+            "file",
+            "FILE",
+            "The capture (pcap or pcapng); standard input for - or no word",
+        ),
+    )
+}
+
+/// The arguments of `replay`.
+fn replay_command<'a>(alloc: Global) -> Result<Command<'a>, AllocError>
+    ensures words { IfOk result (λ command. app_of command ≡ replay_words) }
+    ensures own { IfOk result (λ command. (fields_of command).has_globals ≡ false) }
+{
+    let command = Command::new(alloc, "replay")
+        .about("Runs a scenario between two gateways, and reports what comes of it")
+        .after_help(SCENARIO);
+    let command = taking(
+        command,
+        flag(
+            alloc,
+            "diagram",
+            "Draws the run as a sequence diagram, in place of the report",
+        ),
+    )?;
+    taking(
+        command,
+        word(
+            alloc,
+            "file",
+            "FILE",
+            "The scenario, in JSON; standard input for - or no word",
+        ),
+    )
+}
+
 /// The arguments of the program.
 pub fn command<'a>(alloc: Global) -> Result<Command<'a>, AllocError>
     ensures { IfOk result (λ command. app_of command ≡ program_words) }
 {
-    let octets = Arg::new(alloc, "octets")
-        .value_name("HEX")
-        .help("The octets of the datagram in hexadecimal")
-        .required(true);
-    let user = Arg::new(alloc, "user")
-        .long("user")
-        .action(ArgAction::SetTrue)
-        .help("The datagram is of the user plane (GTP-U)");
-    let decode = Command::new(alloc, "decode")
-        .about("Shows one datagram, or its first fault")
-        .arg(user)?
-        .arg(octets)?;
-    let captured = Arg::new(alloc, "file")
-        .value_name("FILE")
-        .help("The capture (pcap); standard input for - or no word");
-    let capture = Command::new(alloc, "capture")
-        .about("Shows the GTP datagrams of a packet capture")
-        .arg(captured)?;
-    let file = Arg::new(alloc, "file")
-        .value_name("FILE")
-        .help("The scenario, in JSON; standard input for - or no word");
-    let diagram = Arg::new(alloc, "diagram")
-        .long("diagram")
-        .action(ArgAction::SetTrue)
-        .help("Draws the run as a sequence diagram, in place of the report");
-    let replay = Command::new(alloc, "replay")
-        .about("Runs a scenario between two gateways, and reports what comes of it")
-        .after_help(SCENARIO)
-        .arg(diagram)?
-        .arg(file)?;
     Command::new(alloc, "gtpshow")
         .about("Shows GTP datagrams, and replays scenarios of two gateways")
         .version(VERSION)
         .after_help(NOTES)
         .subcommand_required(true)
-        .subcommand(decode)?
-        .subcommand(capture)?
-        .subcommand(replay)
+        .subcommand(decode_command(alloc)?)?
+        .subcommand(capture_command(alloc)?)?
+        .subcommand(replay_command(alloc)?)
 }
 
 /// Why nothing was shown or replayed.
@@ -86,6 +208,8 @@ pub fn command<'a>(alloc: Global) -> Result<Command<'a>, AllocError>
 pub enum Failure {
     /// An argument is not UTF-8.
     BadWords,
+    /// The word for a port is no number from 0 to 65,535.
+    BadPort,
     /// The octets of a datagram are not hexadecimal digits, or their number is odd.
     BadHex,
     /// A file is no capture.
@@ -98,6 +222,8 @@ pub enum Failure {
     Read,
     /// A write failed.
     Write,
+    /// A write found the output closed by whoever read it.
+    Closed,
 }
 
 impl Failure {
@@ -107,10 +233,11 @@ impl Failure {
     {
         match self {
             Failure::BadWords
+            | Failure::BadPort
             | Failure::BadHex
             | Failure::BadCapture
             | Failure::BrokenCapture { .. } => 2,
-            Failure::Memory | Failure::Read | Failure::Write => 3,
+            Failure::Memory | Failure::Read | Failure::Write | Failure::Closed => 3,
         }
     }
 }
@@ -133,12 +260,14 @@ impl fmt::Display for Failure {
     fn fmt<W: fmt::Write>(&self, f: &mut fmt::Formatter<W>) -> fmt::Result {
         match self {
             Failure::BadWords => write!(f, "bad words: an argument is not UTF-8"),
+            Failure::BadPort => write!(f, "bad port: a number from 0 to 65535 is wanted"),
             Failure::BadHex => write!(f, "bad hex"),
             Failure::BadCapture => write!(f, "bad capture"),
             Failure::BrokenCapture { at } => write!(f, "bad capture at {at}"),
             Failure::Memory => write!(f, "no memory"),
             Failure::Read => write!(f, "read failed"),
             Failure::Write => write!(f, "write failed"),
+            Failure::Closed => write!(f, "closed"),
         }
     }
 }

@@ -3,36 +3,96 @@
 
 mod capturing;
 mod command;
+mod dumping;
+mod hinting;
 mod replaying;
 mod showing;
 mod watched;
 
 ghost use Rattle.std.specs.Prelude.{◌≤◌, IfOk};
 
-use crate::capturing::capture_file;
+use crate::capturing::{CaptureAsked, capture_file};
 use crate::command::{Failure, command};
-use crate::replaying::{Form, replay_file};
-use crate::showing::show;
+use crate::dumping::dump_printed;
+use crate::hinting::hint;
+use crate::replaying::replay_file;
+use crate::showing::{show, show_all};
 use crate::watched::Watched;
 use clap::ArgMatches;
 use clap::error::ErrorKind;
-use gtp_lines::Plane;
+use gtp_capture::Ports;
+use gtp_dump::Asked;
+use gtp_lines::{Form, Plane};
 use std::alloc::Global;
 use std::process::ExitCode;
 use std::rt::{Env, Files};
 use std::{env, io};
 
-/// Prints the datagram of the arguments, and returns the exit status.
-fn decode<R: Print>(rt: &R, alloc: Global, asked: &ArgMatches) -> Result<u8, Failure>
+/// Prints the datagram of the arguments, or those of standard input for `-`, and returns the exit status.
+fn decode<R: Print + Eprint + Input>(
+    rt: &R,
+    alloc: Global,
+    asked: &ArgMatches,
+) -> Result<u8, Failure>
     ensures { IfOk result (λ status. status ≤ 2) }
 {
     let digits = asked.get_str("octets").unwrap_or("");
+    let all = asked.get_flag("all");
     let plane = if asked.get_flag("user") {
-        Plane::User
+        Some(Plane::User)
     } else {
-        Plane::Control
+        None
     };
-    show(alloc, &mut Watched::new(io::writer(rt)), plane, digits)
+    if digits == "-" {
+        return dump_printed(rt, alloc, Asked { plane, all });
+    }
+    if all {
+        return show_all(alloc, &mut io::writer(rt), plane, digits);
+    }
+    show(
+        alloc,
+        &mut Watched::new(io::writer(rt)),
+        plane.unwrap_or(Plane::Control),
+        digits,
+    )
+}
+
+/// The port of an option, where it has one.
+fn port_of(asked: &ArgMatches, name: &str) -> Result<Option<u16>, Failure> {
+    match asked.get_str(name) {
+        Some(word) => match word.parse::<u16>() {
+            Ok(port) => Ok(Some(port)),
+            Err(_) => Err(Failure::BadPort),
+        },
+        None => Ok(None),
+    }
+}
+
+/// Shows the capture of the arguments, and returns the exit status.
+fn capture_asked<R: Print + Input + Files>(
+    rt: &R,
+    alloc: Global,
+    asked: &ArgMatches,
+) -> Result<u8, Failure>
+    ensures { IfOk result (λ status. status ≤ 2) }
+{
+    let form = if asked.get_flag("brief") {
+        Form::Brief
+    } else if asked.get_flag("all") {
+        Form::All
+    } else {
+        Form::Lines
+    };
+    let ports = Ports {
+        control: port_of(asked, "control-port")?,
+        user: port_of(asked, "user-port")?,
+    };
+    capture_file(
+        rt,
+        alloc,
+        CaptureAsked { form, ports },
+        asked.get_str("file").unwrap_or("-"),
+    )
 }
 
 /// Replays the scenario of the arguments, and returns the exit status.
@@ -44,9 +104,9 @@ fn replay_asked<R: Print + Input + Files>(
     ensures { IfOk result (λ status. status ≤ 2) }
 {
     let form = if asked.get_flag("diagram") {
-        Form::Diagram
+        replaying::Form::Diagram
     } else {
-        Form::Report
+        replaying::Form::Report
     };
     replay_file(rt, alloc, form, asked.get_str("file").unwrap_or("-"))
 }
@@ -79,7 +139,7 @@ fn run<R: Print + Eprint + Input + Env + Files + AllocGlobal>(rt: &R) -> Result<
     };
     match matches.subcommand() {
         Some(("decode", asked)) => decode(rt, alloc, asked),
-        Some(("capture", asked)) => capture_file(rt, alloc, asked.get_str("file").unwrap_or("-")),
+        Some(("capture", asked)) => capture_asked(rt, alloc, asked),
         Some(("replay", asked)) => replay_asked(rt, alloc, asked),
         _ => Ok(2),
     }
@@ -89,7 +149,10 @@ fn main(rt: HostRuntime) -> ExitCode {
     match run(&rt) {
         Ok(status) => ExitCode::from(status),
         Err(failure) => {
-            let _ = eprintln!(rt; "{failure}");
+            if failure != Failure::Closed {
+                let _ = eprintln!(rt; "{failure}");
+                let _ = hint(&rt, failure);
+            }
             ExitCode::from(failure.status())
         }
     }

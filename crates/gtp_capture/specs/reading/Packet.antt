@@ -8,9 +8,10 @@ use Rattle.gtp_capture.specs.reading.Udp.{udp_in}
 use Rattle.gtp_capture.specs.reading.Internet.{v4_in, v6_in}
 use Rattle.gtp_capture.specs.reading.Link.{untagged}
 use Rattle.gtp_capture.specs.declared.packet.Packet.{Packet as Held}
+use Rattle.gtp_capture.specs.declared.ports.Ports.{Ports}
 
 abbrev pub packet_of : Held → Packet
-packet_of p = record { from = p.from; to = p.to; plane = p.plane; had = p.had; octets = p.octets.now }
+packet_of p = record { from = p.from; to = p.to; plane = p.plane; fragment = p.fragment; had = p.had; octets = p.octets.now }
 
 -- in octets of this type
 unfoldable pub internet_in : ℕ → List ℕ → Option Parcel
@@ -39,9 +40,9 @@ inside_in link frame =
     else (if link == 276 then typed_at 0 20 frame
     else None))))))
 
-unfoldable pub packet_in : ℕ → List ℕ → Option Packet
-packet_in link frame = do
+unfoldable pub packet_in : Ports → ℕ → List ℕ → Option Packet
+packet_in ports link frame = do
   p ← inside_in link frame
   u ← udp_in p.octets
-  plane ← plane_at u.from u.to
-  Some (record { from = record { ip = p.from; port = u.from }; to = record { ip = p.to; port = u.to }; plane = plane; had = u.had; octets = u.held })
+  plane ← plane_at ports u.from u.to
+  Some (record { from = record { ip = p.from; port = u.from }; to = record { ip = p.to; port = u.to }; plane = plane; fragment = p.fragment; had = u.had; octets = u.held })

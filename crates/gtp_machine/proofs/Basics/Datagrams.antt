@@ -1,32 +1,39 @@
--- Datagrams of one message, and the messages of datagrams, one datagram after the other.
-use Rattle.std.proofs.Common.{◌≡◌, inl, inr, ⊎_elim, List, [], ◌∷◌, ◌++◌, refl, sym, ◌∙◌, ap, subst, append_assoc}
+-- Datagrams of one message or of two, and the messages of datagrams, one datagram after the other.
+use Rattle.std.proofs.Common.{◌≡◌, inl, inr, ⊎_elim, List, [], ◌∷◌, ◌++◌, refl, sym, ◌∙◌, ap, subst, append_assoc, append-nil}
 use Rattle.gtp_values.specs.FiniteMap.{Among}
-use Rattle.gtp_machine.specs.Message.{Message}
+use Rattle.gtp_machine.specs.Message.{CreateSessionResponse, CreateBearerRequest, Message, Create_session_response, Create_bearer_request}
 use Rattle.gtp_machine.specs.Node.{Role}
 use Rattle.gtp_machine.specs.Input.{Sending, messages, datagrams}
-use Rattle.gtp_machine.specs.World.{Sent, SentDatagram, HasSent, signed, flat}
-use Rattle.gtp_machine.proofs.Basics.FiniteMaps.{Among-right, Among-cases}
+use Rattle.gtp_machine.specs.World.{Sent, SentDatagram, HasBy, HasSent, signed, flat}
+use Rattle.gtp_machine.proofs.Basics.FiniteMaps.{Among-left, Among-right, Among-cases}
 
--- a datagram of one message
-abbrev pub IsAlone : List Message → Type 0
-IsAlone [] = ⊥
-IsAlone (m ∷ []) = Unit {0}
-IsAlone (m ∷ n ∷ rest) = ⊥
+-- an answer that makes a session, and a request for a bearer
+pub record ArePair (m n : Message) : Type 0 where
+  pub answer : CreateSessionResponse
+  pub request : CreateBearerRequest
+  pub first : m ≡ Create_session_response answer
+  pub second : n ≡ Create_bearer_request request
+
+-- a datagram of one message, or of such a pair
+abbrev pub IsFew : List Message → Type 0
+IsFew [] = ⊥
+IsFew (m ∷ []) = Unit {0}
+IsFew (m ∷ n ∷ []) = ArePair m n
+IsFew (m ∷ n ∷ k ∷ rest) = ⊥
 
 -- each is
-abbrev pub AreAlone : List (List Message) → Type 0
-AreAlone [] = Unit {0}
-AreAlone (datagram ∷ sent) = IsAlone datagram × AreAlone sent
+abbrev pub AreFew : List (List Message) → Type 0
+AreFew [] = Unit {0}
+AreFew (datagram ∷ sent) = IsFew datagram × AreFew sent
 
--- a datagram of one message that was sent
-pub record IsOneSent (history : List Sent) (role : Role) (datagram : List Message) : Type 0 where
-  pub message : Message
-  pub alone : datagram ≡ message ∷ []
-  pub sent : HasSent history role message
+-- a datagram of one message or of a pair, each of which was sent
+pub record IsSentWhole (history : List Sent) (role : Role) (datagram : List Message) : Type 0 where
+  pub few : IsFew datagram
+  pub each : (m : Message) → Among m datagram → HasSent history role m
 
--- each datagram that was sent is of one message
-abbrev pub EachAlone : List SentDatagram → Type 0
-EachAlone sent = (s : SentDatagram) → Among s sent → IsAlone s.what
+-- each datagram that was sent is of one message or of a pair
+abbrev pub EachFew : List SentDatagram → Type 0
+EachFew sent = (s : SentDatagram) → Among s sent → IsFew s.what
 
 -- the datagrams of two steps, one after the other
 pub both_datagrams : (first rest : List Sending) → datagrams (first ++ rest) ≡ datagrams first ++ datagrams rest
@@ -49,38 +56,38 @@ flat_signed : (role : Role) (sent : List Sending) → flat (signed role (datagra
 flat_signed role [] = refl
 flat_signed role (s ∷ sent) = ap (λ k. signed role s.messages ++ k) (flat_signed role sent) ∙ sym (both_signed role s.messages (messages sent))
 
--- one datagram of one message
-pub of_one : (sent : List Sending) (m : Message) → datagrams sent ≡ (m ∷ []) ∷ [] → messages sent ≡ m ∷ []
-of_one [] m e = absurd (cc e)
-of_one (s ∷ []) m e = let one : s.messages ≡ m ∷ [] = cc e in ap (λ k. k ++ []) one
-of_one (s ∷ next ∷ sent) m e = absurd (cc e)
+-- the messages of one datagram
+pub of_one : (sent : List Sending) (datagram : List Message) → datagrams sent ≡ datagram ∷ [] → messages sent ≡ datagram
+of_one [] datagram e = absurd (cc e)
+of_one (s ∷ []) datagram e = let one : s.messages ≡ datagram = cc e in append-nil s.messages ∙ one
+of_one (s ∷ next ∷ sent) datagram e = absurd (cc e)
 
 -- the two lists grow alike
 pub flat_grows : (sent_before : List SentDatagram) (history : List Sent) → flat sent_before ≡ history → (role : Role) (sent : List Sending) → flat (sent_before ++ signed role (datagrams sent)) ≡ history ++ signed role (messages sent)
 flat_grows sent_before history kept role sent = both_flat sent_before (signed role (datagrams sent)) ∙ (λ i. kept i ++ flat_signed role sent i)
 
-signed_alone : (role : Role) (sent : List (List Message)) → AreAlone sent → EachAlone (signed role sent)
-signed_alone role [] alone s none = absurd none
-signed_alone role (datagram ∷ sent) alone s (inl is) = subst (λ (k : SentDatagram). IsAlone k.what) (sym is) alone.0
-signed_alone role (datagram ∷ sent) alone s (inr there) = signed_alone role sent alone.1 s there
+signed_few : (role : Role) (sent : List (List Message)) → AreFew sent → EachFew (signed role sent)
+signed_few role [] few s none = absurd none
+signed_few role (datagram ∷ sent) few s (inl is) = subst (λ (k : SentDatagram). IsFew k.what) (sym is) few.0
+signed_few role (datagram ∷ sent) few s (inr there) = signed_few role sent few.1 s there
 
-pub alone_grows : (sent_before : List SentDatagram) → EachAlone sent_before → (role : Role) (sent : List (List Message)) → AreAlone sent → EachAlone (sent_before ++ signed role sent)
-alone_grows sent_before each role sent alone s among = ⊎_elim (λ was. each s was) (λ now. signed_alone role sent alone s now) (Among-cases s sent_before (signed role sent) among)
+pub few_grows : (sent_before : List SentDatagram) → EachFew sent_before → (role : Role) (sent : List (List Message)) → AreFew sent → EachFew (sent_before ++ signed role sent)
+few_grows sent_before each role sent few s among = ⊎_elim (λ was. each s was) (λ now. signed_few role sent few s now) (Among-cases s sent_before (signed role sent) among)
+
+-- what is in the list is signed
+pub among_signed : {X : Type 0} (role : Role) (list : List X) (x : X) → Among x list → HasBy (signed role list) role x
+among_signed role [] x none = absurd none
+among_signed role (y ∷ list) x (inl here) = inl (ap (λ k. record { role = role; what = k }) here)
+among_signed role (y ∷ list) x (inr there) = inr (among_signed role list x there)
 
 -- a message of a datagram that was sent was sent
-among_flat : (sent : List SentDatagram) (role : Role) (m : Message) → Among (record { role = role; what = m ∷ [] }) sent → HasSent (flat sent) role m
-among_flat [] role m none = absurd none
-among_flat (d ∷ sent) role m (inl is) = subst (λ (k : SentDatagram). HasSent (signed k.role k.what ++ flat sent) role m) is (inl refl)
-among_flat (d ∷ sent) role m (inr there) = Among-right _ (signed d.role d.what) (flat sent) (among_flat sent role m there)
+among_flat : (sent : List SentDatagram) (role : Role) (datagram : List Message) (m : Message) → Among (record { role = role; what = datagram }) sent → Among m datagram → HasSent (flat sent) role m
+among_flat [] role datagram m none has = absurd none
+among_flat (d ∷ sent) role datagram m (inl is) has = subst (λ (k : SentDatagram). HasSent (signed k.role k.what ++ flat sent) role m) is (Among-left _ (signed role datagram) (flat sent) (among_signed role datagram m has))
+among_flat (d ∷ sent) role datagram m (inr there) has = Among-right _ (signed d.role d.what) (flat sent) (among_flat sent role datagram m there has)
 
-pub one_sent : (sent : List SentDatagram) (history : List Sent) → flat sent ≡ history → EachAlone sent → (s : SentDatagram) → Among s sent → IsOneSent history s.role s.what
-one_sent sent history kept each s among = one s.what refl (each s among)
-  where
-    one : (datagram : List Message) → s.what ≡ datagram → IsAlone datagram → IsOneSent history s.role s.what
-    one (m ∷ []) is alone = record {
-      message = m;
-      alone = is;
-      sent = subst (λ h. HasSent h s.role m) kept (among_flat sent s.role m (subst (λ d. Among (record { role = s.role; what = d }) sent) is among));
-    }
-    one [] is alone = absurd alone
-    one (m ∷ n ∷ rest) is alone = absurd alone
+pub sent_whole : (sent : List SentDatagram) (history : List Sent) → flat sent ≡ history → EachFew sent → (s : SentDatagram) → Among s sent → IsSentWhole history s.role s.what
+sent_whole sent history kept each s among = record {
+  few = each s among;
+  each = λ m has. subst (λ h. HasSent h s.role m) kept (among_flat sent s.role s.what m among has);
+}

@@ -7,22 +7,23 @@ use Rattle.gtp_values.specs.declared.counter.Age.TheVariants.{Same, Later, Earli
 use Rattle.gtp_values.specs.declared.address.Endpoint.{Endpoint}
 use Rattle.gtp_values.specs.FiniteMap.{FiniteMap, Each, Among}
 use Rattle.gtp_machine.specs.Config.{control_end}
-use Rattle.gtp_machine.specs.Message.{CreateSessionRequest, CreateBearerRequest, Message, Create_session_request, Create_bearer_request, recovery_of}
+use Rattle.gtp_machine.specs.Message.{CreateSessionRequest, CreateBearerRequest, Message, Create_session_request, Create_session_response, Create_bearer_request, Owns, recovery_of}
 use Rattle.gtp_machine.specs.Node.{Role, Serving, Packet, Pending, Active, Session, Bearer, PendingRequest, Arrival, Held, Node, holding}
-use Rattle.gtp_machine.specs.Input.{Came_to, EventOutcome, Begun, Answered, Effect, nothing, says, messages, datagrams}
+use Rattle.gtp_machine.specs.Input.{Came_to, EventOutcome, Begun, Answered, Effect, nothing, says_all, says, messages, datagrams}
 use Rattle.gtp_machine.specs.Choice.{IsFree, counter_of}
 use Rattle.gtp_machine.specs.Command.{asks}
 use Rattle.gtp_machine.specs.Answer.{answered}
 use Rattle.gtp_machine.specs.World.{other, Sent, HasSent, signed}
 use Rattle.gtp_machine.specs.Laws.{ClosesWhole}
 use Rattle.gtp_machine.proofs.Basics.FiniteMaps.{Each-insert, Each-weaker, get-insert_other, Among-left, Among-one_more}
-use Rattle.gtp_machine.proofs.Origins.Drawing.{Extends, Extends-signed, Draws, Draws-nothing, Draws-one, IsMadeNow, by_now}
+use Rattle.gtp_machine.proofs.Origins.Drawing.{Extends, Extends-signed, Draws, Draws-nothing, Draws-one, Draws-again, pair_apart, IsMadeNow, by_now}
 use Rattle.gtp_machine.proofs.Origins.Contexts.{IsAt, ServingContexts, ServingContexts-later, ServingContexts-shrinks, PacketContexts, PacketContexts-later, PacketContexts-shrinks, closes-shrinks}
 use Rattle.gtp_machine.proofs.Changes.Shrinking.{NodeShrinks, Shrunk, Shrunk-itself}
 use Rattle.gtp_machine.proofs.Changes.Matching.{IsMatched, IsMatched-shrinks, IsMatched-session, IsMatched-bearer}
-use Rattle.gtp_machine.proofs.Changes.Steps.{Logs, Logs-silent, Logs-plain, Logs-repeat, IsPlain, NothingOwns}
+use Rattle.gtp_machine.proofs.Changes.Steps.{Logs, Logs-silent, Logs-plain, Logs-repeat, Logs-again, IsPlain, NothingOwns}
 use Rattle.gtp_machine.proofs.Basics.Kinds.{is_create_answer}
-use Rattle.gtp_machine.proofs.Basics.Datagrams.{IsOneSent, AreAlone}
+use Rattle.gtp_machine.proofs.Basics.Datagrams.{IsFew, AreFew, IsSentWhole}
+use Rattle.gtp_machine.proofs.Origins.Entries.{Once}
 use Rattle.gtp_values.proofs.Outcomes.{none_some}
 
 -- what holds of the sessions and bearers of a gateway
@@ -63,7 +64,7 @@ pub record Knows (role : Role) (history : List Sent) (node : Node) : Type 0 wher
   pub closed : ClosesWhole node.sessions node.bearers
   pub pending : Each (IsPending history role) node.pending
   pub matched : Each (IsMatched node.sessions node.bearers) node.pending
-  pub held : (h : Held) → Among h node.held → IsOneSent history role h.answer
+  pub held : (h : Held) → Among h node.held → IsSentWhole history role h.answer
 
 -- what is known after a counter is heard, or none
 abbrev pub KnownBy : Age → ℕ → ℕ → Option ℕ → Type 0
@@ -92,7 +93,7 @@ pub record After (role : Role) (history : List Sent) (taken : Arrival → Messag
   pub known : KnownAfter old.known e.out.heard e.node.known
   pub told : (c : ℕ) → e.out.heard ≡ Some c → IsTold history (other role) c
   pub logs : Logs history role taken old e
-  pub alone : AreAlone (datagrams e.out.sent)
+  pub few : AreFew (datagrams e.out.sent)
 
 pub IsPending-later : (before after : List Sent) → Extends before after → (role : Role) (number : ℕ) (p : PendingRequest) → IsPending before role number p → IsPending after role number p
 IsPending-later before after extends role number p is = record { sent = extends.keeps role p.request is.sent; names = is.names; asks = is.asks }
@@ -129,7 +130,7 @@ Knows-later role before after extends node knows = record {
   closed = knows.closed;
   matched = knows.matched;
   pending = Each-weaker (IsPending before role) (IsPending after role) node.pending (IsPending-later before after extends role) knows.pending;
-  held = λ h among. let was = knows.held h among in record { message = was.message; alone = was.alone; sent = extends.keeps role was.message was.sent };
+  held = λ h among. let was = knows.held h among in record { few = was.few; each = λ m has. extends.keeps role m (was.each m has) };
 }
 
 -- what shrinks stays drawn, standing and ready
@@ -177,7 +178,7 @@ module _ (role : Role) (history : List Sent) (taken : Arrival → Message → Ty
     told = nothing_told history (other role);
     draws = Draws-nothing history role old new s.config s.counter s.drawn;
     logs = Logs-silent history role taken old new outcome (λ h was. subst (Among h) (sym s.held) was) gave_up;
-    alone = tt;
+    few = tt;
   }
 
   -- nothing changes, and nothing is sent
@@ -192,27 +193,27 @@ module _ (role : Role) (history : List Sent) (taken : Arrival → Message → Ty
     told = nothing_told history (other role);
     draws = Draws-one history role old new m s.config s.counter s.drawn (inr made);
     logs = Logs-plain history role taken old new outcome (λ h was. subst (Among h) (sym s.held) was) destination m plain;
-    alone = (tt, tt);
+    few = (tt, tt);
   }
 
   -- an answer that is held from now on
-  pub held_now : (request : Arrival) (m : Message) (new : Node) → Knows role (history ++ signed role (m ∷ [])) new → Knows role (history ++ signed role (m ∷ [])) (holding request (m ∷ []) new)
-  held_now request m new k = record { contexts = k.contexts; drawn = k.drawn; standing = k.standing; ready = k.ready; closed = k.closed; pending = k.pending; matched = k.matched; held = held }
+  pub held_now : (request : Arrival) (answer : List Message) (new : Node) → IsFew answer → Knows role (history ++ signed role answer) new → Knows role (history ++ signed role answer) (holding request answer new)
+  held_now request answer new few k = record { contexts = k.contexts; drawn = k.drawn; standing = k.standing; ready = k.ready; closed = k.closed; pending = k.pending; matched = k.matched; held = held }
     where
-      held : (h : Held) → Among h (new.held ++ (record { request = request; answer = m ∷ [] } ∷ [])) → IsOneSent (history ++ signed role (m ∷ [])) role h.answer
+      held : (h : Held) → Among h (new.held ++ (record { request = request; answer = answer } ∷ [])) → IsSentWhole (history ++ signed role answer) role h.answer
       held h among = ⊎_elim (λ there. k.held h there)
-          (λ is. subst (λ (k : Held). IsOneSent (history ++ signed role (m ∷ [])) role k.answer) (sym is) (record { message = m; alone = refl; sent = by_now history role (m ∷ []) m (inl refl) }))
-          (Among-one_more h (record { request = request; answer = m ∷ [] }) new.held among)
+          (λ is. subst (λ (k : Held). IsSentWhole (history ++ signed role answer) role k.answer) (sym is) (record { few = few; each = λ m has. by_now history role answer m has }))
+          (Among-one_more h (record { request = request; answer = answer }) new.held among)
 
   -- a step that only shrinks, and gives an answer, which is held
   pub answers : (request : Arrival) (m : Message) (cause : ℕ) (new : Node) → Shrunk old new → IsPlain m → IsMadeNow history old (holding request (m ∷ []) new) m → After role history taken old (answered request m cause new)
   answers request m cause new s plain made = record {
-    knows = held_now request m new (knows_shrunk (m ∷ []) new s);
+    knows = held_now request (m ∷ []) new tt (knows_shrunk (m ∷ []) new s);
     known = s.known;
     told = nothing_told history (other role);
     draws = Draws-one history role old (holding request (m ∷ []) new) m s.config s.counter s.drawn (inr made);
     logs = Logs-plain history role taken old (holding request (m ∷ []) new) (Came_to (Answered cause)) (λ h was. Among-left h new.held _ (subst (Among h) (sym s.held) was)) request.source m plain;
-    alone = (tt, tt);
+    few = (tt, tt);
   }
 
   -- a pending request is added to what only shrinks
@@ -236,7 +237,7 @@ module _ (role : Role) (history : List Sent) (taken : Arrival → Message → Ty
         told = nothing_told history (other role);
         draws = Draws-one history role old (record new { pending = insert old.pending number p }) m s.config s.counter s.drawn (inr made);
         logs = Logs-plain history role taken old (record new { pending = insert old.pending number p }) (Came_to (Begun teid)) (λ h was. subst (Among h) (sym s.held) was) (control_end old.config.peer.control) m plain;
-        alone = (tt, tt);
+        few = (tt, tt);
       }
 
   -- nothing changes, and a message is sent that was sent before
@@ -247,5 +248,25 @@ module _ (role : Role) (history : List Sent) (taken : Arrival → Message → Ty
     told = nothing_told history (other role);
     draws = Draws-one history role old old m refl refl refl (inl was);
     logs = Logs-repeat history role taken old old outcome (λ h stood. stood) destination m was;
-    alone = (tt, tt);
+    few = (tt, tt);
   }
+
+  -- nothing changes, and a datagram is sent again, of messages that were sent before
+  pub repeated_whole : (destination : Endpoint) (datagram : List Message) (outcome : EventOutcome) → Once history role → IsSentWhole history role datagram → After role history taken old (record { out = says_all destination datagram; outcome = outcome; node = old })
+  repeated_whole destination [] outcome once was = absurd was.few
+  repeated_whole destination (m ∷ []) outcome once was = repeated destination m outcome (was.each m (inl refl))
+  repeated_whole destination (m ∷ n ∷ []) outcome once was = record {
+    knows = later (m ∷ n ∷ []);
+    known = refl;
+    told = nothing_told history (other role);
+    draws = Draws-again history role old (m ∷ n ∷ []) was.each (pair_apart m n was.few none);
+    logs = Logs-again history role taken old old outcome (λ h stood. stood) destination (m ∷ n ∷ []) was.each;
+    few = (was.few, tt);
+  }
+    where
+      none : (t : ℕ) → Owns m t → Owns n t → ⊥
+      none t x y =
+          let same : m ≡ n = once m n t (was.each m (inl refl)) (was.each n (inr (inl refl))) x y in
+          let never : Create_session_response was.few.answer ≡ Create_bearer_request was.few.request = sym was.few.first ∙ (same ∙ was.few.second) in
+          cc never
+  repeated_whole destination (m ∷ n ∷ k ∷ rest) outcome once was = absurd was.few

@@ -1,16 +1,16 @@
 -- What a step of either gateway leaves, besides its sessions and bearers.
-use Rattle.std.proofs.Common.{◌≡◌, ◌⊎◌, inl, inr, ⊎_elim, ℕ, List, [], ◌∷◌, Option, Some, None, refl, sym, ◌∙◌, ap, subst}
+use Rattle.std.proofs.Common.{◌≡◌, ◌⊎◌, inl, inr, ⊎_elim, ℕ, true, List, [], ◌∷◌, Option, Some, None, refl, sym, ◌∙◌, subst}
 use Rattle.std.specs.FinMap.{get}
 use Rattle.gtp_values.specs.declared.address.Endpoint.{Endpoint}
 use Rattle.gtp_values.specs.FiniteMap.{Among}
 use Rattle.gtp_machine.specs.Message.{Message, CreateBearerRequest, CreateBearerResponse, Create_bearer_request, Create_bearer_response, Packet_data, Owns, recovery_of, first_given, first_returned}
 use Rattle.gtp_machine.specs.Node.{Role, Packet, Session, Arrival, Held, Node}
-use Rattle.gtp_machine.specs.Input.{EventOutcome, Came_to, Repeated, Entry, Out, Effect, nothing, says_all, says, messages}
+use Rattle.gtp_machine.specs.Input.{EventOutcome, Entry, Out, Effect, nothing, says_all, says, messages}
 use Rattle.gtp_machine.specs.Choice.{IsFree}
-use Rattle.gtp_machine.specs.Answer.{Repeats}
 use Rattle.gtp_machine.specs.World.{other, Sent, HasSent}
 use Rattle.gtp_machine.proofs.Origins.Drawing.{Draws, IsMadeNow}
 use Rattle.gtp_machine.proofs.Origins.Entries.{IsFor}
+use Rattle.gtp_machine.proofs.Basics.Kinds.{creates}
 use Rattle.gtp_values.proofs.Outcomes.{none_some}
 
 -- a packet that was handed in in this step
@@ -32,10 +32,11 @@ pub record IsAnsweredNow (history : List Sent) (old new : Node) (taken : Arrival
   pub held : Among (record { request = arrival; answer = Create_bearer_response x ∷ [] }) new.held
 
 -- a context was made for a create request, and its answer is held
-pub record MakesFor (taken : Arrival → Message → Type 0) (made : List Arrival) (new : Node) : Type 0 where
+pub record MakesFor (role : Role) (taken : Arrival → Message → Type 0) (made : List Arrival) (new : Node) : Type 0 where
   pub arrival : Arrival
   pub is : made ≡ arrival ∷ []
   pub message : Message
+  pub creates : creates role message ≡ true
   pub came : taken arrival message
   pub answer : List Message
   pub held : Among (record { request = arrival; answer = answer }) new.held
@@ -47,7 +48,7 @@ pub record Logs (history : List Sent) (role : Role) (taken : Arrival → Message
   pub handed : (entry : Entry) → Among entry e.out.handed → IsFor history (other role) entry
   pub accepted : (entry : Entry) → Among entry e.out.accepted → HasSent history (other role) (Packet_data entry.target entry.payload) × IsFor history role entry
   pub answers : (x : CreateBearerResponse) (t : ℕ) → Among (Create_bearer_response x) (messages e.out.sent) → first_given x.contexts ≡ Some t → HasSent history role (Create_bearer_response x) ⊎ IsAnsweredNow history old e.node taken x
-  pub made : (e.out.made ≡ []) ⊎ MakesFor taken e.out.made e.node
+  pub made : (e.out.made ≡ []) ⊎ MakesFor role taken e.out.made e.node
 
 -- the message is no packet and gives no bearer
 abbrev pub IsPlain : Message → Type 0
@@ -91,13 +92,20 @@ module _ (history : List Sent) (role : Role) (taken : Arrival → Message → Ty
   pub Logs-repeat : (destination : Endpoint) (m : Message) → HasSent history role m → Logs history role taken old (record { out = says destination m; outcome = outcome; node = new })
   Logs-repeat destination m was = Logs-one destination m (λ target payload is. subst (λ k. HasSent history role k) (sym is) was) (λ x t is gives. subst (λ k. HasSent history role k) (sym is) was)
 
+  -- messages that were sent before are sent again
+  pub Logs-again : (destination : Endpoint) (datagram : List Message) → ((m : Message) → Among m (messages (says_all destination datagram).sent) → HasSent history role m) → Logs history role taken old (record { out = says_all destination datagram; outcome = outcome; node = new })
+  Logs-again destination datagram was = record {
+    held_stays = λ h stood. inl (held h stood);
+    packets = λ target payload among. inl (was (Packet_data target payload) among);
+    handed = λ e none. absurd none;
+    accepted = λ e none. absurd none;
+    answers = λ x t among gives. inl (was (Create_bearer_response x) among);
+    made = inl refl;
+  }
+
 -- a result of a row, from what the row says of it
 pub at_result : (P : Effect → Type 0) (e f : Effect) → e ≡ f → P f → P e
 at_result P e f gives h = subst P (sym gives) h
-
--- a repeat of an answer of one message
-pub one_repeated : (old : Node) (request : Arrival) (e : Effect) (r : Repeats old request e) (m : Message) → r.held.answer ≡ m ∷ [] → e ≡ record { out = says request.source m; outcome = Came_to Repeated; node = old }
-one_repeated old request e r m alone = r.gives ∙ ap (λ (d : List Message). record { out = says_all request.source d; outcome = Came_to Repeated; node = old }) alone
 
 -- a node that differs from old only in what it has heard, and in sessions and bearers that went
 pub record IsHeardFrom (old mid : Node) : Type 0 where

@@ -5,7 +5,8 @@ use Rattle.gtp_values.specs.FiniteMap.{FiniteMap, Among}
 use Rattle.gtp_tables.specs.declared.pool.IpVersion.{IpVersion}
 use Rattle.gtp_tables.specs.Part.{part_of}
 use Rattle.gtp_machine.specs.Ordered.{Unless}
-use Rattle.gtp_machine.specs.Node.{Role, Serving, Packet, Session, Bearer, Arrival, Node}
+use Rattle.gtp_machine.specs.Message.{CreateBearerRequest, Create_bearer_request}
+use Rattle.gtp_machine.specs.Node.{Role, Serving, Packet, Session, Bearer, PendingRequest, Arrival, Node}
 use Rattle.gtp_machine.specs.Input.{Command, ControlReading, Commanded, Control_came, Input, Effect}
 use Rattle.gtp_machine.specs.Choice.{HasPending}
 use Rattle.gtp_machine.specs.Sound.{AreApart, IsSound}
@@ -30,13 +31,22 @@ pub record ComesBeside {X : Type 0} (old new others : FiniteMap X) (t : ℕ) (x 
   pub stood : (key : ℕ) → get old key ≡ None → get others key ≡ None
   pub is : new ≡ insert others t x
 
+-- a request for a bearer with a new TEID waits under the number, beside others
+pub record WaitsBeside (drawn : List ℕ) (new others : FiniteMap PendingRequest) (number : ℕ) (p : PendingRequest) : Type 0 where
+  pub request : CreateBearerRequest
+  pub asked : p.request ≡ Create_bearer_request request
+  pub undrawn : Among request.context.user.teid drawn → ⊥
+  pub absent : get others number ≡ None
+  pub is : new ≡ insert others number p
+
 -- The same was chosen: the TEIDs; where a request came, and a context was made for it, each part of the address of a packet gateway's session that both
--- gave, and the identity of a serving gateway's bearer; and for a command the number of a new request.
+-- gave, the identity of a serving gateway's bearer, and the number of a packet gateway's request for a bearer; and for a command the number of a new request.
 pub record PickAlike (role : Role) (old : Node) (input : Input) (e f : Effect) : Type 0 where
   pub drawn : e.node.drawn ≡ f.node.drawn
   pub addresses : (request : Arrival) (reading : ControlReading) → input ≡ Control_came request reading → role ≡ Packet → e.out.made ≢ [] → (others : FiniteMap Session) (t : ℕ) (a b : Session) → ComesBeside old.sessions e.node.sessions others t a → ComesBeside old.sessions f.node.sessions others t b → (version : IpVersion) (x y : List ℕ) → part_of version a.address ≡ Some x → part_of version b.address ≡ Some y → x ≡ y
   pub identities : (request : Arrival) (reading : ControlReading) → input ≡ Control_came request reading → role ≡ Serving → e.out.made ≢ [] → (others : FiniteMap Bearer) (t : ℕ) (a b : Bearer) → ComesBeside old.bearers e.node.bearers others t a → ComesBeside old.bearers f.node.bearers others t b → a.session ≡ b.session → a.identity ≡ b.identity
   pub numbers : (command : Command) → input ≡ Commanded command → (number : ℕ) → get old.pending number ≡ None → HasPending e.node number → HasPending f.node number
+  pub wanted : (request : Arrival) (reading : ControlReading) → input ≡ Control_came request reading → role ≡ Packet → e.out.made ≢ [] → (others : FiniteMap PendingRequest) (m n : ℕ) (p q : PendingRequest) → WaitsBeside old.drawn e.node.pending others m p → WaitsBeside old.drawn f.node.pending others n q → m ≡ n
 
 -- they tell the same, and where the same was chosen they are the same
 pub record Alike (role : Role) (old : Node) (input : Input) (e f : Effect) : Type 0 where

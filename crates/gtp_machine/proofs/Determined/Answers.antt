@@ -1,17 +1,22 @@
 -- Requests, and their answers.
 use Rattle.std.proofs.Common.{◌≡◌, inl, inr, ℕ, ◌==◌, false, List, ◌∷◌, [], Option, Some, None, refl, sym, ◌∙◌, ap, subst}
+use Rattle.gtp_values.specs.PdnAddress.{PdnAddress}
+use Rattle.gtp_machine.specs.Choice.{IsFree, IsFreeNumber}
+use Rattle.gtp_machine.specs.Command.{bearer_request, bearer_asked as begun_bearer}
 use Rattle.gtp_machine.specs.Element.{cause_of}
-use Rattle.gtp_machine.specs.Message.{CreateSessionRequest, DeleteSessionRequest, CreateBearerRequest, DeleteBearerRequest, RemovedBearer}
+use Rattle.gtp_machine.specs.Message.{CreateSessionRequest, DeleteSessionRequest, CreateBearerRequest, DeleteBearerRequest, RemovedBearer, Create_session_response, Create_bearer_request}
 use Rattle.gtp_machine.specs.Node.{Role, Serving, Packet, Session, Arrival, Node}
-use Rattle.gtp_machine.specs.Input.{Answered, Came_to, ControlReading, Control_came, Input, RequestKind, Of_create_session, Of_delete_session, Of_create_bearer, Of_delete_bearer, FaultyRequest}
+use Rattle.gtp_machine.specs.Input.{Answered, EventOutcome, Came_to, ControlReading, Control_came, Input, RequestKind, Of_create_session, Of_delete_session, Of_create_bearer, Of_delete_bearer, FaultyRequest}
 use Rattle.gtp_machine.specs.Removal.{without_bearer}
 use Rattle.gtp_machine.specs.Serving.{MakesBearer, BearerAsked, RemovesEach, RemovesBearers, RemovalTaken, RemovalAsked, ServingFaulted}
-use Rattle.gtp_machine.specs.Packet.{MakesSession, SessionAsked, DeletionAsked, PacketFaulted}
+use Rattle.gtp_machine.specs.Config.{Template, template_for}
+use Rattle.gtp_machine.specs.Answer.{making}
+use Rattle.gtp_machine.specs.Packet.{session_cause, session_response, made_session, session_made, AddsBearer, AnswersWith, MakesSession, SessionAsked, DeletionAsked, PacketFaulted}
 use Rattle.gtp_machine.specs.Sound.{AreApart}
-use Rattle.gtp_machine.proofs.Determined.Alike.{Fits, Alike, Determines, the_same, says_it, by_effects, unless_plain, unless_one}
+use Rattle.gtp_machine.proofs.Determined.Alike.{Fits, WaitsBeside, Alike, Determines, the_same, says_it, by_effects, unless_plain, unless_one}
 use Rattle.gtp_machine.proofs.Determined.Witnesses.{IsLeft, was_session, was_bearer, undrawn_before, apart_left, one_session, one_named}
 use Rattle.gtp_machine.proofs.Changes.Shrinking.{Shrinks-without}
-use Rattle.gtp_machine.proofs.Determined.Chosen.{last_drawn, second_drawn, comes_beside, one_cause, one_address}
+use Rattle.gtp_machine.proofs.Determined.Chosen.{last_drawn, rest_drawn, second_drawn, comes_beside, one_cause, one_address}
 
 same_some : {X : Type 0} (x y : X) → ◌≡◌ {A = Option X} (Some x) (Some y) → x ≡ y
 same_some x y e = cc
@@ -31,17 +36,63 @@ removes_one session (identity ∷ rest) old contexts others left right apart (cs
 
 module _ {first : Node} {reading : ControlReading} (request : Arrival) (old : Node) (fits : Fits first) (left : IsLeft first old) where
   makes_session : (q : CreateSessionRequest) → Determines (Alike Packet first (Control_came request reading)) (MakesSession request old q)
-  makes_session q e f r s = by_effects _ _ e f r.gives s.gives (record {
-    tell = record { outcome = ap (λ cause. Came_to (Answered cause)) (one_cause old q.pdn r.address s.address r.given s.given); told = refl; places = refl; known = refl; counter = refl; draws = refl };
-    one = λ alike.
-        let user : r.user ≡ s.user = last_drawn r.user s.user _ _ alike.drawn in
-        let control : r.control ≡ s.control = second_drawn r.user r.control s.user s.control old.drawn alike.drawn in
-        let address : r.address ≡ s.address =
-        one_address old q.pdn r.address s.address r.given s.given (alike.addresses request reading refl refl (λ none. cc none) old.sessions r.control _ _
-        (comes_beside first.sessions old.sessions first.drawn (was_session first old left) fits.sessions r.control r.control _ refl (undrawn_before first old r.control left r.control_free))
-        (comes_beside first.sessions old.sessions first.drawn (was_session first old left) fits.sessions r.control s.control _ control (undrawn_before first old r.control left r.control_free))) in
-        cc;
-  })
+  makes_session q e f r s = by (template_for q.access_point old.config.templates) r.gives s.gives
+    where
+      outcome : ◌≡◌ {A = EventOutcome} (Came_to (Answered (session_cause q.pdn r.address))) (Came_to (Answered (session_cause q.pdn s.address)))
+      outcome = ap (λ cause. Came_to (Answered cause)) (one_cause old q.pdn r.address s.address r.given s.given)
+
+      -- the answers go alone
+      alone : e ≡ making request (Create_session_response (session_response old q r.control r.user r.address) ∷ []) (session_cause q.pdn r.address) (session_made old q r.control r.user r.address) → f ≡ making request (Create_session_response (session_response old q s.control s.user s.address) ∷ []) (session_cause q.pdn s.address) (session_made old q s.control s.user s.address) → Alike Packet first (Control_came request reading) e f
+      alone is also = by_effects _ _ e f is also (record {
+        tell = record { outcome = outcome; told = refl; places = refl; known = refl; counter = refl; draws = refl };
+        one = λ alike.
+            let user : r.user ≡ s.user = last_drawn r.user s.user _ _ alike.drawn in
+            let control : r.control ≡ s.control = second_drawn r.user r.control s.user s.control old.drawn alike.drawn in
+            let address : r.address ≡ s.address =
+            one_address old q.pdn r.address s.address r.given s.given (alike.addresses request reading refl refl (λ none. cc none) old.sessions r.control _ _
+            (comes_beside first.sessions old.sessions first.drawn (was_session first old left) fits.sessions r.control r.control _ refl (undrawn_before first old r.control left r.control_free))
+            (comes_beside first.sessions old.sessions first.drawn (was_session first old left) fits.sessions r.control s.control _ control (undrawn_before first old r.control left r.control_free))) in
+            cc;
+      })
+
+      -- a request for a bearer that goes with one waits beside those that waited
+      waits : (control user : ℕ) (address : PdnAddress) (t : Template) (added number : ℕ) → IsFree (session_made old q control user address) added → IsFreeNumber (session_made old q control user address) number
+          → WaitsBeside first.drawn (begun_bearer (session_made old q control user address) control (bearer_request (session_made old q control user address) (made_session q address) t.tft t.qos added number) added).pending old.pending number
+          (record { session = Some control; bearer = Some added; request = Create_bearer_request (bearer_request (session_made old q control user address) (made_session q address) t.tft t.qos added number) })
+      waits control user address t added number free unused = record {
+        request = bearer_request (session_made old q control user address) (made_session q address) t.tft t.qos added number;
+        asked = refl;
+        undrawn = undrawn_before first old added left (record { counted = free.counted; numbered = free.numbered; undrawn = λ stood. free.undrawn (inr (inr stood)) });
+        absent = unused.unused;
+        is = refl;
+      }
+
+      -- they go with a request
+      both : (t : Template) → AddsBearer t request (session_response old q r.control r.user r.address) (session_cause q.pdn r.address) r.control (made_session q r.address) (session_made old q r.control r.user r.address) e → AddsBearer t request (session_response old q s.control s.user s.address) (session_cause q.pdn s.address) s.control (made_session q s.address) (session_made old q s.control s.user s.address) f → Alike Packet first (Control_came request reading) e f
+      both t x y = by_effects _ _ e f x.gives y.gives (record {
+        tell = record { outcome = outcome; told = refl; places = refl; known = refl; counter = refl; draws = refl };
+        one = λ alike.
+            let added : x.user ≡ y.user = last_drawn x.user y.user _ _ alike.drawn in
+            let others = rest_drawn x.user y.user _ _ alike.drawn in
+            let user : r.user ≡ s.user = last_drawn r.user s.user _ _ others in
+            let control : r.control ≡ s.control = second_drawn r.user r.control s.user s.control old.drawn others in
+            let address : r.address ≡ s.address =
+            one_address old q.pdn r.address s.address r.given s.given (alike.addresses request reading refl refl (λ none. cc none) old.sessions r.control _ _
+            (comes_beside first.sessions old.sessions first.drawn (was_session first old left) fits.sessions r.control r.control _ refl (undrawn_before first old r.control left r.control_free))
+            (comes_beside first.sessions old.sessions first.drawn (was_session first old left) fits.sessions r.control s.control _ control (undrawn_before first old r.control left r.control_free))) in
+            let number : x.number ≡ y.number =
+            alike.wanted request reading refl refl (λ none. cc none) old.pending x.number y.number _ _
+            (waits r.control r.user r.address t x.user x.number x.user_free x.number_free)
+            (waits s.control s.user s.address t y.user y.number y.user_free y.number_free) in
+            cc;
+      })
+
+      by : (found : Option Template) → AnswersWith found request (session_response old q r.control r.user r.address) (session_cause q.pdn r.address) r.control (made_session q r.address) (session_made old q r.control r.user r.address) e → AnswersWith found request (session_response old q s.control s.user s.address) (session_cause q.pdn s.address) s.control (made_session q s.address) (session_made old q s.control s.user s.address) f → Alike Packet first (Control_came request reading) e f
+      by None is also = alone is also
+      by (Some t) (inl x) (inl y) = alone x.1 y.1
+      by (Some t) (inl x) (inr y) = absurd (x.0 (record { left = y.0.0.left }, record { few = y.0.1.few }))
+      by (Some t) (inr x) (inl y) = absurd (y.0 (record { left = x.0.0.left }, record { few = x.0.1.few }))
+      by (Some t) (inr x) (inr y) = both t x.1 y.1
 
   makes_bearer : (q : CreateBearerRequest) (at : Session) → Determines (Alike Serving first (Control_came request reading)) (MakesBearer request old q at)
   makes_bearer q at e f r s = by_effects _ _ e f r.gives s.gives (record {

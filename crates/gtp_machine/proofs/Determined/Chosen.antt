@@ -20,15 +20,22 @@ last_drawn t u xs ys e = cc
 pub second_drawn : (s t u v : ℕ) (drawn : List ℕ) → (s ∷ (t ∷ drawn)) ≡ (u ∷ (v ∷ drawn)) → t ≡ v
 second_drawn s t u v drawn e = cc
 
+-- all that was drawn before the last
+pub rest_drawn : (t u : ℕ) (xs ys : List ℕ) → (t ∷ xs) ≡ (u ∷ ys) → xs ≡ ys
+rest_drawn t u xs ys e = cc
+
+-- a number under which nothing waited is that of the new request, where something waits there now
+pub new_number : (other : Node) (pending : FiniteMap PendingRequest) (m n : ℕ) (q : PendingRequest) → other.pending ≡ insert pending n q → get pending m ≡ None → HasPending other m → m ≡ n
+new_number other pending m n q is_other free here = ⊎_elim (λ same. same.0) (λ old. absurd (never old.1)) (found-insert pending n q m here.pending (sym (ap (λ (k : FiniteMap PendingRequest). get k m) is_other) ∙ here.waits))
+  where
+    never : {x : PendingRequest} → get pending m ≡ Some x → ⊥
+    never {x} e = cc
+
 -- the number of a new request
 pub one_number : (one other : Node) (pending : FiniteMap PendingRequest) (m n : ℕ) (p q : PendingRequest) → one.pending ≡ insert pending m p → other.pending ≡ insert pending n q → get pending m ≡ None → ((number : ℕ) → get pending number ≡ None → HasPending one number → HasPending other number) → m ≡ n
 one_number one other pending m n p q is_one is_other free alike =
     let there : HasPending one m = record { pending = p; waits = ap (λ (k : FiniteMap PendingRequest). get k m) is_one ∙ get-insert_same pending m p } in
-    let here : HasPending other m = alike m free there in
-    ⊎_elim (λ same. same.0) (λ old. absurd (never old.1)) (found-insert pending n q m here.pending (sym (ap (λ (k : FiniteMap PendingRequest). get k m) is_other) ∙ here.waits))
-  where
-    never : {x : PendingRequest} → get pending m ≡ Some x → ⊥
-    never {x} e = cc
+    new_number other pending m n q is_other free (alike m free there)
 
 -- whether a part of an address is given is no choice
 one_side : (node : Node) (pdn : ℕ) (version : IpVersion) (x y : Option (List ℕ)) → IsPart node pdn version x → IsPart node pdn version y → is_some x ≡ is_some y

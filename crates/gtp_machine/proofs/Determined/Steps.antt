@@ -1,11 +1,14 @@
 -- A step, whatever comes.
-use Rattle.std.proofs.Common.{◌≡◌, ◌⊎◌, inl, inr, ℕ, Bool, List, Option, Some, None, sym, ◌∙◌, ap, refl}
+use Rattle.std.proofs.Common.{◌≡◌, ◌⊎◌, inl, inr, ⊎_elim, ℕ, Bool, List, Option, Some, None, sym, ◌∙◌, ap, subst, refl}
+use Rattle.std.specs.FinMap.{get}
+use Rattle.gtp_values.specs.FiniteMap.{FiniteMap, Among}
+use Rattle.gtp_values.proofs.Outcomes.{none_some}
 use Rattle.gtp_values.specs.Counter.{age_of}
 use Rattle.gtp_values.specs.declared.address.Endpoint.{Endpoint}
 use Rattle.gtp_values.specs.declared.counter.Age.{Age}
 use Rattle.gtp_values.specs.declared.counter.Age.TheVariants.{Same, Later, Earlier}
-use Rattle.gtp_machine.specs.Message.{Message, Echo_request, Echo_response, Create_session_request, Create_session_response, Delete_session_request, Delete_session_response, Create_bearer_request, Create_bearer_response, Delete_bearer_request, Delete_bearer_response, Packet_data, End_marker, Error_indication, User_echo_request, recovery_of}
-use Rattle.gtp_machine.specs.Node.{Role, Serving, Packet, Bearer, Arrival, Node}
+use Rattle.gtp_machine.specs.Message.{CreateBearerRequest, Message, Echo_request, Echo_response, Create_session_request, Create_session_response, Delete_session_request, Delete_session_response, Create_bearer_request, Create_bearer_response, Delete_bearer_request, Delete_bearer_response, Packet_data, End_marker, Error_indication, User_echo_request, recovery_of}
+use Rattle.gtp_machine.specs.Node.{Role, Serving, Packet, Bearer, PendingRequest, Arrival, Node}
 use Rattle.gtp_machine.specs.Input.{ControlReading, Control_message, Faulty, Control_fault, FaultyRequest, RequestKind, UserReading, User_message, Extension_needed, User_fault, Input, Commanded, Control_came, User_came, Moves_on, Out, Effect}
 use Rattle.gtp_machine.specs.Recovery.{Judges, Weighs, Hears, peer_restarted}
 use Rattle.gtp_machine.specs.User.{Accepts, PacketCame, EndCame, UserTaken, UserRead, UserStep}
@@ -13,10 +16,14 @@ use Rattle.gtp_machine.specs.Answer.{Repeats, IsNew, TakesReading, ControlStep}
 use Rattle.gtp_machine.specs.Serving.{ServingTakes, ServingFaulted}
 use Rattle.gtp_machine.specs.Packet.{PacketTakes, PacketFaulted}
 use Rattle.gtp_machine.specs.Step.{Step}
-use Rattle.gtp_machine.specs.Determined.{HeldOnce, StepsTwice, OneIsTold, OneIsDone}
+use Rattle.gtp_machine.specs.Sound.{IsSound}
+use Rattle.gtp_machine.specs.Determined.{HeldOnce, StepsTwice, OneIsTold, OneIsDone, OneAnswer}
+use Rattle.gtp_machine.proofs.Requests.Opening.{IsMute, opening, same_drawn, none_made}
+use Rattle.gtp_machine.proofs.Sound.Changes.{is_bearer}
 use Rattle.gtp_machine.proofs.Basics.Facts.{one_value}
+use Rattle.gtp_machine.proofs.Basics.FiniteMaps.{get-insert_same}
 use Rattle.gtp_machine.proofs.Determined.Alike.{Fits, sound_fits, Alike, Determines, is_one, the_same, says_it, by_effects, unless_plain, unless_one}
-use Rattle.gtp_machine.proofs.Determined.Chosen.{comes_there}
+use Rattle.gtp_machine.proofs.Determined.Chosen.{new_number, comes_there}
 use Rattle.gtp_machine.proofs.Determined.Witnesses.{IsLeft, apart_left, one_bearer}
 use Rattle.gtp_machine.proofs.Changes.Shrinking.{Shrinks-itself, Shrinks-restart}
 use Rattle.gtp_machine.proofs.Determined.Commands.{command_done}
@@ -43,7 +50,7 @@ still_alike role first input heard learned e f alike = record {
     counter = alike.tell.counter;
     draws = alike.tell.draws;
   };
-  one = λ picked. ap (as_heard heard learned) (alike.one (record { drawn = picked.drawn; addresses = picked.addresses; identities = picked.identities; numbers = picked.numbers }));
+  one = λ picked. ap (as_heard heard learned) (alike.one (record { drawn = picked.drawn; addresses = picked.addresses; identities = picked.identities; numbers = picked.numbers; wanted = picked.wanted }));
 }
 
 module _ {role : Role} {input : Input} (Takes : Node → Effect → Type 0) (old : Node) (takes : (node : Node) → IsLeft old node → Determines (Alike role old input) (Takes node)) where
@@ -136,6 +143,13 @@ step_done Packet old (Control_came request reading) fits once = control_came Pac
 step_done role old (User_came source reading) fits once = λ e f r s. the_same e f (user_came role source old reading e f r s)
 step_done role old (Moves_on move) fits once = λ e f r s. the_same e f (move_made old move e f r s)
 
+-- the TEID in a request for a bearer that waits was drawn
+pub drawn_before : (role : Role) (old : Node) → IsSound role old → (number : ℕ) (p : PendingRequest) (r : CreateBearerRequest) → get old.pending number ≡ Some p → p.request ≡ Create_bearer_request r → Among r.context.user.teid old.drawn
+drawn_before role old sound number p r stands asked =
+    let ask = is_bearer role old sound number p r stands asked in
+    let own : Among ask.0.request.context.user.teid old.drawn = ⊎_elim (λ w. (sound.contexts.each_bearer _ w.0 w.1).own) (λ w. (sound.contexts.each_bearer _ w.0.0 w.0.1).own) ask.0.wanted in
+    subst (λ (k : CreateBearerRequest). Among k.context.user.teid old.drawn) ask.1 own
+
 both_steps : (role : Role) (old : Node) (input : Input) (e f : Effect) → StepsTwice role old input e f → Alike role old input e f
 both_steps role old input e f twice = step_done role old input (sound_fits role old twice.sound) twice.once e f twice.first twice.second
 
@@ -147,5 +161,20 @@ one_is_done role old input e f twice alike = (both_steps role old input e f twic
   drawn = alike.drawn;
   addresses = λ request reading is packet made others t a b x y. alike.addresses t a b x.absent (comes_there _ _ others t a x) (comes_there _ _ others t b y);
   identities = λ request reading is serving made others t a b x y same. alike.identities t a b x.absent (comes_there _ _ others t a x) (comes_there _ _ others t b y);
-  numbers = λ command is. alike.numbers;
+  numbers = λ command is number none has. alike.numbers number has.pending has.waits (λ was. none_some has.pending (sym none ∙ was));
+  wanted = λ request reading is packet made others m n p q waits also.
+      new_number f.node others m n q also.is waits.absent
+      (alike.numbers m p (ap (λ (k : FiniteMap PendingRequest). get k m) waits.is ∙ get-insert_same others m p) (λ was. waits.undrawn (drawn_before role old twice.sound m p waits.request was waits.asked)));
 })
+
+pub one_answer : OneAnswer
+one_answer old request a e f twice = (both_steps Serving old (Control_came request (Control_message (Create_session_response a))) e f twice).one (record {
+  drawn = same_drawn old request e first ∙ sym (same_drawn old request f (opening request a old f twice.second));
+  addresses = λ x reading is packet. absurd (cc packet);
+  identities = λ x reading is serving made. absurd (made (none_made old request e first));
+  numbers = λ command is. absurd (cc is);
+  wanted = λ x reading is packet. absurd (cc packet);
+})
+  where
+    first : IsMute old e ⊎ Repeats old request e
+    first = opening request a old e twice.first

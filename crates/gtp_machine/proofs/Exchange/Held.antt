@@ -1,24 +1,27 @@
 -- Each answer that is held is held for a datagram that the other gateway sent.
-use Rattle.std.proofs.Common.{◌≡◌, ◌⊎◌, inl, inr, ⊎_elim, ℕ, List, [], ◌∷◌, ◌++◌, refl, sym, ◌∙◌, ap, subst}
+use Rattle.std.proofs.Common.{◌≡◌, ◌⊎◌, inl, inr, ⊎_elim, ℕ, ◌<◌, List, [], ◌∷◌, ◌++◌, refl, sym, ◌∙◌, ap, subst, arith}
 use Rattle.gtp_values.specs.FiniteMap.{Among}
 use Rattle.gtp_values.specs.declared.address.Endpoint.{Endpoint}
-use Rattle.gtp_machine.specs.Reading.{cut_fault, user_cut_fault}
+use Rattle.gtp_machine.specs.Reading.{user_cut_fault}
 use Rattle.gtp_machine.specs.Config.{Addresses, Config, user_end}
-use Rattle.gtp_machine.specs.Message.{Message, Plane, Control, User, plane_of}
+use Rattle.gtp_machine.specs.Message.{CreateSessionResponse, CreateBearerRequest, Message, Echo_request, Echo_response, Create_session_request, Create_session_response, Delete_session_request, Delete_session_response, Create_bearer_request, Create_bearer_response, Delete_bearer_request, Delete_bearer_response, Other_control, Plane, Control, User, plane_of}
 use Rattle.gtp_machine.specs.Node.{Role, Serving, Packet, Arrival, Held, Node}
 use Rattle.gtp_machine.specs.Input.{Move, Resend, Give_up, Forget, Input, Command, Commanded, Control_came, User_came, Control_message, Control_fault, UserReading, User_message, User_fault, Out, Effect, messages}
 use Rattle.gtp_machine.specs.Move.{MoveStep, AreLeft}
 use Rattle.gtp_machine.specs.Tick.{TickStep, ticked}
 use Rattle.gtp_machine.specs.Step.{Step}
 use Rattle.gtp_machine.specs.Answer.{IsNew}
-use Rattle.gtp_machine.specs.Spelling.{datagram_plane}
-use Rattle.gtp_machine.specs.World.{World, Sent, HasSent, Note, Event, Does, Tick, Deliver, Cut, Restart, Happens, Delivers, Moves, Run, other, side_of, with_side, with_steps, signed, moved, noted, late_once, arrival, delivered_on, cut_on, restarted, start, quiet_note, No_such_datagram, Cut_too_long, Restarts_used}
+use Rattle.gtp_machine.specs.Spelling.{spelled, announcing, datagram_plane}
+use Rattle.gtp_machine.specs.World.{World, Sent, HasSent, Note, Event, Does, Tick, Deliver, Cut, Restart, Happens, Delivers, Moves, ComesTo, fault_of_cut, first_came, second_came, note_of_both, Run, other, side_of, with_side, with_steps, signed, moved, noted, late_once, arrival, delivered_on, cut_on, restarted, start, quiet_note, No_such_datagram, Cut_too_long, Restarts_used}
 use Rattle.gtp_machine.proofs.Basics.FiniteMaps.{Among-one_more}
 use Rattle.gtp_machine.proofs.Origins.Drawing.{by_before}
 use Rattle.gtp_machine.proofs.Changes.Shrinking.{Shrunk-finished}
 use Rattle.gtp_machine.proofs.Requests.Holding.{Keeps, Adds, command_held, user_held, control_held}
 use Rattle.gtp_machine.proofs.Rows.Stepping.{Carried}
 use Rattle.gtp_machine.proofs.Worlds.Runs as run
+use Rattle.gtp_machine.proofs.Worlds.Coming.{by_few, alone_comes, pair_comes}
+use Rattle.gtp_machine.proofs.Basics.Datagrams.{IsFew}
+use Rattle.gtp_machine.proofs.Requests.Opening.{opening, foreign, same_held}
 
 -- what a step holds it held before, or it is for the datagram that came
 abbrev HeldBy : Arrival → Node → Effect → Type 0
@@ -53,6 +56,28 @@ pub record IsOfSent (history : List Sent) (sender : Role) (from : Addresses) (h 
   pub sent : HasSent history sender message
   pub control : plane_of message ≡ Control
   pub is : h.request ≡ arrival from message
+
+-- no message by itself has the octets of one that announces another
+abbrev first_octet : List ℕ → ℕ
+first_octet [] = 0
+first_octet (octet ∷ octets) = octet
+
+less_announced : (m : Message) (a : CreateSessionResponse) → first_octet (spelled m) < 80 → spelled m ≡ announcing (Create_session_response a) → ⊥
+less_announced m a less same = let is : first_octet (spelled m) ≡ 88 = ap first_octet same in omega arith
+
+pub not_announcing : (m : Message) (a : CreateSessionResponse) → plane_of m ≡ Control → spelled m ≡ announcing (Create_session_response a) → ⊥
+not_announcing (Echo_request q) a control same = less_announced (Echo_request q) a (omega arith) same
+not_announcing (Echo_response q) a control same = less_announced (Echo_response q) a (omega arith) same
+not_announcing (Create_session_request q) a control same = less_announced (Create_session_request q) a (omega arith) same
+not_announcing (Create_session_response q) a control same = less_announced (Create_session_response q) a (omega arith) same
+not_announcing (Delete_session_request q) a control same = less_announced (Delete_session_request q) a (omega arith) same
+not_announcing (Delete_session_response q) a control same = less_announced (Delete_session_response q) a (omega arith) same
+not_announcing (Create_bearer_request q) a control same = less_announced (Create_bearer_request q) a (omega arith) same
+not_announcing (Create_bearer_response q) a control same = less_announced (Create_bearer_response q) a (omega arith) same
+not_announcing (Delete_bearer_request q) a control same = less_announced (Delete_bearer_request q) a (omega arith) same
+not_announcing (Delete_bearer_response q) a control same = less_announced (Delete_bearer_response q) a (omega arith) same
+not_announcing (Other_control kind) a control same = less_announced (Other_control kind) a (omega arith) same
+not_announcing m a control same = absurd (cc control)
 
 -- each held answer is for a datagram that the other gateway sent
 abbrev pub HeldOfSent : World → Type 0
@@ -120,23 +145,59 @@ module _ (own : Addresses) where
   brought w inv held role User m sent on new d = moves_held w inv held role _ new d sent (λ h among. inl (user_came_held role _ (User_message m) (side_of w role).node d.effect d.step h among))
 
   cut_held : (w : World) → run.Invariant own w → HeldOfSent w → (role : Role) (p : Plane) (from : Addresses) (datagram : List Message) (count : ℕ) (new : World) → Moves w role (cut_on p from datagram count) new → HeldOfSent new
-  cut_held w inv held role Control from datagram count new d = moves_held w inv held role _ new d tt (λ h among. inl (fault_held role _ (cut_fault count) (side_of w role).node d.effect d.step h among))
+  cut_held w inv held role Control from datagram count new d = moves_held w inv held role _ new d tt (λ h among. inl (fault_held role _ (fault_of_cut datagram count) (side_of w role).node d.effect d.step h among))
   cut_held w inv held role User from datagram count new d = moves_held w inv held role _ new d tt (λ h among. inl (user_came_held role (user_end from.user) (User_fault (user_cut_fault count)) (side_of w role).node d.effect d.step h among))
 
-  -- a datagram that its sender sent comes, on time or late
+  -- a datagram of one message that its sender sent comes, on time or late
   delivers : (w : World) → run.Invariant own w → HeldOfSent w → (sender : Role) (m : Message) → HasSent w.history sender m → (new : World) → Delivers w sender (m ∷ []) new → HeldOfSent new
-  delivers w inv held Packet m sent new (inl d) = brought w inv held Serving (plane_of m) m sent refl new d.1
-  delivers w inv held Packet m sent new (inr d) = brought (late_once w Serving _) (run.late_keeps own w inv Serving _) (late_held w Serving _ held) Serving (plane_of m) m sent refl new d.1
-  delivers w inv held Serving m sent new (inl d) = brought w inv held Packet (plane_of m) m sent refl new d.1
-  delivers w inv held Serving m sent new (inr d) = brought (late_once w Packet _) (run.late_keeps own w inv Packet _) (late_held w Packet _ held) Packet (plane_of m) m sent refl new d.1
+  delivers w inv held Packet m sent new (inl d) = brought w inv held Serving (plane_of m) m sent refl new (alone_comes w Serving w.packet.node.config.own new m d.1)
+  delivers w inv held Packet m sent new (inr d) = let w1 = late_once w Serving (arrival w.packet.node.config.own m) in brought w1 (run.late_keeps own w inv Serving _) (late_held w Serving _ held) Serving (plane_of m) m sent refl new (alone_comes w1 Serving w.packet.node.config.own new m d.1)
+  delivers w inv held Serving m sent new (inl d) = brought w inv held Packet (plane_of m) m sent refl new (alone_comes w Packet w.serving.node.config.own new m d.1)
+  delivers w inv held Serving m sent new (inr d) = let w1 = late_once w Packet (arrival w.serving.node.config.own m) in brought w1 (run.late_keeps own w inv Packet _) (late_held w Packet _ held) Packet (plane_of m) m sent refl new (alone_comes w1 Packet w.serving.node.config.own new m d.1)
+
+  -- a pair comes as a whole, and nothing comes to be held
+  whole_held : (w : World) → run.Invariant own w → HeldOfSent w → (role : Role) (request : Arrival) (new : World) → Moves w role (Control_came request (Control_message (Other_control 0))) new → HeldOfSent new
+  whole_held w inv held role request new m = moves_held w inv held role _ new m (run.foreign_carried own role w.history (side_of w role).node request) (λ h among. inl (subst (Among h) (same_held (side_of w role).node request m.effect (foreign role request 0 (side_of w role).node m.effect m.step)) among))
+
+  -- the second of a pair comes to be held
+  pair_held : (w : World) (inv : run.Invariant own w) → HeldOfSent w → (a : CreateSessionResponse) (r : CreateBearerRequest) → HasSent w.history Packet (Create_session_response a) → HasSent w.history Packet (Create_bearer_request r) → (new : World) → ComesTo w Serving w.packet.node.config.own (Create_session_response a ∷ Create_bearer_request r ∷ []) new → HeldOfSent new
+  pair_held w inv held a r a_sent r_sent new c = ⊎_elim
+      (λ whole. whole_held w inv held Serving _ new whole)
+      (λ apart.
+      let m = apart.moves in
+      let from = w.packet.node.config.own in
+      let w1 = moved w Serving m.effect in
+      let stays = run.config_stays own w inv Serving (first_came from (Create_session_response a)) m.effect (run.first_carried own w inv a r a_sent r_sent) m.step in
+      let first : HeldOfSent w1 =
+      by_role w1 (stepped_held w Serving m.effect (quiet_note No_such_datagram) [] held stays (λ h among. inl (subst (Among h) (same_held w.serving.node _ m.effect (opening _ a w.serving.node m.effect m.step)) among))) in
+      subst HeldOfSent (sym m.becomes)
+      (stepped_held w1 Serving m.next (note_of_both m.effect m.next) (w.serving_steps ++ (record { before = w.serving.node; input = first_came from (Create_session_response a); effect = m.effect } ∷ record { before = m.effect.node; input = second_came from (Create_bearer_request r); effect = m.next } ∷ [])) first (run.config_stays own w1 (run.after_first own w inv a r a_sent r_sent m.effect m.step) Serving (second_came from (Create_bearer_request r)) m.next (run.second_carried own w inv a r a_sent r_sent m.effect m.step) m.follows)
+      (λ h among. ⊎_elim (λ was. inl was) (λ is. inr (record { message = Create_bearer_request r; sent = run.second_sent own w inv a r a_sent r_sent m.effect m.step; control = refl; is = is })) (held_by _ m.effect.node m.next (control_held Serving _ (Control_message (Create_bearer_request r)) m.effect.node m.next m.follows) h among))))
+      (pair_comes w Serving w.packet.node.config.own new a r c)
+    where
+      by_role : (w1 : World) → HeldOfSent (with_steps (noted w1 (quiet_note No_such_datagram)) Serving []) → HeldOfSent w1
+      by_role w1 held Serving = held Serving
+      by_role w1 held Packet = held Packet
+
+  delivers_pair : (w : World) → run.Invariant own w → HeldOfSent w → (sender : Role) (a : CreateSessionResponse) (r : CreateBearerRequest) → HasSent w.history sender (Create_session_response a) → HasSent w.history sender (Create_bearer_request r) → (new : World) → Delivers w sender (Create_session_response a ∷ Create_bearer_request r ∷ []) new → HeldOfSent new
+  delivers_pair w inv held Packet a r a_sent r_sent new (inl d) = pair_held w inv held a r a_sent r_sent new d.1
+  delivers_pair w inv held Packet a r a_sent r_sent new (inr d) = let x = arrival w.packet.node.config.own (Create_bearer_request r) in pair_held (late_once w Serving x) (run.late_keeps own w inv Serving x) (late_held w Serving x held) a r a_sent r_sent new d.1
+  delivers_pair w inv held Serving a r a_sent r_sent new (inl d) = whole_held w inv held Packet _ new (run.to_packet own w w.serving.node.config.own a r new d.1)
+  delivers_pair w inv held Serving a r a_sent r_sent new (inr d) = let x = arrival w.serving.node.config.own (Create_bearer_request r) in whole_held (late_once w Packet x) (run.late_keeps own w inv Packet x) (late_held w Packet x held) Packet _ new (run.to_packet own (late_once w Packet x) w.serving.node.config.own a r new d.1)
+
+  delivers_few : (w : World) → run.Invariant own w → HeldOfSent w → (sender : Role) (datagram : List Message) → IsFew datagram → ((m : Message) → Among m datagram → HasSent w.history sender m) → (new : World) → Delivers w sender datagram new → HeldOfSent new
+  delivers_few w inv held sender =
+      by_few (λ datagram. ((m : Message) → Among m datagram → HasSent w.history sender m) → (new : World) → Delivers w sender datagram new → HeldOfSent new)
+      (λ m sent new d. delivers w inv held sender m (sent m (inl refl)) new d)
+      (λ a r sent new d. delivers_pair w inv held sender a r (sent (Create_session_response a) (inl refl)) (sent (Create_bearer_request r) (inr (inl refl))) new d)
 
   happens : (w : World) → run.Invariant own w → HeldOfSent w → (event : Event) (new : World) → Happens w event new → HeldOfSent new
   happens w inv held (Does role command) new m = moves_held w inv held role (Commanded command) new m tt (λ h among. inl (commanded_held role command (side_of w role).node m.effect m.step h among))
   happens w inv held (Tick role) new t = subst HeldOfSent (sym t.becomes) (stepped_held w role (ticked t.out t.after) _ _ held (tick_config (side_of w role).node t.moves t.out t.after t.tick) (λ h among. inl (tick_held (side_of w role).node t.moves t.out t.after t.tick h among)))
   happens w inv held (Deliver number) new (inl none) = subst HeldOfSent (sym none.1) (noted_held w (quiet_note No_such_datagram) held)
   happens w inv held (Deliver number) new (inr (found, d)) =
-      let one = run.found_one own w inv number found.sent found.is in
-      delivers w inv held found.sent.role one.message one.sent new (subst (λ k. Delivers w found.sent.role k new) one.alone d)
+      let whole = run.found_whole own w inv number found.sent found.is in
+      delivers_few w inv held found.sent.role found.sent.what whole.few whole.each new d
   happens w inv held (Cut number count) new (inl none) = subst HeldOfSent (sym none.1) (noted_held w (quiet_note No_such_datagram) held)
   happens w inv held (Cut number count) new (inr (found, inl long)) = subst HeldOfSent (sym long.1) (noted_held w (quiet_note Cut_too_long) held)
   happens w inv held (Cut number count) new (inr (found, inr (short, c))) = cut_held w inv held (other found.sent.role) (datagram_plane found.sent.what) _ found.sent.what count new c

@@ -9,30 +9,34 @@ use Rattle.gtp_values.specs.Counter.{age_of}
 use Rattle.gtp_values.specs.FiniteMap.{Among}
 use Rattle.gtp_values.specs.declared.address.Endpoint.{Endpoint}
 use Rattle.gtp_values.specs.declared.counter.Age.TheVariants.{Earlier}
-use Rattle.gtp_machine.specs.Config.{Addresses, Config, user_end}
+use Rattle.gtp_values.specs.Address.{IsIp}
+use Rattle.gtp_machine.specs.Config.{Addresses, Config, template_for, user_end}
 use Rattle.gtp_machine.specs.Element.{IsAccepting, PdnAddress, cause_of, tunnel_end, teid_in}
-use Rattle.gtp_machine.specs.Message.{CreateSessionRequest, CreateSessionResponse, Message, Create_session_request, Create_session_response, Packet_data, plane_of, Control, User, Create_bearer_request, Create_bearer_response, Owns}
+use Rattle.gtp_machine.specs.Message.{CreateSessionRequest, CreateSessionResponse, CreateBearerRequest, Message, Create_session_request, Create_session_response, Packet_data, plane_of, Control, User, Create_bearer_request, Create_bearer_response, Owns}
 use Rattle.gtp_machine.specs.Node.{Role, Serving, Packet, Active, Session, Bearer, Arrival, Node, holding, written}
-use Rattle.gtp_machine.specs.Input.{Entry, Specification, Create_session, Send_user, entry_for, Input, Commanded, Control_came, User_came, Control_message, User_message, Effect, messages, datagrams}
+use Rattle.gtp_machine.specs.Input.{Entry, Specification, Create_session, Send_user, entry_for, Input, Commanded, Control_came, User_came, Control_message, User_message, Effect, Came_to, Opened, messages, datagrams}
 use Rattle.gtp_machine.specs.Choice.{IsFree, IsGiven, counter_of}
-use Rattle.gtp_machine.specs.Command.{BeginsSession, MayGo, SendsPacket, PacketSent, asks, session_request, session_begun, pending_session, pending_bearer}
+use Rattle.gtp_machine.specs.Command.{bearer_request, BeginsSession, MayGo, SendsPacket, PacketSent, asks, session_request, session_begun, pending_session, pending_bearer}
 use Rattle.gtp_machine.specs.User.{MayCome, Accepts, UserStep}
 use Rattle.gtp_machine.specs.Answer.{IsNew}
 use Rattle.gtp_machine.specs.Serving.{opened_session, opened_bearer}
 use Rattle.gtp_machine.specs.Packet.{session_cause, session_response, session_made, made_session, made_bearer}
 use Rattle.gtp_machine.specs.Recovery.{heard_by}
 use Rattle.gtp_machine.specs.Reading.{control_reading}
-use Rattle.gtp_machine.specs.Spelling.{ReadsAs, spelled, IsSendable}
+use Rattle.gtp_machine.specs.Spelling.{ReadsAs, spelled, announcing, IsSendable}
 use Rattle.gtp_machine.specs.Step.{Step}
-use Rattle.gtp_machine.specs.World.{World, Sent, SentDatagram, HasSent, Side, Event, Does, Deliver, Happens, Delivers, Moves, Run, other, side_of, signed, late_once, arrival, delivered_on, start}
-use Rattle.gtp_machine.specs.Exchange.{AllRead, IsOnePath, IsConfigured, IsSpecified, CanExchange, CameTo, Carries, IsMade, Exchanged, FairExchange, ExchangeSendable}
+use Rattle.gtp_machine.specs.World.{World, Sent, SentDatagram, HasSent, Side, Event, Does, Deliver, Happens, Delivers, Moves, Run, other, side_of, signed, late_once, come_from, arrival, first_came, second_came, delivered_on, start}
+use Rattle.gtp_machine.specs.Exchange.{AllRead, IsOnePath, IsTemplate, IsConfigured, IsSpecified, CanExchange, CameTo, Carries, IsMade, Exchanged, FairExchange, ExchangeSendable}
 use Rattle.gtp_machine.proofs.Basics.Ages.{earlier_start}
-use Rattle.gtp_machine.proofs.Basics.FiniteMaps.{get-insert_same, Among-left, Among-last}
+use Rattle.gtp_machine.proofs.Basics.FiniteMaps.{get-insert_same, Among-left, Among-right, Among-last}
 use Rattle.gtp_machine.proofs.Origins.Drawing.{Drawing, unowned, by_cases}
 use Rattle.gtp_machine.proofs.Worlds.Hearing.{Hearing}
 use Rattle.gtp_machine.proofs.Worlds.Runs.{Invariant, always}
-use Rattle.gtp_machine.proofs.Exchange.Held.{HeldOfSent, always_held}
-use Rattle.gtp_machine.proofs.Exchange.Nodes.{pass, v4_given, v6_given, type_is as asked_type, begins, CanMake, IsAnswered, answers, opening, waiting_for, Waits, OpensBy, IsOpened, is_opened_by}
+use Rattle.gtp_machine.proofs.Exchange.Held.{HeldOfSent, not_announcing, always_held}
+use Rattle.gtp_machine.proofs.Worlds.Coming.{alone_comes, peer_comes}
+use Rattle.gtp_machine.proofs.Basics.Templates.{IsAdded}
+use Rattle.gtp_machine.proofs.Exchange.Added.{found_template, wanted_sendable, refusal_sendable, grant_sendable}
+use Rattle.gtp_machine.proofs.Exchange.Nodes.{pass, v4_given, v6_given, type_is as asked_type, begins, CanMake, IsAnswered, answers, waiting_for, Waits, OpensBy, IsOpened, is_opened_by, GoesOut, goes_out, SaysSo, asked_second}
 use Rattle.gtp_machine.proofs.Exchange.Texts.{request_like, response_like, same_request_teid, same_response_teid}
 use Rattle.gtp_machine.proofs.Exchange.Ranges.{IsWritten, given_written, request_sendable, request_short, response_sendable, response_short}
 use Rattle.gtp_machine.specs.Laws.{OwnsOn, IsFromOn}
@@ -73,14 +77,36 @@ record IsBrought (old : World) (sender : Role) (m : Message) (new : World) : Typ
   pub moves : Moves before (other sender) (delivered_on (plane_of m) (side_of old sender).node.config.own (m ∷ [])) new
 
 delivered_is : (old : World) (sender : Role) (m : Message) (new : World) → Delivers old sender (m ∷ []) new → IsBrought old sender m new
-delivered_is old sender m new (inl d) = record { before = old; serving = refl; packet = refl; history = refl; listed = refl; accepted = refl; moves = d.1 }
-delivered_is old Serving m new (inr d) = record { before = late_once old Packet (arrival old.serving.node.config.own m); serving = refl; packet = refl; history = refl; listed = refl; accepted = refl; moves = d.1 }
-delivered_is old Packet m new (inr d) = record { before = late_once old Serving (arrival old.packet.node.config.own m); serving = refl; packet = refl; history = refl; listed = refl; accepted = refl; moves = d.1 }
+delivered_is old sender m new (inl d) = record { before = old; serving = refl; packet = refl; history = refl; listed = refl; accepted = refl; moves = alone_comes old (other sender) (side_of old sender).node.config.own new m d.1 }
+delivered_is old Serving m new (inr d) = let late = late_once old Packet (arrival old.serving.node.config.own m) in record { before = late; serving = refl; packet = refl; history = refl; listed = refl; accepted = refl; moves = alone_comes late Packet old.serving.node.config.own new m d.1 }
+delivered_is old Packet m new (inr d) = let late = late_once old Serving (arrival old.packet.node.config.own m) in record { before = late; serving = refl; packet = refl; history = refl; listed = refl; accepted = refl; moves = alone_comes late Serving old.packet.node.config.own new m d.1 }
+
+delivered_so : (old : World) (sender : Role) (datagram : List Message) (number : ℕ) (new : World) → slice_get old.datagrams number ≡ Some (record { role = sender; what = datagram }) → Happens old (Deliver number) new → Delivers old sender datagram new
+delivered_so old sender datagram number new stands h =
+    let found = pass (record { sent = record { role = sender; what = datagram }; is = stands }) h in
+    subst (λ (s : SentDatagram). Delivers old s.role s.what new) (same_Some found.0.sent (record { role = sender; what = datagram }) (sym found.0.is ∙ stands)) found.1
 
 brought : (old : World) (sender : Role) (m : Message) (number : ℕ) (new : World) → slice_get old.datagrams number ≡ Some (record { role = sender; what = m ∷ [] }) → Happens old (Deliver number) new → IsBrought old sender m new
-brought old sender m number new stands h =
-    let found = pass (record { sent = record { role = sender; what = m ∷ [] }; is = stands }) h in
-    delivered_is old sender m new (subst (λ (s : SentDatagram). Delivers old s.role s.what new) (same_Some found.0.sent (record { role = sender; what = m ∷ [] }) (sym found.0.is ∙ stands)) found.1)
+brought old sender m number new stands h = delivered_is old sender m new (delivered_so old sender (m ∷ []) number new stands h)
+
+-- a delivery of a pair to the serving gateway, message by message
+record IsBroughtApart (old : World) (a : CreateSessionResponse) (r : CreateBearerRequest) (new : World) : Type 0 where
+  pub effect : Effect
+  pub step : Step Serving old.serving.node (first_came old.packet.node.config.own (Create_session_response a)) effect
+  pub next : Effect
+  pub follows : Step Serving effect.node (second_came old.packet.node.config.own (Create_bearer_request r)) next
+  pub node : new.serving.node ≡ next.node
+  pub elsewhere : new.packet.node ≡ old.packet.node
+  pub history : new.history ≡ (old.history ++ signed Serving (messages effect.out.sent)) ++ signed Serving (messages next.out.sent)
+  pub note : CameTo new effect.outcome
+
+brought_apart : (old : World) (a : CreateSessionResponse) (r : CreateBearerRequest) (new : World) → old.packet.node.config.own.control ≡ old.serving.node.config.peer.control → Delivers old Packet (Create_session_response a ∷ Create_bearer_request r ∷ []) new → IsBroughtApart old a r new
+brought_apart old a r new peer (inl d) =
+    let m = (peer_comes old Serving old.packet.node.config.own new a r refl peer d.1).moves in
+    record { effect = m.effect; step = m.step; next = m.next; follows = m.follows; node = ap (λ (w : World). w.serving.node) m.becomes; elsewhere = ap (λ (w : World). w.packet.node) m.becomes; history = ap (λ (w : World). w.history) m.becomes; note = record { note = _; before = _; notes = ap (λ (w : World). w.notes) m.becomes; is = refl } }
+brought_apart old a r new peer (inr d) =
+    let m = (peer_comes (late_once old Serving (arrival old.packet.node.config.own (Create_bearer_request r))) Serving old.packet.node.config.own new a r refl peer d.1).moves in
+    record { effect = m.effect; step = m.step; next = m.next; follows = m.follows; node = ap (λ (w : World). w.serving.node) m.becomes; elsewhere = ap (λ (w : World). w.packet.node) m.becomes; history = ap (λ (w : World). w.history) m.becomes; note = record { note = _; before = _; notes = ap (λ (w : World). w.notes) m.becomes; is = refl } }
 
 -- the counter that a gateway tells is not earlier than one that was heard of it
 not_earlier : (peer : Side) (role : Role) (history : List Sent) (known : Option ℕ) (seen : List ℕ) (counter : ℕ) → Drawing peer role history → Hearing peer known seen → counter ≡ peer.node.counter → (k : ℕ) → known ≡ Some k → age_of k counter ≢ Earlier
@@ -285,60 +311,49 @@ module _ (serving packet : Config) (serving_counter packet_counter : ℕ) (event
     abbrev a : CreateSessionResponse
     a = session_response a2.mid q a2.made.control a2.made.user a2.made.address
 
+    -- how it goes
+    go2 : GoesOut asked q a2.mid a2.made.control a2.made.user a2.made.address a2.taken
+    go2 = goes_out asked q a2.mid a2.taken a2.made
+
+    abbrev said : List Message
+    said = Create_session_response a ∷ go2.more
+
     abbrev made_node : Node
-    made_node = holding asked (Create_session_response a ∷ []) (session_made a2.mid q a2.made.control a2.made.user a2.made.address)
+    made_node = holding asked said go2.left
 
     answered_node : answered.packet.node ≡ made_node
-    answered_node = f2.node ∙ a2.node ∙ ap (λ (f : Effect). f.node) a2.made.gives
+    answered_node = f2.node ∙ a2.node ∙ ap (λ (f : Effect). f.node) go2.gives
 
-    answered_history : answered.history ≡ (w.history ++ signed Serving (Create_session_request q ∷ [])) ++ signed Packet (Create_session_response a ∷ [])
-    answered_history = f2.history ∙ (λ i. (d2.history ∙ begun_history) i ++ signed Packet (messages ((a2.sent ∙ ap (λ (f : Effect). f.out.sent) a2.made.gives) i)))
+    answered_history : answered.history ≡ (w.history ++ signed Serving (Create_session_request q ∷ [])) ++ signed Packet said
+    answered_history = f2.history ∙ (λ i. (d2.history ∙ begun_history) i ++ signed Packet (messages ((a2.sent ∙ ap (λ (f : Effect). f.out.sent) go2.gives) i))) ∙ ap (λ l. (w.history ++ signed Serving (Create_session_request q ∷ [])) ++ signed Packet l) (append-nil said)
 
-    answered_list : answered.datagrams ≡ (w.datagrams ++ signed Serving ((Create_session_request q ∷ []) ∷ [])) ++ signed Packet ((Create_session_response a ∷ []) ∷ [])
-    answered_list = f2.listed ∙ (λ i. (d2.listed ∙ begun_list) i ++ signed Packet (datagrams ((a2.sent ∙ ap (λ (f : Effect). f.out.sent) a2.made.gives) i)))
+    answered_list : answered.datagrams ≡ (w.datagrams ++ signed Serving ((Create_session_request q ∷ []) ∷ [])) ++ signed Packet (said ∷ [])
+    answered_list = f2.listed ∙ (λ i. (d2.listed ∙ begun_list) i ++ signed Packet (datagrams ((a2.sent ∙ ap (λ (f : Effect). f.out.sent) go2.gives) i)))
 
     -- the answer comes
-    d3 : IsBrought answered Packet (Create_session_response a) opened
-    d3 = brought answered Packet (Create_session_response a) (1 + length w.datagrams) opened
+    d3 : Delivers answered Packet said opened
+    d3 = delivered_so answered Packet said (1 + length w.datagrams) opened
         (ap (λ n. slice_get answered.datagrams n) (one_longer w.datagrams _) ∙ ap (λ ds. slice_get ds (length (w.datagrams ++ signed Serving ((Create_session_request q ∷ []) ∷ [])))) answered_list ∙ at_end (w.datagrams ++ signed Serving ((Create_session_request q ∷ []) ∷ [])) _)
         h3
 
-    abbrev told : Arrival
-    told = arrival answered.packet.node.config.own (Create_session_response a)
-
-    same3 : d3.before.serving.node ≡ e1.node
-    same3 = d3.serving ∙ f2.elsewhere ∙ d2.serving ∙ begun_node
+    same3 : answered.serving.node ≡ e1.node
+    same3 = f2.elsewhere ∙ d2.serving ∙ begun_node
 
     packet_own : answered.packet.node.config.own ≡ w.packet.node.config.own
-    packet_own = ap (λ (n : Node). n.config.own) answered_node ∙ ap (λ (c : Config). c.own) a2.ready.config
+    packet_own = ap (λ (n : Node). n.config.own) answered_node ∙ ap (λ (c : Config). c.own) (go2.config ∙ a2.ready.config)
+
+    from_peer : answered.packet.node.config.own.control ≡ w.serving.node.config.peer.control
+    from_peer = ap (λ (k : Addresses). k.control) (packet_own ∙ sym path.there)
 
     free_before : (t : ℕ) → IsFree a2.mid t → IsFree w.packet.node t
     free_before t free = record { counted = free.counted ∙ a2.ready.counter; numbered = free.numbered; undrawn = subst (λ l. Among t l → ⊥) a2.ready.drawn free.undrawn }
 
     module _ (answer_new : IsUnsent Packet (Create_session_response a)) where
-      new3 : IsNew e1.node told
-      new3 h among same =
-          let s = held Serving h among in
-          let octets : arrival w.packet.node.config.own s.message ≡ told = sym s.is ∙ same in
-          answer_new s.message s.sent s.control (ap (λ (k : Arrival). k.octets) octets)
-
       waits : Waits e1.node q
       waits = record { request = get-insert_same w.serving.node.pending r1.number (waiting_for q); session = get-insert_same w.serving.node.sessions r1.control (pending_session q); bearer = get-insert_same w.serving.node.bearers r1.user (pending_bearer r1.control q) }
 
       opens_by : OpensBy a q a2.made.address
       opens_by = record { number = refl; header = refl; accepts = accepts_cause spec.pdn a2.made.address; context = record { identity = q.context.identity; cause = cause_of 16; user = Some (tunnel_end 5 a2.made.user a2.mid.config.own.user); qos = Some q.context.qos; charging = Some a2.made.user }; alone = refl; default = refl; both = record { low = omega arith; high = omega arith }; given = address_back 64 a2.made.address a2.made.given.some_part }
-
-      o3 : IsOpened a q a2.made.address e1.node d3.moves.effect
-      o3 = is_opened_by told a q a2.made.address a2.mid.counter e1.node d3.moves.effect (ap (λ (k : Addresses). k.control) (packet_own ∙ sym path.there)) new3 refl (not_earlier w.packet Packet w.history w.serving.node.known w.serving.seen a2.mid.counter inv.packet.draws inv.serving.hearing a2.ready.counter) waits opens_by (subst (λ n. Step Serving n (Control_came told (Control_message (Create_session_response a))) d3.moves.effect) same3 d3.moves.step)
-
-      f3 : IsMoved d3.before Serving d3.moves.effect opened
-      f3 = moved_is d3.before Serving _ opened d3.moves
-
-      opened_node : opened.serving.node ≡ (opening a q o3.mid a2.made.address).node
-      opened_node = f3.node ∙ o3.node
-
-      packet_node : opened.packet.node ≡ made_node
-      packet_node = f3.elsewhere ∙ d3.packet ∙ answered_node
 
       abbrev at_serving : Session
       at_serving = opened_session (pending_session q) a a2.made.address
@@ -352,23 +367,102 @@ module _ (serving packet : Config) (serving_counter packet_counter : ℕ) (event
       abbrev bearer_at_packet : Bearer
       bearer_at_packet = made_bearer q a2.made.control
 
-      session_stands : get opened.serving.node.sessions r1.control ≡ Some at_serving
-      session_stands = ap (λ (n : Node). get n.sessions r1.control) opened_node ∙ get-insert_same o3.mid.sessions r1.control at_serving
+      abbrev Added : Type 0
+      Added = IsAdded (template_for q.access_point a2.mid.config.templates) asked a (session_cause spec.pdn a2.made.address) a2.made.control at_packet (session_made a2.mid q a2.made.control a2.made.user a2.made.address) a2.taken
 
-      bearer_stands : get opened.serving.node.bearers r1.user ≡ Some bearer_at_serving
-      bearer_stands = ap (λ (n : Node). get n.bearers r1.user) opened_node ∙ get-insert_same o3.mid.bearers r1.user bearer_at_serving
+      -- the request of the template's bearer
+      abbrev wanted : Added → CreateBearerRequest
+      wanted x = bearer_request (session_made a2.mid q a2.made.control a2.made.user a2.made.address) at_packet x.template.tft x.template.qos x.adds.user x.adds.number
+
+      -- what is said to it
+      record IsGranted (m : Message) : Type 0 where
+        pub added : Added
+        pub old : Node
+        pub counter : old.counter ≡ w.serving.node.counter
+        pub config : old.config ≡ w.serving.node.config
+        pub held : old.held ≡ w.serving.node.held
+        pub says : SaysSo (wanted added) at_serving old m
+
+      -- what the third event comes to, whether the answer went alone or not
+      record IsThird : Type 0 where
+        pub session : get opened.serving.node.sessions r1.control ≡ Some at_serving
+        pub bearer : get opened.serving.node.bearers r1.user ≡ Some bearer_at_serving
+        pub config : opened.serving.node.config ≡ w.serving.node.config
+        pub there : opened.packet.node ≡ made_node
+        pub extra : List Message
+        pub history : opened.history ≡ answered.history ++ signed Serving extra
+        pub granted : (m : Message) → Among m extra → IsGranted m
+        pub outcome : CameTo opened (Came_to Opened)
+
+      -- the gateway takes the answer
+      opens_so : (request : Arrival) (e : Effect) → request.source.ip ≡ w.serving.node.config.peer.control → IsNew e1.node request → Step Serving e1.node (Control_came request (Control_message (Create_session_response a))) e → IsOpened a q a2.made.address e1.node e
+      opens_so request e peer new step = is_opened_by request a q a2.made.address a2.mid.counter e1.node e peer new refl (not_earlier w.packet Packet w.history w.serving.node.known w.serving.seen a2.mid.counter inv.packet.draws inv.serving.hearing a2.ready.counter) waits opens_by step
+
+      session_in : (e : Effect) (o : IsOpened a q a2.made.address e1.node e) → get e.node.sessions r1.control ≡ Some at_serving
+      session_in e o = ap (λ (n : Node). get n.sessions r1.control) o.node ∙ get-insert_same o.mid.sessions r1.control at_serving
+
+      bearer_in : (e : Effect) (o : IsOpened a q a2.made.address e1.node e) → get e.node.bearers r1.user ≡ Some bearer_at_serving
+      bearer_in e o = ap (λ (n : Node). get n.bearers r1.user) o.node ∙ get-insert_same o.mid.bearers r1.user bearer_at_serving
+
+      config_in : (e : Effect) (o : IsOpened a q a2.made.address e1.node e) → e.node.config ≡ w.serving.node.config
+      config_in e o = ap (λ (n : Node). n.config) o.node ∙ o.ready.config
+
+      third_alone : go2.more ≡ [] → IsThird
+      third_alone alone =
+          let d = delivered_is answered Packet (Create_session_response a) opened (subst (λ more. Delivers answered Packet (Create_session_response a ∷ more) opened) alone d3) in
+          let told = arrival answered.packet.node.config.own (Create_session_response a) in
+          let o = opens_so told d.moves.effect from_peer new (subst (λ n. Step Serving n (Control_came told (Control_message (Create_session_response a))) d.moves.effect) (d.serving ∙ same3) d.moves.step) in
+          let f = moved_is d.before Serving _ opened d.moves in
+          record {
+            session = ap (λ (n : Node). get n.sessions r1.control) f.node ∙ session_in d.moves.effect o;
+            bearer = ap (λ (n : Node). get n.bearers r1.user) f.node ∙ bearer_in d.moves.effect o;
+            config = ap (λ (n : Node). n.config) f.node ∙ config_in d.moves.effect o;
+            there = f.elsewhere ∙ d.packet ∙ answered_node;
+            extra = [];
+            history = f.history ∙ (λ i. d.history i ++ signed Serving (o.sent i));
+            granted = λ m none. absurd none;
+            outcome = record { note = f.note.note; before = f.note.before; notes = f.note.notes; is = f.note.is ∙ o.outcome };
+          }
+        where
+          new : IsNew e1.node (arrival answered.packet.node.config.own (Create_session_response a))
+          new h among same =
+              let s = held Serving h among in
+              let octets : arrival w.packet.node.config.own s.message ≡ arrival answered.packet.node.config.own (Create_session_response a) = sym s.is ∙ same in
+              answer_new s.message s.sent s.control (ap (λ (k : Arrival). k.octets) octets)
+
+      third_both : (x : Added) → go2.more ≡ Create_bearer_request (wanted x) ∷ [] → IsThird
+      third_both x more =
+          let t = brought_apart answered a (wanted x) opened (from_peer ∙ ap (λ (n : Node). n.config.peer.control) (sym same3)) (subst (λ more. Delivers answered Packet (Create_session_response a ∷ more) opened) more d3) in
+          let from = answered.packet.node.config.own in
+          let o = opens_so (come_from from (announcing (Create_session_response a))) t.effect from_peer new (subst (λ n. Step Serving n (first_came from (Create_session_response a)) t.effect) same3 t.step) in
+          let is = asked_second (arrival from (Create_bearer_request (wanted x))) (wanted x) at_serving t.effect.node t.next (from_peer ∙ ap (λ (c : Config). c.peer.control) (sym (config_in t.effect o))) (session_in t.effect o) refl refl refl t.follows in
+          record {
+            session = ap (λ (n : Node). get n.sessions r1.control) t.node ∙ ap (λ m. get m r1.control) is.sessions ∙ session_in t.effect o;
+            bearer = ap (λ (n : Node). get n.bearers r1.user) t.node ∙ is.bearers r1.user bearer_at_serving (subst (Among r1.user) (sym (ap (λ (n : Node). n.drawn) o.node ∙ o.ready.drawn)) (inl refl)) (bearer_in t.effect o);
+            config = ap (λ (n : Node). n.config) t.node ∙ is.config ∙ config_in t.effect o;
+            there = t.elsewhere ∙ answered_node;
+            extra = messages t.next.out.sent;
+            history = t.history ∙ (λ i. (answered.history ++ signed Serving (o.sent i)) ++ signed Serving (messages t.next.out.sent)) ∙ ap (λ h. h ++ signed Serving (messages t.next.out.sent)) (append-nil answered.history);
+            granted = λ m among. record { added = x; old = t.effect.node; counter = ap (λ (n : Node). n.counter) o.node ∙ o.ready.counter; config = config_in t.effect o; held = ap (λ (n : Node). n.held) o.node ∙ o.ready.held; says = is.says m among };
+            outcome = record { note = t.note.note; before = t.note.before; notes = t.note.notes; is = t.note.is ∙ o.outcome };
+          }
+        where
+          new : IsNew e1.node (come_from answered.packet.node.config.own (announcing (Create_session_response a)))
+          new h among same =
+              let s = held Serving h among in
+              not_announcing s.message a s.control (ap (λ (k : Arrival). k.octets) (sym s.is ∙ same))
+
+      third : IsThird
+      third = ⊎_elim third_alone (λ x. third_both x.0 x.1) go2.wanted
 
       session_stands_there : get opened.packet.node.sessions a2.made.control ≡ Some at_packet
-      session_stands_there = ap (λ (n : Node). get n.sessions a2.made.control) packet_node ∙ get-insert_same a2.mid.sessions a2.made.control at_packet
+      session_stands_there = ap (λ (n : Node). get n.sessions a2.made.control) third.there ∙ ap (λ m. get m a2.made.control) go2.sessions ∙ get-insert_same a2.mid.sessions a2.made.control at_packet
 
       bearer_stands_there : get opened.packet.node.bearers a2.made.user ≡ Some bearer_at_packet
-      bearer_stands_there = ap (λ (n : Node). get n.bearers a2.made.user) packet_node ∙ get-insert_same a2.mid.bearers a2.made.user bearer_at_packet
-
-      serving_config : opened.serving.node.config ≡ w.serving.node.config
-      serving_config = ap (λ (n : Node). n.config) opened_node ∙ o3.ready.config
+      bearer_stands_there = ap (λ (n : Node). get n.bearers a2.made.user) third.there ∙ go2.bearer
 
       packet_config : opened.packet.node.config ≡ w.packet.node.config
-      packet_config = ap (λ (n : Node). n.config) packet_node ∙ a2.ready.config
+      packet_config = ap (λ (n : Node). n.config) third.there ∙ go2.config ∙ a2.ready.config
 
       made : IsMade opened spec
       made = record {
@@ -376,21 +470,21 @@ module _ (serving packet : Config) (serving_counter packet_counter : ℕ) (event
         session_there = a2.made.control;
         at_serving = at_serving;
         at_packet = at_packet;
-        sessions = record { serving = session_stands; packet = session_stands_there; serving_active = refl; packet_active = refl; there = refl; back = refl };
+        sessions = record { serving = third.session; packet = session_stands_there; serving_active = refl; packet_active = refl; there = refl; back = refl };
         subscriber = refl;
         subscriber_there = refl;
         bearer = r1.user;
         bearer_there = a2.made.user;
         bearer_at_serving = bearer_at_serving;
         bearer_at_packet = bearer_at_packet;
-        bearers = record { serving = bearer_stands; packet = bearer_stands_there; serving_active = refl; packet_active = refl; there = refl; back = refl };
+        bearers = record { serving = third.bearer; packet = bearer_stands_there; serving_active = refl; packet_active = refl; there = refl; back = refl };
         default = refl;
         default_there = refl;
         of = refl;
         of_there = refl;
         identity = refl;
-        up = carries opened Serving r1.user a2.made.user (record { here = bearer_at_serving; stands = bearer_stands; active = refl; unended = refl; remote = refl; session = at_serving; of = session_stands; at = bearer_at_packet; stands_there = bearer_stands_there; active_there = refl; unended_there = refl; session_there = at_packet; of_there = session_stands_there; subscriber = refl; identity = refl; path = ap (λ (c : Config). c.peer) packet_config ∙ path.back ∙ ap (λ (c : Config). c.own) (sym serving_config) });
-        down = carries opened Packet a2.made.user r1.user (record { here = bearer_at_packet; stands = bearer_stands_there; active = refl; unended = refl; remote = refl; session = at_packet; of = session_stands_there; at = bearer_at_serving; stands_there = bearer_stands; active_there = refl; unended_there = refl; session_there = at_serving; of_there = session_stands; subscriber = refl; identity = refl; path = ap (λ (c : Config). c.peer) serving_config ∙ path.there ∙ ap (λ (c : Config). c.own) (sym packet_config) });
+        up = carries opened Serving r1.user a2.made.user (record { here = bearer_at_serving; stands = third.bearer; active = refl; unended = refl; remote = refl; session = at_serving; of = third.session; at = bearer_at_packet; stands_there = bearer_stands_there; active_there = refl; unended_there = refl; session_there = at_packet; of_there = session_stands_there; subscriber = refl; identity = refl; path = ap (λ (c : Config). c.peer) packet_config ∙ path.back ∙ ap (λ (c : Config). c.own) (sym third.config) });
+        down = carries opened Packet a2.made.user r1.user (record { here = bearer_at_packet; stands = bearer_stands_there; active = refl; unended = refl; remote = refl; session = at_packet; of = session_stands_there; at = bearer_at_serving; stands_there = third.bearer; active_there = refl; unended_there = refl; session_there = at_serving; of_there = third.session; subscriber = refl; identity = refl; path = ap (λ (c : Config). c.peer) third.config ∙ path.there ∙ ap (λ (c : Config). c.own) (sym packet_config) });
       }
 
       no_bearer : (role : Role) (t : ℕ) → IsFree (side_of w role).node t → (b : Bearer) → get (side_of w role).node.bearers t ≡ Some b → ⊥
@@ -421,25 +515,24 @@ module _ (serving packet : Config) (serving_counter packet_counter : ℕ) (event
         has_there = refl;
         for_address = refl;
         first = record { note = f1.note.note; before = f1.note.before; notes = f1.note.notes; is = f1.note.is ∙ ap (λ (f : Effect). f.outcome) r1.gives };
-        second = record { note = f2.note.note; before = f2.note.before; notes = f2.note.notes; is = f2.note.is ∙ (a2.outcome ∙ ap (λ (f : Effect). f.outcome) a2.made.gives) };
+        second = record { note = f2.note.note; before = f2.note.before; notes = f2.note.notes; is = f2.note.is ∙ (a2.outcome ∙ ap (λ (f : Effect). f.outcome) go2.gives) };
         answer = a;
-        told = answered_list ∙ ap (λ h. h ++ signed Packet ((Create_session_response a ∷ []) ∷ [])) (sym begun_list);
+        more = go2.more;
+        told = answered_list ∙ ap (λ h. h ++ signed Packet (said ∷ [])) (sym begun_list);
         says = refl;
-        third = record { note = f3.note.note; before = f3.note.before; notes = f3.note.notes; is = f3.note.is ∙ o3.outcome };
+        third = third.outcome;
         made = made;
       }
 
-      -- what was sent is what was sent before, the request and the answer
-      opened_history : opened.history ≡ answered.history
-      opened_history = f3.history ∙ (λ i. d3.history i ++ signed Serving (o3.sent i)) ∙ append-nil answered.history
-
-      sent_now : (role : Role) (m : Message) → HasSent opened.history role m → HasSent w.history role m ⊎ ((m ≡ Create_session_request q) ⊎ (m ≡ Create_session_response a))
-      sent_now role m sent =
-          let now = by_cases (w.history ++ signed Serving (Create_session_request q ∷ [])) role Packet (Create_session_response a ∷ []) m (subst (λ h. HasSent h role m) (opened_history ∙ answered_history) sent) in
-          elim now [
-            | inl before ↦ ⊎_elim (λ was. inl was) (λ asked. inr (inl (only asked.1))) (by_cases w.history role Serving (Create_session_request q ∷ []) m before)
-            | inr told ↦ inr (inr (only told.1))
-          ]
+      -- what was sent is what was sent before, the request, its answer with what goes with it, and what is said to that
+      sent_now : (role : Role) (m : Message) → HasSent opened.history role m → HasSent w.history role m ⊎ ((m ≡ Create_session_request q) ⊎ (Among m said ⊎ ((role ≡ Serving) × IsGranted m)))
+      sent_now role m sent = ⊎_elim
+          (λ before. elim (by_cases (w.history ++ signed Serving (Create_session_request q ∷ [])) role Packet said m (subst (λ h. HasSent h role m) answered_history before)) [
+            | inl earlier ↦ ⊎_elim (λ was. inl was) (λ asked. inr (inl (only asked.1))) (by_cases w.history role Serving (Create_session_request q ∷ []) m earlier)
+            | inr told ↦ inr (inr (inl told.1))
+          ])
+          (λ now. inr (inr (inr (now.0, third.granted m now.1))))
+          (by_cases answered.history role Serving third.extra m (subst (λ h. HasSent h role m) third.history sent))
         where
           only : {x : Message} → Among m (x ∷ []) → m ≡ x
           only (inl is) = is
@@ -463,7 +556,7 @@ module _ (serving packet : Config) (serving_counter packet_counter : ℕ) (event
         unowned w.serving Serving w.history inv.serving.draws (Create_session_request q) r1.control (subst (λ m. HasSent w.history Serving m) message sent) (inl refl) r1.control_free
 
     answer_reads : ReadsAs (plane_of (Create_session_response (a request_apart))) (spelled (Create_session_response (a request_apart))) (Create_session_response (a request_apart))
-    answer_reads = reads Packet (Create_session_response (a request_apart)) (subst (λ h. HasSent h Packet (Create_session_response (a request_apart))) (sym (answered_history request_apart)) (Among-last _ (w.history ++ signed Serving (Create_session_request q ∷ []))))
+    answer_reads = reads Packet (Create_session_response (a request_apart)) (subst (λ h. HasSent h Packet (Create_session_response (a request_apart))) (sym (answered_history request_apart)) (Among-right _ (w.history ++ signed Serving (Create_session_request q ∷ [])) (signed Packet (said request_apart)) (inl refl)))
 
     answer_apart : IsUnsent Packet (Create_session_response (a request_apart))
     answer_apart m sent control text =
@@ -544,10 +637,63 @@ module _ (serving packet : Config) (serving_counter packet_counter : ℕ) (event
     in_range : Exchanged spec w begun answered opened
     in_range = exchanged request_differs response_differs
 
+    abbrev Adds : Type 0
+    Adds = Added request_differs response_differs
+
+    abbrev asked_for : Adds → CreateBearerRequest
+    asked_for x = wanted request_differs response_differs x
+
+    added_free : (x : Adds) → IsFree w.packet.node x.adds.user
+    added_free x = free_before request_differs x.adds.user (record { counted = x.adds.user_free.counted; numbered = x.adds.user_free.numbered; undrawn = λ stood. x.adds.user_free.undrawn (inr (inr stood)) })
+
+    added_small : (x : Adds) → x.adds.user < 2 ^ 32
+    added_small x = free_small w.packet Packet w.history inv.packet.draws x.adds.user (added_free x)
+
+    added_number : (x : Adds) → x.adds.number < 2 ^ 24
+    added_number x = omega (arith, x.adds.number_free.small)
+
+    wanted_is : (x : Adds) → IsSendable (Create_bearer_request (asked_for x))
+    wanted_is x =
+        let t = found_template IsTemplate spec.subscriber.access_point at.mid.config.templates x.template mid_is.templates x.is in
+        wanted_sendable r1.control x.adds.number spec.subscriber.identity x.template.tft x.template.qos x.adds.user at.mid.config.own.user control_small (added_number x) can.identity t.short t.octets t.qos (added_small x) mid_is.user
+
+    -- each message of the answer's datagram can be sent
+    said_is : (m : Message) → Among m (said request_differs) → IsSendable m
+    said_is m (inl is) = subst IsSendable (sym is) response_is
+    said_is m (inr with_it) = ⊎_elim
+        (λ alone. absurd (subst (Among m) alone with_it))
+        (λ x. subst IsSendable (sym (only m _ (subst (Among m) x.1 with_it))) (wanted_is x.0))
+        (go2 request_differs).wanted
+      where
+        only : (m n : Message) → Among m (n ∷ []) → m ≡ n
+        only m n (inl is) = is
+        only m n (inr none) = absurd none
+
+    -- and each answer to what went with it, unless it was sent before
+    granted_is : (m : Message) → IsGranted request_differs response_differs m → HasSent w.history Serving m ⊎ IsSendable m
+    granted_is m g = by g.says
+      where
+        counter : g.old.counter < 256
+        counter = omega (arith, g.counter, counter_small w.serving Serving w.history inv.serving.draws)
+
+        own : IsIp g.old.config.own.user
+        own = subst (λ (c : Config). IsIp c.own.user) (sym g.config) serving_is.user
+
+        by : SaysSo (asked_for g.added) (at_serving request_differs response_differs) g.old m → HasSent w.history Serving m ⊎ IsSendable m
+        by (inl h) = inl ((inv.serving.knows.held h.0 (subst (Among h.0) g.held h.1)).each m h.2)
+        by (inr (inl is)) = inr (subst IsSendable (sym is) (refusal_sendable at.made.control g.added.adds.number g.old.counter g.added.adds.user at.mid.config.own.user control_there_small (added_number g.added) counter (added_small g.added) mid_is.user))
+        by (inr (inr (user, identity, free, range, is))) = inr (subst IsSendable (sym is) (grant_sendable at.made.control g.added.adds.number g.old.counter g.added.adds.user at.mid.config.own.user control_there_small (added_number g.added) counter (added_small g.added) mid_is.user identity user g.old.config.own.user range (start_small user (w.serving.first + w.serving.restarts) (free.counted ∙ g.counter ∙ inv.serving.draws.counter)) own))
+
     each_sendable : (role : Role) (m : Message) → HasSent opened.history role m → HasSent w.history role m ⊎ IsSendable m
     each_sendable role m sent = elim (sent_now request_differs response_differs role m sent) [
       | inl was ↦ inl was
-      | inr now ↦ inr (⊎_elim (λ is. subst IsSendable (sym is) request_is) (λ is. subst IsSendable (sym is) response_is) now)
+      | inr now ↦ ⊎_elim
+          (λ is. inr (subst IsSendable (sym is) request_is))
+          (λ others. ⊎_elim
+          (λ told. inr (said_is m told))
+          (λ granted. ⊎_elim (λ was. inl (subst (λ k. HasSent w.history k m) (sym granted.0) was)) (λ can. inr can) (granted_is m granted.1))
+          others)
+          now
     ]
 
 -- where each message that was sent reads as itself, whatever it carries

@@ -11,21 +11,22 @@ use Rattle.gtp_values.specs.declared.counter.Age.TheVariants.{Same, Later, Earli
 use Rattle.gtp_tables.specs.declared.pool.IpVersion.{IpVersion}
 use Rattle.gtp_tables.specs.declared.pool.IpVersion.TheVariants.{V4, V6}
 use Rattle.gtp_machine.specs.Ordered.{Unless}
-use Rattle.gtp_machine.specs.Config.{Config}
-use Rattle.gtp_machine.specs.Element.{IsAccepting, PdnAddress, address_of}
-use Rattle.gtp_machine.specs.Message.{CreateSessionRequest, CreatedBearer, CreateSessionResponse, Create_session_request, Create_session_response}
-use Rattle.gtp_machine.specs.Node.{Serving, Packet, State, Pending, Session, Bearer, PendingRequest, Arrival, Held, Node}
-use Rattle.gtp_machine.specs.Input.{Came_to, Specification, Control_came, Control_message, Opened, Effect, nothing, messages}
-use Rattle.gtp_machine.specs.Choice.{HasDraws, HasFreeAddress, AsksFor, IsPart, IsGiven, CanGive, IsServed, IsIdentity, HasSessionRoom, HasPendingRoom, HasHeldRoom}
+use Rattle.gtp_machine.specs.Config.{Config, template_for}
+use Rattle.gtp_machine.specs.Element.{IsAccepting, PdnAddress, address_of, cause_of}
+use Rattle.gtp_machine.specs.Message.{CreateSessionRequest, CreatedBearer, CreateSessionResponse, CreateBearerRequest, Message, Create_session_request, Create_session_response, Create_bearer_request, Create_bearer_response}
+use Rattle.gtp_machine.specs.Node.{Serving, Packet, State, Pending, Active, Session, Bearer, PendingRequest, Arrival, Held, Node, written}
+use Rattle.gtp_machine.specs.Input.{Came_to, Specification, Control_came, Control_message, Opened, Effect, nothing, messages, dropped, ContextNotActive, Of_create_bearer}
+use Rattle.gtp_machine.specs.Choice.{IsFree, HasDraws, HasFreeIdentity, HasSession, HasFreeAddress, AsksFor, IsPart, IsGiven, CanGive, IsServed, IsIdentity, HasSessionRoom, HasPendingRoom, HasHeldRoom}
 use Rattle.gtp_machine.specs.Removal.{on, is_pending, is_opened}
 use Rattle.gtp_machine.specs.Recovery.{peer_restarted, Judges, Weighs, learned_by, Hears, heard_at_age, heard_from, heard_by}
-use Rattle.gtp_machine.specs.Command.{BeginsSession, SessionBegun, pending_session, pending_bearer}
-use Rattle.gtp_machine.specs.Answer.{IsNew}
-use Rattle.gtp_machine.specs.Serving.{opened_session, opened_bearer, SessionAnswered, ServingTakes}
-use Rattle.gtp_machine.specs.Packet.{MakesSession, SessionAsked, PacketTakes}
+use Rattle.gtp_machine.specs.Command.{bearer_request, bearer_asked, pending_dedicated, BeginsSession, SessionBegun, pending_session, pending_bearer}
+use Rattle.gtp_machine.specs.Answer.{IsNew, making, answered, refusing}
+use Rattle.gtp_machine.specs.Serving.{opened_session, opened_bearer, SessionAnswered, bearer_response, granted_bearer, MakesBearer, no_resources, BearerAsked, ServingTakes}
+use Rattle.gtp_machine.specs.Packet.{session_cause, session_response, made_session, made_bearer, session_made, MakesSession, SessionAsked, PacketTakes}
 use Rattle.gtp_machine.specs.Step.{Step}
 use Rattle.gtp_machine.proofs.Basics.Counting.{len-kept_most}
-use Rattle.gtp_machine.proofs.Basics.FiniteMaps.{get-kept}
+use Rattle.gtp_machine.proofs.Basics.FiniteMaps.{get-kept, get-insert_same, get-insert_other, Among-cases}
+use Rattle.gtp_machine.proofs.Basics.Templates.{IsAdded, goes}
 
 -- a rule whose condition holds
 pub pass : {P X : Type 0} {Y : P → Type 0} → P → Unless P X Y → (p : P) × Y p
@@ -252,3 +253,92 @@ is_opened_by request a q address counter old e peer new tells not_earlier waits 
     let h = heard_so (ServingTakes request (Create_session_response a)) old counter e not_earlier (subst (λ o. Hears (ServingTakes request (Create_session_response a)) old o e) tells hears) in
     let is = opens a q h.mid h.taken address (record { request = h.ready.pending q.number (waiting_for q) q.control.teid (pending_session q) waits.request refl refl waits.session refl; session = h.ready.waiting q.control.teid (pending_session q) waits.session refl; bearer = h.ready.bearers q.context.user.teid (pending_bearer q.control.teid q) (pending_session q) waits.bearer waits.session refl }) by h.takes in
     record { mid = h.mid; ready = h.ready; node = ap (λ (f : Effect). f.node) h.is ∙ ap (λ (f : Effect). f.node) is; sent = ap (λ (f : Effect). messages f.out.sent) h.is ∙ ap (λ (f : Effect). messages f.out.sent) is; outcome = ap (λ (f : Effect). f.outcome) h.is ∙ ap (λ (f : Effect). f.outcome) is }
+
+-- how the answer to the request goes, and the gateway after it
+pub record GoesOut (request : Arrival) (q : CreateSessionRequest) (old : Node) (control user : ℕ) (address : PdnAddress) (e : Effect) : Type 0 where
+  pub more : List Message
+  pub left : Node
+  pub gives : e ≡ making request (Create_session_response (session_response old q control user address) ∷ more) (session_cause q.pdn address) left
+  pub config : left.config ≡ old.config
+  pub sessions : left.sessions ≡ (session_made old q control user address).sessions
+  pub bearer : get left.bearers user ≡ Some (made_bearer q control)
+  pub wanted : (more ≡ []) ⊎ ((x : IsAdded (template_for q.access_point old.config.templates) request (session_response old q control user address) (session_cause q.pdn address) control (made_session q address) (session_made old q control user address) e) × (more ≡ Create_bearer_request (bearer_request (session_made old q control user address) (made_session q address) x.template.tft x.template.qos x.adds.user x.adds.number) ∷ []))
+
+pub goes_out : (request : Arrival) (q : CreateSessionRequest) (old : Node) (e : Effect) (r : MakesSession request old q e) → GoesOut request q old r.control r.user r.address e
+goes_out request q old e r = ⊎_elim alone added (goes request (session_response old q r.control r.user r.address) (session_cause q.pdn r.address) r.control (made_session q r.address) (session_made old q r.control r.user r.address) e (template_for q.access_point old.config.templates) r.gives)
+  where
+    stands : get (session_made old q r.control r.user r.address).bearers r.user ≡ Some (made_bearer q r.control)
+    stands = get-insert_same old.bearers r.user (made_bearer q r.control)
+
+    alone : e ≡ making request (Create_session_response (session_response old q r.control r.user r.address) ∷ []) (session_cause q.pdn r.address) (session_made old q r.control r.user r.address) → GoesOut request q old r.control r.user r.address e
+    alone gives = record { more = []; left = (session_made old q r.control r.user r.address); gives = gives; config = refl; sessions = refl; bearer = stands; wanted = inl refl }
+
+    added : IsAdded (template_for q.access_point old.config.templates) request (session_response old q r.control r.user r.address) (session_cause q.pdn r.address) r.control (made_session q r.address) (session_made old q r.control r.user r.address) e → GoesOut request q old r.control r.user r.address e
+    added x =
+        let b = bearer_request (session_made old q r.control r.user r.address) (made_session q r.address) x.template.tft x.template.qos x.adds.user x.adds.number in
+        record {
+          more = Create_bearer_request b ∷ [];
+          left = bearer_asked (session_made old q r.control r.user r.address) r.control b x.adds.user;
+          gives = x.adds.gives;
+          config = refl;
+          sessions = refl;
+          bearer = get-insert_other (session_made old q r.control r.user r.address).bearers x.adds.user (pending_dedicated r.control) r.user (λ same. x.adds.user_free.undrawn (inl (sym same))) ∙ stands;
+          wanted = inr (x, refl);
+        }
+
+-- what the serving gateway says to a Create Bearer Request for its active session: an answer that it holds, or one of these two, or nothing
+abbrev pub SaysSo : CreateBearerRequest → Session → Node → Message → Type 0
+SaysSo r s old m =
+    ((h : Held) × Among h old.held × Among m h.answer)
+    ⊎ ((m ≡ Create_bearer_response (no_resources old r (written s.remote)))
+    ⊎ ((user : ℕ) × (identity : ℕ) × IsFree old user × IsIdentity identity × (m ≡ Create_bearer_response (bearer_response old r s user identity))))
+
+-- and what it leaves as it is: its sessions, and the bearers that it had
+pub record IsAsked (r : CreateBearerRequest) (s : Session) (old : Node) (e : Effect) : Type 0 where
+  pub config : e.node.config ≡ old.config
+  pub sessions : e.node.sessions ≡ old.sessions
+  pub bearers : (t : ℕ) (b : Bearer) → Among t old.drawn → get old.bearers t ≡ Some b → get e.node.bearers t ≡ Some b
+  pub says : (m : Message) → Among m (messages e.out.sent) → SaysSo r s old m
+
+module _ (request : Arrival) (r : CreateBearerRequest) (s : Session) (old : Node) (e : Effect) where
+  -- nothing changes but what is held
+  stays_so : (f : Effect) → e ≡ f → f.node.config ≡ old.config → f.node.sessions ≡ old.sessions → f.node.bearers ≡ old.bearers → ((m : Message) → Among m (messages f.out.sent) → SaysSo r s old m) → IsAsked r s old e
+  stays_so f gives config sessions bearers says = record {
+    config = ap (λ (k : Effect). k.node.config) gives ∙ config;
+    sessions = ap (λ (k : Effect). k.node.sessions) gives ∙ sessions;
+    bearers = λ t b drawn stands. ap (λ (k : Effect). get k.node.bearers t) gives ∙ ap (λ m. get m t) bearers ∙ stands;
+    says = λ m among. says m (subst (λ (k : Effect). Among m (messages k.out.sent)) gives among);
+  }
+
+  asked_so : get old.sessions r.header ≡ Some s → s.state ≡ Active → r.further ≡ [] → r.linked ≡ s.subscriber.identity → BearerAsked request r old e → IsAsked r s old e
+  asked_so stands active one linked (inl full) = stays_so _ full.1 refl refl refl (λ m none. absurd none)
+  asked_so stands active one linked (inr (room, judged)) = by (pass (record { session = s; stands = stands }) judged)
+    where
+      by : (at : HasSession old r.header) × Unless (at.session.state ≡ Active) (e ≡ dropped old ContextNotActive) (λ active. Unless (r.further ≡ []) (e ≡ answered request (refusing Of_create_bearer (written at.session.remote) r.number (cause_of 94) old.counter) 94 old) (λ one. Unless (r.linked ≡ at.session.subscriber.identity) (e ≡ answered request (refusing Of_create_bearer (written at.session.remote) r.number (cause_of 64) old.counter) 64 old) (λ linked. Unless (HasFreeIdentity old r.header × HasDraws old 1) (e ≡ answered request (Create_bearer_response (no_resources old r (written at.session.remote))) 73 old) (λ free. MakesBearer request old r at.session e))))
+          → IsAsked r s old e
+      by (at, next) =
+          let same : s ≡ at.session = same_Some s at.session (sym stands ∙ at.stands) in
+          let is_active = pass (ap (λ (k : Session). k.state) (sym same) ∙ active) next in
+          let is_one = pass one is_active.1 in
+          let is_linked = pass (linked ∙ ap (λ (k : Session). k.subscriber.identity) same) is_one.1 in
+          ⊎_elim
+          (λ refused. stays_so _ refused.1 refl refl refl (λ m among. inr (inl (only m _ among ∙ ap (λ (k : Session). Create_bearer_response (no_resources old r (written k.remote))) (sym same)))))
+          (λ made.
+          let x = made.1 in
+          record {
+            config = ap (λ (k : Effect). k.node.config) x.gives;
+            sessions = ap (λ (k : Effect). k.node.sessions) x.gives;
+            bearers = λ t b drawn stood. ap (λ (k : Effect). get k.node.bearers t) x.gives ∙ get-insert_other old.bearers x.user (granted_bearer r x.identity) t (λ is. x.user_free.undrawn (subst (λ k. Among k old.drawn) is drawn)) ∙ stood;
+            says = λ m among. inr (inr (x.user, x.identity, x.user_free, x.identity_free.range, only m _ (subst (λ (k : Effect). Among m (messages k.out.sent)) x.gives among) ∙ ap (λ (k : Session). Create_bearer_response (bearer_response old r k x.user x.identity)) (sym same)));
+          })
+          is_linked.1
+        where
+          only : (m n : Message) → Among m (n ∷ []) → m ≡ n
+          only m n (inl is) = is
+          only m n (inr none) = absurd none
+
+  pub asked_second : request.source.ip ≡ old.config.peer.control → get old.sessions r.header ≡ Some s → s.state ≡ Active → r.further ≡ [] → r.linked ≡ s.subscriber.identity → Step Serving old (Control_came request (Control_message (Create_bearer_request r))) e → IsAsked r s old e
+  asked_second peer stands active one linked (inl f) = absurd (f.0 peer)
+  asked_second peer stands active one linked (inr (from, inl again)) = stays_so _ again.gives refl refl refl (λ m among. inl (again.held, again.stands, ⊎_elim (λ has. has) (λ none. absurd none) (Among-cases m again.held.answer [] among)))
+  asked_second peer stands active one linked (inr (from, inr (is_new, inl f))) = absurd (f.0 refl)
+  asked_second peer stands active one linked (inr (from, inr (is_new, inr (kind, r)))) = asked_so stands active one linked r

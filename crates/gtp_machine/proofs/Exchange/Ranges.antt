@@ -55,7 +55,7 @@ spelled_ambr ambr is = ambr_again ambr is.up is.down
 pub spelled_qos : (qos : Qos) → IsQos qos → HasKind 80 (OfQos qos)
 spelled_qos qos is = qos_again qos is.level is.most is.guaranteed
 
-identity_again : (identity : ℕ) → IsIdentity identity → identity < 16
+pub identity_again : (identity : ℕ) → IsIdentity identity → identity < 16
 identity_again identity is = omega (arith, is.high)
 
 -- one bearer context
@@ -63,21 +63,21 @@ pub alone : {X : Type 0} (P : X → Type 0) (x : X) → P x → All P (x ∷ [])
 alone P x p = All-cons P x [] p (All-nil P)
 
 -- a text of at most so many octets
-record IsAtMost (text : List ℕ) (most : ℕ) : Type 0 where
+pub record IsAtMost (text : List ℕ) (most : ℕ) : Type 0 where
   pub few : length text ≤ most
   pub octets : AreOctets text
 
-nothing : IsAtMost [] 0
+pub nothing : IsAtMost [] 0
 nothing = record { few = omega arith; octets = none }
 
 -- an element, and what stands after it
-with_more : (kind instance most : ℕ) (body rest : List ℕ) (n : ℕ) → (kind < 256) × (instance < 256) → IsAtMost body most → IsAtMost rest n → IsAtMost (element_encoding kind instance body ++ rest) (4 + most + n)
+pub with_more : (kind instance most : ℕ) (body rest : List ℕ) (n : ℕ) → (kind < 256) × (instance < 256) → IsAtMost body most → IsAtMost rest n → IsAtMost (element_encoding kind instance body ++ rest) (4 + most + n)
 with_more kind instance most body rest n head short more =
     let long = length-append body rest in
     record { few = omega (arith, long, short.few, more.few); octets = joined (element_encoding kind instance body) rest (element_octets kind instance body head.0 head.1 short.octets) more.octets }
 
 -- a group of them, and what stands after it
-group_more : (kind instance most : ℕ) (body rest : List ℕ) (n : ℕ) → (kind < 256) × (instance < 256) → IsAtMost body most → IsAtMost rest n → IsAtMost ((element_encoding kind instance body ++ []) ++ rest) (4 + most + n)
+pub group_more : (kind instance most : ℕ) (body rest : List ℕ) (n : ℕ) → (kind < 256) × (instance < 256) → IsAtMost body most → IsAtMost rest n → IsAtMost ((element_encoding kind instance body ++ []) ++ rest) (4 + most + n)
 group_more kind instance most body rest n head short more =
     let last = length-append body [] in
     let long = length-append (body ++ []) rest in
@@ -88,14 +88,14 @@ group_more kind instance most body rest n head short more =
 
 -- ---- the bodies of its elements
 
-octet_short : (n : ℕ) → n < 256 → IsAtMost (n ∷ []) 100
+pub octet_short : (n : ℕ) → n < 256 → IsAtMost (n ∷ []) 100
 octet_short n small = record { few = omega arith; octets = and n [] small none }
 
-cause_short : (value : ℕ) → value < 256 → IsAtMost (encoding_of (OfCause (cause_of value))) 100
+pub cause_short : (value : ℕ) → value < 256 → IsAtMost (encoding_of (OfCause (cause_of value))) 100
 unfolding encoding_of
 cause_short value small = record { few = omega arith; octets = and value (0 ∷ []) small (and 0 [] (omega arith) none) }
 
-end_short : (interface teid : ℕ) (ip : Ip) → interface < 64 → IsIp ip → IsAtMost (encoding_of (OfFTeid (tunnel_end interface teid ip))) 100
+pub end_short : (interface teid : ℕ) (ip : Ip) → interface < 64 → IsIp ip → IsAtMost (encoding_of (OfFTeid (tunnel_end interface teid ip))) 100
 unfolding encoding_of
 end_short interface teid (V4 octets) low is =
     let long = length-append octets [] in
@@ -178,11 +178,11 @@ ambr_short : (ambr : Ambr) → IsAtMost (encoding_of (OfAmbr ambr)) 100
 unfolding encoding_of
 ambr_short ambr = record { few = omega arith; octets = joined (bytes_high_first 4 ambr.up) (bytes_high_first 4 ambr.down) (big 4 ambr.up) (big 4 ambr.down) }
 
-qos_short : (qos : Qos) → IsQos qos → IsAtMost (encoding_of (OfQos qos)) 100
+pub qos_short : (qos : Qos) → IsQos qos → IsAtMost (encoding_of (OfQos qos)) 100
 unfolding encoding_of
 qos_short qos is = record { few = omega arith; octets = quality_octets qos is.class is.level }
 
-charging_short : (id : ℕ) → IsAtMost (encoding_of (OfChargingId id)) 100
+pub charging_short : (id : ℕ) → IsAtMost (encoding_of (OfChargingId id)) 100
 unfolding encoding_of
 charging_short id = record { few = omega arith; octets = big 4 id }
 
@@ -204,7 +204,7 @@ unfolding encoding_of
 imsi_short digits is = let short = packed_short digits in record { few = omega (arith, short, is.most); octets = imsi_octets digits is }
 
 -- a message with a TEID in its header
-headed_octets : (kind teid number : ℕ) (rest : List ℕ) → kind < 256 → AreOctets rest → AreOctets (headed_encoding kind (Some teid) number None rest)
+pub headed_octets : (kind teid number : ℕ) (rest : List ℕ) → kind < 256 → AreOctets rest → AreOctets (headed_encoding kind (Some teid) number None rest)
 headed_octets kind teid number rest small are = and 72 _ (omega arith) (and kind _ small (in_two (8 + length rest) _ (in_four teid _ (in_three number _ (and 0 rest (omega arith) are)))))
 
 module _ (node : Node) (spec : Specification) (control user number : ℕ) (configured : IsConfigured node.config) (specified : IsSpecified spec) (identity : IsIdentity spec.subscriber.identity) (known : (spec.pdn ≡ 1) ⊎ ((spec.pdn ≡ 2) ⊎ (spec.pdn ≡ 3))) (counter_small : node.counter < 256) (control_small : control < 2 ^ 32) (user_small : user < 2 ^ 32) (number_small : number < 2 ^ 24) where

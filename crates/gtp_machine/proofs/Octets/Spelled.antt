@@ -47,7 +47,7 @@ linked_back : (o : Option ℕ) → first_in number_of (where_there OfEbi o) ≡ 
 linked_back o = back OfEbi number_of (λ n. refl) o
 
 -- what a message says is that message again
-control_back : (m : Message) → plane_of m ≡ Control → IsOfOwnKind m → message_of (control_value m) ≡ m
+pub control_back : (m : Message) → plane_of m ≡ Control → IsOfOwnKind m → message_of (control_value m) ≡ m
 unfolding row_in list_in contexts_in
 control_back (Echo_request e) plane own = refl
 control_back (Echo_response e) plane own = refl
@@ -144,7 +144,7 @@ user_first octets h (inr (flags, a, b, c, d, some, p, seq, npdu, first)) = opens
 no_plane_twice : (octets : List ℕ) (m : MessageValue) (n : user_messages.MessageValue) → IsMessage octets m → IsUserMessage octets n → ⊥
 no_plane_twice octets m n is also = omega (arith, control_first octets is.0 is.1, user_first octets also.0 also.1)
 
-spells_control : (m : Message) → plane_of m ≡ Control → IsSendable m → IsMessage (spelled m) (control_value m)
+pub spells_control : (m : Message) → plane_of m ≡ Control → IsSendable m → IsMessage (spelled m) (control_value m)
 spells_control m plane sendable = subst (λ p. IsMessage (spelled_on p m) (control_value m)) (sym plane) (marked_again (control_value m) (subst (λ p. MeetsOn p m) plane sendable.meets))
 
 spells_user : (m : Message) → plane_of m ≡ User → IsSendable m → IsUserMessage (spelled m) (user_value m)

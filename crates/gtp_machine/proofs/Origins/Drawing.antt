@@ -2,13 +2,14 @@
 use Rattle.std.proofs.Common.{◌≡◌, ◌≢◌, ◌⊎◌, inl, inr, ⊎_elim, ℕ, ◌+◌, ◌%◌, ◌<◌, ◌≤◌, List, [], ◌∷◌, ◌++◌, Some, refl, sym, ◌∙◌, ap, subst, arith}
 use Rattle.gtp_values.specs.FiniteMap.{Among}
 use Rattle.gtp_machine.specs.Element.{IsAccepting, teid_in}
-use Rattle.gtp_machine.specs.Message.{Message, CreateSessionResponse, GivenBearer, CreateBearerResponse, Create_session_request, Create_session_response, Create_bearer_response, Owns, recovery_of, first_created, first_given}
+use Rattle.gtp_machine.specs.Message.{Message, CreateSessionResponse, GivenBearer, CreateBearerResponse, Create_session_request, Create_session_response, Create_bearer_request, Create_bearer_response, Owns, recovery_of, first_created, first_given}
 use Rattle.gtp_machine.specs.Node.{Arrival, Role, Serving, Packet, Node}
 use Rattle.gtp_machine.specs.Input.{Effect, messages}
 use Rattle.gtp_machine.specs.Choice.{IsFree, counter_of}
 use Rattle.gtp_machine.specs.World.{other, By, Sent, Side, HasBy, HasSent, signed, restarted, stepped}
 use Rattle.gtp_machine.specs.Laws.{IsOfStart}
 use Rattle.gtp_machine.proofs.Basics.FiniteMaps.{Among-left, Among-right, Among-cases}
+use Rattle.gtp_machine.proofs.Basics.Datagrams.{ArePair, among_signed}
 
 -- nothing that was sent is lost
 pub record Extends (before after : List Sent) : Type 0 where
@@ -62,6 +63,11 @@ pub record IsMadeNow (history : List Sent) (old new : Node) (m : Message) : Type
   pub tells : (t : ℕ) → TellsStart m → Owns m t → recovery_of m ≡ Some old.counter
   pub proper : IsProper m
 
+-- two messages of one step: they own no TEID in common, and the first gives no bearer
+pub record AreApart (m n : Message) : Type 0 where
+  pub none_owned : (t : ℕ) → Owns m t → Owns n t → ⊥
+  pub no_grant : (x : CreateBearerResponse) → m ≡ Create_bearer_response x → ⊥
+
 -- what a step does with draws
 pub record Draws (history : List Sent) (role : Role) (old new : Node) (sent : List Message) : Type 0 where
   pub config : new.config ≡ old.config
@@ -69,7 +75,7 @@ pub record Draws (history : List Sent) (role : Role) (old new : Node) (sent : Li
   pub extends : (t : ℕ) → Among t old.drawn → Among t new.drawn
   pub present : (t : ℕ) → Among t new.drawn → Among t old.drawn ⊎ (counter_of t ≡ old.counter)
   pub each : (m : Message) → Among m sent → HasSent history role m ⊎ IsMadeNow history old new m
-  pub one : (m n : Message) → Among m sent → Among n sent → m ≡ n
+  pub one : (m n : Message) → Among m sent → Among n sent → (m ≡ n) ⊎ AreApart m n
 
 -- of one TEID more, or of two, each is of this start where those drawn now are
 pub one_more_drawn : (counter user : ℕ) (drawn : List ℕ) → counter_of user ≡ counter → (t : ℕ) → Among t (user ∷ drawn) → Among t drawn ⊎ (counter_of t ≡ counter)
@@ -88,11 +94,6 @@ pub signed_among : {X : Type 0} (role by : Role) (list : List X) (x : X) → Has
 signed_among role by [] x none = absurd none
 signed_among {X} role by (y ∷ list) x (inl here) = (ap (λ (s : By X). s.role) here, inl (ap (λ (s : By X). s.what) here))
 signed_among role by (y ∷ list) x (inr there) = let rest = signed_among role by list x there in (rest.0, inr rest.1)
-
-among_signed : {X : Type 0} (role : Role) (list : List X) (x : X) → Among x list → HasBy (signed role list) role x
-among_signed role [] x none = absurd none
-among_signed role (y ∷ list) x (inl here) = inl (ap (λ k. record { role = role; what = k }) here)
-among_signed role (y ∷ list) x (inr there) = inr (among_signed role list x there)
 
 pub by_before : {X : Type 0} (log : List (By X)) (role by : Role) (list : List X) (x : X) → HasBy log role x → HasBy (log ++ signed by list) role x
 by_before log role by list x h = Among-left _ log (signed by list) h
@@ -150,7 +151,7 @@ module _ (side : Side) (role : Role) (history : List Sent) (drawing : Drawing si
       same m n t m_owns n_owns (inl m_was) (inl n_was) = drawing.once m n t m_was n_was m_owns n_owns
       same m n t m_owns n_owns (inl m_was) (inr n_now) = absurd (unowned m t m_was m_owns (n_now.1.free t n_owns))
       same m n t m_owns n_owns (inr m_now) (inl n_was) = absurd (unowned n t n_was n_owns (m_now.1.free t m_owns))
-      same m n t m_owns n_owns (inr m_now) (inr n_now) = draws.one m n m_now.0 n_now.0
+      same m n t m_owns n_owns (inr m_now) (inr n_now) = ⊎_elim (λ is. is) (λ apart. absurd (apart.none_owned t m_owns n_owns)) (draws.one m n m_now.0 n_now.0)
 
   pub Drawing-elsewhere : (sent : List Message) → Drawing side role (history ++ signed (other role) sent)
   Drawing-elsewhere sent = record {
@@ -205,6 +206,33 @@ Draws-nothing history role old new config counter same = record {
   one = λ m n none. absurd none;
 }
 
+-- of two messages that are apart, any two are one or apart
+pub two_apart : (m n : Message) → AreApart m n → AreApart n m → (a b : Message) → Among a (m ∷ n ∷ []) → Among b (m ∷ n ∷ []) → (a ≡ b) ⊎ AreApart a b
+two_apart m n there back a b (inl x) (inl y) = inl (x ∙ sym y)
+two_apart m n there back a b (inl x) (inr (inl y)) = inr (subst (λ k. AreApart k b) (sym x) (subst (AreApart m) (sym y) there))
+two_apart m n there back a b (inr (inl x)) (inl y) = inr (subst (λ k. AreApart k b) (sym x) (subst (AreApart n) (sym y) back))
+two_apart m n there back a b (inr (inl x)) (inr (inl y)) = inl (x ∙ sym y)
+two_apart m n there back a b (inr (inr none)) y = absurd none
+two_apart m n there back a b (inl x) (inr (inr none)) = absurd none
+two_apart m n there back a b (inr (inl x)) (inr (inr none)) = absurd none
+
+-- a pair of which no TEID is owned twice is apart
+pub pair_apart : (m n : Message) → ArePair m n → ((t : ℕ) → Owns m t → Owns n t → ⊥) → (a b : Message) → Among a (m ∷ n ∷ []) → Among b (m ∷ n ∷ []) → (a ≡ b) ⊎ AreApart a b
+pair_apart m n pair none = two_apart m n
+    (record { none_owned = none; no_grant = λ x is. let never : Create_session_response pair.answer ≡ Create_bearer_response x = sym pair.first ∙ is in absurd (cc never) })
+    (record { none_owned = λ t x y. none t y x; no_grant = λ x is. let never : Create_bearer_request pair.request ≡ Create_bearer_response x = sym pair.second ∙ is in absurd (cc never) })
+
+-- a step that draws nothing, and sends messages again
+pub Draws-again : (history : List Sent) (role : Role) (old : Node) (sent : List Message) → ((m : Message) → Among m sent → HasSent history role m) → ((m n : Message) → Among m sent → Among n sent → (m ≡ n) ⊎ AreApart m n) → Draws history role old old sent
+Draws-again history role old sent was one = record {
+  config = refl;
+  counter = refl;
+  extends = λ t stood. stood;
+  present = λ t now. inl now;
+  each = λ m among. inl (was m among);
+  one = one;
+}
+
 -- a step that draws nothing, and sends a message that was sent before or is made now
 pub Draws-one : (history : List Sent) (role : Role) (old new : Node) (m : Message) → new.config ≡ old.config → new.counter ≡ old.counter → new.drawn ≡ old.drawn → HasSent history role m ⊎ IsMadeNow history old new m → Draws history role old new (m ∷ [])
 Draws-one history role old new m config counter same is = record {
@@ -213,7 +241,7 @@ Draws-one history role old new m config counter same is = record {
   extends = λ t was. subst (Among t) (sym same) was;
   present = λ t now. inl (subst (Among t) same now);
   each = only;
-  one = only_one m;
+  one = λ a b a_in b_in. inl (only_one m a b a_in b_in);
 }
   where
     only : (n : Message) → Among n (m ∷ []) → HasSent history role n ⊎ IsMadeNow history old new n
@@ -228,7 +256,7 @@ Draws-new history role old new m config counter extends present is = record {
   extends = extends;
   present = present;
   each = only;
-  one = only_one m;
+  one = λ a b a_in b_in. inl (only_one m a b a_in b_in);
 }
   where
     only : (n : Message) → Among n (m ∷ []) → HasSent history role n ⊎ IsMadeNow history old new n

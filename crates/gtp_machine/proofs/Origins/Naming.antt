@@ -1,5 +1,5 @@
 -- The TEIDs that messages name go back to draws.
-use Rattle.std.proofs.Common.{◌≡◌, ◌≢◌, ◌⊎◌, inl, inr, ⊎_elim, ℕ, Bool, List, [], ◌∷◌, ◌++◌, Option, Some, None, refl, sym, ◌∙◌, subst}
+use Rattle.std.proofs.Common.{◌≡◌, ◌≢◌, ◌⊎◌, inl, inr, ⊎_elim, ℕ, Bool, true, List, [], ◌∷◌, ◌++◌, Option, Some, None, refl, sym, ◌∙◌, ap, subst}
 use Rattle.gtp_values.specs.Counter.{age_of}
 use Rattle.gtp_values.specs.declared.address.Endpoint.{Endpoint}
 use Rattle.gtp_values.specs.declared.counter.Age.{Age}
@@ -7,7 +7,7 @@ use Rattle.gtp_values.specs.declared.counter.Age.TheVariants.{Same, Later, Earli
 use Rattle.gtp_values.specs.declared.qos.Qos.{Qos}
 use Rattle.gtp_values.specs.FiniteMap.{Each, Among}
 use Rattle.gtp_machine.specs.Step.{Step}
-use Rattle.gtp_machine.specs.Message.{Message, CreateSessionRequest, CreateBearerRequest, DeleteBearerRequest, DeleteSessionRequest, Create_session_request, Create_session_response, Create_bearer_request, Create_bearer_response, Packet_data, End_marker, Error_indication, User_echo_request, recovery_of, Plane, Control, User}
+use Rattle.gtp_machine.specs.Message.{Message, CreateSessionRequest, CreateBearerRequest, DeleteBearerRequest, DeleteSessionRequest, Create_session_request, Create_session_response, Create_bearer_request, Create_bearer_response, Other_control, Packet_data, End_marker, Error_indication, User_echo_request, recovery_of, Plane, Control, User}
 use Rattle.gtp_machine.specs.Node.{Role, Serving, Packet, Session, Bearer, PendingRequest, Arrival, Held, Node, written}
 use Rattle.gtp_machine.specs.Input.{Specification, Command, Create_session, Delete_session, Create_bearer, Delete_bearer, Release_session, Mark_end, Send_echo, Send_user, ControlReading, Control_message, Faulty, Control_fault, FaultyRequest, RequestKind, UserReading, User_message, Extension_needed, User_fault, Move, Resend, Give_up, Forget, Input, Commanded, Control_came, User_came, Moves_on, Effect, messages}
 use Rattle.gtp_machine.specs.Recovery.{Judges, Weighs, Hears, peer_restarted}
@@ -17,14 +17,15 @@ use Rattle.gtp_machine.specs.Command.{SessionBegun, SessionDeleted, BearerBegun,
 use Rattle.gtp_machine.specs.Answer.{TakesReading, ControlStep}
 use Rattle.gtp_machine.specs.Move.{MoveStep}
 use Rattle.gtp_machine.specs.Serving.{SessionAnswered, DeletionAnswered, BearerAsked, RemovalTaken, RemovalAsked, ServingTakes, ServingFaulted, ServingReads}
-use Rattle.gtp_machine.specs.Packet.{SessionAsked, DeletionAsked, BearerAnswered, RemovalAnswered, PacketTakes, PacketFaulted, PacketReads}
+use Rattle.gtp_machine.specs.Config.{template_for}
+use Rattle.gtp_machine.proofs.Basics.Templates.{goes}
+use Rattle.gtp_machine.specs.Packet.{session_cause, session_response, made_session, session_made, SessionAsked, DeletionAsked, BearerAnswered, RemovalAnswered, PacketTakes, PacketFaulted, PacketReads}
 use Rattle.gtp_machine.specs.World.{other, Sent, HasSent, signed}
 use Rattle.gtp_machine.specs.Laws.{IsFromOn, NamesBack, EachNamesBack}
 use Rattle.gtp_machine.proofs.Basics.FiniteMaps.{Among-cases}
 use Rattle.gtp_machine.proofs.Origins.Drawing.{Extends, Extends-signed, signed_among}
 use Rattle.gtp_machine.proofs.Changes.After.{Knows}
-use Rattle.gtp_machine.proofs.Changes.Steps.{one_repeated}
-use Rattle.gtp_machine.proofs.Basics.Datagrams.{IsOneSent}
+use Rattle.gtp_machine.proofs.Basics.Datagrams.{IsSentWhole}
 use Rattle.gtp_machine.proofs.Changes.Shrinking.{Shrinks-restart, restart_pending}
 use Rattle.gtp_machine.proofs.Rows.Stepping.{Carried}
 use Rattle.gtp_machine.proofs.Rows.Control.{ControlCarried}
@@ -40,7 +41,7 @@ pub record Back (history : List Sent) (role : Role) (node : Node) : Type 0 where
   pub sessions : Each (λ t (s : Session). IsThere Control history role s.remote) node.sessions
   pub bearers : Each (λ t (b : Bearer). IsThere User history role b.remote) node.bearers
   pub pending : Each (λ number (p : PendingRequest). HasSent history role p.request) node.pending
-  pub held : (h : Held) → Among h node.held → IsOneSent history role h.answer
+  pub held : (h : Held) → Among h node.held → IsSentWhole history role h.answer
 
 -- what a step sends was sent before, or names what goes back
 abbrev pub Told : List Sent → Role → Effect → Type 0
@@ -60,6 +61,11 @@ module _ (history : List Sent) (role : Role) where
   one : (m : Message) → NamesBack history role m → (k : Message) → Among k (m ∷ []) → HasSent history role k ⊎ NamesBack history role k
   one m back k (inl same) = inr (subst (λ x. NamesBack history role x) (sym same) back)
   one m back k (inr none) = absurd none
+
+  two : (m n : Message) → NamesBack history role m → NamesBack history role n → (k : Message) → Among k (m ∷ n ∷ []) → HasSent history role k ⊎ NamesBack history role k
+  two m n first second k (inl same) = inr (subst (λ x. NamesBack history role x) (sym same) first)
+  two m n first second k (inr (inl same)) = inr (subst (λ x. NamesBack history role x) (sym same) second)
+  two m n first second k (inr (inr none)) = absurd none
 
   again : (m : Message) → HasSent history role m → (k : Message) → Among k (m ∷ []) → HasSent history role k ⊎ NamesBack history role k
   again m was k (inl same) = inl (subst (λ x. HasSent history role x) (sym same) was)
@@ -207,7 +213,7 @@ module _ (history : List Sent) (role : Role) where
 
   control : (Reads : Arrival → Node → Effect → Type 0) (request : Arrival) (old : Node) → Back history role old → (e : Effect) → (Reads request old e → Told history role e) → ControlStep Reads request old e → Told history role e
   control Reads request old back e reads (inl f) = at e _ f.1 silent
-  control Reads request old back e reads (inr (peer, inl r)) = let was = back.held r.held r.stands in at e _ (one_repeated old request e r was.message was.alone) (again was.message was.sent)
+  control Reads request old back e reads (inr (peer, inl r)) = let was = back.held r.held r.stands in at e _ r.gives (λ m among. ⊎_elim (λ has. inl (was.each m has)) (λ none. absurd none) (Among-cases m r.held.answer [] among))
   control Reads request old back e reads (inr (peer, inr r)) = reads r.1
 
 module _ (history : List Sent) where
@@ -266,7 +272,12 @@ module _ (history : List Sent) where
     session_asked request q came e (inr (a, inr (b, inr (c, inr (d, inl f))))) = at history Packet e _ f.1 (one history Packet _ (λ not. record { message = Create_session_request q; sent = came; owns = refl }))
     session_asked request q came e (inr (a, inr (b, inr (c, inr (d, inr (g, inl f)))))) = at history Packet e _ f.1 (one history Packet _ (λ not. record { message = Create_session_request q; sent = came; owns = refl }))
     session_asked request q came e (inr (a, inr (b, inr (c, inr (d, inr (g, inr (h, inl f))))))) = at history Packet e _ f.1 (one history Packet _ (λ not. record { message = Create_session_request q; sent = came; owns = refl }))
-    session_asked request q came e (inr (a, inr (b, inr (c, inr (d, inr (g, inr (h, inr (k, r)))))))) = at history Packet e _ r.gives (one history Packet _ (λ not. record { message = Create_session_request q; sent = came; owns = refl }))
+    session_asked request q came e (inr (a, inr (b, inr (c, inr (d, inr (g, inr (h, inr (k, r)))))))) =
+        let back : (n : ℕ) → n ≢ 0 → IsFromOn Control history Serving q.control.teid = λ n not. record { message = Create_session_request q; sent = came; owns = refl } in
+        ⊎_elim
+        (λ alone. at history Packet e _ alone (one history Packet _ (back _)))
+        (λ x. at history Packet e _ x.adds.gives (two history Packet _ _ (back _) (back _)))
+        (goes request (session_response old q r.control r.user r.address) (session_cause q.pdn r.address) r.control (made_session q r.address) (session_made old q r.control r.user r.address) e (template_for q.access_point old.config.templates) r.gives)
 
     deletion_asked : (request : Arrival) (d : DeleteSessionRequest) (e : Effect) → DeletionAsked request d old e → Told history Packet e
     deletion_asked request d e (inl f) = at history Packet e _ f.1 (silent history Packet)
@@ -301,10 +312,11 @@ module _ (history : List Sent) where
       (λ m drops came old back e r. at history Packet e _ (drops.only request old e r) (silent history Packet))
 
   -- what was read, at either gateway
-  module _ (role : Role) (takes : Message → Bool) (Takes : Arrival → Message → Node → Effect → Type 0) (Faulted : Arrival → FaultyRequest → RequestKind → Node → Effect → Type 0) (rows : (request : Arrival) (m : Message) → HasSent history (other role) m → (old : Node) → Back history role old → (e : Effect) → Takes request m old e → Told history role e) where
+  module _ (role : Role) (takes : Message → Bool) (Takes : Arrival → Message → Node → Effect → Type 0) (Faulted : Arrival → FaultyRequest → RequestKind → Node → Effect → Type 0) (foreign : (kind : ℕ) → takes (Other_control kind) ≡ true → ⊥) (rows : (request : Arrival) (m : Message) → HasSent history (other role) m → (old : Node) → Back history role old → (e : Effect) → Takes request m old e → Told history role e) where
     reads : (reading : ControlReading) (request : Arrival) (old : Node) → Back history role old → (e : Effect) → ControlCarried role history old reading → TakesReading takes Takes Faulted reading request old e → Told history role e
     reads (Control_message m) request old back e came (inl f) = at history role e _ f.1 (silent history role)
-    reads (Control_message m) request old back e came (inr (taken, r)) = hears history role (Takes request m) (rows request m came.0) old back (recovery_of m) e r
+    reads (Control_message m) request old back e (inr o) (inr (taken, r)) = absurd (foreign o.kind (ap takes (sym o.is) ∙ taken))
+    reads (Control_message m) request old back e (inl came) (inr (taken, r)) = hears history role (Takes request m) (rows request m came.0) old back (recovery_of m) e r
     reads (Faulty f) request old back e came r = absurd came
     reads (Control_fault fault) request old back e came r = at history role e _ r (silent history role)
 
@@ -318,8 +330,8 @@ module _ (history : List Sent) where
 
   pub step_told : EachNamesBack history → (role : Role) (old : Node) → Back history role old → (input : Input) (e : Effect) → Carried role history old input → Step role old input e → Told history role e
   step_told named role old back (Commanded c) e came r = command history role old back role c e r
-  step_told named Serving old back (Control_came request reading) e came r = control history Serving (ServingReads reading) request old back e (reads Serving _ ServingTakes ServingFaulted (λ request m came. serving_takes request m) reading request old back e came) r
-  step_told named Packet old back (Control_came request reading) e came r = control history Packet (PacketReads reading) request old back e (reads Packet _ PacketTakes PacketFaulted packet_takes reading request old back e came) r
+  step_told named Serving old back (Control_came request reading) e came r = control history Serving (ServingReads reading) request old back e (reads Serving _ ServingTakes ServingFaulted (λ kind is. absurd (cc is)) (λ request m came. serving_takes request m) reading request old back e came) r
+  step_told named Packet old back (Control_came request reading) e came r = control history Packet (PacketReads reading) request old back e (reads Packet _ PacketTakes PacketFaulted (λ kind is. absurd (cc is)) packet_takes reading request old back e came) r
   step_told named role old back (User_came source reading) e came r = user_step history role old back role source reading e (user_named named role reading (user_came role source reading old came)) r
   step_told named role old back (Moves_on move) e came r = moves history role old back move e r
 

@@ -14,7 +14,9 @@ use Rattle.gtp_machine.specs.Recovery.{Judges, Weighs, Hears, peer_restarted}
 use Rattle.gtp_machine.specs.Move.{Forgets}
 use Rattle.gtp_machine.specs.Answer.{making, Repeats, IsNew, ControlStep, answered}
 use Rattle.gtp_machine.specs.Serving.{BearerAsked, ServingTakes, ServingReads}
-use Rattle.gtp_machine.specs.Packet.{SessionAsked, PacketTakes, PacketReads}
+use Rattle.gtp_machine.specs.Config.{template_for}
+use Rattle.gtp_machine.proofs.Basics.Templates.{goes}
+use Rattle.gtp_machine.specs.Packet.{session_cause, session_response, made_session, session_made, SessionAsked, PacketTakes, PacketReads}
 use Rattle.gtp_machine.specs.Once.{Takes, Makes, NeverForgets, IsOnce, ActsOnce, ActsOnceInTime, HeldUntilForgotten}
 use Rattle.gtp_machine.specs.Determined.{HeldOnce, ReachedHoldsOnce}
 use Rattle.gtp_machine.proofs.Basics.FiniteMaps.{Among-left, Among-right, Among-last, Among-one_more}
@@ -127,7 +129,10 @@ session_asked request q old e (inr (a, inr (b, inr (c, inl f)))) = gave request 
 session_asked request q old e (inr (a, inr (b, inr (c, inr (d, inl f))))) = gave request old e _ _ _ f.1
 session_asked request q old e (inr (a, inr (b, inr (c, inr (d, inr (g, inl f)))))) = gave request old e _ _ _ f.1
 session_asked request q old e (inr (a, inr (b, inr (c, inr (d, inr (g, inr (h, inl f))))))) = gave request old e _ _ _ f.1
-session_asked request q old e (inr (a, inr (b, inr (c, inr (d, inr (g, inr (h, inr (i, r)))))))) = made request old e _ _ _ r.gives
+session_asked request q old e (inr (a, inr (b, inr (c, inr (d, inr (g, inr (h, inr (i, r)))))))) = ⊎_elim
+    (λ alone. made request old e _ _ _ alone)
+    (λ x. made request old e _ _ _ x.adds.gives)
+    (goes request (session_response old q r.control r.user r.address) (session_cause q.pdn r.address) r.control (made_session q r.address) (session_made old q r.control r.user r.address) e (template_for q.access_point old.config.templates) r.gives)
 
 -- hearing the counter first makes no bearer
 module _ (request : Arrival) (Takes : Node → Effect → Type 0) (takes : (old : Node) (e : Effect) → Takes old e → Responds request old e) where
@@ -284,7 +289,7 @@ acts_once_from role request message first second config counter before between a
 
 pub acts_once_in_time : ActsOnceInTime
 acts_once_in_time role request message first second t =
-    let never = t.in_time (t.before ++ (first ∷ t.between)) t.after second message (sym (append_assoc t.before (first ∷ t.between) (second ∷ t.after))) t.second_takes in
+    let never = t.in_time (t.before ++ (first ∷ t.between)) t.after second message t.makes (sym (append_assoc t.before (first ∷ t.between) (second ∷ t.after))) t.second_takes in
     acts_once_from role request message first second t.config t.counter t.before t.between t.after t.finish t.makes t.steps t.first_takes t.second_takes (λ done among. never done (Among-right done t.before (first ∷ t.between) (inr among)))
 
 pub held_until_forgotten : HeldUntilForgotten

@@ -16,7 +16,9 @@ use Rattle.gtp_machine.specs.Step.{Step}
 use Rattle.gtp_machine.specs.Answer.{IsNew, TakesReading, ControlStep}
 use Rattle.gtp_machine.specs.Command.{SessionBegun, SessionDeleted, BearerBegun, BearerDeleted, SessionReleased, EndMarked, EchoBegun, PacketSent, CommandStep}
 use Rattle.gtp_machine.specs.Serving.{SessionAnswered, DeletionAnswered, BearerAsked, RemovalTaken, RemovalAsked, removal_cause, ServingTakes, ServingFaulted}
-use Rattle.gtp_machine.specs.Packet.{SessionAsked, DeletionAsked, BearerAnswered, RemovalAnswered, PacketTakes, PacketFaulted}
+use Rattle.gtp_machine.specs.Config.{template_for}
+use Rattle.gtp_machine.proofs.Basics.Templates.{goes}
+use Rattle.gtp_machine.specs.Packet.{session_cause, session_response, made_session, session_made, SessionAsked, DeletionAsked, BearerAnswered, RemovalAnswered, PacketTakes, PacketFaulted}
 use Rattle.gtp_machine.proofs.Changes.Shrinking.{Shrunk-finished, removes_each}
 use Rattle.gtp_machine.proofs.Basics.Kinds.{creates, is_create_answer, LeavesNode, serving_faulted, packet_faulted, by_serving, by_packet}
 
@@ -155,12 +157,14 @@ pub record Adds (request : Arrival) (old : Node) (e : Effect) : Type 0 where
 abbrev pub Holds : Arrival → Node → Effect → Type 0
 Holds request old e = Keeps old e ⊎ Adds request old e
 
--- a step that sends one message and holds it as the answer to the request; it is a response to a create request, or it is none
+-- a step that sends one datagram and holds it as the answer to the request; its first message is a response to a create request, or it is none, and no other is
 pub record Gives (request : Arrival) (create : Bool) (old : Node) (e : Effect) : Type 0 where
   pub answer : Message
+  pub more : List Message
   pub is : is_create_answer answer ≡ create
-  pub held : e.node.held ≡ old.held ++ (record { request = request; answer = answer ∷ [] } ∷ [])
-  pub sends : datagrams e.out.sent ≡ (answer ∷ []) ∷ []
+  pub plain : are_plain more ≡ true
+  pub held : e.node.held ≡ old.held ++ (record { request = request; answer = answer ∷ more } ∷ [])
+  pub sends : datagrams e.out.sent ≡ (answer ∷ more) ∷ []
 
 -- what a control message gets
 abbrev pub Answers : Arrival → Bool → Node → Effect → Type 0
@@ -168,7 +172,7 @@ Answers request create old e = Calm old e ⊎ Gives request create old e
 
 holds : (request : Arrival) (create : Bool) (old : Node) (e : Effect) → Answers request create old e → Holds request old e
 holds request create old e (inl calm) = inl (keeps_calm old e calm)
-holds request create old e (inr g) = inr (record { answer = g.answer ∷ []; held = g.held })
+holds request create old e (inr g) = inr (record { answer = g.answer ∷ g.more; held = g.held })
 
 module _ (request : Arrival) (old : Node) (e : Effect) where
   drops : {create : Bool} (f : Effect) → e ≡ f → seen_in f ≡ (old.held, true) → Answers request create old e
@@ -178,7 +182,7 @@ module _ (request : Arrival) (old : Node) (e : Effect) where
   ends number p outcome gives = inl (ap seen_in gives ∙ ap (λ (hs : List Held). (hs, true)) (Shrunk-finished old number p.session p.bearer).held)
 
   answers : {create : Bool} (m : Message) (f : Effect) → e ≡ f → f.node.held ≡ old.held ++ (record { request = request; answer = m ∷ [] } ∷ []) → is_create_answer m ≡ create → datagrams f.out.sent ≡ (m ∷ []) ∷ [] → Answers request create old e
-  answers m f gives same is sends = inr (record { answer = m; is = is; held = ap held_in gives ∙ same; sends = ap (λ (f : Effect). datagrams f.out.sent) gives ∙ sends })
+  answers m f gives same is sends = inr (record { answer = m; more = []; is = is; plain = refl; held = ap held_in gives ∙ same; sends = ap (λ (f : Effect). datagrams f.out.sent) gives ∙ sends })
 
   echo_answered_answers : (a : _) → EchoAnswered a old e → Answers request false old e
   echo_answered_answers a (inl f) = drops _ f.1 refl
@@ -213,7 +217,7 @@ module _ (request : Arrival) (old : Node) (e : Effect) where
   removal_taken_answers d None s (inl f) = answers _ _ f.1 refl refl refl
   removal_taken_answers d None s (inr (a, r)) =
       let m = Delete_bearer_response (record { header = written s.remote; number = d.number; cause = cause_of (removal_cause r.contexts); linked = None; contexts = r.contexts; recovery = Some old.counter }) in
-      inr (record { answer = m; is = refl; sends = ap (λ (f : Effect). datagrams f.out.sent) r.gives; held = ap held_in r.gives ∙ ap (λ (hs : List Held). hs ++ (record { request = request; answer = m ∷ [] } ∷ [])) (removes_each d.header d.identities old r.contexts r.left r.removes).held })
+      inr (record { answer = m; more = []; is = refl; plain = refl; sends = ap (λ (f : Effect). datagrams f.out.sent) r.gives; held = ap held_in r.gives ∙ ap (λ (hs : List Held). hs ++ (record { request = request; answer = m ∷ [] } ∷ [])) (removes_each d.header d.identities old r.contexts r.left r.removes).held })
 
   removal_asked_answers : (d : DeleteBearerRequest) → RemovalAsked request d old e → Answers request false old e
   removal_asked_answers d (inl f) = drops _ f.1 refl
@@ -229,7 +233,10 @@ module _ (request : Arrival) (old : Node) (e : Effect) where
   session_asked_answers q (inr (a, inr (b, inr (c, inr (d, inl f))))) = answers _ _ f.1 refl refl refl
   session_asked_answers q (inr (a, inr (b, inr (c, inr (d, inr (g, inl f)))))) = answers _ _ f.1 refl refl refl
   session_asked_answers q (inr (a, inr (b, inr (c, inr (d, inr (g, inr (h, inl f))))))) = answers _ _ f.1 refl refl refl
-  session_asked_answers q (inr (a, inr (b, inr (c, inr (d, inr (g, inr (h, inr (i, r)))))))) = answers _ _ r.gives refl refl refl
+  session_asked_answers q (inr (a, inr (b, inr (c, inr (d, inr (g, inr (h, inr (i, r)))))))) = ⊎_elim
+      (λ alone. answers _ _ alone refl refl refl)
+      (λ x. inr (record { answer = _; more = _; is = refl; plain = refl; held = ap held_in x.adds.gives; sends = ap (λ (f : Effect). datagrams f.out.sent) x.adds.gives }))
+      (goes request (session_response old q r.control r.user r.address) (session_cause q.pdn r.address) r.control (made_session q r.address) (session_made old q r.control r.user r.address) e (template_for q.access_point old.config.templates) r.gives)
 
   deletion_asked_answers : (d : _) → DeletionAsked request d old e → Answers request false old e
   deletion_asked_answers d (inl f) = drops _ f.1 refl
@@ -278,7 +285,7 @@ module _ (request : Arrival) (old : Node) (e : Effect) where
 module _ (request : Arrival) (create : Bool) (Takes : Node → Effect → Type 0) (takes : (old : Node) (e : Effect) → Takes old e → Answers request create old e) where
   from : (old mid : Node) (e : Effect) → mid.held ≡ old.held → Answers request create mid e → Answers request create old e
   from old mid e same (inl calm) = inl (calm ∙ ap (λ (hs : List Held). (hs, true)) same)
-  from old mid e same (inr g) = inr (record { answer = g.answer; is = g.is; held = g.held ∙ ap (λ (hs : List Held). hs ++ (record { request = request; answer = g.answer ∷ [] } ∷ [])) same; sends = g.sends })
+  from old mid e same (inr g) = inr (record { answer = g.answer; more = g.more; is = g.is; plain = g.plain; held = g.held ∙ ap (λ (hs : List Held). hs ++ (record { request = request; answer = g.answer ∷ g.more } ∷ [])) same; sends = g.sends })
 
   judged : (old : Node) (c : ℕ) (a : Age) (e : Effect) → Judges Takes old c a e → Answers request create old e
   judged old c Same e r = takes old e r
@@ -293,7 +300,7 @@ module _ (request : Arrival) (create : Bool) (Takes : Node → Effect → Type 0
   heard_answers old None e r = takes old e r
   heard_answers old (Some c) e r = ⊎_elim
       (λ calm. inl (ap seen_in r.2 ∙ calm))
-      (λ g. inr (record { answer = g.answer; is = g.is; held = ap held_in r.2 ∙ g.held; sends = ap (λ (f : Effect). datagrams f.out.sent) r.2 ∙ g.sends }))
+      (λ g. inr (record { answer = g.answer; more = g.more; is = g.is; plain = g.plain; held = ap held_in r.2 ∙ g.held; sends = ap (λ (f : Effect). datagrams f.out.sent) r.2 ∙ g.sends }))
       (weighed old c old.known r.0 r.1)
 
 -- what comes on the control plane, at either gateway

@@ -37,9 +37,11 @@ pub record IsRepeated (request : Arrival) (old : Node) (e : Effect) : Type 0 whe
 -- the request is new, and its answer is given by the rules, and held
 pub record IsReplied (role : Role) (m : Message) (request : Arrival) (old : Node) (e : Effect) : Type 0 where
   pub answer : Message
+  pub more : List Message
+  pub plain : are_plain more ≡ true
   pub asked : CreateAsked role m request old e
-  pub says : datagrams e.out.sent ≡ (answer ∷ []) ∷ []
-  pub held : e.node.held ≡ old.held ++ (record { request = request; answer = answer ∷ [] } ∷ [])
+  pub says : datagrams e.out.sent ≡ (answer ∷ more) ∷ []
+  pub held : e.node.held ≡ old.held ++ (record { request = request; answer = answer ∷ more } ∷ [])
 
 -- what a step on a control message does with these responses
 abbrev pub Replies : Role → Message → Arrival → Node → Effect → Type 0
@@ -53,13 +55,13 @@ lesser_calm old e calm = record {
 
 lesser_given : (request : Arrival) (old : Node) (e : Effect) → Gives request false old e → IsLesser old e
 lesser_given request old e g = record {
-  plain = ap are_plain (of_one e.out.sent g.answer g.sends) ∙ ap (λ (b : Bool). not b && true) g.is;
-  held = λ h among. ⊎_elim (λ was. inl was) (λ is. inr (ap (λ (k : Held). are_plain k.answer) is ∙ ap (λ (b : Bool). not b && true) g.is)) (Among-one_more h (record { request = request; answer = g.answer ∷ [] }) old.held (subst (Among h) g.held among));
+  plain = ap are_plain (of_one e.out.sent (g.answer ∷ g.more) g.sends) ∙ (ap (λ (b : Bool). not b && are_plain g.more) g.is ∙ g.plain);
+  held = λ h among. ⊎_elim (λ was. inl was) (λ is. inr (ap (λ (k : Held). are_plain k.answer) is ∙ (ap (λ (b : Bool). not b && are_plain g.more) g.is ∙ g.plain))) (Among-one_more h (record { request = request; answer = g.answer ∷ g.more }) old.held (subst (Among h) g.held among));
 }
 
 answered : (role : Role) (m : Message) (request : Arrival) (old : Node) (e : Effect) (create : Bool) → (create ≡ true → CreateAsked role m request old e) → Answers request create old e → Replies role m request old e
 answered role m request old e create asked (inl calm) = inl (lesser_calm old e calm)
-answered role m request old e true asked (inr g) = inr (inr (record { answer = g.answer; asked = asked refl; says = g.sends; held = g.held }))
+answered role m request old e true asked (inr g) = inr (inr (record { answer = g.answer; more = g.more; plain = g.plain; asked = asked refl; says = g.sends; held = g.held }))
 answered role m request old e false asked (inr g) = inl (lesser_given request old e g)
 
 serving_asked : (m : Message) → creates Serving m ≡ true → (request : Arrival) (old : Node) (e : Effect) → Hears (ServingTakes request m) old (recovery_of m) e → CreateAsked Serving m request old e

@@ -24,8 +24,8 @@ use Rattle.gtp_machine.proofs.Origins.Contexts.{closes-shrinks}
 use Rattle.gtp_machine.proofs.Changes.Shrinking.{Shrunk, Shrunk-itself, Shrunk-without, Shrunk-finished, Shrunk-bearer, Shrunk-closing, Shrinks-restart, restart_pending, restart_leaves_pending, closing_same, ended_same}
 use Rattle.gtp_machine.proofs.Changes.Matching.{IsMatched-shrinks}
 use Rattle.gtp_machine.proofs.Origins.Entries.{Once, IsFor}
-use Rattle.gtp_machine.proofs.Changes.Steps.{IsHandedNow, IsAnsweredNow, at_result, one_repeated, IsPlain, IsHeardFrom, Draws-from, Logs-from, Heard-itself}
-use Rattle.gtp_machine.proofs.Changes.After.{Contexts-shrinks, Knows, KnownBy, KnownAfter, IsTold, nothing_told, After, drawn-shrinks, standing-shrinks, ready-shrinks, later, shrunk, stays, speaks, asks_plain, repeated}
+use Rattle.gtp_machine.proofs.Changes.Steps.{IsHandedNow, IsAnsweredNow, at_result, IsPlain, IsHeardFrom, Draws-from, Logs-from, Heard-itself}
+use Rattle.gtp_machine.proofs.Changes.After.{Contexts-shrinks, Knows, KnownBy, KnownAfter, IsTold, nothing_told, After, drawn-shrinks, standing-shrinks, ready-shrinks, later, shrunk, stays, speaks, asks_plain, repeated, repeated_whole}
 use Rattle.gtp_machine.proofs.Changes.Carrying.{leaves_for, comes_for}
 use Rattle.gtp_machine.proofs.Changes.Forgetting.{leaves}
 
@@ -87,7 +87,7 @@ module _ (role : Role) (history : List Sent) (taken : Arrival → Message → Ty
           answers = answers;
           made = inl refl;
         };
-        alone = (tt, tt);
+        few = (tt, tt);
       })
     where
       packets : (entry : Entry) → entry.target ≡ written b.remote → entry.payload ≡ payload → (t : ℕ) (p : List ℕ) → Among (Packet_data t p) (Packet_data (written b.remote) payload ∷ []) → HasSent history role (Packet_data t p) ⊎ IsHandedNow (record (says (user_end old.config.peer.user) (Packet_data (written b.remote) payload)) { handed = entry ∷ [] }) t p
@@ -142,10 +142,13 @@ module _ (role : Role) (history : List Sent) (taken : Arrival → Message → Ty
   packet_sent by bearer payload e (inr (at, inr (active, inr (goes, inl f)))) = unchanged _ e f.1
   packet_sent by bearer payload e (inr (at, inr (active, inr (goes, inr (short, r))))) = sends bearer payload at.bearer e at.stands active r
 
+  once_of : (by : Role) → Once history by
+  once_of Serving = serving_once
+  once_of Packet = packet_once
+
   pub repeats : (request : Arrival) (e : Effect) → Repeats old request e → After role history taken old e
   repeats request e r =
-      let was = knows.held r.held r.stands in
-      at_result (After role history taken old) e _ (one_repeated old request e r was.message was.alone) (repeated role history taken old knows request.source was.message (Came_to Repeated) was.sent)
+      at_result (After role history taken old) e _ r.gives (repeated_whole role history taken old knows request.source r.held.answer (Came_to Repeated) (once_of role) (knows.held r.held r.stands))
 
   forgets : (request : Arrival) (e : Effect) → Forgets old request e → After role history taken old e
   forgets request e r =
@@ -164,7 +167,7 @@ module _ (role : Role) (history : List Sent) (taken : Arrival → Message → Ty
           answers = λ x t none. absurd none;
           made = inl refl;
         };
-        alone = tt;
+        few = tt;
       })
 
   pub moves : (move : Move) (e : Effect) → MoveStep old move e → After role history taken old e
@@ -189,7 +192,7 @@ module _ (role : Role) (history : List Sent) (taken : Arrival → Message → Ty
           answers = λ x t none. absurd none;
           made = inl refl;
         };
-        alone = tt;
+        few = tt;
       })
     where
       accepted : (entry : Entry) → HasSent history (other role) (Packet_data entry.target entry.payload) → IsFor history role entry → (e : Entry) → Among e (entry ∷ []) → HasSent history (other role) (Packet_data e.target e.payload) × IsFor history role e
@@ -268,7 +271,7 @@ from_mid role history taken old mid e heard learned from told known after = reco
   known = known;
   told = λ c is. subst (IsTold history (other role)) (let same : heard ≡ c = cc is in same) told;
   logs = Logs-from history role taken old mid e (Some heard) learned from after.logs;
-  alone = after.alone;
+  few = after.few;
 }
 
 -- equal ages are equal counters

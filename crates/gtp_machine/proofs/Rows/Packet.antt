@@ -11,81 +11,93 @@ use Rattle.gtp_machine.specs.Node.{Serving, Packet, Active, Closing, Session, Be
 use Rattle.gtp_machine.specs.Input.{Came_to, Begun, Opened, Answered, Effect}
 use Rattle.gtp_machine.specs.Choice.{IsFree, HasPending, counter_of}
 use Rattle.gtp_machine.specs.Removal.{without_session}
-use Rattle.gtp_machine.specs.Command.{bearer_request, pending_dedicated, BeginsBearer, BearerBegun}
-use Rattle.gtp_machine.specs.Answer.{answered}
+use Rattle.gtp_machine.specs.Config.{template_for}
+use Rattle.gtp_machine.specs.Command.{bearer_request, bearer_asked, pending_dedicated, BeginsBearer, BearerBegun}
+use Rattle.gtp_machine.specs.Answer.{answered, making}
 use Rattle.gtp_values.proofs.Allocations.{address_back}
 use Rattle.gtp_machine.specs.Packet.{session_cause, session_response, made_session, made_bearer, session_made, MakesSession, session_refused, SessionAsked, DeletionAsked, FitsBearer, DescribesBearer, CanOpen, opened_dedicated, OpensBearer, BearerAnswered, RemovalAnswered, PacketTakes}
-use Rattle.gtp_machine.specs.World.{Sent, HasSent, signed}
-use Rattle.gtp_machine.proofs.Basics.FiniteMaps.{Each-insert, Each-remove, found-remove, get-insert_same, Among-left, Among-last}
-use Rattle.gtp_machine.proofs.Origins.Drawing.{Draws-nothing, Draws-new, one_more_drawn, two_more_drawn, TellsStart, IsProper, by_before, by_now, by_cases}
+use Rattle.gtp_machine.specs.World.{By, Sent, HasSent, signed}
+use Rattle.gtp_machine.proofs.Basics.FiniteMaps.{Each-insert, Each-remove, found-remove, get-insert_same, Among-left, Among-right, Among-cases, Among-last}
+use Rattle.gtp_machine.proofs.Origins.Drawing.{Extends, Extends-signed, Draws-nothing, Draws-new, pair_apart, one_more_drawn, two_more_drawn, TellsStart, IsProper, IsMadeNow, by_before, by_now, by_cases}
 use Rattle.gtp_machine.proofs.Origins.Contexts.{IsMade, IsWanted, IsAtPacket, closes-session, closes-bearer}
 use Rattle.gtp_machine.proofs.Changes.Shrinking.{Shrunk, Shrunk-itself, Shrunk-without}
 use Rattle.gtp_machine.proofs.Changes.Matching.{IsMatched, IsMatched-bearer}
 use Rattle.gtp_machine.proofs.Origins.Entries.{Once, answer_not_request}
 use Rattle.gtp_machine.proofs.Changes.Steps.{Logs-silent, Logs-plain, at_result, NothingOwns}
-use Rattle.gtp_machine.proofs.Changes.After.{IsPending, IsStanding, IsReady, Knows, After, nothing_told, later, held_now, matched_session, matched_bearer, with_new_session}
+use Rattle.gtp_machine.proofs.Changes.After.{IsPending, IsStanding, IsReady, Knows, After, Knows-later, nothing_told, later, held_now, matched_session, matched_bearer, with_new_session}
 use Rattle.gtp_machine.proofs.Rows.Common.{unchanged}
 use Rattle.gtp_machine.proofs.Rows.Taking.{active_not_closing, Took, took, drops, ends, gives_answer, takes_echo, takes_echo_response}
 use Rattle.gtp_values.proofs.Outcomes.{none_some}
 use Rattle.gtp_machine.proofs.Basics.Options.{not_below}
 use Rattle.gtp_machine.proofs.Basics.Kinds.{by_packet}
+use Rattle.gtp_machine.proofs.Basics.Datagrams.{ArePair}
+use Rattle.gtp_machine.proofs.Basics.Templates.{IsAdded, goes}
 use Rattle.gtp_machine.proofs.Basics.Facts.{one_value, active_not_pending, pending_not_active}
 
-module _ (history : List Sent) (taken : Arrival → Message → Type 0) (serving_once : Once history Serving) (packet_once : Once history Packet) (old : Node) (knows : Knows Packet history old) where
-  -- a session that stands there and is active is not closing
-  stands_active : (sessions : FiniteMap Session) (key : ℕ) (at : Session) → get sessions key ≡ Some at → at.state ≡ Active → (s : Session) → get sessions key ≡ Some s → s.state ≡ Closing → ⊥
-  stands_active sessions key at at_stands active s s_stands closing =
-      let is : at ≡ s = cc (at_stands, s_stands) in
-      active_not_closing at.state active (ap (λ (k : Session). k.state) is ∙ closing)
+-- a session that stands there and is active is not closing
+stands_active : (sessions : FiniteMap Session) (key : ℕ) (at : Session) → get sessions key ≡ Some at → at.state ≡ Active → (s : Session) → get sessions key ≡ Some s → s.state ≡ Closing → ⊥
+stands_active sessions key at at_stands active s s_stands closing =
+    let is : at ≡ s = cc (at_stands, s_stands) in
+    active_not_closing at.state active (ap (λ (k : Session). k.state) is ∙ closing)
 
+-- the request for a bearer that is begun is made now
+begun_now : (history : List Sent) (old new : Node) (session : ℕ) (at : Session) (tft : List ℕ) (qos : Qos) (user number : ℕ) → IsFree old user → Among user new.drawn → IsMadeNow history old new (Create_bearer_request (bearer_request old at tft qos user number))
+begun_now history old new session at tft qos user number free drawn = record { free = λ t is. subst (IsFree old) (sym is) free; drawn = λ t is. subst (λ k. Among k new.drawn) (sym is) drawn; told = λ c e. absurd (none_some c e); tells = λ t none. absurd none; proper = tt }
+
+-- what is known once a bearer was begun and its request was sent
+begun_known : (history after : List Sent) → Extends history after → (old : Node) → Knows Packet history old → NothingOwns history Packet old → (session : ℕ) (at : Session) (tft : List ℕ) (qos : Qos) (user number : ℕ) → IsFree old user → get old.sessions session ≡ Some at → at.state ≡ Active
+    → HasSent after Packet (Create_bearer_request (bearer_request old at tft qos user number)) → Knows Packet after (bearer_asked old session (bearer_request old at tft qos user number) user)
+begun_known history after extends old knows unowned session at tft qos user number free stands active now =
+    let q = bearer_request old at tft qos user number in
+    let p : PendingRequest = record { session = Some session; bearer = Some user; request = Create_bearer_request q } in
+    let was = Knows-later Packet history after extends old knows in
+    let made = was.contexts.sessions_made session at stands in
+    record {
+      contexts = record {
+        sessions_made = was.contexts.sessions_made;
+        bearers_made = Each-insert (IsAtPacket after old.sessions) old.bearers user (pending_dedicated session)
+            (record {
+              session = at;
+              stands = stands;
+              origin = inr (record { kind = refl; request = q; asked = now; user = refl; made = made.answer; answered = made.answered; control = made.control; header = ap written made.remote ∙ sym made.header; opened = λ x none. absurd (none_some x none) });
+            })
+            was.contexts.bearers_made;
+      };
+      matched = Each-insert (IsMatched old.sessions (insert old.bearers user (pending_dedicated session))) old.pending number p
+          (record { waits = λ k e. absurd (not_session q k e); numbered = λ k e. absurd (not_session q k e); names_bearer = λ k e. let same : q ≡ k = cc e in ap (λ (k : CreateBearerRequest). Some k.context.user.teid) same; of_session = of_session q })
+          (matched_bearer history Packet old unowned knows.pending old.sessions user (pending_dedicated session) free knows.matched);
+      drawn = λ t s e. inr (knows.drawn t s e);
+      standing = knows.standing;
+      ready = Each-insert IsReady old.bearers user (pending_dedicated session) (λ a. absurd (pending_not_active a)) knows.ready;
+      closed = closes-bearer old.sessions old.bearers user (pending_dedicated session) (stands_active old.sessions session at stands active) knows.closed;
+      pending = Each-insert (IsPending after Packet) old.pending number p (record { sent = now; names = λ k e. absurd (not_session q k e); asks = refl }) was.pending;
+      held = was.held;
+    }
+  where
+    of_session : (q k : CreateBearerRequest) → Create_bearer_request q ≡ Create_bearer_request k → (b : Bearer) → get (insert old.bearers q.context.user.teid (pending_dedicated session)) k.context.user.teid ≡ Some b → Some session ≡ Some b.session
+    of_session q k e b stands =
+        let same : q ≡ k = cc e in
+        let here : get (insert old.bearers q.context.user.teid (pending_dedicated session)) k.context.user.teid ≡ Some (pending_dedicated session) = ap (λ (k : CreateBearerRequest). get (insert old.bearers q.context.user.teid (pending_dedicated session)) k.context.user.teid) (sym same) ∙ get-insert_same old.bearers q.context.user.teid (pending_dedicated session) in
+        let is : pending_dedicated session ≡ b = cc (here, stands) in
+        ap (λ (k : Bearer). Some k.session) is
+
+    not_session : (q : CreateBearerRequest) (k : CreateSessionRequest) → Create_bearer_request q ≡ Create_session_request k → ⊥
+    not_session q k e = cc
+
+module _ (history : List Sent) (taken : Arrival → Message → Type 0) (serving_once : Once history Serving) (packet_once : Once history Packet) (old : Node) (knows : Knows Packet history old) where
   begins : (unowned : NothingOwns history Packet old) (session : ℕ) (at : Session) (tft : List ℕ) (qos : Qos) (e : Effect) → get old.sessions session ≡ Some at → at.state ≡ Active → BeginsBearer old session at tft qos e → After Packet history taken old e
   begins unowned session at tft qos e stands active r =
       let q = bearer_request old at tft qos r.user r.number in
-      let p : PendingRequest = record { session = Some session; bearer = Some r.user; request = Create_bearer_request q } in
       let m = Create_bearer_request q in
-      let after = history ++ signed Packet (m ∷ []) in
-      let was = later Packet history taken old knows (m ∷ []) in
-      let now : HasSent after Packet m = by_now history Packet (m ∷ []) m (inl refl) in
-      let made = was.contexts.sessions_made session at stands in
-      let new_node : Node = record old { drawn = r.user ∷ old.drawn; bearers = insert old.bearers r.user (pending_dedicated session); pending = insert old.pending r.number p } in
+      let new_node : Node = bearer_asked old session q r.user in
       at_result (After Packet history taken old) e _ r.gives (record {
-        knows = record {
-          contexts = record {
-            sessions_made = was.contexts.sessions_made;
-            bearers_made = Each-insert (IsAtPacket after old.sessions) old.bearers r.user (pending_dedicated session)
-                (record {
-                  session = at;
-                  stands = stands;
-                  origin = inr (record { kind = refl; request = q; asked = now; user = refl; made = made.answer; answered = made.answered; control = made.control; header = ap written made.remote ∙ sym made.header; opened = λ x none. absurd (none_some x none) });
-                })
-                was.contexts.bearers_made;
-          };
-          matched = Each-insert (IsMatched old.sessions (insert old.bearers r.user (pending_dedicated session))) old.pending r.number p
-              (record { waits = λ k e. absurd (not_session q k e); numbered = λ k e. absurd (not_session q k e); names_bearer = λ k e. let same : q ≡ k = cc e in ap (λ (k : CreateBearerRequest). Some k.context.user.teid) same; of_session = of_session q })
-              (matched_bearer history Packet old unowned knows.pending old.sessions r.user (pending_dedicated session) r.user_free knows.matched);
-          drawn = λ t s e. inr (knows.drawn t s e);
-          standing = knows.standing;
-          ready = Each-insert IsReady old.bearers r.user (pending_dedicated session) (λ a. absurd (pending_not_active a)) knows.ready;
-          closed = closes-bearer old.sessions old.bearers r.user (pending_dedicated session) (stands_active old.sessions session at stands active) knows.closed;
-          pending = Each-insert (IsPending after Packet) old.pending r.number p (record { sent = now; names = λ k e. absurd (not_session q k e); asks = refl }) was.pending;
-          held = was.held;
-        };
+        knows = begun_known history (history ++ signed Packet (m ∷ [])) (Extends-signed history Packet (m ∷ [])) old knows unowned session at tft qos r.user r.number r.user_free stands active (by_now history Packet (m ∷ []) m (inl refl));
         known = refl;
         told = nothing_told history Serving;
-        draws = Draws-new history Packet old new_node m refl refl (λ t stood. inr stood) (one_more_drawn old.counter r.user old.drawn r.user_free.counted) (record { free = λ t is. subst (IsFree old) (sym is) r.user_free; drawn = λ t is. inl is; told = λ c e. absurd (none_some c e); tells = λ t none. absurd none; proper = tt });
+        draws = Draws-new history Packet old new_node m refl refl (λ t stood. inr stood) (one_more_drawn old.counter r.user old.drawn r.user_free.counted) (begun_now history old new_node session at tft qos r.user r.number r.user_free (inl refl));
         logs = Logs-plain history Packet taken old new_node (Came_to (Begun (Some r.user))) (λ h stood. stood) _ m tt;
-        alone = (tt, tt);
+        few = (tt, tt);
       })
-    where
-      of_session : (q k : CreateBearerRequest) → Create_bearer_request q ≡ Create_bearer_request k → (b : Bearer) → get (insert old.bearers q.context.user.teid (pending_dedicated session)) k.context.user.teid ≡ Some b → Some session ≡ Some b.session
-      of_session q k e b stands =
-          let same : q ≡ k = cc e in
-          let here : get (insert old.bearers q.context.user.teid (pending_dedicated session)) k.context.user.teid ≡ Some (pending_dedicated session) = ap (λ (k : CreateBearerRequest). get (insert old.bearers q.context.user.teid (pending_dedicated session)) k.context.user.teid) (sym same) ∙ get-insert_same old.bearers q.context.user.teid (pending_dedicated session) in
-          let is : pending_dedicated session ≡ b = cc (here, stands) in
-          ap (λ (k : Bearer). Some k.session) is
-
-      not_session : (q : CreateBearerRequest) (k : CreateSessionRequest) → Create_bearer_request q ≡ Create_session_request k → ⊥
-      not_session q k e = cc
 
   pub bearer_begun_here : (unowned : NothingOwns history Packet old) (session : ℕ) (tft : List ℕ) (qos : Qos) (e : Effect) → BearerBegun Packet session tft qos old e → After Packet history taken old e
   bearer_begun_here unowned session tft qos e (inl f) = unchanged Packet history taken serving_once packet_once old knows _ e f.1
@@ -95,59 +107,165 @@ module _ (history : List Sent) (taken : Arrival → Message → Type 0) (serving
   bearer_begun_here unowned session tft qos e (inr (at, inr (active, inr (draws, inr (few, r))))) = begins unowned session at.session tft qos e at.stands active r
 
   module _ (dated : (m : Message) (t : ℕ) → HasSent history Serving m → TellsStart m → Owns m t → recovery_of m ≡ Some (counter_of t)) (proper : (m : Message) → HasSent history Serving m → IsProper m) where
-    makes : (unowned : NothingOwns history Packet old) (request : Arrival) (q : CreateSessionRequest) (e : Effect) → HasSent history Serving (Create_session_request q) → taken request (Create_session_request q) → ((c : ℕ) → q.recovery ≡ Some c → old.known ≡ Some c) → MakesSession request old q e → Took Packet history taken old e
-    makes unowned request q e came is_taken told r =
-        let a = session_response old q r.control r.user r.address in
-        let m = Create_session_response a in
-        let after = history ++ signed Packet (m ∷ []) in
-        let was = later Packet history taken old knows (m ∷ []) in
-        let now : HasSent after Packet m = by_now history Packet (m ∷ []) m (inl refl) in
-        let asked : HasSent after Serving (Create_session_request q) = by_before history Serving Packet (m ∷ []) (Create_session_request q) came in
-        let s = made_session q r.address in
-        let b = made_bearer q r.control in
-        let new = session_made old q r.control r.user r.address in
-        took Packet history taken old knows e _ r.gives refl (record {
-          knows = held_now Packet history taken old knows request m new (record {
+    module _ (unowned : NothingOwns history Packet old) (request : Arrival) (q : CreateSessionRequest) (e : Effect) (came : HasSent history Serving (Create_session_request q)) (is_taken : taken request (Create_session_request q)) (told : (c : ℕ) → q.recovery ≡ Some c → old.known ≡ Some c) (r : MakesSession request old q e) where
+      abbrev answer : CreateSessionResponse
+      answer = session_response old q r.control r.user r.address
+
+      abbrev session : Session
+      session = made_session q r.address
+
+      abbrev made : Node
+      made = session_made old q r.control r.user r.address
+
+      session_stands : get made.sessions r.control ≡ Some session
+      session_stands = get-insert_same old.sessions r.control session
+
+      -- what is known once the session was made and its answer was sent
+      made_known : (after : List Sent) → Extends history after → HasSent after Packet (Create_session_response answer) → Knows Packet after made
+      made_known after extends now =
+          let was = Knows-later Packet history after extends old knows in
+          let asked = extends.keeps Serving (Create_session_request q) came in
+          let b = made_bearer q r.control in
+          record {
             contexts = record {
-              sessions_made = Each-insert (IsMade after) old.sessions r.control s (record { request = q; asked = asked; answer = a; answered = now; control = refl; header = refl; remote = refl; subscriber = refl; address = sym (address_back 64 r.address r.given.some_part) }) was.contexts.sessions_made;
-              bearers_made = Each-insert (IsAtPacket after (insert old.sessions r.control s)) old.bearers r.user b
-                  (record { session = s; stands = get-insert_same old.sessions r.control s; origin = inl (record { kind = refl; request = q; asked = asked; answer = a; answered = now; user = refl; control = refl; header = refl; remote = refl; identity = refl }) })
-                  (with_new_session history Packet old knows _ r.control s r.control_free.undrawn was.contexts.bearers_made);
+              sessions_made = Each-insert (IsMade after) old.sessions r.control session (record { request = q; asked = asked; answer = answer; answered = now; control = refl; header = refl; remote = refl; subscriber = refl; address = sym (address_back 64 r.address r.given.some_part) }) was.contexts.sessions_made;
+              bearers_made = Each-insert (IsAtPacket after (insert old.sessions r.control session)) old.bearers r.user b
+                  (record { session = session; stands = session_stands; origin = inl (record { kind = refl; request = q; asked = asked; answer = answer; answered = now; user = refl; control = refl; header = refl; remote = refl; identity = refl }) })
+                  (with_new_session history Packet old knows _ r.control session r.control_free.undrawn was.contexts.bearers_made);
             };
-            matched = matched_bearer history Packet old unowned knows.pending (insert old.sessions r.control s) r.user b r.user_free (matched_session history Packet old unowned knows.pending r.control s r.control_free knows.matched);
-            drawn = Each-insert (λ t (x : Session). Among t (r.user ∷ r.control ∷ old.drawn)) old.sessions r.control s (inr (inl refl)) (λ t x e. inr (inr (knows.drawn t x e)));
-            standing = Each-insert (IsStanding old.known) old.sessions r.control s (record { current = λ x is. told (counter_of x) (dated (Create_session_request q) x came tt (inl (let same : x ≡ q.control.teid = cc is in same))); blank = λ w. absurd (active_not_pending w); named = λ h. (q.control.teid, refl) }) knows.standing;
+            matched = matched_bearer history Packet old unowned knows.pending (insert old.sessions r.control session) r.user b r.user_free (matched_session history Packet old unowned knows.pending r.control session r.control_free knows.matched);
+            drawn = Each-insert (λ t (x : Session). Among t (r.user ∷ r.control ∷ old.drawn)) old.sessions r.control session (inr (inl refl)) (λ t x e. inr (inr (knows.drawn t x e)));
+            standing = Each-insert (IsStanding old.known) old.sessions r.control session (record { current = λ x is. told (counter_of x) (dated (Create_session_request q) x came tt (inl (let same : x ≡ q.control.teid = cc is in same))); blank = λ w. absurd (active_not_pending w); named = λ h. (q.control.teid, refl) }) knows.standing;
             ready = Each-insert IsReady old.bearers r.user b (λ active. (q.context.user.teid, refl)) knows.ready;
-            closed = closes-bearer (insert old.sessions r.control s) old.bearers r.user b (stands_active (insert old.sessions r.control s) r.control s (get-insert_same old.sessions r.control s) refl) (closes-session old.sessions old.bearers r.control s (active_not_closing Active refl) knows.closed);
+            closed = closes-bearer (insert old.sessions r.control session) old.bearers r.user b (stands_active (insert old.sessions r.control session) r.control session session_stands refl) (closes-session old.sessions old.bearers r.control session (active_not_closing Active refl) knows.closed);
             pending = was.pending;
             held = was.held;
-          });
-          known = refl;
-          told = nothing_told history Serving;
-          draws = Draws-new history Packet old (holding request (m ∷ []) new) m refl refl (λ t stood. inr (inr stood)) (two_more_drawn old.counter r.user r.control old.drawn r.user_free.counted r.control_free.counted) (record { free = free; drawn = drawn; told = λ c e. cc e; tells = λ t is owns. refl; proper = record { control = λ accepts. (r.control, refl); user = λ accepts. (r.user, refl); apart = λ t control user. r.apart (same_Some r.control t control ∙ sym (same_Some r.user t user)) } });
-          logs =
-              let l = Logs-plain history Packet taken old (holding request (m ∷ []) new) (Came_to (Answered (session_cause q.pdn r.address))) (λ h stood. Among-left h old.held _ stood) request.source m tt in record {
-                held_stays = l.held_stays;
-                packets = λ t p among. absurd (no_packet a t p among);
-                handed = l.handed;
-                accepted = l.accepted;
-                answers = l.answers;
-                made = inr (record { arrival = request; is = refl; message = Create_session_request q; came = is_taken; answer = m ∷ []; held = Among-last {X = Held} (record { request = request; answer = m ∷ [] }) old.held });
+          }
+
+      -- the answer owns the two TEIDs that are drawn for the session
+      owned : (P : ℕ → Type 0) → P r.control → P r.user → (t : ℕ) → (Some r.control ≡ Some t) ⊎ (Some r.user ≡ Some t) → P t
+      owned P control user t (inl is) = subst P (same_Some r.control t is) control
+      owned P control user t (inr is) = subst P (same_Some r.user t is) user
+
+      answer_now : (new : Node) → Among r.control new.drawn → Among r.user new.drawn → IsMadeNow history old new (Create_session_response answer)
+      answer_now new control user = record {
+        free = owned (IsFree old) r.control_free r.user_free;
+        drawn = owned (λ t. Among t new.drawn) control user;
+        told = λ c e. cc e;
+        tells = λ t is owns. refl;
+        proper = record { control = λ accepts. (r.control, refl); user = λ accepts. (r.user, refl); apart = λ t control user. r.apart (same_Some r.control t control ∙ sym (same_Some r.user t user)) };
+      }
+
+      -- the answer goes alone
+      makes_alone : e ≡ making request (Create_session_response answer ∷ []) (session_cause q.pdn r.address) made → Took Packet history taken old e
+      makes_alone gives =
+          let m = Create_session_response answer in
+          took Packet history taken old knows e _ gives refl (record {
+            knows = held_now Packet history taken old knows request (m ∷ []) made tt (made_known (history ++ signed Packet (m ∷ [])) (Extends-signed history Packet (m ∷ [])) (by_now history Packet (m ∷ []) m (inl refl)));
+            known = refl;
+            told = nothing_told history Serving;
+            draws = Draws-new history Packet old (holding request (m ∷ []) made) m refl refl (λ t stood. inr (inr stood)) (two_more_drawn old.counter r.user r.control old.drawn r.user_free.counted r.control_free.counted) (answer_now (holding request (m ∷ []) made) (inr (inl refl)) (inl refl));
+            logs =
+                let l = Logs-plain history Packet taken old (holding request (m ∷ []) made) (Came_to (Answered (session_cause q.pdn r.address))) (λ h stood. Among-left h old.held _ stood) request.source m tt in record {
+                  held_stays = l.held_stays;
+                  packets = λ t p among. absurd (no_packet answer t p among);
+                  handed = l.handed;
+                  accepted = l.accepted;
+                  answers = l.answers;
+                  made = inr (record { arrival = request; is = refl; message = Create_session_request q; creates = refl; came = is_taken; answer = m ∷ []; held = Among-last {X = Held} (record { request = request; answer = m ∷ [] }) old.held });
+                };
+            few = (tt, tt);
+          })
+        where
+          no_packet : (a : CreateSessionResponse) (t : ℕ) (p : List ℕ) → Among (Packet_data t p) (Create_session_response a ∷ []) → ⊥
+          no_packet a t p (inl is) = cc
+          no_packet a t p (inr none) = none
+
+      -- nothing that was sent, nor the answer, owns what may be drawn once the session was made
+      unowned_made : NothingOwns (history ++ signed Packet (Create_session_response answer ∷ [])) Packet made
+      unowned_made m t has owns free = ⊎_elim
+          (λ was. unowned m t was owns (record { counted = free.counted; numbered = free.numbered; undrawn = λ stood. free.undrawn (inr (inr stood)) }))
+          (λ now. owned (λ k. IsFree made k → ⊥) (λ f. f.undrawn (inr (inl refl))) (λ f. f.undrawn (inl refl)) t (subst (λ k. Owns k t) (only now.1) owns) free)
+          (by_cases history Packet Packet (Create_session_response answer ∷ []) m has)
+        where
+          only : {m : Message} → Among m (Create_session_response answer ∷ []) → m ≡ Create_session_response answer
+          only (inl is) = is
+          only (inr none) = absurd none
+
+      -- it goes with the request of the template's bearer
+      module _ (x : IsAdded (template_for q.access_point old.config.templates) request answer (session_cause q.pdn r.address) r.control session made e) where
+        abbrev wanted : CreateBearerRequest
+        wanted = bearer_request made session x.template.tft x.template.qos x.adds.user x.adds.number
+
+        abbrev sent_together : List Message
+        sent_together = Create_session_response answer ∷ Create_bearer_request wanted ∷ []
+
+        abbrev left : Node
+        left = holding request sent_together (bearer_asked made r.control wanted x.adds.user)
+
+        pair : ArePair (Create_session_response answer) (Create_bearer_request wanted)
+        pair = record { answer = answer; request = wanted; first = refl; second = refl }
+
+        none_shared : (t : ℕ) → Owns (Create_session_response answer) t → Owns (Create_bearer_request wanted) t → ⊥
+        none_shared t owns is = owned (λ k. k ≡ x.adds.user → ⊥) (λ same. x.adds.user_free.undrawn (inr (inl (sym same)))) (λ same. x.adds.user_free.undrawn (inl (sym same))) t owns is
+
+        free_before : IsFree old x.adds.user
+        free_before = record { counted = x.adds.user_free.counted; numbered = x.adds.user_free.numbered; undrawn = λ stood. x.adds.user_free.undrawn (inr (inr stood)) }
+
+        present : (t : ℕ) → Among t left.drawn → Among t old.drawn ⊎ (counter_of t ≡ old.counter)
+        present t (inl is) = inr (ap counter_of is ∙ x.adds.user_free.counted)
+        present t (inr others) = two_more_drawn old.counter r.user r.control old.drawn r.user_free.counted r.control_free.counted t others
+
+        each : (m : Message) → Among m sent_together → HasSent history Packet m ⊎ IsMadeNow history old left m
+        each m (inl is) = inr (subst (IsMadeNow history old left) (sym is) (answer_now left (inr (inr (inl refl))) (inr (inl refl))))
+        each m (inr (inl is)) = inr (subst (IsMadeNow history old left) (sym is) (record { free = λ t is. subst (IsFree old) (sym is) free_before; drawn = λ t is. inl is; told = λ c e. absurd (none_some c e); tells = λ t none. absurd none; proper = tt }))
+        each m (inr (inr none)) = absurd none
+
+        no_packet : (t : ℕ) (p : List ℕ) → Among (Packet_data t p) sent_together → ⊥
+        no_packet t p (inl is) = absurd (cc is)
+        no_packet t p (inr (inl is)) = absurd (cc is)
+        no_packet t p (inr (inr none)) = none
+
+        no_answer : (y : CreateBearerResponse) → Among (Create_bearer_response y) sent_together → ⊥
+        no_answer y (inl is) = absurd (cc is)
+        no_answer y (inr (inl is)) = absurd (cc is)
+        no_answer y (inr (inr none)) = none
+
+        longer : Extends (history ++ signed Packet (Create_session_response answer ∷ [])) (history ++ signed Packet sent_together)
+        longer = record {
+          keeps = λ by m has. ⊎_elim
+              (λ was. Among-left _ history (signed Packet sent_together) was)
+              (λ now. Among-right _ history (signed Packet sent_together) (first_of now))
+              (Among-cases _ history (signed Packet (Create_session_response answer ∷ [])) has);
+        }
+          where
+            first_of : {s : By Message} → Among s (signed Packet (Create_session_response answer ∷ [])) → Among s (signed Packet sent_together)
+            first_of (inl is) = inl is
+            first_of (inr none) = absurd none
+
+        makes_both : Took Packet history taken old e
+        makes_both =
+            let alone = Create_session_response answer ∷ [] in
+            took Packet history taken old knows e _ x.adds.gives refl (record {
+              knows = held_now Packet history taken old knows request sent_together (bearer_asked made r.control wanted x.adds.user) pair
+                  (begun_known (history ++ signed Packet alone) (history ++ signed Packet sent_together) longer made (made_known (history ++ signed Packet alone) (Extends-signed history Packet alone) (by_now history Packet alone (Create_session_response answer) (inl refl))) unowned_made r.control session x.template.tft x.template.qos x.adds.user x.adds.number x.adds.user_free session_stands refl
+                  (by_now history Packet sent_together (Create_bearer_request wanted) (inr (inl refl))));
+              known = refl;
+              told = nothing_told history Serving;
+              draws = record { config = refl; counter = refl; extends = λ t stood. inr (inr (inr stood)); present = present; each = each; one = pair_apart (Create_session_response answer) (Create_bearer_request wanted) pair none_shared };
+              logs = record {
+                held_stays = λ h stood. inl (Among-left h old.held _ stood);
+                packets = λ t p among. absurd (no_packet t p among);
+                handed = λ n none. absurd none;
+                accepted = λ n none. absurd none;
+                answers = λ y t among gives. absurd (no_answer y among);
+                made = inr (record { arrival = request; is = refl; message = Create_session_request q; creates = refl; came = is_taken; answer = sent_together; held = Among-last {X = Held} (record { request = request; answer = sent_together }) old.held });
               };
-          alone = (tt, tt);
-        })
-      where
-        no_packet : (a : CreateSessionResponse) (t : ℕ) (p : List ℕ) → Among (Packet_data t p) (Create_session_response a ∷ []) → ⊥
-        no_packet a t p (inl is) = cc
-        no_packet a t p (inr none) = none
+              few = (pair, tt);
+            })
 
-        free : (t : ℕ) → (Some r.control ≡ Some t) ⊎ (Some r.user ≡ Some t) → IsFree old t
-        free t (inl is) = subst (IsFree old) (same_Some r.control t is) r.control_free
-        free t (inr is) = subst (IsFree old) (same_Some r.user t is) r.user_free
-
-        drawn : (t : ℕ) → (Some r.control ≡ Some t) ⊎ (Some r.user ≡ Some t) → Among t (r.user ∷ r.control ∷ old.drawn)
-        drawn t (inl is) = inr (inl (sym (same_Some r.control t is)))
-        drawn t (inr is) = inl (sym (same_Some r.user t is))
+      makes : Took Packet history taken old e
+      makes = ⊎_elim makes_alone makes_both (goes request answer (session_cause q.pdn r.address) r.control session made e (template_for q.access_point old.config.templates) r.gives)
 
     refuses : (request : Arrival) (q : CreateSessionRequest) (cause : Cause) (e : Effect) → 64 ≤ cause.value → e ≡ session_refused request q cause old → Took Packet history taken old e
     refuses request q cause e high gives = gives_answer Packet history taken old knows request _ cause.value old e gives (Shrunk-itself old) tt none (λ c e. cc e)
@@ -227,7 +345,7 @@ module _ (history : List Sent) (taken : Arrival → Message → Type 0) (serving
             told = nothing_told history Serving;
             draws = Draws-nothing history Packet old new_node refl refl refl;
             logs = Logs-silent history Packet taken old new_node (Came_to Opened) (λ h stood. stood) [];
-            alone = tt;
+            few = tt;
           })
         where
           session_is : x.header ≡ r.at.bearer.session

@@ -69,7 +69,7 @@ module _ (history : List Sent) (taken : Arrival → Message → Type 0) (serving
         told = nothing_told history Packet;
         draws = Draws-new history Serving old new_node m refl refl (λ t stood. inr (inr stood)) (two_more_drawn old.counter r.user r.control old.drawn r.user_free.counted r.control_free.counted) (record { free = free; drawn = drawn; told = λ c e. cc e; tells = λ t is owns. refl; proper = r.apart });
         logs = Logs-plain history Serving taken old new_node (Came_to (Begun (Some r.control))) (λ h stood. stood) _ m tt;
-        alone = (tt, tt);
+        few = (tt, tt);
       })
     where
       pending_not_closing : Pending ≡ Closing → ⊥
@@ -172,7 +172,7 @@ module _ (history : List Sent) (taken : Arrival → Message → Type 0) (serving
             told = nothing_told history Packet;
             draws = Draws-nothing history Serving old new_node refl refl refl;
             logs = Logs-silent history Serving taken old new_node (Came_to Opened) (λ h stood. stood) [];
-            alone = tt;
+            few = tt;
           })
         where
           -- no other pending request is for this session
@@ -250,7 +250,7 @@ module _ (history : List Sent) (taken : Arrival → Message → Type 0) (serving
         let new : Node = record old { drawn = r.user ∷ old.drawn; bearers = insert old.bearers r.user (granted_bearer q r.identity) } in
         let remote = (knows.standing q.header at.session at.stands).named (λ waits. pending_active at.session.state waits active) in
         took Serving history taken old knows e _ r.gives refl (record {
-          knows = held_now Serving history taken old knows request m new (record {
+          knows = held_now Serving history taken old knows request (m ∷ []) new tt (record {
             contexts = record {
               sessions_asked = was.contexts.sessions_asked;
               bearers_asked = Each-insert (IsAtServing after old.sessions) old.bearers r.user (granted_bearer q r.identity)
@@ -297,9 +297,9 @@ module _ (history : List Sent) (taken : Arrival → Message → Type 0) (serving
             handed = λ e none. absurd none;
             accepted = λ e none. absurd none;
             answers = answers x (holding request (m ∷ []) new) (record { request = q; sent = came; echoed = refl; arrival = request; came = is_taken; session = at.session; stands = at.stands; held = Among-last {X = Held} (record { request = request; answer = m ∷ [] }) old.held });
-            made = inr (record { arrival = request; is = refl; message = Create_bearer_request q; came = is_taken; answer = m ∷ []; held = Among-last {X = Held} (record { request = request; answer = m ∷ [] }) old.held });
+            made = inr (record { arrival = request; is = refl; message = Create_bearer_request q; creates = refl; came = is_taken; answer = m ∷ []; held = Among-last {X = Held} (record { request = request; answer = m ∷ [] }) old.held });
           };
-          alone = (tt, tt);
+          few = (tt, tt);
         })
       where
         not_closing : (s : Session) → get old.sessions q.header ≡ Some s → s.state ≡ Closing → ⊥

@@ -11,19 +11,21 @@ use Rattle.gtp_values.specs.Number.{is_number}
 use Rattle.gtp_tables.specs.Index.{names}
 use Rattle.gtp_machine.specs.Step.{Done, Steps}
 use Rattle.gtp_machine.specs.Element.{IsAccepting}
-use Rattle.gtp_machine.specs.Message.{Echo, CreateSessionRequest, CreateSessionResponse, DeleteSessionRequest, DeleteSessionResponse, CreateBearerRequest, CreateBearerResponse, DeleteBearerRequest, RemovedBearer, DeleteBearerResponse, Message, Create_session_response, Create_bearer_response, Packet_data, End_marker, Error_indication, recovery_of, first_created, first_given, first_identity}
+use Rattle.gtp_machine.specs.Message.{Echo, CreateSessionRequest, CreateSessionResponse, DeleteSessionRequest, DeleteSessionResponse, CreateBearerRequest, CreateBearerResponse, DeleteBearerRequest, RemovedBearer, DeleteBearerResponse, Message, Create_session_response, Create_bearer_request, Create_bearer_response, Packet_data, End_marker, Error_indication, recovery_of, first_created, first_given, first_identity}
 use Rattle.gtp_machine.specs.Node.{Role, Serving, Packet, Pending, Active, Closing, Default, Dedicated, Session, Bearer, Arrival, Held, Node, holding, fresh_node}
-use Rattle.gtp_machine.specs.Input.{Specification, ControlReading, Control_message, Faulty, Control_fault, RequestKind, FaultyRequest, UserReading, User_message, Extension_needed, User_fault, Command, Create_session, Delete_session, Create_bearer, Delete_bearer, Release_session, Mark_end, Send_echo, Send_user, Move, Resend, Give_up, Forget, Commanded, Control_came, User_came, Moves_on, Effect}
+use Rattle.gtp_machine.specs.Input.{Specification, ControlReading, Control_message, Faulty, Control_fault, RequestKind, FaultyRequest, UserReading, User_message, Extension_needed, User_fault, Command, Create_session, Delete_session, Create_bearer, Delete_bearer, Release_session, Mark_end, Send_echo, Send_user, Move, Resend, Give_up, Forget, Commanded, Control_came, User_came, Moves_on, Effect, Came_to, Begun, says}
 use Rattle.gtp_machine.specs.Choice.{IsFreeNumber, HasPending, IsIdentity}
 use Rattle.gtp_machine.specs.Removal.{without, finished, without_session, without_bearer, session_closing, closing_session, is_opened}
 use Rattle.gtp_machine.specs.Recovery.{peer_restarted, Judges, Weighs, Hears}
 use Rattle.gtp_machine.specs.Move.{MoveStep}
 use Rattle.gtp_machine.specs.Response.{EchoAnswered}
 use Rattle.gtp_machine.specs.User.{UserTaken, UserStep, ended_bearer, default_among}
-use Rattle.gtp_machine.specs.Command.{asks, session_request, pending_session, pending_bearer, session_begun, BeginsSession, bearer_request, pending_dedicated, BeginsBearer, ClosesBearer, CommandStep}
+use Rattle.gtp_machine.specs.Command.{asks, session_request, pending_session, pending_bearer, session_begun, BeginsSession, bearer_request, bearer_asked as begun_bearer, pending_dedicated, BeginsBearer, ClosesBearer, CommandStep}
 use Rattle.gtp_machine.specs.Answer.{TakesReading, ControlStep}
 use Rattle.gtp_machine.specs.Serving.{FitsSession, DescribesSession, opened_session, opened_bearer, OpensSession, SessionAnswered, DeletionAnswered, granted_bearer, BearerAsked, RemovesEach, RemovalTaken, RemovalAsked, ServingTakes, ServingFaulted}
-use Rattle.gtp_machine.specs.Packet.{made_session, made_bearer, session_made, SessionAsked, DeletionAsked, FitsBearer, DescribesBearer, CanOpen, opened_dedicated, OpensBearer, BearerAnswered, RemovalAnswered, PacketTakes, PacketFaulted}
+use Rattle.gtp_machine.specs.Config.{control_end, template_for}
+use Rattle.gtp_machine.proofs.Basics.Templates.{goes}
+use Rattle.gtp_machine.specs.Packet.{session_cause, session_response, made_session, made_bearer, session_made, SessionAsked, DeletionAsked, FitsBearer, DescribesBearer, CanOpen, opened_dedicated, OpensBearer, BearerAnswered, RemovalAnswered, PacketTakes, PacketFaulted}
 use Rattle.gtp_machine.specs.Sound.{At, IsInState, IsBearerOf, DeletesSession, IsSound, IsWhole, IsWellFormed, AreWellFormed, StaysSound, ReachedIsSound}
 use Rattle.gtp_machine.proofs.Basics.FiniteMaps.{get-insert_same}
 use Rattle.gtp_machine.proofs.Sound.Parts.{at_here, no_deletion}
@@ -38,6 +40,25 @@ module _ (role : Role) where
   -- what a row says of its effect
   by_row : (e f : Effect) → e ≡ f → IsSound role f.node → IsSound role e.node
   by_row e f gives s = subst (λ (k : Effect). IsSound role k.node) (sym gives) s
+
+-- a bearer is begun
+begins_bearer : (old : Node) → IsSound Packet old → (session : ℕ) (at : Session) (tft : List ℕ) (qos : Qos) (e : Effect) → get old.sessions session ≡ Some at → length old.drawn + 1 ≤ 16777215 → len old.pending < 256 → BeginsBearer old session at tft qos e → IsSound Packet e.node
+begins_bearer old sound session at tft qos e stands draws few r = by_row Packet e _ r.gives (asks_sound Packet old sound (record old { drawn = r.user ∷ old.drawn; bearers = insert old.bearers r.user (pending_dedicated session) }) r.number _
+    (bearer_comes Packet old sound r.user (pending_dedicated session) r.user_free draws
+    (record { own = inl refl; of = (at, stands); named = λ a. absurd (cc a); blank = λ w. refl; range = λ i e. absurd (none_some i e) })
+    (λ t a i e same ia ib. none_some i ib))
+    refl few r.number_free.small
+    (inr (inr (inr (inl (record {
+      by = refl;
+      request = bearer_request old at tft qos r.user r.number;
+      asked = refl;
+      numbered = refl;
+      about = session;
+      session = refl;
+      bearer = refl;
+      wanted = inl (at_here old.bearers r.user (pending_dedicated session) (IsBearerOf session Dedicated Pending) r.user refl (record { of = refl; is_kind = refl; in_state = refl }));
+    })))))
+    (λ m p t at o same. free_opened Packet old sound r.user m p t r.user_free at o (sym (some_is r.user t same))))
 
 module _ (old : Node) where
   begins : IsSound Serving old → (spec : Specification) → IsIdentity spec.subscriber.identity → (e : Effect) → len old.sessions < 1000 → length old.drawn + 2 ≤ 16777215 → len old.pending < 256 → BeginsSession old spec e → IsSound Serving e.node
@@ -65,24 +86,6 @@ module _ (old : Node) where
   closes role sound session at number request e stands active few free deletes gives = by_row role e _ gives (asks_sound role old sound (session_closing old session at) number _ (closing_sound role old sound session at stands active) refl few free.small
       (inr (inr (inl (record { asked = deletes; about = session; session = refl; bearer = refl; closes = at_here old.sessions session (closing_session at) (IsInState Closing) session refl refl }))))
       (λ m p t at o same. no_deletion role number request t deletes same))
-
-  begins_bearer : IsSound Packet old → (session : ℕ) (at : Session) (tft : List ℕ) (qos : Qos) (e : Effect) → get old.sessions session ≡ Some at → length old.drawn + 1 ≤ 16777215 → len old.pending < 256 → BeginsBearer old session at tft qos e → IsSound Packet e.node
-  begins_bearer sound session at tft qos e stands draws few r = by_row Packet e _ r.gives (asks_sound Packet old sound (record old { drawn = r.user ∷ old.drawn; bearers = insert old.bearers r.user (pending_dedicated session) }) r.number _
-      (bearer_comes Packet old sound r.user (pending_dedicated session) r.user_free draws
-      (record { own = inl refl; of = (at, stands); named = λ a. absurd (cc a); blank = λ w. refl; range = λ i e. absurd (none_some i e) })
-      (λ t a i e same ia ib. none_some i ib))
-      refl few r.number_free.small
-      (inr (inr (inr (inl (record {
-        by = refl;
-        request = bearer_request old at tft qos r.user r.number;
-        asked = refl;
-        numbered = refl;
-        about = session;
-        session = refl;
-        bearer = refl;
-        wanted = inl (at_here old.bearers r.user (pending_dedicated session) (IsBearerOf session Dedicated Pending) r.user refl (record { of = refl; is_kind = refl; in_state = refl }));
-      })))))
-      (λ m p t at o same. free_opened Packet old sound r.user m p t r.user_free at o (sym (some_is r.user t same))))
 
   closes_bearer : IsSound Packet old → (session : ℕ) (at : Session) (identity bearer : ℕ) (b : Bearer) (e : Effect) → get old.bearers bearer ≡ Some b → b.state ≡ Active → b.session ≡ session → b.kind ≡ Dedicated → len old.pending < 256 → ClosesBearer old session at identity bearer b e → IsSound Packet e.node
   closes_bearer sound session at identity bearer b e stands active of dedicated few r = by_row Packet e _ r.gives (asks_sound Packet old sound (record old { bearers = insert old.bearers bearer (record b { state = Closing }) }) r.number _
@@ -121,7 +124,7 @@ module _ (old : Node) where
   command Packet sound (Create_bearer session tft qos) formed e (inr (at, inl f)) = by_row Packet e _ f.1 sound
   command Packet sound (Create_bearer session tft qos) formed e (inr (at, inr (active, inl f))) = by_row Packet e _ f.1 sound
   command Packet sound (Create_bearer session tft qos) formed e (inr (at, inr (active, inr (draws, inl f)))) = by_row Packet e _ f.1 sound
-  command Packet sound (Create_bearer session tft qos) formed e (inr (at, inr (active, inr (draws, inr (few, r))))) = begins_bearer sound session at.session tft qos e at.stands draws.left few.few r
+  command Packet sound (Create_bearer session tft qos) formed e (inr (at, inr (active, inr (draws, inr (few, r))))) = begins_bearer old sound session at.session tft qos e at.stands draws.left few.few r
   command Serving sound (Delete_bearer session identity) formed e r = by_row Serving e _ r sound
   command Packet sound (Delete_bearer session identity) formed e (inl f) = by_row Packet e _ f.1 sound
   command Packet sound (Delete_bearer session identity) formed e (inr (at, inl f)) = by_row Packet e _ f.1 sound
@@ -279,11 +282,18 @@ module _ (old : Node) where
     session_asked request q e (inr (room, inr (one, inr (identity, inr (configured, inr (served, inl f)))))) = by_row Packet e _ f.1 (holding_sound Packet old sound request _ room.few)
     session_asked request q e (inr (room, inr (one, inr (identity, inr (configured, inr (served, inr (few, inl f))))))) = by_row Packet e _ f.1 (holding_sound Packet old sound request _ room.few)
     session_asked request q e (inr (room, inr (one, inr (identity, inr (configured, inr (served, inr (few, inr (can, r)))))))) =
-        by_row Packet e _ r.gives (holding_sound Packet (session_made old q r.control r.user r.address)
-        (session_comes Packet old sound r.control r.user (made_session q r.address) (made_bearer q r.control) r.control_free r.user_free refl few.0.few few.1.left
+        let made = session_made old q r.control r.user r.address in
+        let made_sound : IsSound Packet made =
+        session_comes Packet old sound r.control r.user (made_session q r.address) (made_bearer q r.control) r.control_free r.user_free refl few.0.few few.1.left
         (record { own = inr (inl refl); named = λ n. (q.control.teid, refl); blank = λ w. absurd (cc w) })
-        (record { own = inl refl; of = (made_session q r.address, get-insert_same old.sessions r.control (made_session q r.address)); named = λ a. (q.context.user.teid, refl); blank = λ w. absurd (cc w); range = λ i e. subst IsIdentity (some_is q.context.identity i e) identity }))
-        request _ room.few)
+        (record { own = inl refl; of = (made_session q r.address, get-insert_same old.sessions r.control (made_session q r.address)); named = λ a. (q.context.user.teid, refl); blank = λ w. absurd (cc w); range = λ i e. subst IsIdentity (some_is q.context.identity i e) identity }) in
+        ⊎_elim
+        (λ alone. by_row Packet e _ alone (holding_sound Packet made made_sound request _ room.few))
+        (λ x.
+        let wanted = bearer_request made (made_session q r.address) x.template.tft x.template.qos x.adds.user x.adds.number in
+        let begun : Effect = record { out = says (control_end made.config.peer.control) (Create_bearer_request wanted); outcome = Came_to (Begun (Some x.adds.user)); node = begun_bearer made r.control wanted x.adds.user } in
+        by_row Packet e _ x.adds.gives (holding_sound Packet begun.node (begins_bearer made made_sound r.control (made_session q r.address) x.template.tft x.template.qos begun (get-insert_same old.sessions r.control (made_session q r.address)) x.draws.left x.room.few (record { user = x.adds.user; number = x.adds.number; user_free = x.adds.user_free; number_free = x.adds.number_free; gives = refl })) request _ room.few))
+        (goes request (session_response old q r.control r.user r.address) (session_cause q.pdn r.address) r.control (made_session q r.address) made e (template_for q.access_point old.config.templates) r.gives)
 
     deletion_asked : (request : Arrival) (d : DeleteSessionRequest) (e : Effect) → DeletionAsked request d old e → IsSound Packet e.node
     deletion_asked request d e (inl f) = by_row Packet e _ f.1 sound

@@ -21,7 +21,8 @@ use Rattle.gtp_machine.specs.User.{UserTaken, UserRead}
 use Rattle.gtp_machine.specs.Command.{NamesBearer, CommandStep}
 use Rattle.gtp_machine.specs.Answer.{IsNew, TakesReading, ControlStep}
 use Rattle.gtp_machine.specs.Serving.{SessionAnswered, BearerAsked, RemovesEach, RemovalTaken, RemovalAsked, ServingTakes, ServingFaulted}
-use Rattle.gtp_machine.specs.Packet.{SessionAsked, BearerAnswered, PacketTakes, PacketFaulted}
+use Rattle.gtp_machine.specs.Config.{Template, template_for}
+use Rattle.gtp_machine.specs.Packet.{AnswersWith, SessionAsked, BearerAnswered, PacketTakes, PacketFaulted}
 use Rattle.gtp_machine.specs.Sound.{IsSound, CanMove, IsNotEmpty, AlwaysSteps}
 use Rattle.gtp_machine.proofs.Sound.Changes.{known_sound, is_session, is_bearer}
 use Rattle.gtp_machine.proofs.Sound.Rows.{restarted_sound}
@@ -138,12 +139,21 @@ module _ (old : Node) where
       by V4 asked free = r (asked, free)
       by V6 asked free = s (asked, free)
 
+  answers_with : (found : Option Template) (request : Arrival) (a : CreateSessionResponse) (cause session : ℕ) (s : Session) (made : Node) → IsNotEmpty (λ e. AnswersWith found request a cause session s made e)
+  answers_with None request a cause session s made = gives _
+  answers_with (Some t) request a cause session s made =
+      tries _ _ _ (gives _) (λ can none.
+      let n = free_number made can.1.few in
+      let t = one_free made can.0.left in
+      none _ (record { user = t.0; number = n.0; user_free = t.1; number_free = n.1; gives = refl }))
+
   session_asked : (request : Arrival) (q : CreateSessionRequest) → IsNotEmpty (λ e. SessionAsked request q old e)
   session_asked request q =
       tries _ _ _ (gives _) (λ room. tries _ _ _ (gives _) (λ one. tries _ _ _ (gives _) (λ identity. tries _ _ _ (gives _) (λ configured. tries _ _ _ (gives _) (λ served. tries _ _ _ (gives _) (λ few. tries _ _ _ (gives _) (λ can none.
       let t = two_free old few.1.left in
       part_given q.pdn V4 (λ v4 v4_given. part_given q.pdn V6 (λ v6 v6_given.
-      none _ (record { control = t.0; user = t.1; address = record { v4 = v4; v6 = v6 }; control_free = t.2; user_free = t.3; apart = t.4; given = record { v4 = v4_given; v6 = v6_given; some_part = some_given q.pdn v4 v6 v4_given v6_given can }; gives = refl }))))))))))
+      answers_with (template_for q.access_point old.config.templates) request _ _ _ _ _ (λ e answer.
+      none e (record { control = t.0; user = t.1; address = record { v4 = v4; v6 = v6 }; control_free = t.2; user_free = t.3; apart = t.4; given = record { v4 = v4_given; v6 = v6_given; some_part = some_given q.pdn v4 v6 v4_given v6_given can }; gives = answer })))))))))))
 
 removes_each : (session : ℕ) (identities : List ℕ) (from : Node) → ((contexts : List RemovedBearer) (new : Node) → RemovesEach session identities from contexts new → ⊥) → ⊥
 removes_each session [] from none = none [] from (refl, refl)

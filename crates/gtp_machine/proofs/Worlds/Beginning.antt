@@ -22,6 +22,7 @@ use Rattle.gtp_machine.specs.Answer.{making}
 use Rattle.gtp_machine.specs.Serving.{opened_session, opened_bearer}
 use Rattle.gtp_machine.specs.Packet.{session_cause, session_response, session_made}
 use Rattle.gtp_machine.specs.World.{logged, side_of, delivered_on, World, Moves, Delivers, moved, noted, note_of, Came_to, start, arrival}
+use Rattle.gtp_machine.proofs.Worlds.Coming.{on_time}
 use Rattle.gtp_machine.proofs.Exchange.Nodes.{can_be_had, served}
 use Rattle.gtp_machine.proofs.Exchange.Made.{accepts_cause}
 use Rattle.gtp_machine.proofs.Basics.FiniteMaps.{get-insert_same, found-empty}
@@ -33,11 +34,11 @@ abbrev pub packet_ip : Ip
 packet_ip = V4 (10 ∷ 0 ∷ 0 ∷ 2 ∷ [])
 
 abbrev pub serving_config : Config
-serving_config = record { own = record { control = serving_ip; user = serving_ip }; peer = record { control = packet_ip; user = packet_ip }; access_points = []; pools = record { v4 = record { start = 0; count = 0 }; v6 = no_prefixes } }
+serving_config = record { own = record { control = serving_ip; user = serving_ip }; peer = record { control = packet_ip; user = packet_ip }; access_points = []; pools = record { v4 = record { start = 0; count = 0 }; v6 = no_prefixes }; templates = [] }
 
 -- a packet gateway with one address of version 4, and so many of version 6
 abbrev pub packet_config : ℕ → Config
-packet_config count = record { own = record { control = packet_ip; user = packet_ip }; peer = record { control = serving_ip; user = serving_ip }; access_points = (1 ∷ 97 ∷ []) ∷ []; pools = record { v4 = record { start = 7; count = 1 }; v6 = record { start = replicate 16 0; count = count } } }
+packet_config count = record { own = record { control = packet_ip; user = packet_ip }; peer = record { control = serving_ip; user = serving_ip }; access_points = (1 ∷ 97 ∷ []) ∷ []; pools = record { v4 = record { start = 7; count = 1 }; v6 = record { start = replicate 16 0; count = count } }; templates = [] }
 
 -- its addresses
 abbrev pub first_v4 : List ℕ
@@ -196,7 +197,7 @@ module _ (pdn count : ℕ) (address : PdnAddress) where
     can = can_be_had packet_heard pdn address given
 
     pub step2 : Delivers w1 Serving (Create_session_request q ∷ []) w2
-    step2 = inl (
+    step2 = on_time w1 Serving (Create_session_request q) w2 (
       λ none. none,
       record {
         effect = heard made;
@@ -249,7 +250,7 @@ module _ (pdn count : ℕ) (address : PdnAddress) where
     )
 
     pub step3 : Delivers w2 Packet (Create_session_response a ∷ []) w3
-    step3 = inl (
+    step3 = on_time w2 Packet (Create_session_response a) w3 (
       λ none. none,
       record {
         effect = heard opened;

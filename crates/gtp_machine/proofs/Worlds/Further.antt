@@ -12,6 +12,7 @@ use Rattle.gtp_machine.specs.Command.{asks, CommandStep}
 use Rattle.gtp_machine.specs.Answer.{IsNew, answered, echoed}
 use Rattle.gtp_machine.specs.Serving.{granted_bearer}
 use Rattle.gtp_machine.specs.World.{with_steps, World, Does, Deliver, Moves, Delivers, noted, arrival, Restart, Restarted, with_side, restarted, quiet_note, note_of, Came_to}
+use Rattle.gtp_machine.proofs.Worlds.Coming.{on_time}
 use Rattle.gtp_machine.proofs.Basics.FiniteMaps.{get-insert_same, get-kept, found-kept}
 use Rattle.gtp_machine.specs.Laws.{GetsThrough, GoesOn, ARunIsPossible, HearsRestart}
 use Rattle.gtp_machine.proofs.Basics.Counting.{len-insert_most, len-remove_most}
@@ -32,7 +33,7 @@ abbrev w9 : World
 w9 = after w8 Packet (from_serving (Create_session_request q)) e9
 
 step9 : Delivers w8 Serving (Create_session_request q ∷ []) w9
-step9 = inl (
+step9 = on_time w8 Serving (Create_session_request q) w9 (
   λ none. none,
   record {
     effect = e9;
@@ -80,10 +81,10 @@ abbrev w13 : World
 w13 = after w12 Packet (from_serving (Packet_data dedicated (121 ∷ []))) (taken_with 121)
 
 step12 : Delivers w11 Serving (Packet_data dedicated (122 ∷ []) ∷ []) w12
-step12 = inl (λ none. none, record { effect = taken_with 122; step = takes_with 122; becomes = refl })
+step12 = on_time w11 Serving (Packet_data dedicated (122 ∷ [])) w12 (λ none. none, record { effect = taken_with 122; step = takes_with 122; becomes = refl })
 
 step13 : Delivers w12 Serving (Packet_data dedicated (121 ∷ []) ∷ []) w13
-step13 = inl (λ none. none, record { effect = taken_with 121; step = takes_with 121; becomes = refl })
+step13 = on_time w12 Serving (Packet_data dedicated (121 ∷ [])) w13 (λ none. none, record { effect = taken_with 121; step = takes_with 121; becomes = refl })
 
 -- delete_bearer
 abbrev d : DeleteBearerRequest
@@ -151,7 +152,7 @@ new_to_serving held (inl is) same = apart (ap second (ap (λ (k : Held). k.reque
 new_to_serving held (inr none) same = none
 
 step15 : Delivers w14 Packet (Delete_bearer_request d ∷ []) w15
-step15 = inl (
+step15 = on_time w14 Packet (Delete_bearer_request d) w15 (
   λ none. none,
   record {
     effect = e15;
@@ -208,7 +209,7 @@ new_type kind octets is other held (inl at) same = ⊎_elim (λ more. omega (ari
 new_type kind octets is other held (inr none) same = none
 
 step16 : Delivers w15 Serving (Delete_bearer_response answer ∷ []) w16
-step16 = inl (
+step16 = on_time w15 Serving (Delete_bearer_response answer) w16 (
   λ none. none,
   record {
     effect = heard closed;
@@ -266,7 +267,7 @@ abbrev w19 : World
 w19 = after w18 Packet (from_serving (Echo_request echo)) e19
 
 step19 : Delivers w18 Serving (Echo_request echo ∷ []) w19
-step19 = inl (
+step19 = on_time w18 Serving (Echo_request echo) w19 (
   λ none. none,
   record {
     effect = e19;

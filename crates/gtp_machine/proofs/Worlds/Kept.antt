@@ -1,5 +1,5 @@
 -- What the world keeps of each gateway: packets, and answers to requests for bearers.
-use Rattle.std.proofs.Common.{◌≡◌, ◌⊎◌, inl, inr, ⊎_elim, ℕ, List, [], ◌∷◌, ◌++◌, Some, refl, sym, ◌∙◌, ap, subst, arith}
+use Rattle.std.proofs.Common.{◌≡◌, ◌⊎◌, inl, inr, ⊎_elim, ℕ, true, List, [], ◌∷◌, ◌++◌, Some, refl, sym, ◌∙◌, ap, subst, arith}
 use Rattle.std.proofs.lemmas.Option.{same_Some}
 use Rattle.gtp_values.specs.FiniteMap.{Each, Among}
 use Rattle.gtp_machine.specs.Message.{Message, CreateBearerRequest, CreateBearerResponse, Create_bearer_request, Create_bearer_response, Packet_data, first_given, first_returned}
@@ -10,6 +10,7 @@ use Rattle.gtp_machine.specs.Answer.{IsNew}
 use Rattle.gtp_machine.specs.World.{other, Side, By, HasBy, Sent, HasSent, signed, stepped, restarted}
 use Rattle.gtp_machine.specs.Laws.{AtMostOnce}
 use Rattle.gtp_machine.proofs.Basics.FiniteMaps.{Among-left, Among-right}
+use Rattle.gtp_machine.proofs.Basics.Kinds.{creates}
 use Rattle.gtp_machine.proofs.Origins.Drawing.{Drawing, Draws, IsEarlier, Extends, Extends-signed, by_before, by_now, by_cases, by_other, starts_apart}
 use Rattle.gtp_machine.proofs.Origins.Entries.{Once, AnsweredOnce, same_bearer_request, IsFor, IsFor-later}
 use Rattle.gtp_machine.proofs.Changes.Steps.{IsAnsweredNow, MakesFor, Logs}
@@ -74,7 +75,7 @@ Remembers-restart history key side drawing r x t has gives =
     }
 
 module _ (history : List Sent) (key : Message → Arrival) (side : Side) (taken : Arrival → Message → Type 0) (e : Effect) (drawing : Drawing side Serving history) (drawn : Each (λ t (s : Session). Among t side.node.drawn) side.node.sessions)
-    (draws : Draws history Serving side.node e.node (messages e.out.sent)) (remembers : Remembers history key side) (logs : Logs history Serving taken side.node e) (keyed : (a : Arrival) (m : Message) → taken a m → a ≡ key m) where
+    (draws : Draws history Serving side.node e.node (messages e.out.sent)) (remembers : Remembers history key side) (logs : Logs history Serving taken side.node e) (keyed : (a : Arrival) (m : Message) → creates Serving m ≡ true → taken a m → a ≡ key m) where
   -- a request that is answered now names a session of the present start
   answered_counter : (x : CreateBearerResponse) → (is : IsAnsweredNow history side.node e.node taken x) → counter_of is.request.header ≡ side.node.counter
   answered_counter x is = drawing.present is.request.header (drawn is.request.header is.session is.stands)
@@ -102,21 +103,21 @@ module _ (history : List Sent) (key : Message → Arrival) (side : Side) (taken 
         request = is.request;
         sent = is.sent;
         echoed = is.echoed;
-        where_now = inl (answered_counter x is ∙ sym draws.counter, inl (subst (λ a. Among (record { request = a; answer = Create_bearer_response x ∷ [] }) e.node.held) (keyed is.arrival (Create_bearer_request is.request) is.came) is.held));
+        where_now = inl (answered_counter x is ∙ sym draws.counter, inl (subst (λ a. Among (record { request = a; answer = Create_bearer_response x ∷ [] }) e.node.held) (keyed is.arrival (Create_bearer_request is.request) refl is.came) is.held));
       }
 
-  module _ (packet_once : Once history Packet) (is_new : (a : Arrival) (m : Message) → taken a m → IsNew side.node a) (on_time : (a : Arrival) (m : Message) → taken a m → Among a side.forgotten → ⊥) (once : AnsweredOnce history) where
+  module _ (packet_once : Once history Packet) (is_new : (a : Arrival) (m : Message) → taken a m → IsNew side.node a) (on_time : (a : Arrival) (m : Message) → creates Serving m ≡ true → taken a m → Among a side.forgotten → ⊥) (once : AnsweredOnce history) where
     -- a request that is answered now was not answered before
     unanswered : (x y : CreateBearerResponse) (t : ℕ) → IsAnsweredNow history side.node e.node taken x → HasSent history Serving (Create_bearer_response y) → first_given y.contexts ≡ Some t → first_returned x.contexts ≡ first_returned y.contexts → ⊥
     unanswered x y t is was gives same_echo =
         let i = remembers y t was gives in
         let same = same_bearer_request history packet_once i.request is.request i.sent is.sent (same_Some i.request.context.user.teid is.request.context.user.teid (sym i.echoed ∙ sym same_echo ∙ is.echoed)) in
         let counter = answered_counter x is in
-        let here : key (Create_bearer_request i.request) ≡ is.arrival = ap (λ q. key (Create_bearer_request q)) same ∙ sym (keyed is.arrival (Create_bearer_request is.request) is.came) in
+        let here : key (Create_bearer_request i.request) ≡ is.arrival = ap (λ q. key (Create_bearer_request q)) same ∙ sym (keyed is.arrival (Create_bearer_request is.request) refl is.came) in
         elim i.where_now [
           | inl now ↦ ⊎_elim
               (λ held. is_new is.arrival (Create_bearer_request is.request) is.came (record { request = key (Create_bearer_request i.request); answer = Create_bearer_response y ∷ [] }) held here)
-              (λ gone. on_time is.arrival (Create_bearer_request is.request) is.came (subst (λ a. Among a side.forgotten) here gone))
+              (λ gone. on_time is.arrival (Create_bearer_request is.request) refl is.came (subst (λ a. Among a side.forgotten) here gone))
               now.1
           | inr earlier ↦ starts_apart side.first earlier.start side.restarts earlier.before drawing.few (sym earlier.is ∙ ap (λ (q : CreateBearerRequest). counter_of q.header) same ∙ counter ∙ drawing.counter)
         ]
@@ -134,23 +135,23 @@ module _ (history : List Sent) (key : Message → Arrival) (side : Side) (taken 
         both (inl x_was) (inl y_was) = once x y s t x_was y_was x_gives y_gives same
         both (inl x_was) (inr y_now) = absurd (unanswered y x s y_now.1 x_was x_gives (sym same))
         both (inr x_now) (inl y_was) = absurd (unanswered x y t x_now.1 y_was y_gives same)
-        both (inr x_now) (inr y_now) = let is : Create_bearer_response x ≡ Create_bearer_response y = draws.one (Create_bearer_response x) (Create_bearer_response y) x_now.0 y_now.0 in cc is
+        both (inr x_now) (inr y_now) = ⊎_elim (λ (is : Create_bearer_response x ≡ Create_bearer_response y). cc is) (λ apart. absurd (apart.no_grant x refl)) (draws.one (Create_bearer_response x) (Create_bearer_response y) x_now.0 y_now.0)
 
 -- each context that was made since the start has its answer held or given up, and was made once unless its request came late
 pub record Making (side : Side) : Type 0 where
   pub kept : (a : Arrival) → Among a side.made → ((answer : List Message) × Among (record { request = a; answer = answer }) side.node.held) ⊎ Among a side.forgotten
   pub once : (a : Arrival) → (Among a side.came_late → ⊥) → AtMostOnce a side.made
 
-module _ (history : List Sent) (role : Role) (side : Side) (taken : Arrival → Message → Type 0) (e : Effect) (m : Making side) (logs : Logs history role taken side.node e) (is_new : (a : Arrival) (n : Message) → taken a n → IsNew side.node a) (marked : (a : Arrival) (n : Message) → taken a n → Among a side.forgotten → Among a side.came_late) where
+module _ (history : List Sent) (role : Role) (side : Side) (taken : Arrival → Message → Type 0) (e : Effect) (m : Making side) (logs : Logs history role taken side.node e) (is_new : (a : Arrival) (n : Message) → taken a n → IsNew side.node a) (marked : (a : Arrival) (n : Message) → creates role n ≡ true → taken a n → Among a side.forgotten → Among a side.came_late) where
   still : (a : Arrival) → ((answer : List Message) × Among (record { request = a; answer = answer }) side.node.held) ⊎ Among a side.forgotten → ((answer : List Message) × Among (record { request = a; answer = answer }) e.node.held) ⊎ Among a (side.forgotten ++ e.out.forgot)
   still a (inl held) = ⊎_elim (λ stays. inl (held.0, stays)) (λ gone. inr (Among-right a side.forgotten e.out.forgot gone)) (logs.held_stays (record { request = a; answer = held.0 }) held.1)
   still a (inr gone) = inr (Among-left a side.forgotten e.out.forgot gone)
 
   -- a context that is made now was not made before, unless its request comes late
-  first_made : (a : Arrival) (n : Message) → taken a n → (Among a side.came_late → ⊥) → Among a side.made → ⊥
-  first_made a n came on_time before = ⊎_elim
+  first_made : (a : Arrival) (n : Message) → creates role n ≡ true → taken a n → (Among a side.came_late → ⊥) → Among a side.made → ⊥
+  first_made a n create came on_time before = ⊎_elim
       (λ held. is_new a n came (record { request = a; answer = held.0 }) held.1 refl)
-      (λ gone. on_time (marked a n came gone))
+      (λ gone. on_time (marked a n create came gone))
       (m.kept a before)
 
   same_list : (made : List Arrival) → made ≡ [] → (a : Arrival) → Among a (made ++ side.made) → Among a side.made
@@ -165,10 +166,10 @@ module _ (history : List Sent) (role : Role) (side : Side) (taken : Arrival → 
         once = λ a on_time. subst (λ (l : List Arrival). AtMostOnce a (l ++ side.made)) (sym none) (m.once a on_time);
       }
 
-      newly : MakesFor taken e.out.made e.node → Making (stepped side e)
+      newly : MakesFor role taken e.out.made e.node → Making (stepped side e)
       newly x = record {
         kept = λ a among. kept a (subst (λ (l : List Arrival). Among a (l ++ side.made)) x.is among);
-        once = λ a on_time. subst (λ (l : List Arrival). AtMostOnce a (l ++ side.made)) (sym x.is) (λ same before. first_made x.arrival x.message x.came (λ late. on_time (subst (λ k. Among k side.came_late) same late)) (subst (λ k. Among k side.made) (sym same) before), m.once a on_time);
+        once = λ a on_time. subst (λ (l : List Arrival). AtMostOnce a (l ++ side.made)) (sym x.is) (λ same before. first_made x.arrival x.message x.creates x.came (λ late. on_time (subst (λ k. Among k side.came_late) same late)) (subst (λ k. Among k side.made) (sym same) before), m.once a on_time);
       }
         where
           kept : (a : Arrival) → Among a (x.arrival ∷ side.made) → ((answer : List Message) × Among (record { request = a; answer = answer }) e.node.held) ⊎ Among a (side.forgotten ++ e.out.forgot)

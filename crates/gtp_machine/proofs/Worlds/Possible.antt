@@ -13,6 +13,7 @@ use Rattle.gtp_machine.specs.Answer.{making, IsNew}
 use Rattle.gtp_machine.specs.Serving.{opened_bearer, bearer_response, granted_bearer}
 use Rattle.gtp_machine.specs.Packet.{made_session, made_bearer, opened_dedicated, CanOpen}
 use Rattle.gtp_machine.specs.World.{World, Moves, Delivers, arrival}
+use Rattle.gtp_machine.proofs.Worlds.Coming.{on_time}
 use Rattle.gtp_machine.proofs.Basics.FiniteMaps.{get-insert_same, found-insert, found-empty}
 use Rattle.gtp_machine.proofs.Worlds.Beginning as first
 use Rattle.gtp_machine.proofs.Worlds.Beginning.{serving_ip, packet_ip, serving_config, packet_config, plain_qos, control, user, none_pending, after, from_serving, from_packet, heard, w0, only_v4, gives_v4}
@@ -168,7 +169,7 @@ free_identity = record { range = record { low = omega arith; high = omega arith 
     ]
 
 pub step5 : Delivers w4 Packet (Create_bearer_request r ∷ []) w5
-step5 = inl (
+step5 = on_time w4 Packet (Create_bearer_request r) w5 (
   λ none. none,
   record {
     effect = e5;
@@ -241,7 +242,7 @@ can_open = record {
     ]
 
 pub step6 : Delivers w5 Serving (Create_bearer_response x ∷ []) w6
-step6 = inl (
+step6 = on_time w5 Serving (Create_bearer_response x) w6 (
   λ none. none,
   record {
     effect = heard given;
@@ -310,7 +311,7 @@ step7 = record {
 }
 
 pub step8 : Delivers w7 Serving (Packet_data dedicated (120 ∷ []) ∷ []) w8
-step8 = inl (
+step8 = on_time w7 Serving (Packet_data dedicated (120 ∷ [])) w8 (
   λ none. none,
   record {
     effect = e8;

@@ -1,19 +1,22 @@
 -- What holds of the world at each moment of a run.
-use Rattle.std.proofs.Common.{◌≡◌, inl, inr, ⊎_elim, ℕ, ◌<◌, ◌≤◌, List, [], ◌∷◌, ◌++◌, Some, None, slice_get, refl, sym, ◌∙◌, ap, subst, arith}
+use Rattle.std.proofs.Common.{◌≡◌, inl, inr, ⊎_elim, ℕ, ◌<◌, ◌≤◌, Bool, true, false, List, [], ◌∷◌, ◌++◌, Some, None, slice_get, refl, sym, ◌∙◌, ap, subst, arith}
 use Rattle.gtp_values.specs.FiniteMap.{Among}
 use Rattle.gtp_machine.specs.Step.{Step, Done}
 use Rattle.gtp_machine.specs.Config.{Addresses, Config}
-use Rattle.gtp_machine.specs.Message.{Message, Create_bearer_response, Plane, Control, User, plane_of}
+use Rattle.gtp_machine.specs.Message.{CreateSessionResponse, CreateBearerRequest, Message, Create_session_response, Create_bearer_request, Create_bearer_response, Other_control, Plane, Control, User, plane_of}
 use Rattle.gtp_machine.specs.Node.{Role, Serving, Packet, Arrival, Node, fresh_node}
 use Rattle.gtp_machine.specs.Input.{Move, Input, Commanded, Control_came, Moves_on, Control_message, Entry, Out, Effect, messages, datagrams}
 use Rattle.gtp_machine.specs.Answer.{IsNew}
 use Rattle.gtp_machine.specs.Spelling.{datagram_plane}
-use Rattle.gtp_machine.specs.World.{with_steps, steps_of, logged, World, other, Side, By, HasBy, Sent, SentDatagram, HasSent, signed, flat, side_of, with_side, stepped, moved, Note, noted, Moves, Event, Does, Tick, Deliver, Cut, Restart, Happens, Delivers, arrival, late_once, delivered_on, cut_on, IsLateOn, restarted, Run, begun, start}
+use Rattle.gtp_machine.specs.World.{with_steps, steps_of, logged, World, other, Side, By, HasBy, Sent, SentDatagram, HasSent, signed, flat, side_of, with_side, stepped, moved, Note, noted, Moves, Event, Does, Tick, Deliver, Cut, Restart, Happens, Delivers, ComesTo, arrival, first_came, second_came, late_once, delivered_on, cut_on, IsLateOn, restarted, Run, begun, start}
 use Rattle.gtp_machine.specs.Tick.{TickStep, ticked}
 use Rattle.gtp_machine.specs.Laws.{EachNamesBack}
 use Rattle.gtp_machine.specs.Safety.{EachOwed}
-use Rattle.gtp_machine.proofs.Basics.FiniteMaps.{Each-empty, found-empty, among_at}
-use Rattle.gtp_machine.proofs.Basics.Datagrams.{IsOneSent, EachAlone, flat_grows, alone_grows, one_sent}
+use Rattle.gtp_machine.proofs.Basics.FiniteMaps.{Each-empty, found-empty, among_at, Among-cases}
+use Rattle.gtp_machine.proofs.Basics.Datagrams.{IsFew, IsSentWhole, EachFew, flat_grows, few_grows, sent_whole}
+use Rattle.gtp_machine.proofs.Basics.Kinds.{creates}
+use Rattle.gtp_machine.proofs.Requests.Opening.{opening, none_forgotten}
+use Rattle.gtp_machine.proofs.Worlds.Coming.{by_few, ComesWhole, alone_comes, pair_comes}
 use Rattle.gtp_machine.proofs.Origins.Drawing.{Drawing, Drawing-step, Drawing-elsewhere, Drawing-restart, Drawing-marked, Extends-signed, by_before, by_cases, by_other, unowned}
 use Rattle.gtp_machine.proofs.Origins.Entries.{Once, AnsweredOnce, same_entry}
 use Rattle.gtp_machine.proofs.Changes.Steps.{Logs}
@@ -27,6 +30,9 @@ use Rattle.gtp_machine.proofs.Worlds.Kept.{Packets, Packets-step, Packets-elsewh
 use Rattle.gtp_values.proofs.Outcomes.{none_some}
 use Rattle.std.specs.FinMap.{empty}
 use Rattle.gtp_machine.proofs.Basics.Facts.{one_more}
+
+false_true : (b : Bool) → b ≡ false → b ≡ true → ⊥
+false_true b f t = cc
 
 -- what holds of one gateway of the world
 pub record SideInvariant (history : List Sent) (role : Role) (side peer : Side) : Type 0 where
@@ -46,10 +52,10 @@ pub record Invariant (own : Addresses) (w : World) : Type 0 where
   pub owed : EachOwed w.late w.handed w.accepted
   pub named : EachNamesBack w.history
   pub kept : flat w.datagrams ≡ w.history
-  pub alone : EachAlone w.datagrams
+  pub few : EachFew w.datagrams
 
 -- what a step of one gateway leaves of it
-side_step : (history : List Sent) (role : Role) (side peer : Side) (taken : Arrival → Message → Type 0) (e : Effect) → SideInvariant history role side peer → Drawing peer (other role) history → After role history taken side.node e → ((a : Arrival) (n : Message) → taken a n → IsNew side.node a) → ((a : Arrival) (n : Message) → taken a n → Among a side.forgotten → Among a side.came_late) → SideInvariant (history ++ signed role (messages e.out.sent)) role (stepped side e) peer
+side_step : (history : List Sent) (role : Role) (side peer : Side) (taken : Arrival → Message → Type 0) (e : Effect) → SideInvariant history role side peer → Drawing peer (other role) history → After role history taken side.node e → ((a : Arrival) (n : Message) → taken a n → IsNew side.node a) → ((a : Arrival) (n : Message) → creates role n ≡ true → taken a n → Among a side.forgotten → Among a side.came_late) → SideInvariant (history ++ signed role (messages e.out.sent)) role (stepped side e) peer
 side_step history role side peer taken e inv there after is_new marked = record {
   draws = Drawing-step side role history inv.draws e after.draws;
   knows = after.knows;
@@ -95,35 +101,35 @@ same_is : (history : List Sent) (role : Role) (side peer : Side) → SideInvaria
 same_is history role side peer inv there m came k c tells known age_is = same_counter peer there.few side.seen k c (inv.hearing.latest k known) (there.told m c came tells) age_is
 
 module _ (own : Addresses) where
-  -- what comes late is marked so
-  abbrev pub IsMarked : Side → Input → Type 0
-  IsMarked side input = (a : Arrival) (m : Message) → input ≡ Control_came a (Control_message m) → Among a side.forgotten → Among a side.came_late
+  -- a create request that comes late is marked so
+  abbrev pub IsMarked : Role → Side → Input → Type 0
+  IsMarked role side input = (a : Arrival) (m : Message) → creates role m ≡ true → input ≡ Control_came a (Control_message m) → Among a side.forgotten → Among a side.came_late
 
-  -- a request comes as the packet gateway sends it, and where nothing is late its answer was not given up
+  -- a create request comes as the packet gateway sends it, and where nothing is late its answer was not given up
   pub record Comes (w : World) (input : Input) : Type 0 where
-    pub keyed : (a : Arrival) (m : Message) → input ≡ Control_came a (Control_message m) → a ≡ arrival own m
-    pub on_time : (a : Arrival) (m : Message) → input ≡ Control_came a (Control_message m) → w.late ≡ 0 → Among a w.serving.forgotten → ⊥
+    pub keyed : (a : Arrival) (m : Message) → creates Serving m ≡ true → input ≡ Control_came a (Control_message m) → a ≡ arrival own m
+    pub on_time : (a : Arrival) (m : Message) → creates Serving m ≡ true → input ≡ Control_came a (Control_message m) → w.late ≡ 0 → Among a w.serving.forgotten → ⊥
 
-  serving_moves : (w : World) → Invariant own w → (input : Input) (e : Effect) → Carried Serving w.history w.serving.node input → Comes w input → IsMarked w.serving input → Step Serving w.serving.node input e → Invariant own (moved w Serving e)
+  serving_moves : (w : World) → Invariant own w → (input : Input) (e : Effect) → Carried Serving w.history w.serving.node input → Comes w input → IsMarked Serving w.serving input → Step Serving w.serving.node input e → Invariant own (moved w Serving e)
   serving_moves w inv input e carried comes marked step =
       let so = inv.serving.draws.once in
       let po = inv.packet.draws.once in
       let taken = Taken w.serving.node input in
       let after : After Serving w.history taken w.serving.node e = step_after w.history so po w.serving.node Serving (unowned w.serving Serving w.history inv.serving.draws) inv.packet.draws.dated inv.packet.draws.proper inv.serving.knows input e carried step in
       record {
-        serving = side_step w.history Serving w.serving w.packet taken e inv.serving inv.packet.draws after (λ a m t. t.1) (λ a m t. marked a m t.0);
+        serving = side_step w.history Serving w.serving w.packet taken e inv.serving inv.packet.draws after (λ a m t. t.1) (λ a m create t. marked a m create t.0);
         packet = side_elsewhere w.history Packet w.packet w.serving (stepped w.serving e) (messages e.out.sent) refl (omega arith) inv.packet;
         own_is = inv.own_is;
-        remembers = Remembers-step w.history (arrival own) w.serving taken e inv.serving.draws inv.serving.knows.drawn after.draws inv.remembers after.logs (λ a m t. comes.keyed a m t.0);
-        once = λ z. AnsweredOnce-step w.history (arrival own) w.serving taken e inv.serving.draws inv.serving.knows.drawn after.draws inv.remembers after.logs (λ a m t. comes.keyed a m t.0) po (λ a m t. t.1) (λ a m t. comes.on_time a m t.0 z) (inv.once z);
+        remembers = Remembers-step w.history (arrival own) w.serving taken e inv.serving.draws inv.serving.knows.drawn after.draws inv.remembers after.logs (λ a m create t. comes.keyed a m create t.0);
+        once = λ z. AnsweredOnce-step w.history (arrival own) w.serving taken e inv.serving.draws inv.serving.knows.drawn after.draws inv.remembers after.logs (λ a m create t. comes.keyed a m create t.0) po (λ a m t. t.1) (λ a m create t. comes.on_time a m create t.0 z) (inv.once z);
         packets = packets_step w.history w.handed Serving w.serving.node taken e inv.packets after.logs;
         owed = λ z. owed_step w.history w.handed w.accepted Serving taken w.serving.node e so po (inv.once z) after.logs inv.packets (inv.owed z);
         named = Names-step w.history Serving e inv.named (step_told w.history inv.named Serving w.serving.node (back_of w.history Serving w.serving.node inv.serving.knows) input e carried step);
         kept = flat_grows w.datagrams w.history inv.kept Serving e.out.sent;
-        alone = alone_grows w.datagrams inv.alone Serving (datagrams e.out.sent) after.alone;
+        few = few_grows w.datagrams inv.few Serving (datagrams e.out.sent) after.few;
       }
 
-  packet_moves : (w : World) → Invariant own w → (input : Input) (e : Effect) → Carried Packet w.history w.packet.node input → IsMarked w.packet input → Step Packet w.packet.node input e → Invariant own (moved w Packet e)
+  packet_moves : (w : World) → Invariant own w → (input : Input) (e : Effect) → Carried Packet w.history w.packet.node input → IsMarked Packet w.packet input → Step Packet w.packet.node input e → Invariant own (moved w Packet e)
   packet_moves w inv input e carried marked step =
       let so = inv.serving.draws.once in
       let po = inv.packet.draws.once in
@@ -131,7 +137,7 @@ module _ (own : Addresses) where
       let after : After Packet w.history taken w.packet.node e = step_after w.history so po w.packet.node Packet (unowned w.packet Packet w.history inv.packet.draws) inv.serving.draws.dated inv.serving.draws.proper inv.packet.knows input e carried step in
       record {
         serving = side_elsewhere w.history Serving w.serving w.packet (stepped w.packet e) (messages e.out.sent) refl (omega arith) inv.serving;
-        packet = side_step w.history Packet w.packet w.serving taken e inv.packet inv.serving.draws after (λ a m t. t.1) (λ a m t. marked a m t.0);
+        packet = side_step w.history Packet w.packet w.serving taken e inv.packet inv.serving.draws after (λ a m t. t.1) (λ a m create t. marked a m create t.0);
         own_is = ap (λ (c : Config). c.own) after.draws.config ∙ inv.own_is;
         remembers = Remembers-elsewhere w.history (arrival own) w.serving (messages e.out.sent) inv.remembers;
         once = λ z x y s t x_has y_has. inv.once z x y s t (by_other w.history Serving (messages e.out.sent) (Create_bearer_response x) x_has) (by_other w.history Serving (messages e.out.sent) (Create_bearer_response y) y_has);
@@ -139,7 +145,7 @@ module _ (own : Addresses) where
         owed = λ z. owed_step w.history w.handed w.accepted Packet taken w.packet.node e so po (inv.once z) after.logs inv.packets (inv.owed z);
         named = Names-step w.history Packet e inv.named (step_told w.history inv.named Packet w.packet.node (back_of w.history Packet w.packet.node inv.packet.knows) input e carried step);
         kept = flat_grows w.datagrams w.history inv.kept Packet e.out.sent;
-        alone = alone_grows w.datagrams inv.alone Packet (datagrams e.out.sent) after.alone;
+        few = few_grows w.datagrams inv.few Packet (datagrams e.out.sent) after.few;
       }
 
   -- no step changes how a gateway is set up
@@ -159,7 +165,7 @@ module _ (own : Addresses) where
     owed = λ z. absurd (one_more w.late z);
     named = inv.named;
     kept = inv.kept;
-    alone = inv.alone;
+    few = inv.few;
   }
     where
       marked_draws : Drawing (record w.serving { came_late = a ∷ w.serving.came_late }) Serving w.history
@@ -174,17 +180,17 @@ module _ (own : Addresses) where
     owed = λ z. absurd (one_more w.late z);
     named = inv.named;
     kept = inv.kept;
-    alone = inv.alone;
+    few = inv.few;
   }
 
   -- a note changes nothing of this
   noted_keeps : (w : World) (note : Note) → Invariant own w → Invariant own (noted w note)
-  noted_keeps w note inv = record { serving = inv.serving; packet = inv.packet; own_is = inv.own_is; remembers = inv.remembers; once = inv.once; packets = inv.packets; owed = inv.owed; named = inv.named; kept = inv.kept; alone = inv.alone }
+  noted_keeps w note inv = record { serving = inv.serving; packet = inv.packet; own_is = inv.own_is; remembers = inv.remembers; once = inv.once; packets = inv.packets; owed = inv.owed; named = inv.named; kept = inv.kept; few = inv.few }
 
   -- nor do the steps that are kept
   steps_keep : (w : World) (role : Role) (steps : List Done) → Invariant own w → Invariant own (with_steps w role steps)
-  steps_keep w Serving steps inv = record { serving = inv.serving; packet = inv.packet; own_is = inv.own_is; remembers = inv.remembers; once = inv.once; packets = inv.packets; owed = inv.owed; named = inv.named; kept = inv.kept; alone = inv.alone }
-  steps_keep w Packet steps inv = record { serving = inv.serving; packet = inv.packet; own_is = inv.own_is; remembers = inv.remembers; once = inv.once; packets = inv.packets; owed = inv.owed; named = inv.named; kept = inv.kept; alone = inv.alone }
+  steps_keep w Serving steps inv = record { serving = inv.serving; packet = inv.packet; own_is = inv.own_is; remembers = inv.remembers; once = inv.once; packets = inv.packets; owed = inv.owed; named = inv.named; kept = inv.kept; few = inv.few }
+  steps_keep w Packet steps inv = record { serving = inv.serving; packet = inv.packet; own_is = inv.own_is; remembers = inv.remembers; once = inv.once; packets = inv.packets; owed = inv.owed; named = inv.named; kept = inv.kept; few = inv.few }
 
   noted_logged : (w : World) (note : Note) (role : Role) (steps : List Done) → Invariant own w → Invariant own (logged (noted w note) role steps)
   noted_logged w note role steps inv = steps_keep (noted w note) role (steps_of (noted w note) role ++ steps) (noted_keeps w note inv)
@@ -195,15 +201,25 @@ module _ (own : Addresses) where
   IsQuiet _ = Unit {0}
 
   quiet_comes : (w : World) (input : Input) → IsQuiet input → Comes w input
-  quiet_comes w input quiet = record { keyed = λ a m is. absurd (subst IsQuiet is quiet); on_time = λ a m is. absurd (subst IsQuiet is quiet) }
+  quiet_comes w input quiet = record { keyed = λ a m create is. absurd (subst IsQuiet is quiet); on_time = λ a m create is. absurd (subst IsQuiet is quiet) }
 
-  pub quiet_marked : (side : Side) (input : Input) → IsQuiet input → IsMarked side input
-  quiet_marked side input quiet a m is = absurd (subst IsQuiet is quiet)
+  pub quiet_marked : (role : Role) (side : Side) (input : Input) → IsQuiet input → IsMarked role side input
+  quiet_marked role side input quiet a m create is = absurd (subst IsQuiet is quiet)
+
+  -- a message for which no context is made
+  not_create : (role : Role) (request a : Arrival) (n m : Message) → creates role n ≡ false → creates role m ≡ true → Control_came request (Control_message n) ≡ Control_came a (Control_message m) → ⊥
+  not_create role request a n m lesser create is = let same : n ≡ m = cc is in false_true (creates role n) lesser (ap (creates role) same ∙ create)
+
+  lesser_comes : (w : World) (request : Arrival) (n : Message) → creates Serving n ≡ false → Comes w (Control_came request (Control_message n))
+  lesser_comes w request n lesser = record { keyed = λ a m create is. absurd (not_create Serving request a n m lesser create is); on_time = λ a m create is. absurd (not_create Serving request a n m lesser create is) }
+
+  pub lesser_marked : (role : Role) (side : Side) (request : Arrival) (n : Message) → creates role n ≡ false → IsMarked role side (Control_came request (Control_message n))
+  lesser_marked role side request n lesser a m create is = absurd (not_create role request a n m lesser create is)
 
   -- a step on what brings no message
   steps_quietly : (w : World) → Invariant own w → (role : Role) (input : Input) (e : Effect) → IsQuiet input → Carried role w.history (side_of w role).node input → Step role (side_of w role).node input e → Invariant own (moved w role e)
-  steps_quietly w inv Serving input e quiet carried step = serving_moves w inv input e carried (quiet_comes w input quiet) (quiet_marked w.serving input quiet) step
-  steps_quietly w inv Packet input e quiet carried step = packet_moves w inv input e carried (quiet_marked w.packet input quiet) step
+  steps_quietly w inv Serving input e quiet carried step = serving_moves w inv input e carried (quiet_comes w input quiet) (quiet_marked Serving w.serving input quiet) step
+  steps_quietly w inv Packet input e quiet carried step = packet_moves w inv input e carried (quiet_marked Packet w.packet input quiet) step
 
   moves_quietly : (w : World) → Invariant own w → (role : Role) (input : Input) → IsQuiet input → Carried role w.history (side_of w role).node input → (new : World) → Moves w role input new → Invariant own new
   moves_quietly w inv role input quiet carried new m = subst (λ k. Invariant own k) (sym m.becomes) (noted_logged (moved w role m.effect) _ role _ (steps_quietly w inv role input m.effect quiet carried m.step))
@@ -218,14 +234,14 @@ module _ (own : Addresses) where
       subst (λ k. Invariant own k) (moved_twice w Packet e rest after (move_quiet w.packet.node move e step) ∙ ap (λ o. moved w Packet (ticked o after)) (sym is))
       (ticks (moved w Packet e) (steps_quietly w inv Packet (Moves_on move) e tt tt step) Packet moves rest after others)
 
-  -- the datagram with a number is one message, which was sent
-  pub found_one : (w : World) → Invariant own w → (number : ℕ) (s : SentDatagram) → slice_get w.datagrams number ≡ Some s → IsOneSent w.history s.role s.what
-  found_one w inv number s is = one_sent w.datagrams w.history inv.kept inv.alone s (among_at w.datagrams number s is)
+  -- the datagram with a number is of one message or of a pair, and these were sent
+  pub found_whole : (w : World) → Invariant own w → (number : ℕ) (s : SentDatagram) → slice_get w.datagrams number ≡ Some s → IsSentWhole w.history s.role s.what
+  found_whole w inv number s is = sent_whole w.datagrams w.history inv.kept inv.few s (among_at w.datagrams number s is)
 
   -- what comes to a gateway, by its plane
   pub carried : (w : World) → Invariant own w → (role : Role) (p : Plane) (m : Message) → HasSent w.history (other role) m → Carried role w.history (side_of w role).node (delivered_on p (side_of w (other role)).node.config.own (m ∷ []))
-  carried w inv Serving Control m came = (came, same_is w.history Serving w.serving w.packet inv.serving inv.packet.draws m came)
-  carried w inv Packet Control m came = (came, same_is w.history Packet w.packet w.serving inv.packet inv.serving.draws m came)
+  carried w inv Serving Control m came = inl (came, same_is w.history Serving w.serving w.packet inv.serving inv.packet.draws m came)
+  carried w inv Packet Control m came = inl (came, same_is w.history Packet w.packet w.serving inv.packet inv.serving.draws m came)
   carried w inv role User m came = came
 
   -- what comes to each of the two
@@ -247,21 +263,21 @@ module _ (own : Addresses) where
   -- on time: its answer was not given up
   timely : (w : World) → Invariant own w → (p : Plane) (m : Message) → (IsLateOn p w.packet.node.config.own w.serving (m ∷ []) → ⊥) → Comes w (delivered_on p w.packet.node.config.own (m ∷ []))
   timely w inv Control m on_time = record {
-    keyed = keyed_so w.packet.node.config.own m inv.own_is;
-    on_time = λ a n is z gone. on_time (subst (λ k. Among k w.serving.forgotten) (came_so w.packet.node.config.own m a n is) gone);
+    keyed = λ a n create is. keyed_so w.packet.node.config.own m inv.own_is a n is;
+    on_time = λ a n create is z gone. on_time (subst (λ k. Among k w.serving.forgotten) (came_so w.packet.node.config.own m a n is) gone);
   }
   timely w inv User m on_time = quiet_comes w _ tt
 
-  pub timely_marked : (side : Side) (from : Addresses) (p : Plane) (m : Message) → (IsLateOn p from side (m ∷ []) → ⊥) → IsMarked side (delivered_on p from (m ∷ []))
-  timely_marked side from Control m on_time a n is gone = absurd (on_time (subst (λ k. Among k side.forgotten) (came_so from m a n is) gone))
-  timely_marked side from User m on_time a n is gone = absurd (subst IsQuiet is tt)
+  pub timely_marked : (role : Role) (side : Side) (from : Addresses) (p : Plane) (m : Message) → (IsLateOn p from side (m ∷ []) → ⊥) → IsMarked role side (delivered_on p from (m ∷ []))
+  timely_marked role side from Control m on_time a n create is gone = absurd (on_time (subst (λ k. Among k side.forgotten) (came_so from m a n is) gone))
+  timely_marked role side from User m on_time a n create is gone = absurd (subst IsQuiet is tt)
 
   -- late: it is counted and marked
   lately : (w : World) → Invariant own w → (m : Message) → Comes (late_once w Serving (arrival w.packet.node.config.own m)) (Control_came (arrival w.packet.node.config.own m) (Control_message m))
-  lately w inv m = record { keyed = keyed_so w.packet.node.config.own m inv.own_is; on_time = λ a n is z. absurd (one_more w.late z) }
+  lately w inv m = record { keyed = λ a n create is. keyed_so w.packet.node.config.own m inv.own_is a n is; on_time = λ a n create is z. absurd (one_more w.late z) }
 
-  pub lately_marked : (side : Side) (from : Addresses) (m : Message) → IsMarked (record side { came_late = arrival from m ∷ side.came_late }) (Control_came (arrival from m) (Control_message m))
-  lately_marked side from m a n is gone = inl (came_so from m a n is)
+  pub lately_marked : (role : Role) (side : Side) (from : Addresses) (m : Message) → IsMarked role (record side { came_late = arrival from m ∷ side.came_late }) (Control_came (arrival from m) (Control_message m))
+  lately_marked role side from m a n create is gone = inl (came_so from m a n is)
 
   moved_new : (w : World) (role : Role) (e : Effect) (note : Note) (steps : List Done) (new : World) → new ≡ logged (noted (moved w role e) note) role steps → Invariant own (moved w role e) → Invariant own new
   moved_new w role e note steps new is inv = subst (λ k. Invariant own k) (sym is) (noted_logged (moved w role e) note role steps inv)
@@ -270,22 +286,97 @@ module _ (own : Addresses) where
   late_to_serving w inv Control m came late new d =
       let w1 = late_once w Serving (arrival w.packet.node.config.own m) in
       let inv1 = late_keeps w inv Serving (arrival w.packet.node.config.own m) in
-      moved_new w1 Serving d.effect _ _ new d.becomes (serving_moves w1 inv1 _ d.effect (carried w1 inv1 Serving Control m came) (lately w inv m) (lately_marked w.serving w.packet.node.config.own m) d.step)
+      moved_new w1 Serving d.effect _ _ new d.becomes (serving_moves w1 inv1 _ d.effect (carried w1 inv1 Serving Control m came) (lately w inv m) (lately_marked Serving w.serving w.packet.node.config.own m) d.step)
   late_to_serving w inv User m came late new d = absurd late
 
   late_to_packet : (w : World) → Invariant own w → (p : Plane) (m : Message) → HasSent w.history Serving m → IsLateOn p w.serving.node.config.own w.packet (m ∷ []) → (new : World) → Moves (late_once w Packet (arrival w.serving.node.config.own m)) Packet (delivered_on p w.serving.node.config.own (m ∷ [])) new → Invariant own new
   late_to_packet w inv Control m came late new d =
       let w1 = late_once w Packet (arrival w.serving.node.config.own m) in
       let inv1 = late_keeps w inv Packet (arrival w.serving.node.config.own m) in
-      moved_new w1 Packet d.effect _ _ new d.becomes (packet_moves w1 inv1 _ d.effect (carried w1 inv1 Packet Control m came) (lately_marked w.packet w.serving.node.config.own m) d.step)
+      moved_new w1 Packet d.effect _ _ new d.becomes (packet_moves w1 inv1 _ d.effect (carried w1 inv1 Packet Control m came) (lately_marked Packet w.packet w.serving.node.config.own m) d.step)
   late_to_packet w inv User m came late new d = absurd late
 
-  -- a datagram that its sender sent comes to the other gateway
+  -- a datagram of one message that its sender sent comes to the other gateway
   delivers : (w : World) → Invariant own w → (sender : Role) (m : Message) → HasSent w.history sender m → (new : World) → Delivers w sender (m ∷ []) new → Invariant own new
-  delivers w inv Packet m came new (inl d) = moved_new w Serving d.1.effect _ _ new d.1.becomes (serving_moves w inv _ d.1.effect (carried w inv Serving (plane_of m) m came) (timely w inv (plane_of m) m d.0) (timely_marked w.serving w.packet.node.config.own (plane_of m) m d.0) d.1.step)
-  delivers w inv Packet m came new (inr d) = late_to_serving w inv (plane_of m) m came d.0 new d.1
-  delivers w inv Serving m came new (inl d) = moved_new w Packet d.1.effect _ _ new d.1.becomes (packet_moves w inv _ d.1.effect (carried w inv Packet (plane_of m) m came) (timely_marked w.packet w.serving.node.config.own (plane_of m) m d.0) d.1.step)
-  delivers w inv Serving m came new (inr d) = late_to_packet w inv (plane_of m) m came d.0 new d.1
+  delivers w inv Packet m came new (inl d) =
+      let c = alone_comes w Serving w.packet.node.config.own new m d.1 in
+      moved_new w Serving c.effect _ _ new c.becomes (serving_moves w inv _ c.effect (carried w inv Serving (plane_of m) m came) (timely w inv (plane_of m) m d.0) (timely_marked Serving w.serving w.packet.node.config.own (plane_of m) m d.0) c.step)
+  delivers w inv Packet m came new (inr d) = late_to_serving w inv (plane_of m) m came d.0 new (alone_comes (late_once w Serving (arrival w.packet.node.config.own m)) Serving w.packet.node.config.own new m d.1)
+  delivers w inv Serving m came new (inl d) =
+      let c = alone_comes w Packet w.serving.node.config.own new m d.1 in
+      moved_new w Packet c.effect _ _ new c.becomes (packet_moves w inv _ c.effect (carried w inv Packet (plane_of m) m came) (timely_marked Packet w.packet w.serving.node.config.own (plane_of m) m d.0) c.step)
+  delivers w inv Serving m came new (inr d) = late_to_packet w inv (plane_of m) m came d.0 new (alone_comes (late_once w Packet (arrival w.serving.node.config.own m)) Packet w.serving.node.config.own new m d.1)
+
+  -- a pair comes as a whole: as a message of a type that no gateway takes
+  pub foreign_carried : (role : Role) (history : List Sent) (node : Node) (request : Arrival) → Carried role history node (Control_came request (Control_message (Other_control 0)))
+  foreign_carried role history node request = inr (record { kind = 0; is = refl })
+
+  whole_comes : (w : World) → Invariant own w → (role : Role) (request : Arrival) (new : World) → Moves w role (Control_came request (Control_message (Other_control 0))) new → Invariant own new
+  whole_comes w inv Serving request new m = moved_new w Serving m.effect _ _ new m.becomes (serving_moves w inv _ m.effect (foreign_carried Serving w.history w.serving.node request) (lesser_comes w request (Other_control 0) refl) (lesser_marked Serving w.serving request (Other_control 0) refl) m.step)
+  whole_comes w inv Packet request new m = moved_new w Packet m.effect _ _ new m.becomes (packet_moves w inv _ m.effect (foreign_carried Packet w.history w.packet.node request) (lesser_marked Packet w.packet request (Other_control 0) refl) m.step)
+
+  -- the messages of a pair come, one after the other; the second is late where its answer was given up
+  module _ (w : World) (inv : Invariant own w) (a : CreateSessionResponse) (r : CreateBearerRequest) (a_sent : HasSent w.history Packet (Create_session_response a)) (r_sent : HasSent w.history Packet (Create_bearer_request r)) where
+    abbrev key : Arrival
+    key = arrival w.packet.node.config.own (Create_bearer_request r)
+
+    pub first_carried : Carried Serving w.history w.serving.node (first_came w.packet.node.config.own (Create_session_response a))
+    first_carried = inl (a_sent, same_is w.history Serving w.serving w.packet inv.serving inv.packet.draws (Create_session_response a) a_sent)
+
+    module _ (e : Effect) (step : Step Serving w.serving.node (first_came w.packet.node.config.own (Create_session_response a)) e) where
+      pub after_first : Invariant own (moved w Serving e)
+      after_first = serving_moves w inv (first_came w.packet.node.config.own (Create_session_response a)) e first_carried (lesser_comes w _ (Create_session_response a) refl) (lesser_marked Serving w.serving _ (Create_session_response a) refl) step
+
+      pub second_sent : HasSent (moved w Serving e).history Packet (Create_bearer_request r)
+      second_sent = by_before w.history Packet Serving (messages e.out.sent) (Create_bearer_request r) r_sent
+
+      pub second_carried : Carried Serving (moved w Serving e).history (moved w Serving e).serving.node (second_came w.packet.node.config.own (Create_bearer_request r))
+      second_carried = inl (second_sent, same_is (moved w Serving e).history Serving (moved w Serving e).serving (moved w Serving e).packet after_first.serving after_first.packet.draws (Create_bearer_request r) second_sent)
+
+      -- the first gives up no answer
+      pub still_forgotten : (x : Arrival) → Among x (moved w Serving e).serving.forgotten → Among x w.serving.forgotten
+      still_forgotten x gone = ⊎_elim (λ was. was) (λ now. absurd (subst (Among x) (none_forgotten w.serving.node _ e (opening _ a w.serving.node e step)) now)) (Among-cases x w.serving.forgotten e.out.forgot gone)
+
+      pub second_marked : (Among key w.serving.forgotten → Among key w.serving.came_late) → IsMarked Serving (moved w Serving e).serving (second_came w.packet.node.config.own (Create_bearer_request r))
+      second_marked marked x n create is gone =
+          let same = came_so w.packet.node.config.own (Create_bearer_request r) x n is in
+          subst (λ k. Among k w.serving.came_late) (sym same) (marked (subst (λ k. Among k w.serving.forgotten) same (still_forgotten x gone)))
+
+      second_comes : (w.late ≡ 0 → Among key w.serving.forgotten → ⊥) → Comes (moved w Serving e) (second_came w.packet.node.config.own (Create_bearer_request r))
+      second_comes on_time = record {
+        keyed = λ x n create is. keyed_so w.packet.node.config.own (Create_bearer_request r) inv.own_is x n is;
+        on_time = λ x n create is z gone. on_time z (subst (λ k. Among k w.serving.forgotten) (came_so w.packet.node.config.own (Create_bearer_request r) x n is) (still_forgotten x gone));
+      }
+
+    apart_comes : (w.late ≡ 0 → Among key w.serving.forgotten → ⊥) → (Among key w.serving.forgotten → Among key w.serving.came_late) → (new : World) → ComesTo w Serving w.packet.node.config.own (Create_session_response a ∷ Create_bearer_request r ∷ []) new → Invariant own new
+    apart_comes on_time marked new c = ⊎_elim
+        (λ whole. whole_comes w inv Serving _ new whole)
+        (λ apart.
+        let m = apart.moves in
+        let w1 = moved w Serving m.effect in
+        moved_new w1 Serving m.next _ _ new m.becomes (serving_moves w1 (after_first m.effect m.step) (second_came w.packet.node.config.own (Create_bearer_request r)) m.next (second_carried m.effect m.step) (second_comes m.effect m.step on_time) (second_marked m.effect m.step marked) m.follows))
+        (pair_comes w Serving w.packet.node.config.own new a r c)
+
+  -- a pair never comes to the packet gateway message by message
+  pub to_packet : (w : World) (from : Addresses) (a : CreateSessionResponse) (r : CreateBearerRequest) (new : World) → ComesTo w Packet from (Create_session_response a ∷ Create_bearer_request r ∷ []) new → ComesWhole w Packet from a r new
+  to_packet w from a r new c = ⊎_elim (λ whole. whole) (λ apart. absurd (cc apart.by)) (pair_comes w Packet from new a r c)
+
+  delivers_pair : (w : World) → Invariant own w → (sender : Role) (a : CreateSessionResponse) (r : CreateBearerRequest) → HasSent w.history sender (Create_session_response a) → HasSent w.history sender (Create_bearer_request r) → (new : World) → Delivers w sender (Create_session_response a ∷ Create_bearer_request r ∷ []) new → Invariant own new
+  delivers_pair w inv Packet a r a_sent r_sent new (inl d) = apart_comes w inv a r a_sent r_sent (λ z gone. d.0 gone) (λ gone. absurd (d.0 gone)) new d.1
+  delivers_pair w inv Packet a r a_sent r_sent new (inr d) =
+      let x = arrival w.packet.node.config.own (Create_bearer_request r) in
+      apart_comes (late_once w Serving x) (late_keeps w inv Serving x) a r a_sent r_sent (λ z gone. absurd (one_more w.late z)) (λ gone. inl refl) new d.1
+  delivers_pair w inv Serving a r a_sent r_sent new (inl d) = whole_comes w inv Packet _ new (to_packet w w.serving.node.config.own a r new d.1)
+  delivers_pair w inv Serving a r a_sent r_sent new (inr d) =
+      let x = arrival w.serving.node.config.own (Create_bearer_request r) in
+      whole_comes (late_once w Packet x) (late_keeps w inv Packet x) Packet _ new (to_packet (late_once w Packet x) w.serving.node.config.own a r new d.1)
+
+  -- a datagram comes, of one message or of a pair
+  delivers_few : (w : World) → Invariant own w → (sender : Role) (datagram : List Message) → IsFew datagram → ((m : Message) → Among m datagram → HasSent w.history sender m) → (new : World) → Delivers w sender datagram new → Invariant own new
+  delivers_few w inv sender =
+      by_few (λ datagram. ((m : Message) → Among m datagram → HasSent w.history sender m) → (new : World) → Delivers w sender datagram new → Invariant own new)
+      (λ m each new d. delivers w inv sender m (each m (inl refl)) new d)
+      (λ a r each new d. delivers_pair w inv sender a r (each (Create_session_response a) (inl refl)) (each (Create_bearer_request r) (inr (inl refl))) new d)
 
   pub cut_quiet : (p : Plane) (from : Addresses) (datagram : List Message) (count : ℕ) → IsQuiet (cut_on p from datagram count)
   cut_quiet Control from datagram count = tt
@@ -354,7 +445,7 @@ module _ (own : Addresses) where
     owed = inv.owed;
     named = inv.named;
     kept = inv.kept;
-    alone = inv.alone;
+    few = inv.few;
   }
   restarts w inv Packet room = record {
     serving = peer_restart w.history Serving w.serving w.packet inv.serving;
@@ -366,7 +457,7 @@ module _ (own : Addresses) where
     owed = inv.owed;
     named = inv.named;
     kept = inv.kept;
-    alone = inv.alone;
+    few = inv.few;
   }
 
   noted_new : (w : World) (note : Note) (new : World) → Invariant own w → new ≡ noted w note → Invariant own new
@@ -377,8 +468,8 @@ module _ (own : Addresses) where
   happens w inv (Tick role) new t = subst (λ k. Invariant own k) (sym t.becomes) (noted_logged own (moved w role (ticked t.out t.after)) _ role _ (ticks own w inv role t.moves t.out t.after t.tick))
   happens w inv (Deliver number) new (inl none) = noted_new w _ new inv none.1
   happens w inv (Deliver number) new (inr (found, d)) =
-      let one = found_one own w inv number found.sent found.is in
-      delivers own w inv found.sent.role one.message one.sent new (subst (λ k. Delivers w found.sent.role k new) one.alone d)
+      let whole = found_whole own w inv number found.sent found.is in
+      delivers_few own w inv found.sent.role found.sent.what whole.few whole.each new d
   happens w inv (Cut number count) new (inl none) = noted_new w _ new inv none.1
   happens w inv (Cut number count) new (inr (found, inl long)) = noted_new w _ new inv long.1
   happens w inv (Cut number count) new (inr (found, inr (short, c))) = moves_quietly own w inv (other found.sent.role) _ (cut_quiet own (datagram_plane found.sent.what) _ found.sent.what count) (cut_carried own (other found.sent.role) (datagram_plane found.sent.what) _ found.sent.what count w.history (side_of w (other found.sent.role)).node) new c
@@ -400,7 +491,7 @@ begins serving packet serving_counter packet_counter = record {
   owed = λ z role e none. absurd none;
   named = λ role m none. absurd none;
   kept = refl;
-  alone = λ s none. absurd none;
+  few = λ s none. absurd none;
 }
 
 -- the invariant holds at the end of each run

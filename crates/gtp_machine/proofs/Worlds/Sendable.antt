@@ -21,7 +21,7 @@ use Rattle.gtp_machine.proofs.Worlds.Beginning as first
 use Rattle.gtp_machine.proofs.Worlds.Beginning.{plain_qos, control, user, serving_ip, packet_ip, serving_config, packet_config, packet_heard, w0}
 use Rattle.gtp_machine.proofs.Exchange.Ranges.{alone, spelled_cause as cause, spelled_end, spelled_qos, zeros, given_written, request_sendable, response_sendable}
 use Rattle.gtp_machine.proofs.Exchange.Nodes.{type_is, can_be_had}
-use Rattle.gtp_machine.specs.Exchange.{IsConfigured, IsQos, IsSpecified}
+use Rattle.gtp_machine.specs.Exchange.{IsTemplate, IsConfigured, IsQos, IsSpecified}
 use Rattle.gtp_machine.specs.Choice.{IsGiven, IsIdentity}
 use Rattle.gtp_values.specs.Address.{IsIp}
 use Rattle.gtp_values.specs.declared.address.Ip.TheVariants.{V4}
@@ -37,10 +37,10 @@ ip : (last : ℕ) → last < 256 → IsIp (V4 (10 ∷ 0 ∷ 0 ∷ last ∷ []))
 ip last small = (refl, All-from_recursion (λ octet. octet < 256) (10 ∷ 0 ∷ 0 ∷ last ∷ []) (omega arith, (omega arith, (omega arith, (small, tt)))))
 
 pub serving_is : IsConfigured serving_config
-serving_is = record { control = ip 1 (omega arith); user = ip 1 (omega arith); v4 = record { few = omega arith; within = omega arith }; v6 = record { long = refl; few = omega arith; within = omega arith }; octets = (zeros 16).each }
+serving_is = record { control = ip 1 (omega arith); user = ip 1 (omega arith); v4 = record { few = omega arith; within = omega arith }; v6 = record { long = refl; few = omega arith; within = omega arith }; octets = (zeros 16).each; templates = All-from_recursion IsTemplate [] tt }
 
 pub packet_is : (count : ℕ) → count ≤ 65536 → IsConfigured (packet_config count)
-packet_is count few = record { control = ip 2 (omega arith); user = ip 2 (omega arith); v4 = record { few = omega arith; within = omega arith }; v6 = record { long = refl; few = few; within = omega (arith, few) }; octets = (zeros 16).each }
+packet_is count few = record { control = ip 2 (omega arith); user = ip 2 (omega arith); v4 = record { few = omega arith; within = omega arith }; v6 = record { long = refl; few = few; within = omega (arith, few) }; octets = (zeros 16).each; templates = All-from_recursion IsTemplate [] tt }
 
 quality : IsQos plain_qos
 quality = record { class = omega arith; level = omega arith; most = record { up = omega arith; down = omega arith }; guaranteed = record { up = omega arith; down = omega arith } }

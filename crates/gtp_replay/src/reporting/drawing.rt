@@ -1,4 +1,5 @@
-//! Lines of a diagram, of at most 100 columns: a place, the lines of both gateways, and an outcome.
+//! Lines of a diagram, of at most 100 columns unless a label is too long: a place, the lines of both gateways, and an
+//! outcome.
 
 use gtp_gateway::Role;
 use gtp_lines::text::{put, put_number};

@@ -6,10 +6,10 @@ ghost use Rattle.gtp_reliable.specs.Forgotten.{question_of};
 ghost use Rattle.gtp_gateway.specs.Ticked.{asked_by, arrivals_of};
 ghost use Rattle.gtp_world.specs.Events.{event_of};
 ghost use Rattle.gtp_world.specs.Kept.{sent_by, told_by};
-ghost use Rattle.gtp_replay.specs.Events.{plane_word, learned_text, told_text, head_line, sent_line, gave_up_line, forgot_line, event_lines, events_text};
+ghost use Rattle.gtp_replay.specs.Events.{plane_word, second_text, learned_text, told_text, head_line, sent_line, gave_up_line, forgot_line, event_lines, events_text};
 
-use crate::reporting::outcome::{first_word, put_detail};
-use gtp_gateway::{Counter, Plane, Request, Seq};
+use crate::reporting::outcome::{first_word, outcome_word, put_detail, put_outcome_detail};
+use gtp_gateway::{Counter, Outcome, Plane, Request, Seq};
 use gtp_lines::text::{put, put_number, put_octets};
 use gtp_scenario::word_of;
 use gtp_world::{Datagram, Event, Note};
@@ -38,6 +38,19 @@ fn put_learned(out: &mut Vec<u8>, restart: Option<Counter>) -> Result<(), AllocE
     put_number(out, u64::from(counter.0))
 }
 
+/// Appends what the second of two messages came to, where there was one.
+#[tactic(auto, using(crate::proofs::Appends::appending))]
+fn put_second(out: &mut Vec<u8>, second: Option<Outcome>) -> Result<(), AllocError>
+    ensures ok { OnOk result (out.new.items ≡ out.old.items ++ second_text second) }
+{
+    let Some(outcome) = second else {
+        return Ok(());
+    };
+    put(out, b" then ")?;
+    put(out, outcome_word(outcome).as_bytes())?;
+    put_outcome_detail(out, outcome)
+}
+
 /// Appends the outcome of an event.
 #[tactic(auto, using(crate::proofs::Appends::appending))]
 pub(crate) fn put_told(out: &mut Vec<u8>, note: &Note) -> Result<(), AllocError>
@@ -45,6 +58,7 @@ pub(crate) fn put_told(out: &mut Vec<u8>, note: &Note) -> Result<(), AllocError>
 {
     put(out, first_word(note.outcome).as_bytes())?;
     put_detail(out, note.outcome)?;
+    put_second(out, note.second)?;
     put_learned(out, note.restart)?;
     put(out, b"\n")
 }

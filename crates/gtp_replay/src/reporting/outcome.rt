@@ -57,7 +57,7 @@ fn drop_word(reason: DropReason) -> &'static str
 }
 
 /// The first word of the outcome of a step of a gateway.
-fn outcome_word(outcome: Outcome) -> &'static str
+pub(crate) fn outcome_word(outcome: Outcome) -> &'static str
     ensures { result.now ≡ outcome_word outcome }
 {
     match outcome {
@@ -141,7 +141,7 @@ fn put_drop_detail(out: &mut Vec<u8>, reason: DropReason) -> Result<(), AllocErr
 
 /// Appends what follows the first word of the outcome of a step.
 #[tactic(auto, using(crate::proofs::Appends::appending))]
-fn put_outcome_detail(out: &mut Vec<u8>, outcome: Outcome) -> Result<(), AllocError>
+pub(crate) fn put_outcome_detail(out: &mut Vec<u8>, outcome: Outcome) -> Result<(), AllocError>
     ensures ok { OnOk result (out.new.items ≡ out.old.items ++ outcome_detail outcome) }
 {
     match outcome {

@@ -61,30 +61,50 @@ fn control_name(seen: &MessageView) -> (&'static str, Option<Teid>) {
     (message_name(seen.kind()), seen.teid())
 }
 
-/// The name of a datagram's message, and the TEID of its header.
-fn name_of_message(datagram: &Datagram) -> (&'static str, Option<Teid>) {
-    match datagram.sent.plane {
-        Plane::Control => match view(datagram.sent.octets.as_slice()) {
-            Ok(seen) => control_name(seen.message()),
-            Err(_) => ("fault", None),
-        },
-        Plane::User => match gtp_user::decode(datagram.sent.octets.as_slice()) {
-            Ok(message) => user_name(&message.body),
-            Err(_) => ("fault", None),
-        },
+/// Appends a message's name, and the TEID of its header, where it has one.
+fn put_named(
+    label: &mut Vec<u8>,
+    (name, teid): (&'static str, Option<Teid>),
+) -> Result<(), AllocError> {
+    put(label, name.as_bytes())?;
+    if let Some(teid) = teid {
+        put(label, b" ")?;
+        put_teid(label, teid)?;
+    }
+    Ok(())
+}
+
+/// Appends the names of the messages of a control plane datagram, one or two, and the TEID of the first.
+fn put_control_names(label: &mut Vec<u8>, octets: &[u8]) -> Result<(), AllocError> {
+    let Ok(seen) = view(octets) else {
+        return put(label, b"fault");
+    };
+    let (name, teid) = control_name(seen.message());
+    let Some(second) = seen.second() else {
+        return put_named(label, (name, teid));
+    };
+    put(label, name.as_bytes())?;
+    put(label, b" + ")?;
+    put_named(label, (control_name(&second).0, teid))
+}
+
+/// Appends the name of the message of a user plane datagram, and the TEID of its header.
+fn put_user_name(label: &mut Vec<u8>, octets: &[u8]) -> Result<(), AllocError> {
+    match gtp_user::decode(octets) {
+        Ok(message) => put_named(label, user_name(&message.body)),
+        Err(_) => put(label, b"fault"),
     }
 }
 
-/// The number, name and TEID of a datagram.
+/// The number, names and TEID of a datagram.
 fn label(alloc: Global, number: usize, datagram: &Datagram) -> Result<Vec<u8>, AllocError> {
     let mut label = Vec::new(alloc);
-    let (name, teid) = name_of_message(datagram);
     put_number(&mut label, number as u64)?;
     put(&mut label, b" ")?;
-    put(&mut label, name.as_bytes())?;
-    if let Some(teid) = teid {
-        put(&mut label, b" ")?;
-        put_teid(&mut label, teid)?;
+    let octets = datagram.sent.octets.as_slice();
+    match datagram.sent.plane {
+        Plane::Control => put_control_names(&mut label, octets)?,
+        Plane::User => put_user_name(&mut label, octets)?,
     }
     Ok(label)
 }
@@ -351,9 +371,9 @@ fn quiet_node(event: &Event, note: &Note) -> Option<Role> {
     }
 }
 
-/// The run of these events as a sequence diagram in plain text of at most 100 columns: one line for each datagram that
-/// is delivered, with its number, name, TEID and outcome; one for each that is never delivered; commands, restarts and
-/// ticks beside the line of their gateway. `Memory` if an allocation was refused.
+/// The run of these events as a sequence diagram in plain text of at most 100 columns, or more where two messages come:
+/// one line for each datagram that is delivered, with its number, names, TEID and outcome; one for each that is never
+/// delivered; commands, restarts and ticks beside the line of their gateway. `Memory` if an allocation was refused.
 pub fn diagram(alloc: Global, events: &[Event], world: &World) -> Result<Vec<u8>, Memory> {
     let mut out = Vec::new(alloc);
     put(&mut out, HEAD)?;

@@ -1,12 +1,12 @@
 -- What holds of both gateways of a world at each moment: steps of the machine led there, and what the node keeps is what ticks and draws go by.
-use Rattle.std.proofs.Common.{◌≡◌, ◌⊎◌, inl, inr, ℕ, Bool, true, false, List, [], ◌∷◌, ◌++◌, filter, length, map, refl, sym, ◌∙◌, ap, subst}
+use Rattle.std.proofs.Common.{◌≡◌, ◌⊎◌, inl, inr, ℕ, Bool, true, false, List, [], ◌∷◌, ◌++◌, filter, length, map, Option, Some, None, refl, sym, ◌∙◌, ap, subst}
 use Rattle.gtp_values.specs.declared.address.Endpoint.{Endpoint}
 use Rattle.gtp_tables.specs.Drawn.{drawn_up_to}
 use Rattle.gtp_reliable.specs.Pending.{AreDistinct}
 use Rattle.gtp_reliable.specs.Waiting.{just_sent}
 use Rattle.gtp_reliable.proofs.Requests.{distinct_push, distinct_filter, ticked_distinct}
 use Rattle.gtp_machine.specs.Config.{Config}
-use Rattle.gtp_machine.specs.Message.{Plane, Control, User}
+use Rattle.gtp_machine.specs.Message.{CreateSessionResponse, CreateBearerRequest, Plane, Control, User}
 use Rattle.gtp_machine.specs.declared.role.Role.{Role}
 use Rattle.gtp_machine.specs.declared.role.Role.TheVariants.{Serving, Packet}
 use Rattle.gtp_machine.specs.Node.{Node, fresh_node}
@@ -19,17 +19,19 @@ use Rattle.gtp_machine.specs.Determined.{HeldOnce}
 use Rattle.gtp_machine.specs.World.{EventOutcome, By, Event, Does, Tick, Deliver, Cut, Restart, other}
 use Rattle.gtp_machine.proofs.Determined.Alike.{Fits}
 use Rattle.gtp_machine.proofs.Requests.ActsOnce.{reached_holds_once}
-use Rattle.gtp_gateway.specs.GoesOn.{GoesOn}
+use Rattle.gtp_gateway.specs.GoesOn.{Beginning, begun_with, IsNext, waiting_on, GoesOn}
+use Rattle.gtp_gateway.specs.Pair.{second_part}
 use Rattle.gtp_gateway.specs.Parts.{held_of, pending_in}
+use Rattle.gtp_gateway.specs.Received.{coming, first_comes, second_comes}
 use Rattle.gtp_gateway.specs.Settings.{Settings}
 use Rattle.gtp_gateway.specs.Station.{Timing, Station, starting, IsTied}
 use Rattle.gtp_gateway.specs.Ticked.{CountsOn}
 use Rattle.gtp_gateway.proofs.GoingOn.{on_goes}
 use Rattle.gtp_world.specs.Kept.{Log, Kept, half_in, with_half}
 use Rattle.gtp_world.specs.Runs.{Setup, begun}
-use Rattle.gtp_world.specs.Stepped.{WaitsFor, AsksFor, KeepsOn, Takes, Brings, kept_after, passed_over, counter_after, half_restarted, Comes}
+use Rattle.gtp_world.specs.Stepped.{WaitsFor, AsksFor, KeepsOn, Takes, TakesBoth, TakesOn, Brings, kept_after, kept_after_both, passed_over, counter_after, half_restarted, Comes}
 use Rattle.gtp_world.proofs.Determined.Commands.{IsQuiet, IsBegun, commanded}
-use Rattle.gtp_world.proofs.Determined.Placed.{placed_fits, reached_placed}
+use Rattle.gtp_world.proofs.Determined.Placed.{placed_fits, BringDrawn, placed_brings, reached_placed}
 
 -- steps of the machine lead to the gateway from a start, no two of its requests have one number, and what its node keeps is what ticks and draws go by
 pub record Lasts (s : Station) : Type 0 where
@@ -46,6 +48,10 @@ lasts_fits s l = placed_fits s.node (reached_placed s.role l.config l.counter l.
 pub lasts_once : (s : Station) → Lasts s → HeldOnce s.node
 lasts_once s l = reached_holds_once s.role l.config l.counter l.log s.node l.steps
 
+-- the TEID that a request brings was drawn, where it waits
+pub lasts_bring : (s : Station) → Lasts s → BringDrawn s.node
+lasts_bring s l = placed_brings s.node (reached_placed s.role l.config l.counter l.log s.node l.steps)
+
 pub lasts_starting : (role : Role) (settings : Settings) (counter : ℕ) → Lasts (starting role settings counter)
 lasts_starting role settings counter = record { config = settings.config; counter = counter; log = []; steps = refl; tied = record { pending = refl; held = refl; drawn = refl }; apart = tt }
 
@@ -54,6 +60,12 @@ lasts_starting role settings counter = record { config = settings.config; counte
 steps_push : (role : Role) (start : Node) (log : List Done) (old : Node) (input : Input) (e : Effect) → Steps role start log old → Step role old input e → Steps role start (log ++ (record { before = old; input = input; effect = e } ∷ [])) e.node
 steps_push role start [] old input e is step = (is, subst (λ n. Step role n input e) is step, refl)
 steps_push role start (done ∷ log) old input e steps step = (steps.0, steps.1, steps_push role done.effect.node log old input e steps.2 step)
+
+-- after a step, what a step needs to be determined stands again
+pub mid_ready : (s : Station) → Lasts s → (input : Input) (e : Effect) → Step s.role s.node input e → Fits e.node × HeldOnce e.node
+mid_ready s l input e step =
+    let steps = steps_push s.role (fresh_node l.config l.counter) l.log s.node input e l.steps step in
+    (placed_fits e.node (reached_placed s.role l.config l.counter _ e.node steps), reached_holds_once s.role l.config l.counter _ e.node steps)
 
 move_is : (role : Role) (old : Node) (move : Move) (e : Effect) → MoveStep old move e → Step role old (Moves_on move) e
 move_is Serving old move e step = step
@@ -79,6 +91,12 @@ module _ (old new : Station) (l : Lasts old) (stays : new.role ≡ old.role) (ti
   lasts_took : (input : Input) (e : Effect) → new.node ≡ e.node → Step old.role old.node input e → Lasts new
   lasts_took input e is step = lasts_with _ e.node is (steps_push old.role (fresh_node l.config l.counter) l.log old.node input e l.steps step)
 
+  -- two steps, one after the other
+  lasts_both : (input next : Input) (e f : Effect) → new.node ≡ f.node → Step old.role old.node input e → Step old.role e.node next f → Lasts new
+  lasts_both input next e f is step follows =
+      let start = fresh_node l.config l.counter in
+      lasts_with _ f.node is (steps_push old.role start _ e.node next f (steps_push old.role start l.log old.node input e l.steps step) follows)
+
   lasts_ticked : (moves : List Move) (out : Out) → TickStep old.node moves out new.node → Lasts new
   lasts_ticked moves out tick =
       let longer = steps_ticked old.role (fresh_node l.config l.counter) l.log old.node moves out new.node l.steps tick in
@@ -91,7 +109,11 @@ keeps_goes Control source octets sent outcome old new keeps = keeps
 keeps_goes User source octets sent outcome old new keeps = on_goes source octets old new keeps.1 keeps.2
 
 goes_apart : (source : Endpoint) (octets : List ℕ) (old new : Station) → GoesOn source octets old new → AreDistinct old.timing.waiting → AreDistinct new.timing.waiting
-goes_apart source octets old new goes apart = subst (λ (t : Timing). AreDistinct t.waiting) (sym goes.timing) (distinct_filter goes.stays old.timing.waiting apart)
+goes_apart source octets old new goes apart = subst (λ (t : Timing). AreDistinct t.waiting) (sym goes.timing) (by goes.begun goes.next)
+  where
+    by : (begun : Option Beginning) → IsNext begun (waiting_on goes.stays old.timing) → AreDistinct (begun_with begun (waiting_on goes.stays old.timing)).waiting
+    by None next = distinct_filter goes.stays old.timing.waiting apart
+    by (Some b) next = distinct_push (filter goes.stays old.timing.waiting) (just_sent b.number b.to b.octets b.purpose) (distinct_filter goes.stays old.timing.waiting apart) next.free
 
 waits_apart : (old : Station) (d : Datagram) (new : Station) → WaitsFor old d new → AreDistinct old.timing.waiting → AreDistinct new.timing.waiting
 waits_apart old d new waits apart = subst (λ (t : Timing). AreDistinct t.waiting) (sym waits.timing) (distinct_push old.timing.waiting (just_sent waits.number d.to d.octets waits.purpose) apart waits.free.free)
@@ -147,11 +169,31 @@ takes_last v role input Timed late new t both ready =
     (after_last v role t.station t.effect.out _ _ late both
     (lasts_took (half_in v role).station t.station (last_of v both role) t.role_stays ready.0 ready.1 input t.effect t.node t.step))
 
+both_last : (v : Kept) (role : Role) (station : Station) (first second : Effect) (sent more : List Datagram) (late : Bool) → BothLast v → Lasts station → BothLast (kept_after_both v role station first second sent more late)
+both_last v Serving station first second sent more late both l = record { serving = l; packet = both.packet }
+both_last v Packet station first second sent more late both l = record { serving = both.serving; packet = l }
+
+pair_last : (v : Kept) (role : Role) (source : Endpoint) (octets : List ℕ) (answer : CreateSessionResponse) (asked : CreateBearerRequest) (late : Bool) (new : Kept) → BothLast v → TakesBoth v role source octets answer asked late new → BothLast new
+pair_last v role source octets answer asked late new both t =
+    let old = (half_in v role).station in
+    let l = last_of v both role in
+    subst (λ k. BothLast k) (sym t.becomes)
+    (both_last v role t.station t.first t.second _ _ late both
+    (lasts_both old t.station l t.role_stays t.timed.tied (goes_apart source (second_part octets) old t.station t.timed l.apart) (first_comes source octets answer) (second_comes source octets asked) t.first t.second t.node t.step t.follows))
+
+whole_last : (v : Kept) (role : Role) (plane : Plane) (source : Endpoint) (octets : List ℕ) (late : Bool) (new : Kept) → BothLast v → Takes v role (coming plane source octets) (KeepsOn plane source octets) late new → BothLast new
+whole_last v role plane source octets late new both t =
+    let old = (half_in v role).station in
+    let goes = keeps_goes plane source octets _ t.effect.outcome old t.station t.timed in
+    takes_last v role _ _ late new t both (goes.tied, goes_apart source octets old t.station goes (last_of v both role).apart)
+
+taken_last : (v : Kept) (role : Role) (plane : Plane) (source : Endpoint) (octets : List ℕ) (late : Bool) (new : Kept) → BothLast v → TakesOn v role plane source octets late new → BothLast new
+taken_last v role Control source octets late new both (inl (none, t)) = whole_last v role Control source octets late new both t
+taken_last v role Control source octets late new both (inr (pair, t)) = pair_last v role source octets pair.answer pair.asked late new both t
+taken_last v role User source octets late new both t = whole_last v role User source octets late new both t
+
 brings_last : (v : Kept) (sent : By Datagram) (octets : List ℕ) (late : Bool) (new : Kept) → BothLast v → Brings v sent octets late new → BothLast new
-brings_last v sent octets late new both t =
-    let old = (half_in v (other sent.role)).station in
-    let goes = keeps_goes sent.what.plane sent.what.from octets _ t.effect.outcome old t.station t.timed in
-    takes_last v (other sent.role) _ _ late new t both (goes.tied, goes_apart sent.what.from octets old t.station goes (last_of v both (other sent.role)).apart)
+brings_last v sent octets late new both t = taken_last v (other sent.role) sent.what.plane sent.what.from octets late new both t
 
 -- what comes of an event
 pub comes_last : (v : Kept) (event : Event) (new : Kept) → BothLast v → Comes v event new → BothLast new

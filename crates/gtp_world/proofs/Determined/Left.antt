@@ -1,10 +1,12 @@
 -- What ticks go by, where two gateways that were alike are left with the same node.
-use Rattle.std.proofs.Common.{◌≡◌, ℕ, ◌+◌, Bool, true, false, ◌||◌, cond, filter, List, [], ◌∷◌, ◌++◌, length, map, Option, Some, None, option_map, refl, sym, ◌∙◌, ap, subst, arith, length-append}
+use Rattle.std.proofs.Common.{◌≡◌, ◌≢◌, ⊎_elim, ℕ, ◌+◌, Bool, true, false, ◌||◌, cond, filter, List, [], ◌∷◌, ◌++◌, length, map, All, Option, Some, None, option_map, refl, sym, ◌∙◌, ap, subst, arith, length-append}
 use Rattle.std.specs.Prelude.{◌==◌, if◌then◌else◌, nat_lt}
-use Rattle.std.specs.List.{list_any, filter_map, cons_option}
+use Rattle.std.specs.List.{AllByRecursion, list_any, filter_map, cons_option}
 use Rattle.std.specs.FinMap.{get, insert}
 use Rattle.std.proofs.lemmas.Bool.{or_parts}
 use Rattle.std.proofs.lemmas.List.{map_push, length-map}
+use Rattle.std.proofs.lemmas.List.Elements.{All-from_recursion, recursion_from_All}
+use Rattle.gtp_values.specs.FiniteMap.{FiniteMap}
 use Rattle.gtp_values.specs.declared.address.Endpoint.{Endpoint}
 use Rattle.gtp_reliable.specs.Held.{HeldPair, Question, just_kept, forgotten}
 use Rattle.gtp_reliable.specs.Held as held
@@ -12,20 +14,24 @@ use Rattle.gtp_reliable.specs.Pending.{is_pending, AreDistinct, IsNextFree, numb
 use Rattle.gtp_reliable.specs.Waiting.{Waiting, Message, just_sent, next_tick, after_tick_by, after_tick, sent_again_by, sent_again, given_up_by, given_up}
 use Rattle.gtp_reliable.specs.declared.waiting.NextTick.{NextTick}
 use Rattle.gtp_reliable.specs.declared.waiting.NextTick.TheVariants.{WaitsOn, SentAgain, GivenUp}
-use Rattle.gtp_machine.specs.Node.{Node}
-use Rattle.gtp_machine.specs.Spelling.{Datagram}
+use Rattle.gtp_machine.specs.Config.{control_end}
+use Rattle.gtp_machine.specs.Node.{PendingRequest, Node}
+use Rattle.gtp_machine.specs.Spelling.{Datagram, spelled}
 use Rattle.gtp_machine.specs.Tick.{Due}
-use Rattle.gtp_machine.proofs.Basics.FiniteMaps.{get-insert_same}
+use Rattle.gtp_machine.proofs.Basics.FiniteMaps.{found-insert, get-insert_same}
+use Rattle.gtp_machine.proofs.Determined.Alike.{WaitsBeside}
 use Rattle.gtp_gateway.specs.declared.config.Timers.{Timers}
 use Rattle.gtp_gateway.specs.declared.purpose.Purpose.{Purpose}
 use Rattle.gtp_gateway.specs.Determined.{held_as, waits_as, AreLeftAlike}
-use Rattle.gtp_gateway.specs.GoesOn.{held_with, GoesOn}
+use Rattle.gtp_gateway.specs.GoesOn.{Beginning, held_with, begun_with, IsNext, IsNewFor, IsNew, waiting_on, GoesOn}
 use Rattle.gtp_gateway.specs.Parts.{held_of, pending_of, pending_in}
-use Rattle.gtp_gateway.specs.Station.{Timing, Station}
+use Rattle.gtp_gateway.specs.Spelled.{message_in}
+use Rattle.gtp_gateway.specs.Station.{Timing, Station, IsTied}
 use Rattle.gtp_gateway.specs.Ticked.{asked_by, due_in, CountsOn}
 use Rattle.gtp_gateway.proofs.ChosenOnce.{same_beside, one_next}
-use Rattle.gtp_gateway.proofs.Requests.{none_pending}
+use Rattle.gtp_gateway.proofs.Requests.{none_pending, pending_push, found_before, of_found}
 use Rattle.gtp_world.specs.Stepped.{WaitsFor}
+use Rattle.gtp_world.proofs.Determined.Placed.{BringDrawn}
 
 -- a request that waits, but for what it is about
 abbrev Form : Type 0
@@ -223,6 +229,118 @@ held_form hold p = by_test (nat_lt (p.age + 1) hold)
     by_test true = refl
     by_test false = refl
 
+-- ---- a request that is begun with a datagram
+
+-- as it waits
+abbrev begins : Beginning → Waiting Purpose
+begins b = just_sent b.number b.to b.octets b.purpose
+
+-- what holds of the octets of each request that waits
+all_alike : (P : List ℕ → Type 0) (ws vs : List (Waiting Purpose)) → map waits_as ws ≡ map waits_as vs → All (λ (w : Waiting Purpose). P w.octets) ws → All (λ (w : Waiting Purpose). P w.octets) vs
+all_alike P ws vs same all = All-from_recursion (λ (w : Waiting Purpose). P w.octets) vs (each ws vs same (recursion_from_All (λ (w : Waiting Purpose). P w.octets) ws all))
+  where
+    each : (ws vs : List (Waiting Purpose)) → map waits_as ws ≡ map waits_as vs → AllByRecursion (λ (w : Waiting Purpose). P w.octets) ws → AllByRecursion (λ (w : Waiting Purpose). P w.octets) vs
+    each [] [] same all = tt
+    each [] (v ∷ vs) same all = absurd (cc same)
+    each (w ∷ ws) [] same all = absurd (cc same)
+    each (w ∷ ws) (v ∷ vs) same all =
+        let form : waits_as w ≡ waits_as v = cc same in
+        let forms : map waits_as ws ≡ map waits_as vs = cc same in
+        (subst P (ap (λ (k : Form). k.octets) form) all.0, each ws vs forms all.1)
+
+-- a request that is none of these
+abbrev IsNone : Beginning → List (Waiting Purpose) → Type 0
+IsNone b ws = All (λ (w : Waiting Purpose). message_in w.octets ≢ message_in b.octets) ws
+
+none_alike : (b : Beginning) (ws vs : List (Waiting Purpose)) → map waits_as ws ≡ map waits_as vs → IsNone b ws → IsNone b vs
+none_alike b = all_alike (λ o. message_in o ≢ message_in b.octets)
+
+pushed : (start : ℕ) (ws : List (Waiting Purpose)) (b : Beginning) → IsNextFree start ws b.number → pending_in (ws ++ (begins b ∷ [])) ≡ insert (pending_in ws) b.number (pending_of (begins b)).1
+pushed start ws b next = pending_push ws (begins b) (pending_of (begins b)).1 next.free refl
+
+-- it did not wait
+not_before : (keeps : Waiting Purpose → Bool) (vs : List (Waiting Purpose)) (b : Beginning) (n : ℕ) → AreDistinct vs → IsNone b vs → get (pending_in (filter keeps vs)) n ≡ Some (pending_of (begins b)).1 → ⊥
+not_before keeps vs b n apart none found = of_found (λ p. p.request ≢ message_in b.octets) vs n (pending_of (begins b)).1 none (found_before keeps vs n (pending_of (begins b)).1 apart found) refl
+
+-- none was begun where none was
+none_begun : (start : ℕ) (ws : List (Waiting Purpose)) (keeps : Waiting Purpose → Bool) (vs : List (Waiting Purpose)) (b : Beginning) → AreDistinct vs → IsNone b vs → IsNextFree start ws b.number → pending_in (ws ++ (begins b ∷ [])) ≡ pending_in (filter keeps vs) → ⊥
+none_begun start ws keeps vs b apart none next same =
+    not_before keeps vs b b.number apart none (ap (λ (k : FiniteMap PendingRequest). get k b.number) (sym same ∙ pushed start ws b next) ∙ get-insert_same (pending_in ws) b.number (pending_of (begins b)).1)
+
+-- the same request was begun, beside the same ones
+record IsOneBegun (stays : Waiting Purpose → Bool) (ws : List (Waiting Purpose)) (keeps : Waiting Purpose → Bool) (vs : List (Waiting Purpose)) (a b : Beginning) : Type 0 where
+  pub number : a.number ≡ b.number
+  pub message : message_in a.octets ≡ message_in b.octets
+  pub others : map waits_as (filter stays ws) ≡ map waits_as (filter keeps vs)
+
+module _ (ws vs : List (Waiting Purpose)) (same : map waits_as ws ≡ map waits_as vs) (apart : AreDistinct ws) (also : AreDistinct vs) where
+  one_begun : (start end : ℕ) (stays keeps : Waiting Purpose → Bool) (a b : Beginning) → IsNone a vs → IsNextFree start (filter stays ws) a.number → IsNextFree end (filter keeps vs) b.number → pending_in (filter stays ws ++ (begins a ∷ [])) ≡ pending_in (filter keeps vs ++ (begins b ∷ [])) → IsOneBegun stays ws keeps vs a b
+  one_begun start end stays keeps a b none next other is =
+      let p = (pending_of (begins a)).1 in
+      let q = (pending_of (begins b)).1 in
+      let one = pending_in (filter stays ws) in
+      let two = pending_in (filter keeps vs) in
+      let both : insert one a.number p ≡ insert two b.number q = sym (pushed start (filter stays ws) a next) ∙ (is ∙ pushed end (filter keeps vs) b other) in
+      ⊎_elim
+      (λ here. record {
+        number = here.0;
+        message = ap (λ (k : PendingRequest). k.request) (sym here.1);
+        others = same_filter stays keeps ws vs same apart also
+            (same_beside one two a.number p q (none_pending (filter stays ws) a.number next.free) (subst (λ (k : ℕ). get two k ≡ None) (sym here.0) (none_pending (filter keeps vs) b.number other.free))
+            (both ∙ ap (λ (k : ℕ). insert two k q) (sym here.0)));
+      })
+      (λ there. absurd (not_before keeps vs a a.number also none there.1))
+      (found-insert two b.number q a.number p (ap (λ (k : FiniteMap PendingRequest). get k a.number) (sym both) ∙ get-insert_same one a.number p))
+
+-- a request that is begun is known by its message
+same_begins : (one other : Station) (a b : Beginning) → one.node ≡ other.node → IsNewFor a one → IsNewFor b other → a.number ≡ b.number → message_in a.octets ≡ message_in b.octets → waits_as (begins a) ≡ waits_as (begins b)
+same_begins one other a b node is_new also number message =
+    let to : a.to ≡ b.to = is_new.to ∙ (ap (λ (n : Node). control_end n.config.peer.control) node ∙ sym also.to) in
+    let octets : a.octets ≡ b.octets = is_new.spelled.is ∙ (ap spelled message ∙ sym also.spelled.is) in
+    λ i. record { seq = number i; to = to i; octets = octets i; purpose = tt; waited = 0; resent = 0 }
+
+-- a request with this number was begun beside these
+record IsBegunAmong (old : Station) (others : FiniteMap PendingRequest) (n : ℕ) : Type 0 where
+  pub stays : Waiting Purpose → Bool
+  pub next : IsNextFree old.timing.next (filter stays old.timing.waiting) n
+  pub beside : pending_in (filter stays old.timing.waiting) ≡ others
+
+-- a request for a bearer with a new TEID that waits after a datagram was begun with it
+module _ (old : Station) (brings : BringDrawn old.node) (tied : IsTied old) (apart : AreDistinct old.timing.waiting) where
+  -- it did not wait before
+  no_request : {new others : FiniteMap PendingRequest} (n : ℕ) (p : PendingRequest) (stays : Waiting Purpose → Bool) → WaitsBeside old.node.drawn new others n p → get (pending_in (filter stays old.timing.waiting)) n ≡ Some p → ⊥
+  no_request n p stays waits found = waits.undrawn (brings n p waits.request (ap (λ (k : FiniteMap PendingRequest). get k n) tied.pending ∙ found_before stays old.timing.waiting n p apart found) waits.asked)
+
+  begun_among : (source : Endpoint) (octets : List ℕ) (new : Station) (others : FiniteMap PendingRequest) (n : ℕ) (p : PendingRequest) → GoesOn source octets old new → WaitsBeside old.node.drawn new.node.pending others n p → IsBegunAmong old others n
+  begun_among source octets new others n p goes waits = by goes.begun goes.next left
+    where
+      left : pending_in (begun_with goes.begun (waiting_on goes.stays old.timing)).waiting ≡ insert others n p
+      left = ap (λ (t : Timing). pending_in t.waiting) (sym goes.timing) ∙ (sym goes.tied.pending ∙ waits.is)
+
+      by : (x : Option Beginning) → IsNext x (waiting_on goes.stays old.timing) → pending_in (begun_with x (waiting_on goes.stays old.timing)).waiting ≡ insert others n p → IsBegunAmong old others n
+      by None next is = absurd (no_request n p goes.stays waits (ap (λ (k : FiniteMap PendingRequest). get k n) is ∙ get-insert_same others n p))
+      by (Some b) next is =
+          let kept = filter goes.stays old.timing.waiting in
+          let stay : FiniteMap PendingRequest = pending_in kept in
+          let both : insert stay b.number (pending_of (begins b)).1 ≡ insert others n p = sym (pushed old.timing.next kept b next) ∙ is in
+          ⊎_elim
+          (λ here. record {
+            stays = goes.stays;
+            next = subst (λ (k : ℕ). IsNextFree old.timing.next kept k) (sym here.0) next;
+            beside = same_beside stay others n (pending_of (begins b)).1 p (ap (λ k. get stay k) here.0 ∙ none_pending kept b.number next.free) waits.absent (ap (λ (k : ℕ). insert stay k (pending_of (begins b)).1) here.0 ∙ both);
+          })
+          (λ there. absurd (no_request n p goes.stays waits there.1))
+          (found-insert stay b.number (pending_of (begins b)).1 n p (ap (λ (k : FiniteMap PendingRequest). get k n) both ∙ get-insert_same others n p))
+
+-- requests for bearers that two gateways begin that were alike have one number
+module _ (one other new left : Station) (alike : AreLeftAlike one other) (apart : AreDistinct one.timing.waiting) (also : AreDistinct other.timing.waiting) (source : Endpoint) (octets : List ℕ) (m : GoesOn source octets one new) (n : GoesOn source octets other left) where
+  pub number_begun : BringDrawn one.node → IsTied one → IsTied other → (others : FiniteMap PendingRequest) (x y : ℕ) (p q : PendingRequest) → WaitsBeside one.node.drawn new.node.pending others x p → WaitsBeside one.node.drawn left.node.pending others y q → x ≡ y
+  number_begun brings tied tied_too others x y p q waits too =
+      let a = begun_among one brings tied apart source octets new others x p m waits in
+      let b = begun_among other (subst BringDrawn alike.node brings) tied_too also source octets left others y q n (subst (λ (k : Node). WaitsBeside k.drawn left.node.pending others y q) alike.node too) in
+      let same = same_filter a.stays b.stays one.timing.waiting other.timing.waiting alike.waiting apart also (a.beside ∙ sym b.beside) in
+      one_next one.timing.next (filter a.stays one.timing.waiting) x y a.next (free_among one.timing.next (filter a.stays one.timing.waiting) (filter b.stays other.timing.waiting) same y (subst (λ k. IsNextFree k (filter b.stays other.timing.waiting) y) (sym alike.next) b.next))
+
 -- ---- two gateways that were alike
 
 module _ (one other new left : Station) (alike : AreLeftAlike one other) (role : new.role ≡ left.role) (node : new.node ≡ left.node) where
@@ -255,20 +373,43 @@ module _ (one other new left : Station) (alike : AreLeftAlike one other) (role :
 
   module _ (apart : AreDistinct one.timing.waiting) (also : AreDistinct other.timing.waiting) where
     -- after a datagram
-    pub left_goes : (source : Endpoint) (octets : List ℕ) → GoesOn source octets one new → GoesOn source octets other left → AreLeftAlike new left
-    left_goes source octets m n =
-        let pending : pending_in (filter m.stays one.timing.waiting) ≡ pending_in (filter n.stays other.timing.waiting) =
-        ap (λ (t : Timing). pending_in t.waiting) (sym m.timing) ∙ (sym m.tied.pending ∙ (ap (λ (k : Node). k.pending) node ∙ (n.tied.pending ∙ ap (λ (t : Timing). pending_in t.waiting) n.timing))) in
-        let held : map held_of (held_with source octets m.answer one.timing.held) ≡ map held_of (held_with source octets n.answer other.timing.held) =
-        ap (λ (t : Timing). map held_of t.held) (sym m.timing) ∙ (sym m.tied.held ∙ (ap (λ (k : Node). k.held) node ∙ (n.tied.held ∙ ap (λ (t : Timing). map held_of t.held) n.timing))) in
-        record {
-          role = role;
-          node = node;
-          timers = ap (λ (t : Timing). t.timers) m.timing ∙ (alike.timers ∙ sym (ap (λ (t : Timing). t.timers) n.timing));
-          next = ap (λ (t : Timing). t.next) m.timing ∙ (alike.next ∙ sym (ap (λ (t : Timing). t.next) n.timing));
-          waiting = ap (λ (t : Timing). map waits_as t.waiting) m.timing ∙ (same_filter m.stays n.stays one.timing.waiting other.timing.waiting alike.waiting apart also pending ∙ sym (ap (λ (t : Timing). map waits_as t.waiting) n.timing));
-          held = ap (λ (t : Timing). map held_as t.held) m.timing ∙ (same_held source octets m.answer n.answer one.timing.held other.timing.held alike.held held ∙ sym (ap (λ (t : Timing). map held_as t.held) n.timing));
-        }
+    module _ (source : Endpoint) (octets : List ℕ) (m : GoesOn source octets one new) (n : GoesOn source octets other left) where
+      abbrev first : Option Beginning → Timing
+      first begun = record (begun_with begun (waiting_on m.stays one.timing)) { held = held_with source octets m.answer one.timing.held }
+
+      abbrev second : Option Beginning → Timing
+      second begun = record (begun_with begun (waiting_on n.stays other.timing)) { held = held_with source octets n.answer other.timing.held }
+
+      pending_alike : (x y : Option Beginning) → new.timing ≡ first x → left.timing ≡ second y → pending_in (first x).waiting ≡ pending_in (second y).waiting
+      pending_alike x y p q = ap (λ (t : Timing). pending_in t.waiting) (sym p) ∙ (sym m.tied.pending ∙ (ap (λ (k : Node). k.pending) node ∙ (n.tied.pending ∙ ap (λ (t : Timing). pending_in t.waiting) q)))
+
+      held_alike : (x y : Option Beginning) → new.timing ≡ first x → left.timing ≡ second y → map held_of (held_with source octets m.answer one.timing.held) ≡ map held_of (held_with source octets n.answer other.timing.held)
+      held_alike x y p q = ap (λ (t : Timing). map held_of t.held) (sym p) ∙ (sym m.tied.held ∙ (ap (λ (k : Node). k.held) node ∙ (n.tied.held ∙ ap (λ (t : Timing). map held_of t.held) q)))
+
+      left_with : (x y : Option Beginning) → new.timing ≡ first x → left.timing ≡ second y → (first x).timers ≡ (second y).timers → (first x).next ≡ (second y).next → map waits_as (first x).waiting ≡ map waits_as (second y).waiting → AreLeftAlike new left
+      left_with x y p q timers next waiting = record {
+        role = role;
+        node = node;
+        timers = ap (λ (t : Timing). t.timers) p ∙ (timers ∙ sym (ap (λ (t : Timing). t.timers) q));
+        next = ap (λ (t : Timing). t.next) p ∙ (next ∙ sym (ap (λ (t : Timing). t.next) q));
+        waiting = ap (λ (t : Timing). map waits_as t.waiting) p ∙ (waiting ∙ sym (ap (λ (t : Timing). map waits_as t.waiting) q));
+        held = ap (λ (t : Timing). map held_as t.held) p ∙ (same_held source octets m.answer n.answer one.timing.held other.timing.held alike.held (held_alike x y p q) ∙ sym (ap (λ (t : Timing). map held_as t.held) q));
+      }
+
+      by_begun : (x y : Option Beginning) → IsNext x (waiting_on m.stays one.timing) → IsNext y (waiting_on n.stays other.timing) → IsNew x one → IsNew y other → new.timing ≡ first x → left.timing ≡ second y → AreLeftAlike new left
+      by_begun None None i j v w p q = left_with None None p q alike.timers alike.next (same_filter m.stays n.stays one.timing.waiting other.timing.waiting alike.waiting apart also (pending_alike None None p q))
+      by_begun None (Some b) i j v w p q = absurd (none_begun other.timing.next (filter n.stays other.timing.waiting) m.stays one.timing.waiting b apart (none_alike b other.timing.waiting one.timing.waiting (sym alike.waiting) w.other) j (sym (pending_alike None (Some b) p q)))
+      by_begun (Some a) None i j v w p q = absurd (none_begun one.timing.next (filter m.stays one.timing.waiting) n.stays other.timing.waiting a also (none_alike a one.timing.waiting other.timing.waiting alike.waiting v.other) i (pending_alike (Some a) None p q))
+      by_begun (Some a) (Some b) i j v w p q =
+          let same = one_begun one.timing.waiting other.timing.waiting alike.waiting apart also one.timing.next other.timing.next m.stays n.stays a b (none_alike a one.timing.waiting other.timing.waiting alike.waiting v.other) i j (pending_alike (Some a) (Some b) p q) in
+          let begun = same_begins one other a b alike.node v w same.number same.message in
+          left_with (Some a) (Some b) p q alike.timers (ap number_after same.number)
+          (map_push waits_as (filter m.stays one.timing.waiting) (begins a)
+          ∙ ((λ i. same.others i ++ (begun i ∷ []))
+          ∙ sym (map_push waits_as (filter n.stays other.timing.waiting) (begins b))))
+
+      pub left_goes : AreLeftAlike new left
+      left_goes = by_begun m.begun n.begun m.next n.next m.new_one n.new_one m.timing n.timing
 
     -- after a tick
     pub left_ticked : CountsOn one new → CountsOn other left → AreLeftAlike new left

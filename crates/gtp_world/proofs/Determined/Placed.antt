@@ -10,7 +10,7 @@ use Rattle.gtp_values.specs.declared.qos.Qos.{Qos}
 use Rattle.gtp_values.specs.FiniteMap.{FiniteMap, Each, Among}
 use Rattle.gtp_values.proofs.Outcomes.{none_some}
 use Rattle.gtp_tables.specs.Index.{names}
-use Rattle.gtp_machine.specs.Config.{Config}
+use Rattle.gtp_machine.specs.Config.{Template, Config, template_for}
 use Rattle.gtp_machine.specs.Element.{PdnAddress}
 use Rattle.gtp_machine.specs.Message.{Echo, CreateSessionRequest, CreateSessionResponse, DeleteSessionRequest, DeleteSessionResponse, CreateBearerRequest, CreateBearerResponse, DeleteBearerRequest, DeleteBearerResponse, Message, Echo_request, Echo_response, Create_session_request, Create_session_response, Delete_session_request, Delete_session_response, Create_bearer_request, Create_bearer_response, Delete_bearer_request, Delete_bearer_response, Packet_data, End_marker, Error_indication, User_echo_request, recovery_of, first_identity}
 use Rattle.gtp_machine.specs.declared.role.Role.{Role}
@@ -23,10 +23,10 @@ use Rattle.gtp_machine.specs.Removal.{finished, without_session, session_closing
 use Rattle.gtp_machine.specs.Move.{MoveStep}
 use Rattle.gtp_machine.specs.Response.{EchoAnswered}
 use Rattle.gtp_machine.specs.Recovery.{peer_restarted, Judges, Weighs, Hears}
-use Rattle.gtp_machine.specs.Command.{session_request, pending_session, pending_bearer, pending_dedicated, BeginsSession, ClosesSession, ReleasesSession, BeginsBearer, NamesBearer, ClosesBearer, SendsEcho, SendsPacket, CommandStep}
+use Rattle.gtp_machine.specs.Command.{session_request, pending_session, pending_bearer, pending_dedicated, bearer_request, bearer_asked as node_asked, BeginsSession, ClosesSession, ReleasesSession, BeginsBearer, NamesBearer, ClosesBearer, SendsEcho, SendsPacket, CommandStep}
 use Rattle.gtp_machine.specs.Answer.{TakesReading, ControlStep}
 use Rattle.gtp_machine.specs.Serving.{opened_session, opened_bearer, OpensSession, SessionAnswered, DeletionAnswered, granted_bearer, MakesBearer, BearerAsked, RemovesBearers, RemovalTaken, RemovalAsked, ServingTakes, ServingFaulted}
-use Rattle.gtp_machine.specs.Packet.{made_session, made_bearer, MakesSession, SessionAsked, DeletionAsked, FitsBearer, DescribesBearer, CanOpen, opened_dedicated, OpensBearer, BearerAnswered, RemovalAnswered, PacketTakes, PacketFaulted}
+use Rattle.gtp_machine.specs.Packet.{made_session, made_bearer, AnswersWith, MakesSession, SessionAsked, DeletionAsked, FitsBearer, DescribesBearer, CanOpen, opened_dedicated, OpensBearer, BearerAnswered, RemovalAnswered, PacketTakes, PacketFaulted}
 use Rattle.gtp_machine.specs.User.{Accepts, ended_bearer, default_among, EndCame, UserTaken, UserRead, UserStep}
 use Rattle.gtp_machine.specs.Sound.{AreApart}
 use Rattle.gtp_machine.specs.Step.{Step, Done, Steps}
@@ -36,10 +36,12 @@ use Rattle.gtp_machine.proofs.Changes.Shrinking.{Shrunk, Shrunk-without, Shrunk-
 use Rattle.gtp_machine.proofs.Determined.Alike.{Fits}
 use Rattle.gtp_machine.proofs.Determined.Witnesses.{apart_left}
 
--- a request that waits: the bearer that it is about was drawn, and where it stands it is of the session that the request is about
+-- a request that waits: the bearer that it is about was drawn, and where it stands it is of the session that the request is about; and so was the TEID that it
+-- brings, where it asks for a bearer
 record IsOf (drawn : List ℕ) (bearers : FiniteMap Bearer) (p : PendingRequest) : Type 0 where
   drawn_once : (key : ℕ) → p.bearer ≡ Some key → Among key drawn
   of : (session key : ℕ) (b : Bearer) → p.session ≡ Some session → p.bearer ≡ Some key → get bearers key ≡ Some b → b.session ≡ session
+  brings : (r : CreateBearerRequest) → p.request ≡ Create_bearer_request r → Among r.context.user.teid drawn
 
 -- a bearer: its TEID was drawn, and its session's
 abbrev IsDrawn : List ℕ → ℕ → Bearer → Type 0
@@ -58,6 +60,13 @@ placed_fits node p = record {
   sessions = λ t s stands free. free (p.sessions t s stands);
   bearers = λ t b stands free. free (p.bearers t b stands).0;
 }
+
+-- the TEID that a request for a bearer brings was drawn, where it waits
+abbrev pub BringDrawn : Node → Type 0
+BringDrawn node = (n : ℕ) (p : PendingRequest) (r : CreateBearerRequest) → get node.pending n ≡ Some p → p.request ≡ Create_bearer_request r → Among r.context.user.teid node.drawn
+
+pub placed_brings : (node : Node) → IsPlaced node → BringDrawn node
+placed_brings node placed n p r waits asks = (placed.pending n p waits).brings r asks
 
 fresh_placed : (config : Config) (counter : ℕ) → IsPlaced (fresh_node config counter)
 fresh_placed config counter = record {
@@ -83,6 +92,7 @@ shrunk_placed old new s p = record {
       record {
         drawn_once = λ key is. subst (λ k. Among key k) (sym s.drawn) (was.drawn_once key is);
         of = λ session key b about is stands. let w = s.shrinks.bearers key b stands in w.same.session ∙ was.of session key w.before about is w.stood;
+        brings = λ r asks. subst (λ k. Among r.context.user.teid k) (sym s.drawn) (was.brings r asks);
       };
 }
 
@@ -92,7 +102,7 @@ drawn_placed node more extends p = record {
   sessions = λ t s e. extends t (p.sessions t s e);
   bearers = λ t b e. let at = p.bearers t b e in (extends t at.0, extends b.session at.1);
   apart = p.apart;
-  pending = λ n q e. let is = p.pending n q e in record { drawn_once = λ key about. extends key (is.drawn_once key about); of = is.of };
+  pending = λ n q e. let is = p.pending n q e in record { drawn_once = λ key about. extends key (is.drawn_once key about); of = is.of; brings = λ r asks. extends r.context.user.teid (is.brings r asks) };
 }
 
 -- a session comes or is replaced
@@ -129,6 +139,7 @@ module _ (node : Node) (key : ℕ) (b : Bearer) (unused : (t : ℕ) (a : Bearer)
           (λ same. ap (λ (y : Bearer). y.session) (sym same.1) ∙ waits n q session e about (names ∙ ap (λ y. Some y) same.0))
           (λ other. is.of session k x about names other.1)
           (found-insert node.bearers key b k x stands);
+      brings = is.brings;
     };
   }
 
@@ -190,16 +201,41 @@ module _ {P : Type 0} {Fails : Effect → Type 0} where
 says : {f : Effect} → IsPlaced f.node → Leaves (λ e. e ≡ f)
 says {f} placed e is = subst (λ (k : Effect). IsPlaced k.node) (sym is) placed
 
+-- a request that asks for no bearer
+abbrev AsksNone : Message → Type 0
+AsksNone (Create_bearer_request r) = ⊥
+AsksNone m = Unit {0}
+
+asks_none : (m : Message) (r : CreateBearerRequest) → AsksNone m → m ≡ Create_bearer_request r → ⊥
+asks_none m r none is = subst AsksNone is none
+
 -- a request that is about no bearer
-of_none : (drawn : List ℕ) (bearers : FiniteMap Bearer) (q : PendingRequest) → q.bearer ≡ None → IsOf drawn bearers q
-of_none drawn bearers q none = record { drawn_once = λ key is. absurd (none_some key (sym none ∙ is)); of = λ session key b about is stands. absurd (none_some key (sym none ∙ is)) }
+of_none : (drawn : List ℕ) (bearers : FiniteMap Bearer) (q : PendingRequest) → AsksNone q.request → q.bearer ≡ None → IsOf drawn bearers q
+of_none drawn bearers q asks none = record {
+  drawn_once = λ key is. absurd (none_some key (sym none ∙ is));
+  of = λ session key b about is stands. absurd (none_some key (sym none ∙ is));
+  brings = λ r is. absurd (asks_none q.request r asks is);
+}
 
 -- a request that is about this bearer of this session
-of_one : (drawn : List ℕ) (bearers : FiniteMap Bearer) (session key : ℕ) (request : Message) → Among key drawn → ((b : Bearer) → get bearers key ≡ Some b → b.session ≡ session) → IsOf drawn bearers (record { session = Some session; bearer = Some key; request = request })
-of_one drawn bearers session key request own of = record {
+of_one : (drawn : List ℕ) (bearers : FiniteMap Bearer) (session key : ℕ) (request : Message) → ((r : CreateBearerRequest) → request ≡ Create_bearer_request r → Among r.context.user.teid drawn) → Among key drawn → ((b : Bearer) → get bearers key ≡ Some b → b.session ≡ session) → IsOf drawn bearers (record { session = Some session; bearer = Some key; request = request })
+of_one drawn bearers session key request brings own of = record {
   drawn_once = λ k is. subst (λ n. Among n drawn) (same_Some key k is) own;
   of = λ s k b about is stands. of b (ap (λ n. get bearers n) (same_Some key k is) ∙ stands) ∙ same_Some session s about;
+  brings = brings;
 }
+
+-- a new dedicated bearer comes, and the request for it waits
+module _ (node : Node) (session user : ℕ) (r : CreateBearerRequest) (free : IsFree node user) (of : Among session node.drawn) (named : r.context.user.teid ≡ user) (p : IsPlaced node) where
+  -- the new bearer is of its session
+  of_new : (b : Bearer) → get (insert node.bearers user (pending_dedicated session)) user ≡ Some b → b.session ≡ session
+  of_new b stands = ⊎_elim (λ same. ap (λ (k : Bearer). k.session) (sym same.1)) (λ other. absurd (other.0 refl)) (found-insert node.bearers user (pending_dedicated session) user b stands)
+
+  bearer_begun : IsPlaced (node_asked node session r user)
+  bearer_begun =
+      asks_placed _ r.number _
+      (of_one _ _ session user _ (λ x is. let same : r ≡ x = cc is in inl (ap (λ (k : CreateBearerRequest). k.context.user.teid) (sym same) ∙ named)) (inl refl) of_new)
+      (bearer_comes node user (pending_dedicated session) free of (λ t a identity stands same has also. none_some identity also) p)
 
 module _ (old : Node) (p : IsPlaced old) where
   -- ---- commands
@@ -207,32 +243,27 @@ module _ (old : Node) (p : IsPlaced old) where
   begins_session : (spec : Specification) → Leaves (BeginsSession old spec)
   begins_session spec e r =
       let q = session_request old spec r.control r.user r.number in
-      says (asks_placed _ r.number _ (of_none _ _ _ refl) (session_comes old r.control r.user (pending_session q) (pending_bearer r.control q) r.control_free r.user_free refl p)) e r.gives
-
-  -- the new bearer is of its session
-  of_new : (user session : ℕ) (b : Bearer) → get (insert old.bearers user (pending_dedicated session)) user ≡ Some b → b.session ≡ session
-  of_new user session b stands = ⊎_elim (λ same. ap (λ (k : Bearer). k.session) (sym same.1)) (λ other. absurd (other.0 refl)) (found-insert old.bearers user (pending_dedicated session) user b stands)
+      says (asks_placed _ r.number _ (of_none _ _ _ tt refl) (session_comes old r.control r.user (pending_session q) (pending_bearer r.control q) r.control_free r.user_free refl p)) e r.gives
 
   begins_bearer : (session : ℕ) (at : HasSession old session) (tft : List ℕ) (qos : Qos) → Leaves (BeginsBearer old session at.session tft qos)
   begins_bearer session at tft qos e r =
-      says (asks_placed _ r.number _ (of_one _ _ session r.user _ (inl refl) (of_new r.user session))
-      (bearer_comes old r.user (pending_dedicated session) r.user_free (p.sessions session at.session at.stands) (λ t a identity stands same has also. none_some identity also) p)) e r.gives
+      says (bearer_begun old session r.user (bearer_request old at.session tft qos r.user r.number) r.user_free (p.sessions session at.session at.stands) refl p) e r.gives
 
   closing_placed : (session : ℕ) (at : HasSession old session) → at.session.state ≡ Active → IsPlaced (session_closing old session at.session)
   closing_placed session at active = shrunk_placed old (session_closing old session at.session) (Shrunk-closing old session at.session at.stands active) p
 
   closes_session : (session : ℕ) (at : HasSession old session) → at.session.state ≡ Active → Leaves (ClosesSession old session at.session)
-  closes_session session at active e r = says (asks_placed _ r.number _ (of_none _ _ _ refl) (closing_placed session at active)) e r.gives
+  closes_session session at active e r = says (asks_placed _ r.number _ (of_none _ _ _ tt refl) (closing_placed session at active)) e r.gives
 
   releases_session : (session : ℕ) (at : HasSession old session) → at.session.state ≡ Active → Leaves (ReleasesSession old session at.session)
-  releases_session session at active e r = says (asks_placed _ r.number _ (of_none _ _ _ refl) (closing_placed session at active)) e r.gives
+  releases_session session at active e r = says (asks_placed _ r.number _ (of_none _ _ _ tt refl) (closing_placed session at active)) e r.gives
 
   -- a bearer changes, but stays the same
   closes_bearer : (session : ℕ) (at : Session) (identity : ℕ) (named : NamesBearer old session identity) → Leaves (ClosesBearer old session at identity named.key named.at.bearer)
   closes_bearer session at identity named e r =
       let closed : Bearer = record named.at.bearer { state = Closing } in
       says (asks_placed _ r.number _
-      (of_one _ _ session named.key _ (p.bearers named.key named.at.bearer named.at.stands).0
+      (of_one _ _ session named.key _ (λ x is. absurd (cc is)) (p.bearers named.key named.at.bearer named.at.stands).0
       (λ b stands. ⊎_elim (λ same. ap (λ (k : Bearer). k.session) (sym same.1) ∙ named.of) (λ other. absurd (other.0 refl)) (found-insert old.bearers named.key closed named.key b stands)))
       (shrunk_placed old _ (Shrunk-bearer old named.key named.at.bearer closed named.at.stands (closing_same named.at.bearer)) p)) e r.gives
 
@@ -240,7 +271,7 @@ module _ (old : Node) (p : IsPlaced old) where
   ends_placed key at = shrunk_placed old _ (Shrunk-bearer old key at.bearer (ended_bearer at.bearer) at.stands (ended_same at.bearer)) p
 
   sends_echo : Leaves (SendsEcho old)
-  sends_echo e r = says (asks_placed old r.number _ (of_none _ _ _ refl) p) e r.gives
+  sends_echo e r = says (asks_placed old r.number _ (of_none _ _ _ tt refl) p) e r.gives
 
   sends_packet : (at : Bearer) (payload : List ℕ) → Leaves (SendsPacket old at payload)
   sends_packet at payload e r = says p e r.gives
@@ -382,8 +413,16 @@ module _ (old : Node) (p : IsPlaced old) where
     removal_asked : (d : DeleteBearerRequest) → Leaves (RemovalAsked request d old)
     removal_asked d = unless (says p) (λ room. unless (says (held_placed old _ p)) (λ at. unless (says p) (λ opened. removal_taken d d.linked at.session)))
 
+    -- the answer to a session that is made, alone or with the request for the template's bearer
+    answers_with : (template : Option Template) (a : CreateSessionResponse) (cause session : ℕ) (s : Session) (made : Node) → Among session made.drawn → IsPlaced made → Leaves (AnswersWith template request a cause session s made)
+    answers_with None a cause session s made own placed = says (held_placed made _ placed)
+    answers_with (Some t) a cause session s made own placed = unless (says (held_placed made _ placed)) (λ can e r.
+        says (held_placed _ _ (bearer_begun made session r.user (bearer_request made s t.tft t.qos r.user r.number) r.user_free own refl placed)) e r.gives)
+
     makes_session : (q : CreateSessionRequest) → Leaves (MakesSession request old q)
-    makes_session q e r = says (held_placed _ _ (session_comes old r.control r.user (made_session q r.address) (made_bearer q r.control) r.control_free r.user_free refl p)) e r.gives
+    makes_session q e r =
+        answers_with (template_for q.access_point old.config.templates) _ _ r.control _ _ (inr (inl refl))
+        (session_comes old r.control r.user (made_session q r.address) (made_bearer q r.control) r.control_free r.user_free refl p) e r.gives
 
     session_asked : (q : CreateSessionRequest) → Leaves (SessionAsked request q old)
     session_asked q =

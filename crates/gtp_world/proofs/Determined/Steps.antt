@@ -7,28 +7,31 @@ use Rattle.gtp_values.specs.declared.address.Endpoint.{Endpoint}
 use Rattle.gtp_tables.specs.Drawn.{drawn_up_to}
 use Rattle.gtp_tables.specs.Identity.{IsLowestUnused}
 use Rattle.gtp_reliable.specs.Waiting.{Waiting, just_sent}
-use Rattle.gtp_machine.specs.Message.{Plane, Control, User}
+use Rattle.gtp_machine.specs.Message.{CreateSessionResponse, CreateBearerRequest, Create_session_response, Create_bearer_request, Plane, Control, User}
 use Rattle.gtp_machine.specs.declared.role.Role.{Role}
 use Rattle.gtp_machine.specs.declared.role.Role.TheVariants.{Serving, Packet}
-use Rattle.gtp_machine.specs.Node.{PendingRequest, Node}
-use Rattle.gtp_machine.specs.Input.{Command, Input, Commanded, Out, Effect}
+use Rattle.gtp_machine.specs.Node.{PendingRequest, Arrival, Node}
+use Rattle.gtp_machine.specs.Input.{Command, ControlReading, Input, Commanded, Control_came, Out, Effect}
 use Rattle.gtp_machine.specs.Choice.{HasPending}
 use Rattle.gtp_machine.specs.Determined.{unchosen}
 use Rattle.gtp_machine.specs.Ordered.{Unless}
+use Rattle.gtp_machine.specs.Reading.{Both, datagram_reading}
 use Rattle.gtp_machine.specs.Spelling.{Datagram, datagram_of}
-use Rattle.gtp_machine.specs.Step.{Step}
+use Rattle.gtp_machine.specs.Step.{Step, TakesPair}
 use Rattle.gtp_machine.specs.Tick.{Ticks}
 use Rattle.gtp_machine.specs.World.{By, EventOutcome, Ticked, Restarted, No_such_datagram, Restarts_used, Cut_too_long, Event, Does, Tick, Deliver, Cut, Restart, other}
 use Rattle.gtp_machine.proofs.Basics.Facts.{one_value}
 use Rattle.gtp_machine.proofs.Basics.FiniteMaps.{found-insert, get-insert_same}
-use Rattle.gtp_machine.proofs.Determined.Alike.{Alike}
+use Rattle.gtp_machine.proofs.Determined.Alike.{WaitsBeside, Alike}
 use Rattle.gtp_machine.proofs.Determined.Steps.{step_done}
 use Rattle.gtp_machine.proofs.Determined.Ticks.{one_tick}
+use Rattle.gtp_machine.proofs.Requests.Opening.{opening, same_drawn, none_made}
 use Rattle.gtp_gateway.specs.declared.purpose.Purpose.{Purpose}
 use Rattle.gtp_gateway.specs.Choosing.{MakesLowestSession, MakesLowestBearer, MakesLowest}
 use Rattle.gtp_gateway.specs.Determined.{AreLeftAlike}
 use Rattle.gtp_gateway.specs.Parts.{arrival_of, pending_of, pending_in}
-use Rattle.gtp_gateway.specs.Received.{coming}
+use Rattle.gtp_gateway.specs.Pair.{first_part, second_part}
+use Rattle.gtp_gateway.specs.Received.{coming, first_comes, second_comes}
 use Rattle.gtp_gateway.specs.Settings.{Settings}
 use Rattle.gtp_gateway.specs.Station.{Timing, Station, starting, IsTied}
 use Rattle.gtp_gateway.specs.Ticked.{due_in}
@@ -36,10 +39,12 @@ use Rattle.gtp_gateway.proofs.ChosenOnce.{one_lowest_address, one_lowest_identit
 use Rattle.gtp_gateway.proofs.Requests.{pending_push}
 use Rattle.gtp_world.specs.Kept.{oldest_first, Half, Log, Kept, half_in, with_half}
 use Rattle.gtp_world.specs.Determined.{HalvesAlike, WorldsAlike}
-use Rattle.gtp_world.specs.Stepped.{WaitsFor, AsksFor, KeepsOn, TakesLowest, Takes, Brings, TicksBy, half_after, kept_after, log_after, log_with, sent_at, passed_over, counter_after, half_restarted, IsThere, IsLate, Comes}
+use Rattle.gtp_world.specs.Last.{last_octets}
+use Rattle.gtp_world.specs.Stepped.{WaitsFor, AsksFor, KeepsOn, TakesLowest, Takes, TakesBoth, TakesOn, Brings, TicksBy, half_after, kept_after, kept_after_both, log_after, log_after_both, log_with, sent_at, passed_over, counter_after, half_restarted, IsThere, IsLate, Comes}
 use Rattle.gtp_world.proofs.Determined.Commands.{IsQuiet, IsBegun, commanded, unchosen_begun}
-use Rattle.gtp_world.proofs.Determined.Lasting.{Lasts, lasts_fits, lasts_once, keeps_goes, asks_ready, BothLast, last_of}
-use Rattle.gtp_world.proofs.Determined.Left.{same_due, one_free, left_stays, left_begun, left_goes, left_ticked}
+use Rattle.gtp_world.proofs.Determined.Lasting.{Lasts, lasts_fits, lasts_once, lasts_bring, mid_ready, keeps_goes, asks_ready, BothLast, last_of}
+use Rattle.gtp_world.proofs.Determined.Left.{same_due, one_free, left_stays, left_begun, left_goes, number_begun, left_ticked}
+use Rattle.gtp_world.proofs.Determined.Opening.{bearers_from, none_from}
 
 tied_draws : (new : Station) (node : Node) → new.node ≡ node → IsTied new → node.drawn ≡ drawn_up_to node.counter (length node.drawn)
 tied_draws new node is tied = subst (λ (k : Node). k.drawn ≡ drawn_up_to k.counter (length k.drawn)) is tied.drawn
@@ -57,8 +62,9 @@ module _ (one other : Station) (alike : AreLeftAlike one other) (l : Lasts one) 
   -- and where the lowest is taken of what is free, and the same number, they are one
   module _ (new left : Station) (new_is : new.node ≡ e.node) (left_is : left.node ≡ f.node) (new_stays : new.role ≡ one.role) (left_stays_so : left.role ≡ other.role) (new_tied : IsTied new) (left_tied : IsTied left)
       (new_lowest : TakesLowest new.role e.out one.node new.node) (left_lowest : TakesLowest left.role f.out other.node left.node) where
-    one_effect : ((command : Command) → input ≡ Commanded command → (number : ℕ) → get one.node.pending number ≡ None → HasPending e.node number → HasPending f.node number) → e ≡ f
-    one_effect numbers = both.one (record {
+    one_effect : ((command : Command) → input ≡ Commanded command → (number : ℕ) → get one.node.pending number ≡ None → HasPending e.node number → HasPending f.node number)
+        → ((request : Arrival) (reading : ControlReading) → input ≡ Control_came request reading → (others : FiniteMap PendingRequest) (m n : ℕ) (p q : PendingRequest) → WaitsBeside one.node.drawn e.node.pending others m p → WaitsBeside one.node.drawn f.node.pending others n q → m ≡ n) → e ≡ f
+    one_effect numbers wanted = both.one (record {
       drawn = one_drawn e.node f.node (tied_draws new e.node new_is new_tied) (tied_draws left f.node left_is left_tied) both.tell.counter both.tell.draws;
       addresses = λ request reading is packet made others t a b x y version p q in_one in_other.
           let first_lowest = lowest_address one.node e.node others t a (subst (λ k. MakesLowestSession one.node k) new_is (subst (λ r. MakesLowest r one.node new.node) packet (made_lowest made))) x version p in_one in
@@ -69,6 +75,7 @@ module _ (one other : Station) (alike : AreLeftAlike one other) (l : Lasts one) 
           let second_lowest = lowest_identity one.node f.node others t b (subst (λ k. MakesLowestBearer one.node k) left_is (subst (λ r. MakesLowest r one.node left.node) serving (also_lowest made))) y in
           first_lowest.1 ∙ (ap (λ k. Some k) (one_lowest_identity others a.session first_lowest.0 second_lowest.0 first_lowest.2 (subst (λ k. IsLowestUnused others k second_lowest.0) (sym session) second_lowest.2)) ∙ sym second_lowest.1);
       numbers = numbers;
+      wanted = λ request reading is packet made. wanted request reading is;
     })
       where
         made_lowest : e.out.made ≢ [] → MakesLowest one.role one.node new.node
@@ -105,6 +112,35 @@ none_new old one other same number free waits = absurd (never waits.pending (ap 
   where
     never : (x : PendingRequest) → get old.pending number ≡ Some x → ⊥
     never x e = cc
+
+-- ---- what is kept after one step, and after two
+
+half_after_alike : (h k : Half) → HalvesAlike h k → (new left : Station) → AreLeftAlike new left → (out : Out) → HalvesAlike (half_after h new out) (half_after k left out)
+half_after_alike h k a new left leaves out = record {
+  settings = a.settings;
+  station = leaves;
+  first = a.first;
+  restarts = a.restarts;
+  seen = ap (λ l. l ++ option_to_list out.heard) a.seen;
+  forgotten = ap (λ l. l ++ out.forgot) a.forgotten;
+  made = ap (λ l. l ++ oldest_first out.made) a.made;
+}
+
+after_alike : (u v : Kept) → WorldsAlike u v → (role : Role) (new left : Station) → AreLeftAlike new left → (out : Out) (sent : List Datagram) (outcome : EventOutcome) (late : Bool) → WorldsAlike (kept_after u role new out sent outcome late) (kept_after v role left out sent outcome late)
+after_alike u v alike Serving new left leaves out sent outcome late = record { serving = half_after_alike u.serving v.serving alike.serving new left leaves out; packet = alike.packet; log = λ i. log_after (alike.log i) Serving out sent outcome late }
+after_alike u v alike Packet new left leaves out sent outcome late = record { serving = alike.serving; packet = half_after_alike u.packet v.packet alike.packet new left leaves out; log = λ i. log_after (alike.log i) Packet out sent outcome late }
+
+both_after_alike : (u v : Kept) → WorldsAlike u v → (role : Role) (new left : Station) → AreLeftAlike new left → (first second : Effect) (sent more : List Datagram) (late : Bool) → WorldsAlike (kept_after_both u role new first second sent more late) (kept_after_both v role left first second sent more late)
+both_after_alike u v alike Serving new left leaves first second sent more late = record {
+  serving = half_after_alike (half_after u.serving new first.out) (half_after v.serving left first.out) (half_after_alike u.serving v.serving alike.serving new left leaves first.out) new left leaves second.out;
+  packet = alike.packet;
+  log = λ i. log_after_both (alike.log i) Serving first second sent more late;
+}
+both_after_alike u v alike Packet new left leaves first second sent more late = record {
+  serving = alike.serving;
+  packet = half_after_alike (half_after u.packet new first.out) (half_after v.packet left first.out) (half_after_alike u.packet v.packet alike.packet new left leaves first.out) new left leaves second.out;
+  log = λ i. log_after_both (alike.log i) Packet first second sent more late;
+}
 
 -- ---- one effect, and gateways that are alike after it
 
@@ -146,12 +182,15 @@ module _ (u v : Kept) (alike : WorldsAlike u v) (role : Role) (lasts : BothLast 
     came_too : IsBegun s.effect ⊎ IsQuiet two.node s.effect
     came_too = commanded two.node two.role c s.effect s.step
 
+    no_datagram : (request : Arrival) (reading : ControlReading) → Commanded c ≡ Control_came request reading → ⊥
+    no_datagram request reading e = cc
+
     same_effect : ((number : ℕ) → get one.node.pending number ≡ None → HasPending t.effect.node number → HasPending s.effect.node number) → t.effect ≡ s.effect
     same_effect numbers =
         one_effect one two stations (last_of u lasts role) (Commanded c) t.effect s.effect t.step s.step t.station s.station t.node s.node t.role_stays s.role_stays
         (asks_ready one t.station _ t.effect (last_of u lasts role) came t.node t.timed).0
         (asks_ready two s.station _ s.effect (last_of v lasts_too role) came_too s.node s.timed).0
-        t.lowest s.lowest (λ command is. numbers)
+        t.lowest s.lowest (λ command is. numbers) (λ request reading is. absurd (no_datagram request reading is))
 
     tells : unchosen (Commanded c) t.effect.outcome ≡ unchosen (Commanded c) s.effect.outcome
     tells = (both one two stations (last_of u lasts role) (Commanded c) t.effect s.effect t.step s.step).tell.outcome
@@ -193,30 +232,107 @@ module _ (u v : Kept) (alike : WorldsAlike u v) (role : Role) (lasts : BothLast 
     datagram_one =
         let goes = keeps_goes plane source octets _ t.effect.outcome one t.station t.timed in
         let goes_too = keeps_goes plane source octets _ s.effect.outcome two s.station s.timed in
+        let l = last_of u lasts role in
+        let k = last_of v lasts_too role in
         let same : t.effect ≡ s.effect =
-        one_effect one two stations (last_of u lasts role) (coming plane source octets) t.effect s.effect t.step s.step t.station s.station t.node s.node t.role_stays s.role_stays
-        goes.tied goes_too.tied t.lowest s.lowest (λ c is. absurd (no_command plane source octets c is)) in
+        one_effect one two stations l (coming plane source octets) t.effect s.effect t.step s.step t.station s.station t.node s.node t.role_stays s.role_stays
+        goes.tied goes_too.tied t.lowest s.lowest (λ c is. absurd (no_command plane source octets c is))
+        (λ request reading is others m n p q waits too.
+        number_begun one two t.station s.station stations l.apart k.apart source octets goes goes_too (lasts_bring one l) l.tied k.tied others m n p q
+        (subst (λ (x : Node). WaitsBeside one.node.drawn x.pending others m p) (sym t.node) waits)
+        (subst (λ (x : Node). WaitsBeside one.node.drawn x.pending others n q) (sym s.node) too)) in
         record {
           effect = same;
-          leaves = left_goes one two t.station s.station stations (t.role_stays ∙ (stations.role ∙ sym s.role_stays)) (t.node ∙ (ap (λ (k : Effect). k.node) same ∙ sym s.node)) (last_of u lasts role).apart (last_of v lasts_too role).apart source octets goes goes_too;
+          leaves = left_goes one two t.station s.station stations (t.role_stays ∙ (stations.role ∙ sym s.role_stays)) (t.node ∙ (ap (λ (x : Effect). x.node) same ∙ sym s.node)) l.apart k.apart source octets goes goes_too;
         }
 
+  -- ---- two messages of one datagram
+
+  module _ (source : Endpoint) (octets : List ℕ) (answer : CreateSessionResponse) (asked : CreateBearerRequest) (late : Bool) (new left : Kept) (serves : one.role ≡ Serving) (t : TakesBoth u role source octets answer asked late new) (s : TakesBoth v role source octets answer asked late left) where
+    abbrev lies : Arrival
+    lies = arrival_of source (first_part octets)
+
+    not_packet : one.role ≡ Packet → ⊥
+    not_packet packet = let apart : Serving ≡ Packet = sym serves ∙ packet in cc apart
+
+    served : (input : Input) (e : Effect) → Step one.role one.node input e → Step Serving one.node input e
+    served input e step = subst (λ r. Step r one.node input e) serves step
+
+    -- the first chooses nothing
+    first_one : t.first ≡ s.first
+    first_one =
+        let input = first_comes source octets answer in
+        let here = served input t.first t.step in
+        let also = served input s.first (there one two stations (last_of u lasts role) input t.first s.first t.step s.step) in
+        (both one two stations (last_of u lasts role) input t.first s.first t.step s.step).one (record {
+          drawn = same_drawn one.node lies t.first (opening lies answer one.node t.first here) ∙ sym (same_drawn one.node lies s.first (opening lies answer one.node s.first also));
+          addresses = λ request reading is packet. absurd (not_packet packet);
+          identities = λ request reading is serving made. absurd (made (none_made one.node lies t.first (opening lies answer one.node t.first here)));
+          numbers = λ command is. absurd (cc is);
+          wanted = λ request reading is packet. absurd (not_packet packet);
+        })
+
+    abbrev mid : Node
+    mid = t.first.node
+
+    -- the second finds one gateway
+    follows_too : Step one.role mid (second_comes source octets asked) s.second
+    follows_too = subst (λ (x : Effect). Step one.role x.node (second_comes source octets asked) s.second) (sym first_one) (subst (λ r. Step r s.first.node (second_comes source octets asked) s.second) (sym stations.role) s.follows)
+
+    second_both : Alike one.role mid (second_comes source octets asked) t.second s.second
+    second_both = let m = mid_ready one (last_of u lasts role) (first_comes source octets answer) t.first t.step in step_done one.role mid (second_comes source octets asked) m.0 m.1 t.second s.second t.follows follows_too
+
+    -- what is the lowest beside what stood before the first is so beside what stands after it
+    since : (new : Node) → MakesLowestBearer one.node new → MakesLowestBearer mid new
+    since new l = record {
+      teid = l.teid;
+      bearer = l.bearer;
+      others = l.others;
+      identity = l.identity;
+      bearers = l.bearers;
+      beside = l.beside;
+      before = none_from one.node mid (bearers_from lies answer one.node t.first (served (first_comes source octets answer) t.first t.step)) l.teid l.before;
+      has = l.has;
+      lowest = l.lowest;
+    }
+
+    second_lowest : t.second.out.made ≢ [] → MakesLowestBearer mid t.second.node
+    second_lowest made = since t.second.node (subst (λ k. MakesLowestBearer one.node k) t.node (subst (λ r. MakesLowest r one.node t.station.node) (t.role_stays ∙ serves) (t.lowest made)))
+
+    second_lowest_too : t.second.out.made ≢ [] → MakesLowestBearer mid s.second.node
+    second_lowest_too made =
+        since s.second.node (subst (λ k. MakesLowestBearer one.node k) s.node
+        (subst (λ n. MakesLowestBearer n s.station.node) (sym stations.node)
+        (subst (λ r. MakesLowest r two.node s.station.node) (s.role_stays ∙ (sym stations.role ∙ serves))
+        (s.lowest (λ none. made (ap (λ (o : Out). o.made) second_both.tell.told ∙ none))))))
+
+    second_one : t.second ≡ s.second
+    second_one = second_both.one (record {
+      drawn = one_drawn t.second.node s.second.node (tied_draws t.station t.second.node t.node t.timed.tied) (tied_draws s.station s.second.node s.node s.timed.tied) second_both.tell.counter second_both.tell.draws;
+      addresses = λ request reading is packet. absurd (not_packet packet);
+      identities = λ request reading is serving made others x a b p q session.
+          let first = lowest_identity mid t.second.node others x a (second_lowest made) p in
+          let second = lowest_identity mid s.second.node others x b (second_lowest_too made) q in
+          first.1 ∙ (ap (λ k. Some k) (one_lowest_identity others a.session first.0 second.0 first.2 (subst (λ k. IsLowestUnused others k second.0) (sym session) second.2)) ∙ sym second.1);
+      numbers = λ command is. absurd (cc is);
+      wanted = λ request reading is packet. absurd (not_packet packet);
+    })
+
+    pair_left : AreLeftAlike t.station s.station
+    pair_left =
+        left_goes one two t.station s.station stations (t.role_stays ∙ (stations.role ∙ sym s.role_stays)) (t.node ∙ (ap (λ (x : Effect). x.node) second_one ∙ sym s.node))
+        (last_of u lasts role).apart (last_of v lasts_too role).apart source (second_part octets) t.timed s.timed
+
+    pair_becomes : kept_after_both v role s.station s.first s.second (sent_at (half_in v role) s.first.out) (sent_at (half_in v role) s.second.out) late ≡ kept_after_both v role s.station t.first t.second (sent_at (half_in u role) t.first.out) (sent_at (half_in u role) t.second.out) late
+    pair_becomes = λ i. kept_after_both v role s.station (sym first_one i) (sym second_one i) (sym (same_sent t.first s.first first_one) i) (sym (same_sent t.second s.second second_one) i) late
+
+    pair_alike : WorldsAlike new left
+    pair_alike =
+        subst (λ k. WorldsAlike k left) (sym t.becomes)
+        (subst (λ k. WorldsAlike (kept_after_both u role t.station t.first t.second (sent_at (half_in u role) t.first.out) (sent_at (half_in u role) t.second.out) late) k) (sym (s.becomes ∙ pair_becomes))
+        (both_after_alike u v alike role t.station s.station pair_left t.first t.second (sent_at (half_in u role) t.first.out) (sent_at (half_in u role) t.second.out) late))
+
 -- ---- what is kept after it
-
-half_after_alike : (h k : Half) → HalvesAlike h k → (new left : Station) → AreLeftAlike new left → (out : Out) → HalvesAlike (half_after h new out) (half_after k left out)
-half_after_alike h k a new left leaves out = record {
-  settings = a.settings;
-  station = leaves;
-  first = a.first;
-  restarts = a.restarts;
-  seen = ap (λ l. l ++ option_to_list out.heard) a.seen;
-  forgotten = ap (λ l. l ++ out.forgot) a.forgotten;
-  made = ap (λ l. l ++ oldest_first out.made) a.made;
-}
-
-after_alike : (u v : Kept) → WorldsAlike u v → (role : Role) (new left : Station) → AreLeftAlike new left → (out : Out) (sent : List Datagram) (outcome : EventOutcome) (late : Bool) → WorldsAlike (kept_after u role new out sent outcome late) (kept_after v role left out sent outcome late)
-after_alike u v alike Serving new left leaves out sent outcome late = record { serving = half_after_alike u.serving v.serving alike.serving new left leaves out; packet = alike.packet; log = λ i. log_after (alike.log i) Serving out sent outcome late }
-after_alike u v alike Packet new left leaves out sent outcome late = record { serving = alike.serving; packet = half_after_alike u.packet v.packet alike.packet new left leaves out; log = λ i. log_after (alike.log i) Packet out sent outcome late }
 
 -- worlds that are what was kept of the same
 become_alike : (u v new left : Kept) (role : Role) (one two : Station) (out other : Out) (sent sent_too : List Datagram) (outcome outcome_too : EventOutcome) (late : Bool) → WorldsAlike u v → AreLeftAlike one two → out ≡ other → sent ≡ sent_too → outcome ≡ outcome_too → new ≡ kept_after u role one out sent outcome late → left ≡ kept_after v role two other sent_too outcome_too late → WorldsAlike new left
@@ -284,9 +400,38 @@ module _ (u v : Kept) (alike : WorldsAlike u v) (lasts : BothLast u) (lasts_too 
       refl
       t.becomes s.becomes
 
+  -- a datagram comes to one gateway of both
+  module _ (role : Role) (source : Endpoint) (octets : List ℕ) (late : Bool) (new left : Kept) where
+    whole_alike : (plane : Plane) → Takes u role (coming plane source octets) (KeepsOn plane source octets) late new → Takes v role (coming plane source octets) (KeepsOn plane source octets) late left → WorldsAlike new left
+    whole_alike plane t s = takes_alike u v alike role _ _ late new left t s (datagram_one u v alike role lasts lasts_too plane source octets late new left t s)
+
+    abbrev Pairs : Kept → Type 0
+    Pairs w = TakesPair (half_in w role).station.role (half_in w role).station.node.config (arrival_of source octets) (datagram_reading octets)
+
+    -- a pair is taken by both, or by none
+    pair_there : Pairs u → Pairs v
+    pair_there p = let s = (half_alike u v alike role).station in record { by = sym s.role ∙ p.by; peer = p.peer ∙ ap (λ (n : Node). n.config.peer.control) s.node; answer = p.answer; asked = p.asked; is = p.is }
+
+    pair_here : Pairs v → Pairs u
+    pair_here p = let s = (half_alike u v alike role).station in record { by = s.role ∙ p.by; peer = p.peer ∙ ap (λ (n : Node). n.config.peer.control) (sym s.node); answer = p.answer; asked = p.asked; is = p.is }
+
+    pairs_alike : (p : Pairs u) (q : Pairs v) → TakesBoth u role source octets p.answer p.asked late new → TakesBoth v role source octets q.answer q.asked late left → WorldsAlike new left
+    pairs_alike p q t s =
+        let both : Both (Create_session_response q.answer) (Create_bearer_request q.asked) ≡ Both (Create_session_response p.answer) (Create_bearer_request p.asked) = sym q.is ∙ p.is in
+        let answer : q.answer ≡ p.answer = cc both in
+        let asked : q.asked ≡ p.asked = cc both in
+        pair_alike u v alike role lasts lasts_too source octets p.answer p.asked late new left p.by t
+        (subst (λ k. TakesBoth v role source octets p.answer k late left) asked (subst (λ k. TakesBoth v role source octets k q.asked late left) answer s))
+
+    taken_alike : (plane : Plane) → TakesOn u role plane source octets late new → TakesOn v role plane source octets late left → WorldsAlike new left
+    taken_alike Control (inl t) (inl s) = whole_alike Control t.1 s.1
+    taken_alike Control (inl t) (inr s) = absurd (t.0 (pair_here s.0))
+    taken_alike Control (inr t) (inl s) = absurd (s.0 (pair_there t.0))
+    taken_alike Control (inr t) (inr s) = pairs_alike t.0 s.0 t.1 s.1
+    taken_alike User t s = whole_alike User t s
+
   brings_alike : (sent : By Datagram) (octets : List ℕ) (late : Bool) (new left : Kept) → Brings u sent octets late new → Brings v sent octets late left → WorldsAlike new left
-  brings_alike sent octets late new left t s =
-      takes_alike u v alike (other sent.role) _ _ late new left t s (datagram_one u v alike (other sent.role) lasts lasts_too sent.what.plane sent.what.from octets late new left t s)
+  brings_alike sent octets late new left t s = taken_alike (other sent.role) sent.what.from octets late new left sent.what.plane t s
 
   -- the logs have the same datagrams
   same_found : (number : ℕ) (found : IsThere u.log.datagrams number) (also : IsThere v.log.datagrams number) → found.sent ≡ also.sent
@@ -299,10 +444,10 @@ module _ (u v : Kept) (alike : WorldsAlike u v) (lasts : BothLast u) (lasts_too 
   found_here number found = subst (λ (l : Log). IsThere l.datagrams number) (sym alike.log) found
 
   late_there : (role : Role) (d : Datagram) → IsLate (half_in u role) d → IsLate (half_in v role) d
-  late_there role d late = (late.0, subst (λ l. Among (arrival_of d.from d.octets) l) (half_alike u v alike role).forgotten late.1)
+  late_there role d late = (late.0, subst (λ l. Among (arrival_of d.from (last_octets d.octets)) l) (half_alike u v alike role).forgotten late.1)
 
   late_here : (role : Role) (d : Datagram) → IsLate (half_in v role) d → IsLate (half_in u role) d
-  late_here role d late = (late.0, subst (λ l. Among (arrival_of d.from d.octets) l) (sym (half_alike u v alike role).forgotten) late.1)
+  late_here role d late = (late.0, subst (λ l. Among (arrival_of d.from (last_octets d.octets)) l) (sym (half_alike u v alike role).forgotten) late.1)
 
   -- a delivery of a datagram that is there
   abbrev Delivered : Kept → By Datagram → Kept → Type 0

@@ -1,57 +1,117 @@
-use Rattle.std.proofs.Common.{◌≡◌, ◌+◌, refl, length, subst, ap, arith}
-use Rattle.gtp_capture.specs.Outcome.{Steps, RefusesNext, frame_of}
-use Rattle.gtp_capture.specs.Seen.{Takes, seen_in}
-use Rattle.gtp_capture.specs.declared.fault.Stop.TheVariants.{TooLong, Refused}
-use Rattle.gtp_capture.proofs.Going.{goes_on, ends, breaks, ours, stops, stops_by, refused_by}
+use Rattle.std.proofs.Common.{◌≡◌, ℕ, List, ◌≤◌, ◌+◌, ◌-◌, ◌^◌, refl, length, subst, ap, arith, inr}
+use Rattle.gtp_capture.specs.Frame.{Frame}
+use Rattle.gtp_capture.specs.Capture.{Holds, frame_in}
+use Rattle.gtp_capture.specs.Outcome.{Known, HasBegun, Steps, RefusesNext, piece_of, state_of}
+use Rattle.gtp_capture.specs.Seen.{Takes, seen_in, datagrams}
+use Rattle.gtp_capture.specs.declared.fault.Stop.TheVariants.{Refused}
+use Rattle.gtp_capture.specs.declared.step.Item.{Item}
+use Rattle.gtp_capture.specs.declared.step.Item.TheVariants as item
+use Rattle.gtp_capture.specs.declared.step.Step.TheVariants as step
+use Rattle.gtp_capture.proofs.Going.{begun, goes_on, ends, breaks, ours, stops_by, too_long, begun_long, goes_long, refused_by}
+use Rattle.gtp_capture.proofs.KnownOctets.{known_map}
 use Rattle.gtp_capture.proofs.reading.read_capture.Goals as goal
 
-pub returns-in_err-head : goal.returns-in_err-head
-returns-in_err-head g c =
+pub loop-init : goal.loop-init
+loop-init g c =
     let left = g.R.Read.remaining in
-    stops_by g.S.Sink.takes g.S.Sink.refuses (left c.args.reader.now) (left c.loop-number.reader) c.in-Some.kind c.loop-number.at c.loop-number.number c.args.sink.now c.loop-number.sink c.in_err-head.field-0.0 c.from_residual-in_err-head.result (ours c.in_err-head.field-0.0 c.in_err-head.ensures.err) c.loop-number.invariant.reached c.from_residual-in_err-head.ensures.1
+    record {
+      reached = begun c.args.ports g.S.Sink.takes (left c.args.reader.now) (left c.read_start.new.reader) c.in-Some.started (state_of c.in-Some.started.format c.new-interfaces.result.items) c.from-at.result c.args.sink.now (ap (state_of c.in-Some.started.format) c.new-interfaces.ensures.items) c.from-at.ensures
+          (subst (λ s. Known (HasBegun s) (left c.args.reader.now) (left c.read_start.new.reader)) c.in-Some.is c.in_ok-started.ensures.ok);
+      few = omega arith;
+      some = omega arith;
+      long = begun_long (left c.args.reader.now) (left c.read_start.new.reader) c.in-Some.started c.from-at.result c.from-at.ensures
+          (subst (λ s. Known (HasBegun s) (left c.args.reader.now) (left c.read_start.new.reader)) c.in-Some.is c.in_ok-started.ensures.ok);
+    }
+
+pub returns-in_err-found : goal.returns-in_err-found
+returns-in_err-found g c =
+    let left = g.R.Read.remaining in
+    stops_by c.args.ports g.S.Sink.takes g.S.Sink.refuses (left c.args.reader.now) (left c.loop.reader) (state_of c.loop.format c.loop.interfaces.items) c.loop.at c.loop.number c.args.sink.now c.loop.sink c.in_err-found.field-0.0 c.from_residual-in_err-found.result (ours c.in_err-found.field-0.0 c.in_err-found.ensures.err) c.loop.invariant.reached c.from_residual-in_err-found.ensures.1
 
 pub returns-in-End : goal.returns-in-End
 returns-in-End g c =
     let left = g.R.Read.remaining in
-    ends g.S.Sink.takes g.S.Sink.refuses (left c.args.reader.now) (left c.loop-number.reader) (left c.next_record.new.reader) c.in-Some.kind c.loop-number.at c.loop-number.number c.args.sink.now c.loop-number.sink c.next_record.new.room.items c.loop-number.invariant.reached
-    (subst (λ s. Steps c.in-Some.kind.order (left c.loop-number.reader) (left c.next_record.new.reader) s c.next_record.new.room.items) c.in-End.is c.in_ok-head.ensures.ok)
+    let state = state_of c.loop.format c.loop.interfaces.items in
+    let room = c.next_step.new.room.items in
+    ends c.args.ports g.S.Sink.takes g.S.Sink.refuses (left c.args.reader.now) (left c.loop.reader) (left c.next_step.new.reader) state c.loop.at c.loop.number (c.loop.number - 1) c.args.sink.now c.loop.sink room (omega (arith, c.loop.invariant.some)) c.loop.invariant.reached
+    (subst (λ is. Steps (state_of c.loop.format is) (left c.loop.reader) (left c.next_step.new.reader) step.End room) c.deref.ensures.value
+    (subst (λ s. Steps (state_of c.loop.format c.deref.result.now) (left c.loop.reader) (left c.next_step.new.reader) s room) c.in-End.is c.in_ok-found.ensures.ok))
 
 pub returns-in-Broken : goal.returns-in-Broken
 returns-in-Broken g c =
     let left = g.R.Read.remaining in
-    breaks g.S.Sink.takes g.S.Sink.refuses (left c.args.reader.now) (left c.loop-number.reader) (left c.next_record.new.reader) c.in-Some.kind c.loop-number.at c.loop-number.number c.args.sink.now c.loop-number.sink c.next_record.new.room.items c.loop-number.invariant.reached
-    (subst (λ s. Steps c.in-Some.kind.order (left c.loop-number.reader) (left c.next_record.new.reader) s c.next_record.new.room.items) c.in-Broken.is c.in_ok-head.ensures.ok)
-
-pub returns-in-None : goal.returns-in-None
-returns-in-None g c =
-    let left = g.R.Read.remaining in
-    let held = c.next_record.new.room.items in
-    let at = c.loop-number.at + (16 + length held) in
-    stops g.S.Sink.takes g.S.Sink.refuses (left c.args.reader.now) (left c.next_record.new.reader) c.in-Some.kind at (c.loop-number.number + 1) c.args.sink.now c.hand_on.new.sink TooLong tt
-    (goes_on g.S.Sink.takes (left c.args.reader.now) (left c.loop-number.reader) (left c.next_record.new.reader) c.in-Some.kind c.loop-number.at c.loop-number.number c.args.sink.now c.loop-number.sink c.hand_on.new.sink c.in-Frame.head held at (c.loop-number.number + 1) c.loop-number.invariant.reached
-    (subst (λ s. Steps c.in-Some.kind.order (left c.loop-number.reader) (left c.next_record.new.reader) s held) c.in-Frame.is c.in_ok-head.ensures.ok)
-    (subst (λ l. Takes g.S.Sink.takes c.loop-number.sink (seen_in c.in-Some.kind c.loop-number.number (frame_of c.in-Frame.head l)) c.hand_on.new.sink) c.deref.ensures.value c.in_ok-hand_on-in-Frame.ensures.ok) refl refl)
-
-pub loop-number-preserved : goal.loop-number-preserved
-loop-number-preserved g c =
-    let left = g.R.Read.remaining in
-    let held = c.next_record.new.room.items in
-    record {
-      reached = goes_on g.S.Sink.takes (left c.args.reader.now) (left c.loop-number.reader) (left c.next_record.new.reader) c.in-Some.kind c.loop-number.at c.loop-number.number c.args.sink.now c.loop-number.sink c.hand_on.new.sink c.in-Frame.head held c.in-Some-checked_add.at (c.loop-number.number + 1) c.loop-number.invariant.reached
-          (subst (λ s. Steps c.in-Some.kind.order (left c.loop-number.reader) (left c.next_record.new.reader) s held) c.in-Frame.is c.in_ok-head.ensures.ok)
-          (subst (λ l. Takes g.S.Sink.takes c.loop-number.sink (seen_in c.in-Some.kind c.loop-number.number (frame_of c.in-Frame.head l)) c.hand_on.new.sink) c.deref.ensures.value c.in_ok-hand_on-in-Frame.ensures.ok) (omega (arith, ap length c.deref.ensures.value, c.deref.ensures.len, c.in-Some-checked_add.ensures.1, c.len.ensures)) refl;
-    }
+    let state = state_of c.loop.format c.loop.interfaces.items in
+    let room = c.next_step.new.room.items in
+    breaks c.args.ports g.S.Sink.takes g.S.Sink.refuses (left c.args.reader.now) (left c.loop.reader) (left c.next_step.new.reader) state c.loop.at c.loop.number c.args.sink.now c.loop.sink room c.loop.invariant.reached
+    (subst (λ is. Steps (state_of c.loop.format is) (left c.loop.reader) (left c.next_step.new.reader) step.Broken room) c.deref.ensures.value
+    (subst (λ s. Steps (state_of c.loop.format c.deref.result.now) (left c.loop.reader) (left c.next_step.new.reader) s room) c.in-Broken.is c.in_ok-found.ensures.ok))
 
 pub returns : goal.returns
 returns g c =
     let left = g.R.Read.remaining in
-    stops g.S.Sink.takes g.S.Sink.refuses (left c.args.reader.now) (left c.loop-number.reader) c.in-Some.kind c.loop-number.at c.loop-number.number c.args.sink.now c.loop-number.sink TooLong tt c.loop-number.invariant.reached
+    let long = known_map (λ file rest. c.loop.counter ≤ c.loop.at) (λ file rest. 2 ^ 64 - 1 ≤ c.loop.at) (left c.args.reader.now) (left c.loop.reader) (λ x y h. omega (arith, h, c.loop-test.false)) c.loop.invariant.long in
+    too_long c.args.ports g.S.Sink.takes g.S.Sink.refuses (left c.args.reader.now) (left c.loop.reader) (state_of c.loop.format c.loop.interfaces.items) c.loop.at c.loop.number c.args.sink.now c.loop.sink c.loop.invariant.reached long
 
-pub returns-in_err-hand_on-in-Frame : goal.returns-in_err-hand_on-in-Frame
-returns-in_err-hand_on-in-Frame g c =
+pub returns-in_err-format : goal.returns-in_err-format
+returns-in_err-format g c =
     let left = g.R.Read.remaining in
-    let held = c.next_record.new.room.items in
-    refused_by g.S.Sink.takes g.S.Sink.refuses (left c.args.reader.now) (left c.loop-number.reader) (left c.next_record.new.reader) c.in-Some.kind c.loop-number.at c.loop-number.number c.args.sink.now c.loop-number.sink c.hand_on.new.sink c.in-Frame.head held c.in_err-hand_on-in-Frame.field-0.0 c.from_residual-in_err-hand_on-in-Frame.result c.loop-number.invariant.reached
-    (subst (λ s. Steps c.in-Some.kind.order (left c.loop-number.reader) (left c.next_record.new.reader) s held) c.in-Frame.is c.in_ok-head.ensures.ok)
-    (subst (λ l. (c.in_err-hand_on-in-Frame.field-0.0 ≡ Refused) × RefusesNext g.S.Sink.refuses c.loop-number.sink (seen_in c.in-Some.kind c.loop-number.number (frame_of c.in-Frame.head l)) c.hand_on.new.sink) c.deref.ensures.value c.in_err-hand_on-in-Frame.ensures.err)
-    c.from_residual-in_err-hand_on-in-Frame.ensures.1
+    stops_by c.args.ports g.S.Sink.takes g.S.Sink.refuses (left c.args.reader.now) (left c.loop.reader) (state_of c.loop.format c.loop.interfaces.items) c.loop.at c.loop.number c.args.sink.now c.loop.sink c.in_err-format.field-0.0 c.from_residual-in_err-format.result (ours c.in_err-format.field-0.0 (inr c.in_err-format.ensures.err)) c.loop.invariant.reached c.from_residual-in_err-format.ensures.1
+
+pub returns-in_err-number : goal.returns-in_err-number
+returns-in_err-number g c =
+    let left = g.R.Read.remaining in
+    let state = state_of c.loop.format c.loop.interfaces.items in
+    let room = c.next_step.new.room.items in
+    let f = c.in-Found.found in
+    let stop = c.in_err-number.field-0.0 in
+    let steps : Steps state (left c.loop.reader) (left c.next_step.new.reader) (step.Found f) room =
+    subst (λ is. Steps (state_of c.loop.format is) (left c.loop.reader) (left c.next_step.new.reader) (step.Found f) room) c.deref.ensures.value
+    (subst (λ s. Steps (state_of c.loop.format c.deref.result.now) (left c.loop.reader) (left c.next_step.new.reader) s room) c.in-Found.is c.in_ok-found.ensures.ok) in
+    refused_by c.args.ports g.S.Sink.takes g.S.Sink.refuses (left c.args.reader.now) (left c.loop.reader) (left c.next_step.new.reader) state c.loop.at c.loop.number c.args.sink.now c.loop.sink c.hand_on_piece.new.sink f room stop c.from_residual-in_err-number.result c.loop.invariant.reached steps
+    (subst (λ l. (stop ≡ Refused) × (h : Frame) × (piece_of f.item l ≡ Holds h) × RefusesNext g.S.Sink.refuses c.loop.sink (seen_in c.args.ports c.loop.number h) c.hand_on_piece.new.sink) c.deref-in-loop.ensures.value c.in_err-number.ensures.err)
+    c.from_residual-in_err-number.ensures.1
+
+pub returns-in-None : goal.returns-in-None
+returns-in-None g c =
+    let left = g.R.Read.remaining in
+    let state = state_of c.loop.format c.loop.interfaces.items in
+    let room = c.next_step.new.room.items in
+    let f = c.in-Found.found in
+    let later = state_of c.in_ok-format.format c.note.new.interfaces.items in
+    let next = c.in_ok-number.number in
+    let steps : Steps state (left c.loop.reader) (left c.next_step.new.reader) (step.Found f) room =
+    subst (λ is. Steps (state_of c.loop.format is) (left c.loop.reader) (left c.next_step.new.reader) (step.Found f) room) c.deref.ensures.value
+    (subst (λ s. Steps (state_of c.loop.format c.deref.result.now) (left c.loop.reader) (left c.next_step.new.reader) s room) c.in-Found.is c.in_ok-found.ensures.ok) in
+    too_long c.args.ports g.S.Sink.takes g.S.Sink.refuses (left c.args.reader.now) (left c.next_step.new.reader) later (c.loop.at + f.size) next c.args.sink.now c.hand_on_piece.new.sink
+    (goes_on c.args.ports g.S.Sink.takes (left c.args.reader.now) (left c.loop.reader) (left c.next_step.new.reader) state later c.loop.at c.loop.number (c.loop.at + f.size) next c.args.sink.now c.loop.sink c.hand_on_piece.new.sink f room c.loop.invariant.reached steps (c.in_ok-format.ensures.ok room)
+    (subst (λ l. Takes g.S.Sink.takes c.loop.sink (datagrams c.args.ports c.loop.number (frame_in (piece_of f.item l))) c.hand_on_piece.new.sink) c.deref-in-loop.ensures.value c.in_ok-number.ensures.ok)
+    refl (subst (λ l. next ≡ c.loop.number + length (frame_in (piece_of f.item l))) c.deref-in-loop.ensures.value c.in_ok-number.ensures.count))
+    (known_map (λ file rest. c.loop.counter + 1 ≤ c.loop.at + f.size) (λ file rest. 2 ^ 64 - 1 ≤ c.loop.at + f.size) (left c.args.reader.now) (left c.next_step.new.reader) (λ x y h. omega (arith, c.in-None.ensures, c.from.ensures))
+    (goes_long (left c.args.reader.now) (left c.loop.reader) (left c.next_step.new.reader) state c.loop.at c.loop.counter (c.loop.at + f.size) (c.loop.counter + 1) f room c.loop.invariant.long steps refl refl))
+
+frames_few : (i : Item) (room : List ℕ) → length (frame_in (piece_of i room)) ≤ 1
+frames_few (item.Frame h) room = omega arith
+frames_few (item.Section o) room = omega arith
+frames_few (item.Interface i) room = omega arith
+frames_few item.Other room = omega arith
+
+pub loop-preserved : goal.loop-preserved
+loop-preserved g c =
+    let left = g.R.Read.remaining in
+    let state = state_of c.loop.format c.loop.interfaces.items in
+    let room = c.next_step.new.room.items in
+    let f = c.in-Found.found in
+    let later = state_of c.in_ok-format.format c.note.new.interfaces.items in
+    let next = c.in_ok-number.number in
+    let counted = subst (λ l. next ≡ c.loop.number + length (frame_in (piece_of f.item l))) c.deref-in-loop.ensures.value c.in_ok-number.ensures.count in
+    let steps : Steps state (left c.loop.reader) (left c.next_step.new.reader) (step.Found f) room =
+    subst (λ is. Steps (state_of c.loop.format is) (left c.loop.reader) (left c.next_step.new.reader) (step.Found f) room) c.deref.ensures.value
+    (subst (λ s. Steps (state_of c.loop.format c.deref.result.now) (left c.loop.reader) (left c.next_step.new.reader) s room) c.in-Found.is c.in_ok-found.ensures.ok) in
+    record {
+      reached = goes_on c.args.ports g.S.Sink.takes (left c.args.reader.now) (left c.loop.reader) (left c.next_step.new.reader) state later c.loop.at c.loop.number c.in-Some-checked_add.at next c.args.sink.now c.loop.sink c.hand_on_piece.new.sink f room c.loop.invariant.reached steps (c.in_ok-format.ensures.ok room)
+          (subst (λ l. Takes g.S.Sink.takes c.loop.sink (datagrams c.args.ports c.loop.number (frame_in (piece_of f.item l))) c.hand_on_piece.new.sink) c.deref-in-loop.ensures.value c.in_ok-number.ensures.ok)
+          (omega (arith, c.in-Some-checked_add.ensures.1, c.from.ensures)) counted;
+      few = omega (arith, counted, frames_few f.item room, c.loop.invariant.few);
+      some = omega (arith, counted, c.loop.invariant.some);
+      long = goes_long (left c.args.reader.now) (left c.loop.reader) (left c.next_step.new.reader) state c.loop.at c.loop.counter c.in-Some-checked_add.at (c.loop.counter + 1) f room c.loop.invariant.long steps (omega (arith, c.in-Some-checked_add.ensures.1, c.from.ensures)) refl;
+    }

@@ -3,7 +3,7 @@ use Rattle.gtp_gateway.proofs.Determined.{receives_one, begins_one, ticks_one}
 use Rattle.gtp_gateway.proofs.laws.answers_are_determined.Goals as goal
 
 pub returns-clause-receive : goal.returns-clause-receive
-returns-clause-receive c = receives_one _ c.stands.ensures.whole c.stands.ensures.once c.stands.ensures.distinct
+returns-clause-receive c = receives_one _ c.stands.ensures.whole c.stands.ensures.once c.stands.ensures.tied c.stands.ensures.distinct
 
 pub returns-clause-command : goal.returns-clause-command
 returns-clause-command c = begins_one _ c.stands.ensures.whole c.stands.ensures.once c.stands.ensures.tied

@@ -2,6 +2,7 @@
 use Rattle.gtp_machine.proofs.Octets.ByName as named
 use Rattle.gtp_machine.proofs.Octets.ByGrammar as grammar
 use Rattle.gtp_machine.proofs.Octets.Datagrams.{datagram_by_grammar, message_reads_alone, datagram_cuts_read}
+use Rattle.gtp_machine.proofs.Octets.Pairs.{pair_cuts_read, pair_spelled_reads}
 use Rattle.gtp_machine.proofs.Octets.Readings as law
 use Rattle.gtp_machine.proofs.Octets.Spelled.{spelled_reads, spelled_apart}
 use Rattle.gtp_machine.proofs.laws.readings.Goals as goal
@@ -32,6 +33,12 @@ returns-clause-cuts c = grammar.cuts_read
 
 pub returns-clause-datagram_cuts : goal.returns-clause-datagram_cuts
 returns-clause-datagram_cuts c = datagram_cuts_read
+
+pub returns-clause-pair_cuts : goal.returns-clause-pair_cuts
+returns-clause-pair_cuts c = pair_cuts_read
+
+pub returns-clause-pair_spelled : goal.returns-clause-pair_spelled
+returns-clause-pair_spelled c = pair_spelled_reads
 
 pub returns-clause-user_cuts : goal.returns-clause-user_cuts
 returns-clause-user_cuts c = grammar.user_cuts_read

@@ -3,7 +3,7 @@ use Rattle.gtp_machine.proofs.Sound.Rows.{stays_sound, reached_sound}
 use Rattle.gtp_machine.proofs.Sound.Steps.{always_steps}
 use Rattle.gtp_machine.proofs.Sound.Ticks.{tick_stays_sound, always_ticks, gives_up_due}
 use Rattle.gtp_machine.proofs.Sound.Broken.{breaks_by_default}
-use Rattle.gtp_machine.proofs.Sound.Reads.{reads_whole, taken_whole}
+use Rattle.gtp_machine.proofs.Sound.Reads.{reads_whole, pair_reads_whole, taken_whole}
 use Rattle.gtp_machine.proofs.Sound.Changes.{fresh}
 use Rattle.gtp_machine.proofs.laws.sound_nodes.Goals as goal
 
@@ -33,6 +33,9 @@ returns-clause-breaks c = breaks_by_default
 
 pub returns-clause-whole : goal.returns-clause-whole
 returns-clause-whole c = reads_whole
+
+pub returns-clause-pair_whole : goal.returns-clause-pair_whole
+returns-clause-pair_whole c = pair_reads_whole
 
 pub returns-clause-taken_whole : goal.returns-clause-taken_whole
 returns-clause-taken_whole c = taken_whole

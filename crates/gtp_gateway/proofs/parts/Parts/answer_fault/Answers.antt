@@ -32,6 +32,6 @@ returns-clause-taken c = λ request from peer new.
     (record {
       effect = faulted request fault node;
       takes = fault_answered node request fault old.role f.kind refl c.requires (ap (λ (e : Endpoint). e.ip) from ∙ peer) new;
-      tells = record { sent = one_sent node.config _ _ sent (subst (λ m. ReadsBack (m ∷ [])) said c.in_ok-out.ensures.back); outcome = refl; heard = refl; restart = refl; made = refl; all = refl };
+      tells = record { sent = one_sent node.config _ _ sent (subst (λ m. ReadsBack (m ∷ [])) said c.in_ok-out.ensures.back); outcome = refl; alone = refl; heard = refl; restart = refl; made = refl; all = refl };
       stays = refl;
     })

@@ -9,13 +9,13 @@ use Rattle.gtp_machine.specs.Serving.{RemovalJudged, removal_cause}
 use Rattle.gtp_machine.specs.Spelling.{spelled}
 use Rattle.gtp_gateway.specs.declared.ending.NamedBearer.{NamedBearer}
 use Rattle.gtp_gateway.specs.Ending.{NamesEach, identity_named, number_in, removed_by, without_each}
-use Rattle.gtp_gateway.specs.GoesOn.{GoesOn}
+use Rattle.gtp_gateway.specs.Answering.{after_held}
 use Rattle.gtp_gateway.specs.Parts.{arrival_of}
 use Rattle.gtp_gateway.specs.Sent.{ReadsBack}
 use Rattle.gtp_gateway.specs.Station.{Station, station_of}
 use Rattle.gtp_gateway.specs.UserTaken.{WaitOn}
 use Rattle.gtp_gateway.proofs.Endings.{ends_judged}
-use Rattle.gtp_gateway.proofs.GoingOn.{then_goes}
+use Rattle.gtp_gateway.proofs.GoingOn.{tied_of, answered_goes}
 use Rattle.gtp_gateway.proofs.Rows.{answers}
 use Rattle.gtp_gateway.proofs.parts.Parts.end_named.Goals as goal
 
@@ -49,4 +49,5 @@ returns-clause-goes c =
     let left = station_of c.end_each.new.self in
     let new = station_of c.give.new.self in
     let waits = subst (λ (s : Station). WaitOn s left) c.ready_answer.ensures.same c.end_each.ensures.waits in
-    then_goes c.args.source c.args.octets.now old left new waits (subst (λ (r : List ℕ). GoesOn c.args.source r left new) c.in_ok-ready.ensures.request c.give.ensures.goes)
+    let answer = c.in_ok-ready.ready.answer.items in
+    answered_goes c.args.source c.args.octets.now old left new answer waits (c.give.ensures.timing ∙ (λ i. record left.timing { held = after_held c.args.source (c.in_ok-ready.ensures.request i) answer left.timing.held })) (tied_of c.give.new.self)

@@ -1,10 +1,13 @@
 use Rattle.std.proofs.Common.{refl}
 use Rattle.std.proofs.lemmas.List.Elements.{All-same, All-push}
-use Rattle.gtp_reliable.specs.Held.{HeldPair, just_kept}
-use Rattle.gtp_gateway.specs.Spelled.{AreSpelledAll}
+use Rattle.gtp_reliable.specs.Held.{just_kept}
+use Rattle.gtp_gateway.specs.Spelled.{IsKept}
 use Rattle.gtp_gateway.specs.Station.{station_of, timing_of}
 use Rattle.gtp_gateway.proofs.GoingOn.{tied_of, given_goes}
 use Rattle.gtp_gateway.proofs.parts.Parts.give.Goals as goal
+
+pub returns-clause-timing : goal.returns-clause-timing
+returns-clause-timing c = λ i. record (timing_of c.args.self.now) { timers = record (timing_of c.args.self.now).timers { hold = c.keep.ensures.hold i }; held = c.keep.ensures.pairs i }
 
 pub returns-clause-goes : goal.returns-clause-goes
 returns-clause-goes c =
@@ -13,11 +16,8 @@ returns-clause-goes c =
     given_goes c.args.source ready.request.items (station_of old) _ ready.answer.items
     (λ i. record (timing_of old) { timers = record (timing_of old).timers { hold = c.keep.ensures.hold i }; held = c.keep.ensures.pairs i }) (record { pending = refl; held = refl; drawn = (tied_of old).drawn })
 
-abbrev IsKept : HeldPair → Type 0
-IsKept p = AreSpelledAll p.answer
-
 pub invariant_of-self-clause-answered : goal.invariant_of-self-clause-answered
 invariant_of-self-clause-answered c =
     let old = c.args.self.now in
     let ready = c.args.ready in
-    All-same IsKept _ _ c.keep.ensures.pairs (All-push IsKept old.held.pairs (just_kept c.args.source ready.request.items ready.answer.items) old.answered c.requires.spelled)
+    All-same IsKept _ _ c.keep.ensures.pairs (All-push IsKept old.held.pairs (just_kept c.args.source ready.request.items ready.answer.items) old.answered (record { answer = c.requires.spelled; alone = c.requires.alone }))

@@ -1,4 +1,7 @@
 use Rattle.std.proofs.Common.{◌≡◌, Some, true, ◌∙◌, ap, subst, [], ◌∷◌}
+use Rattle.gtp_gateway.specs.Answering.{after_held}
+use Rattle.gtp_gateway.specs.UserTaken.{WaitOn}
+use Rattle.gtp_gateway.proofs.GoingOn.{tied_of, answered_goes}
 use Rattle.gtp_machine.specs.Config.{control_end}
 use Rattle.gtp_machine.specs.Message.{Control}
 use Rattle.gtp_machine.specs.Node.{holding}
@@ -32,3 +35,10 @@ returns-clause-granted c =
           ∙ (λ i. holding (arrival_of c.args.source (ready.request i)) ((ready.read ∙ ap (λ m. m ∷ []) said) i) ((c.in_ok-make_granted.ensures.node ∙ ap (λ (s : Station). changed_by change (node_heard c.args.heard s.node)) same) i));
       role = c.give-out.ensures.role ∙ c.make_granted.ensures.role ∙ ap (λ (s : Station). s.role) same;
     }
+
+pub returns-clause-goes : goal.returns-clause-goes
+returns-clause-goes c =
+    let mid = station_of c.make_granted.new.self in
+    let ready = c.in_ok-ready.ready in
+    answered_goes c.args.source c.args.octets.now (station_of c.args.self.now) mid (station_of c.give-out.new.self) ready.answer.items (subst (λ (s : Station). WaitOn s mid) c.ready_answer.ensures.same c.make_granted.ensures.waits)
+    (c.give-out.ensures.timing ∙ (λ i. record mid.timing { held = after_held c.args.source (c.in_ok-ready.ensures.request i) ready.answer.items mid.timing.held })) (tied_of c.give-out.new.self)

@@ -1,34 +1,37 @@
-use Rattle.std.proofs.Common.{◌≡◌, ℕ, ◌∷◌, [], Some, true, false, inl, inr, refl, sym, ◌∙◌, ap, subst}
+use Rattle.std.proofs.Common.{◌≡◌, ℕ, ◌∷◌, [], Option, Some, true, false, inl, inr, refl, sym, ◌∙◌, ap, subst}
 use Rattle.std.specs.FinMap.{get, insert}
 use Rattle.gtp_machine.specs.Answer.{refusing}
 use Rattle.gtp_machine.specs.Choice.{HasFreeIdentity, IsFreeIdentity}
 use Rattle.gtp_machine.specs.Element.{cause_of, tunnel_end}
 use Rattle.gtp_machine.specs.Input.{Of_create_bearer}
 use Rattle.gtp_machine.specs.Message.{Create_bearer_response}
-use Rattle.gtp_machine.specs.Node.{Bearer, Dedicated, Active}
+use Rattle.std.specs.Prelude.{is_some}
+use Rattle.gtp_machine.specs.Node.{Session, Bearer, Dedicated, Active}
 use Rattle.gtp_machine.specs.Serving.{no_resources}
 use Rattle.gtp_gateway.specs.Answering.{answering}
 use Rattle.gtp_gateway.specs.Parts.{node_of}
 use Rattle.gtp_gateway.proofs.Columns.{yes, no}
+use Rattle.gtp_gateway.proofs.Grants.{none_free}
+use Rattle.gtp_gateway.proofs.Pairing.{draws_there, all_there, granted_there}
 use Rattle.gtp_gateway.proofs.parts.Parts.judge_bearer.Goals as goal
 
-pub returns-then-not-is_open : goal.returns-then-not-is_open
-returns-then-not-is_open c = record {
+pub returns-then-not-is_open-clause-judged : goal.returns-then-not-is_open-clause-judged
+returns-then-not-is_open-clause-judged c = λ node stands. record {
   judged = λ request q says.
-      let old = node_of c.args.self.now in
+      let old = node in
       inr (
-        record { session = c.in-Some.session; stands = ap (get old.sessions) says.header ∙ (sym c.get.ensures ∙ c.in-Some.is) },
+        record { session = c.in-Some.session; stands = ap (get old.sessions) says.header ∙ (stands.session ∙ c.in-Some.is) },
         inl (no c.is_open.ensures c.if-not-is_open.true, refl),
       );
   chosen = tt;
 }
 
-pub returns-then-not-request : goal.returns-then-not-request
-returns-then-not-request c = record {
+pub returns-then-not-request-clause-judged : goal.returns-then-not-request-clause-judged
+returns-then-not-request-clause-judged c = λ node stands. record {
   judged = λ request q says.
-      let old = node_of c.args.self.now in
+      let old = node in
       inr (
-        record { session = c.in-Some.session; stands = ap (get old.sessions) says.header ∙ (sym c.get.ensures ∙ c.in-Some.is) },
+        record { session = c.in-Some.session; stands = ap (get old.sessions) says.header ∙ (stands.session ∙ c.in-Some.is) },
         inr (
           yes c.is_open.ensures c.if-not-is_open.false,
           inl (
@@ -40,12 +43,12 @@ returns-then-not-request c = record {
   chosen = refl;
 }
 
-pub returns-then-not-is_default : goal.returns-then-not-is_default
-returns-then-not-is_default c = record {
+pub returns-then-not-is_default-clause-judged : goal.returns-then-not-is_default-clause-judged
+returns-then-not-is_default-clause-judged c = λ node stands. record {
   judged = λ request q says.
-      let old = node_of c.args.self.now in
+      let old = node in
       inr (
-        record { session = c.in-Some.session; stands = ap (get old.sessions) says.header ∙ (sym c.get.ensures ∙ c.in-Some.is) },
+        record { session = c.in-Some.session; stands = ap (get old.sessions) says.header ∙ (stands.session ∙ c.in-Some.is) },
         inr (
           yes c.is_open.ensures c.if-not-is_open.false,
           inr (
@@ -60,12 +63,12 @@ returns-then-not-is_default c = record {
   chosen = refl;
 }
 
-pub returns-in_default-choose : goal.returns-in_default-choose
-returns-in_default-choose c = record {
+pub returns-in_default-choose-clause-judged : goal.returns-in_default-choose-clause-judged
+returns-in_default-choose-clause-judged c = λ node stands. record {
   judged = λ request q says.
-      let old = node_of c.args.self.now in
+      let old = node in
       inr (
-        record { session = c.in-Some.session; stands = ap (get old.sessions) says.header ∙ (sym c.get.ensures ∙ c.in-Some.is) },
+        record { session = c.in-Some.session; stands = ap (get old.sessions) says.header ∙ (stands.session ∙ c.in-Some.is) },
         inr (
           yes c.is_open.ensures c.if-not-is_open.false,
           inr (
@@ -73,7 +76,7 @@ returns-in_default-choose c = record {
             inr (
               says.linked ∙ yes c.is_default.ensures c.if-not-is_default.false,
               inl (
-                λ free. c.in_default-choose.ensures.none (subst (λ (t : ℕ). HasFreeIdentity old t) says.header free.0, free.1),
+                λ free. none_free old c.args.request.now.header.0 (all_there c.args.request.now.header.0 c.args.view.now.bearers old.bearers (stands.identities (ap (λ (o : Option Session). is_some o) c.in-Some.is)) (c.in_default-choose.ensures.none (draws_there c.args.request.now.header.0 c.args.found c.args.view.now.bearers (node_of c.args.self.now) old stands free.1))) (subst (λ (t : ℕ). HasFreeIdentity old t) says.header free.0),
                 λ i. answering false request (Create_bearer_response (no_resources old q (c.written_teid-header.ensures i)) ∷ []) 73 old,
               ),
             ),
@@ -83,16 +86,16 @@ returns-in_default-choose c = record {
   chosen = tt;
 }
 
-pub returns : goal.returns
-returns c = record {
+pub returns-clause-judged : goal.returns-clause-judged
+returns-clause-judged c = λ node stands. record {
   judged = λ request q says.
-      let old = node_of c.args.self.now in
+      let old = node in
       let grant = c.in-Some-choose.grant in
-      let chosen = c.in-Some-choose.ensures.some in
+      let chosen = granted_there c.args.request.now.header.0 c.args.found c.args.view.now.bearers (node_of c.args.self.now) old grant stands (ap (λ (o : Option Session). is_some o) c.in-Some.is) c.in-Some-choose.ensures.identity c.in-Some-choose.ensures.drawn in
       let teid = grant.drawn.teid.0 in
       let free : IsFreeIdentity old q.header grant.identity = record { range = record { low = chosen.identity.range.least; high = chosen.identity.range.most }; unused = subst (λ (t : ℕ). (k : ℕ) (b : Bearer) → get old.bearers k ≡ Some b → b.session ≡ t → b.identity ≡ Some grant.identity → ⊥) (sym says.header) chosen.identity.unused } in
       inr (
-        record { session = c.in-Some.session; stands = ap (get old.sessions) says.header ∙ (sym c.get.ensures ∙ c.in-Some.is) },
+        record { session = c.in-Some.session; stands = ap (get old.sessions) says.header ∙ (stands.session ∙ c.in-Some.is) },
         inr (
           yes c.is_open.ensures c.if-not-is_open.false,
           inr (
@@ -122,5 +125,5 @@ returns c = record {
           ),
         ),
       );
-  chosen = c.in-Some-choose.ensures.some;
+  chosen = granted_there c.args.request.now.header.0 c.args.found c.args.view.now.bearers (node_of c.args.self.now) node c.in-Some-choose.grant stands (ap (λ (o : Option Session). is_some o) c.in-Some.is) c.in-Some-choose.ensures.identity c.in-Some-choose.ensures.drawn;
 }

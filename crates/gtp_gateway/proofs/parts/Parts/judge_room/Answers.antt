@@ -13,6 +13,7 @@ use Rattle.gtp_gateway.specs.declared.session_grant.SessionVerdict.{SessionVerdi
 use Rattle.gtp_gateway.specs.Grant.{JudgesRoom}
 use Rattle.gtp_gateway.specs.Hearing.{node_heard}
 use Rattle.gtp_gateway.specs.Parts.{node_of}
+use Rattle.gtp_gateway.specs.Station.{station_of}
 use Rattle.gtp_gateway.proofs.Columns.{no}
 use Rattle.gtp_gateway.proofs.SessionGrants.{draws_left, still_free, lowest_given, none_given}
 use Rattle.gtp_gateway.proofs.parts.Parts.judge_room.Goals as goal
@@ -40,7 +41,7 @@ returns-in-Ok c =
     let lowest = c.in-Ok.ensures.free in
     let given = may_give left c.args.pdn.0 _ _ _ same pools c.asked_by.ensures address lowest in
     record {
-      judged = λ request q is. inr (
+      judged = λ request q is of. inr (
         (record { few = has_room _ _ (ap (λ (m : FiniteMap Session). len m) same) (no c.is_full.ensures c.if-is_full.false) }, draws_left c.args.heard node 2 drawn.left),
         inr (
           can_be_had left q.pdn address (given q.pdn is),
@@ -52,17 +53,17 @@ returns-in-Ok c =
             user_free = still_free c.args.heard node _ drawn.user_free;
             apart = drawn.apart;
             given = given q.pdn is;
-            gives = refl;
+            gives = c.judge_added.ensures.judged request q of;
           },
         ),
       );
-      is = record {
+      is = c.judge_added.ensures.is c.args.identity c.args.pdn.0 (record {
         can = drawn;
         lowest = subst (λ (m : FiniteMap Session). IsLowestGiven m node.config.pools (asked_by c.args.pdn.0) address) same
             (subst (λ (p : Pools). IsLowestGiven c.view_after-view.result.sessions p (asked_by c.args.pdn.0) address) c.pools.ensures
             (subst (λ (k : Asked). IsLowestGiven c.view_after-view.result.sessions c.pools.result k address) c.asked_by.ensures lowest));
         identity_is = refl;
-      };
+      });
     }
 
 pub returns-in-Err : goal.returns-in-Err
@@ -73,9 +74,9 @@ returns-in-Err c =
     let same = c.view_after-view.ensures.sessions in
     let pools : c.pools.result ≡ left.config.pools = c.pools.ensures ∙ ap (λ (x : Config). x.pools) (sym (config_stays c.args.heard node)) in
     let none = may_not_give left c.args.pdn.0 _ _ _ same pools c.asked_by.ensures c.in-Err.ensures.none in
-    subst (λ (v : SessionVerdict). JudgesRoom c.args.identity c.args.pdn.0 c.args.heard node v) (sym c.refused-in-Err.ensures)
+    subst (λ (v : SessionVerdict). JudgesRoom c.args.identity c.args.pdn.0 c.args.access_point.now c.args.heard (station_of c.args.self.now) v) (sym c.refused-in-Err.ensures)
     (record {
-      judged = λ request q is. inr (
+      judged = λ request q is of. inr (
         (record { few = has_room _ _ (ap (λ (m : FiniteMap Session). len m) same) (no c.is_full.ensures c.if-is_full.false) }, draws_left c.args.heard node 2 drawn.left),
         inl (none q.pdn is, refl),
       );

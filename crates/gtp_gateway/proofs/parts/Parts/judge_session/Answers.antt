@@ -11,6 +11,7 @@ use Rattle.gtp_gateway.specs.declared.session_request.SessionRequest.{SessionReq
 use Rattle.gtp_gateway.specs.Grant.{JudgesSession, IsVerdict}
 use Rattle.gtp_gateway.specs.Hearing.{node_heard}
 use Rattle.gtp_gateway.specs.Parts.{node_of}
+use Rattle.gtp_gateway.specs.Station.{station_of}
 use Rattle.gtp_gateway.specs.SessionAsked.{SaysSession}
 use Rattle.gtp_gateway.proofs.Columns.{yes, no}
 use Rattle.gtp_gateway.proofs.parts.Parts.judge_session.Goals as goal
@@ -46,7 +47,7 @@ pub returns-then-not-serves : goal.returns-then-not-serves
 returns-then-not-serves c =
     let r = c.args.request.now in
     let node = node_of c.args.self.now in
-    subst (λ (v : SessionVerdict). JudgesSession r c.args.heard node v) (sym c.refused-then-not-serves.ensures)
+    subst (λ (v : SessionVerdict). JudgesSession r c.args.heard (station_of c.args.self.now) v) (sym c.refused-then-not-serves.ensures)
     (record {
       judged = λ request q says. inr (
         says.alone.0 c.if-not-request.false,
@@ -62,7 +63,7 @@ pub returns-then-not-serves_type : goal.returns-then-not-serves_type
 returns-then-not-serves_type c =
     let r = c.args.request.now in
     let node = node_of c.args.self.now in
-    subst (λ (v : SessionVerdict). JudgesSession r c.args.heard node v) (sym c.refused-then-not-serves_type.ensures)
+    subst (λ (v : SessionVerdict). JudgesSession r c.args.heard (station_of c.args.self.now) v) (sym c.refused-then-not-serves_type.ensures)
     (record {
       judged = λ request q says. inr (
         says.alone.0 c.if-not-request.false,
@@ -90,10 +91,10 @@ returns c =
             serves r q says c.args.heard node (yes c.serves.ensures c.if-not-serves.false),
             inr (
               serves_type r q says c.args.heard node (yes c.serves_type.ensures c.if-not-serves_type.false),
-              c.judge_room.ensures.judged request q says.pdn,
+              c.judge_room.ensures.judged request q says.pdn says.access_point,
             ),
           ),
         ),
       );
-      is = subst (λ (n : ℕ). IsVerdict n r.pdn.0 c.judge_room.result c.args.heard node) (c.in-Ok.ensures.value ∙ c.number.ensures.value) c.judge_room.ensures.is;
+      is = subst (λ (n : ℕ). IsVerdict n r.pdn.0 c.judge_room.result c.args.heard (station_of c.args.self.now)) (c.in-Ok.ensures.value ∙ c.number.ensures.value) c.judge_room.ensures.is;
     }

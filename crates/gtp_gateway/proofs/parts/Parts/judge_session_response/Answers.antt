@@ -4,7 +4,8 @@ use Rattle.std.specs.FinMap.{get}
 use Rattle.gtp_values.specs.FiniteMap.{FiniteMap}
 use Rattle.gtp_machine.specs.Node.{Session, Bearer}
 use Rattle.gtp_gateway.specs.Hearing.{node_heard}
-use Rattle.gtp_gateway.specs.Parts.{node_of}
+use Rattle.gtp_machine.proofs.Basics.Facts.{one_value}
+use Rattle.gtp_gateway.specs.Parts.{bearer_of, node_of}
 use Rattle.gtp_gateway.specs.SessionAnswer.{JudgesSession}
 use Rattle.gtp_gateway.proofs.Columns.{yes, no}
 use Rattle.gtp_gateway.proofs.SessionAnswers.{does_not_fit, is_refused, not_described, bearer_refused, opens, default_stands, default_blank}
@@ -13,14 +14,14 @@ use Rattle.gtp_gateway.proofs.parts.Parts.judge_session_response.Goals as goal
 pub returns-in_default-fits_session : goal.returns-in_default-fits_session
 returns-in_default-fits_session c =
     let n = node_heard c.args.heard (node_of c.args.self.now) in
-    record { judged = λ a says. does_not_fit n c.args.answer.now a says c.in-Some.purpose c.in-Some.ensures.some c.in_default-fits_session.ensures.none; can = tt }
+    record { judged = λ a says. does_not_fit n c.args.answer.now a says c.in-Some.purpose c.in-Some.ensures.some c.in_default-fits_session.ensures.none; can = tt; of = tt }
 
 pub returns-then-not-accepts : goal.returns-then-not-accepts
 returns-then-not-accepts c =
     let n = node_heard c.args.heard (node_of c.args.self.now) in
     let k = c.in-Some-fits_session in
     subst (JudgesSession c.args.answer.now n) (sym c.rejects.ensures)
-    (record { judged = λ a says. is_refused n c.args.answer.now a says c.in-Some.purpose c.in-Some.ensures.some k.asked k.ensures.some (no c.accepts.ensures c.if-not-accepts.true); can = tt })
+    (record { judged = λ a says. is_refused n c.args.answer.now a says c.in-Some.purpose c.in-Some.ensures.some k.asked k.ensures.some (no c.accepts.ensures c.if-not-accepts.true); can = tt; of = ap bearer_of k.ensures.some.is })
 
 pub returns-in_default-described : goal.returns-in_default-described
 returns-in_default-described c =
@@ -30,6 +31,7 @@ returns-in_default-described c =
     record {
       judged = λ a says. not_described n c.args.answer.now a says c.in-Some.purpose c.in-Some.ensures.some k.asked k.ensures.some (yes c.accepts.ensures c.if-not-accepts.false) view.result.sessions view.ensures.sessions c.in_default-described.ensures.none;
       can = tt;
+      of = tt;
     }
 
 pub returns-then-not-accepts-2 : goal.returns-then-not-accepts-2
@@ -42,6 +44,7 @@ returns-then-not-accepts-2 c =
     (record {
       judged = λ a says. bearer_refused n c.args.answer.now a says c.in-Some.purpose c.in-Some.ensures.some k.asked k.ensures.some (yes c.accepts.ensures c.if-not-accepts.false) view.result.sessions view.ensures.sessions d.described d.ensures.some (no c.accepts-2.ensures c.if-not-accepts-2.true);
       can = tt;
+      of = ap bearer_of k.ensures.some.is;
     })
 
 -- the default bearer of the session stands
@@ -75,4 +78,5 @@ returns c =
           of = ap (λ (x : Bearer). x.session) c.opened_default.ensures;
         },
       );
+      of = λ other stands_too. ap (λ (x : Bearer). x.identity) c.opened_default.ensures ∙ ap (λ (x : Bearer). x.identity) (one_value (get n.bearers k.asked.bearer.0) b other there stands_too);
     }

@@ -1,34 +1,52 @@
-use Rattle.std.proofs.Common.{◌≡◌, ℕ, true, false, refl, sym, ap, ◌∙◌, subst}
-use Rattle.std.specs.Prelude.{is_some}
+use Rattle.std.proofs.Common.{◌≡◌, ℕ, List, Option, Some, None, Result, Ok, Err, true, false, inl, inr, refl, sym, ap, ◌∙◌, subst}
+use Rattle.std.specs.Prelude.{OnOk}
 use Rattle.std.proofs.lemmas.Result.{IfOk-weaker, on_err_weaker}
-use Rattle.gtp_v2.specs.Pair.{LiesIn}
-use Rattle.gtp_v2.specs.Datagram.{IsMessage}
-use Rattle.gtp_v2.specs.Viewed.{Viewed, Carries}
+use Rattle.gtp_v2.specs.Pair.{LiesIn, LieIn}
+use Rattle.gtp_v2.specs.Viewed.{Viewed}
 use Rattle.gtp_machine.specs.Decoded.{message_of}
 use Rattle.gtp_machine.specs.Input.{ControlReading, Control_came, Effect, dropped}
 use Rattle.gtp_machine.specs.Message.{Other_control}
+use Rattle.gtp_machine.specs.Reading.{Both, datagram_reading, taken_as}
+use Rattle.gtp_machine.specs.Step.{Step as MachineStep, TakesPair}
 use Rattle.gtp_machine.specs.declared.role.Role.{Role}
 use Rattle.gtp_machine.specs.declared.role.Role.TheVariants.{Serving, Packet}
-use Rattle.gtp_machine.specs.Step.{Step as MachineStep}
 use Rattle.gtp_machine.specs.declared.outcome.DropReason.TheVariants.{Unexpected}
 use Rattle.gtp_gateway.specs.declared.control_step.ControlStep.{ControlStep}
+use Rattle.gtp_values.specs.declared.address.Endpoint.{Endpoint}
+use Rattle.gtp_gateway.specs.declared.procedure.Procedure.TheVariants.{SessionAnswered, BearerAsked}
+use Rattle.gtp_gateway.specs.GoesOn.{GoesOn}
+use Rattle.gtp_gateway.specs.Faulty.{reading_of}
+use Rattle.gtp_gateway.specs.Needing.{StepSendsOrOpens}
 use Rattle.gtp_gateway.specs.Parts.{arrival_of}
 use Rattle.gtp_gateway.specs.Procedure.{procedure_at, HasNot, takes_by}
-use Rattle.gtp_gateway.specs.Faulty.{reading_of}
-use Rattle.gtp_gateway.specs.Station.{station_of}
-use Rattle.gtp_gateway.specs.Taken.{IsEntered, IsTaken}
-use Rattle.gtp_gateway.proofs.Left.{reads_message, reads_viewed, lies_alone, fault_received}
+use Rattle.gtp_gateway.specs.Station.{Station, station_of}
+use Rattle.gtp_gateway.specs.Taken.{IsEntered, IsTaken, IsNoPair}
+use Rattle.gtp_gateway.proofs.Columns.{yes, no}
+use Rattle.gtp_gateway.proofs.GoingOn.{on_ok, tied_of, same_goes}
+use Rattle.gtp_gateway.proofs.Left.{reads_message, reads_fault, fault_received}
+use Rattle.gtp_gateway.proofs.PairKinds.{answer_kind, request_kind, answer_of, request_of}
+use Rattle.gtp_gateway.proofs.Pairs.{alone_no_pair, one_reads, fault_reads, two_read, pair_viewed, parts_of}
 use Rattle.gtp_gateway.proofs.Procedures.{not_taken}
 use Rattle.gtp_gateway.proofs.Rows.{message_left}
 use Rattle.gtp_gateway.proofs.SentBack.{none_sent}
-use Rattle.gtp_gateway.specs.Needing.{StepSendsOrOpens}
-use Rattle.gtp_gateway.proofs.Left.{reads_fault}
 use Rattle.gtp_gateway.proofs.parts.Parts.receive_control.Goals as goal
 
 -- no gateway takes a message of a type that is none
 none_takes : (role : Role) → takes_by role (Other_control 0) ≡ true → ⊥
 none_takes Serving taken = let never : true ≡ false = sym taken in cc
 none_takes Packet taken = let never : true ≡ false = sym taken in cc
+
+-- where the second message is what it is
+lies_two : (octets : List ℕ) (first : Viewed) (given : Option Viewed) (second : Viewed) (back : List ℕ) → given ≡ Some second → LieIn octets first given back → LieIn octets first (Some second) back
+lies_two octets first given second back is lie = subst (λ (o : Option Viewed). LieIn octets first o back) is lie
+
+lies_one : (octets : List ℕ) (first : Viewed) (given : Option Viewed) (back : List ℕ) → given ≡ None → LieIn octets first given back → LiesIn octets first
+lies_one octets first given back is lie = (subst (λ (o : Option Viewed). LieIn octets first o back) is lie).0
+
+-- what holds anyway holds where a call succeeded
+on_any : {T E P : Type 0} (r : Result T E) → P → OnOk r P
+on_any (Ok x) holds = holds
+on_any (Err e) holds = tt
 
 pub flaw_of-requires : goal.flaw_of-requires
 flaw_of-requires c = c.in-Err.ensures.instance
@@ -37,25 +55,140 @@ pub returns-in-Err-clause-taken : goal.returns-in-Err-clause-taken
 returns-in-Err-clause-taken c =
     let old = station_of c.args.self.now in
     let fresh = subst (IsEntered c.args.source c.args.octets.now old c.args.self.now.held.pairs) c.in-New.is c.in_ok-step.ensures.entered in
-    IfOk-weaker c.take_flaw.result _ _ (λ step taken. fault_received c.args.source c.args.octets.now old c.in-Err.fault (reading_of c.flaw_of.result) step fresh.peer fresh.new c.in-Err.ensures.fault c.flaw_of.ensures taken) c.take_flaw.ensures.taken
+    IfOk-weaker c.take_flaw.result _ _ (λ step taken. inl (
+      alone_no_pair c.args.source c.args.octets.now old _ (fault_reads c.args.octets.now c.in-Err.fault c.in-Err.ensures.fault),
+      fault_received c.args.source c.args.octets.now old c.in-Err.fault (reading_of c.flaw_of.result) step fresh.peer fresh.new c.in-Err.ensures.fault c.flaw_of.ensures taken,
+    )) c.take_flaw.ensures.taken
 
-pub returns-then-is_some-clause-taken : goal.returns-then-is_some-clause-taken
-returns-then-is_some-clause-taken c =
+pub returns-in-Err-clause-goes : goal.returns-in-Err-clause-goes
+returns-in-Err-clause-goes c =
+    let old = station_of c.args.self.now in
+    on_any c.take_flaw.result (inl (alone_no_pair c.args.source c.args.octets.now old _ (fault_reads c.args.octets.now c.in-Err.fault c.in-Err.ensures.fault), same_goes c.args.source c.args.octets.now old old refl (tied_of c.args.self.now)))
+
+pub returns-in-Err-clause-memory : goal.returns-in-Err-clause-memory
+returns-in-Err-clause-memory c =
+    let old = station_of c.args.self.now in
+    let octets = c.args.octets.now in
+    let request = arrival_of c.args.source octets in
+    let fresh = subst (IsEntered c.args.source octets old c.args.self.now.held.pairs) c.in-New.is c.in_ok-step.ensures.entered in
+    on_err_weaker c.take_flaw.result (λ needs. inl (
+      alone_no_pair c.args.source octets old _ (fault_reads octets c.in-Err.fault c.in-Err.ensures.fault),
+      subst (λ (r : ControlReading). StepSendsOrOpens request r old) (c.flaw_of.ensures ∙ reads_fault octets c.in-Err.fault c.in-Err.ensures.fault) (needs request refl fresh.peer),
+    )) c.take_flaw.ensures.memory
+
+-- two messages that are no pair
+no_such_pair : (source : Endpoint) (octets : List ℕ) (old : Station) (first second : Viewed) (back : List ℕ) → LieIn octets first (Some second) back → ((old.role ≡ Serving) × (procedure_at first.message.kind ≡ Some SessionAnswered) × (procedure_at second.message.kind ≡ Some BearerAsked) → ⊥) → IsNoPair source octets old
+no_such_pair source octets old first second back lie not pair =
+    let are = pair_viewed source octets old first second back lie pair in
+    not (pair.by, answer_kind pair.answer first.message are.answer, request_kind pair.asked second.message are.asked)
+
+-- the pair that the gateway takes
+the_pair : (source : Endpoint) (octets : List ℕ) (old : Station) (first second : Viewed) (back : List ℕ) → LieIn octets first (Some second) back → old.role ≡ Serving → source.ip ≡ old.node.config.peer.control → procedure_at first.message.kind ≡ Some SessionAnswered → procedure_at second.message.kind ≡ Some BearerAsked
+    → TakesPair old.role old.node.config (arrival_of source octets) (datagram_reading octets)
+the_pair source octets old first second back (front, announced, in_front, in_back) serving peer is_answer is_request =
+    let a = answer_of front first.message in_front.spelled is_answer in
+    let q = request_of back second.message in_back.spelled is_request in
+    record {
+      by = serving;
+      peer = peer;
+      answer = a.0;
+      asked = q.0;
+      is = two_read octets first second back (front, announced, in_front, in_back) ∙ (λ i. Both (a.1 i) (q.1 i));
+    }
+
+-- where the two lie, as they were handed on
+lies_so : (octets : List ℕ) (first given : Viewed) (second : Option Viewed) (other : Viewed) (back held : List ℕ) → given ≡ first → second ≡ Some other → held ≡ back → LieIn octets first second back → LieIn octets given (Some other) held
+lies_so octets first given second other back held same is all lie = subst (λ (v : Viewed). LieIn octets v (Some other) held) (sym same) (subst (λ (b : List ℕ). LieIn octets first (Some other) b) (sym all) (lies_two octets first second other back is lie))
+
+pub returns-then-not-takes_pair-clause-taken : goal.returns-then-not-takes_pair-clause-taken
+returns-then-not-takes_pair-clause-taken c =
     let old = station_of c.args.self.now in
     let source = c.args.source in
     let octets = c.args.octets.now in
     let view = c.in-Ok.view in
+    let first = c.message-message.result.now in
+    let second = c.in-Some.second in
+    let lie = lies_so octets view.message first view.second second view.back view.back c.message-message.ensures (sym c.second.ensures ∙ c.in-Some.is) refl c.in-Ok.ensures.lie in
     let fresh = subst (IsEntered source octets old c.args.self.now.held.pairs) c.in-New.is c.in_ok-step.ensures.entered in
     let effect : Effect = dropped old.node Unexpected in
-    let pair = reads_viewed octets view.message view.second c.in-Ok.ensures.found (sym (c.is_some.ensures ∙ ap is_some c.second.ensures) ∙ c.if-is_some.true) in
-    subst (λ (s : ControlStep). IsTaken source octets old s old) (sym c.dropped.ensures)
-    (record {
-      effect = effect;
-      takes = subst (λ (r : ControlReading). MachineStep old.role old.node (Control_came (arrival_of source octets) r) effect) pair (message_left old.role old.node (arrival_of source octets) (Other_control 0) fresh.peer fresh.new (none_takes old.role));
-      tells = record { sent = none_sent old.node.config; outcome = refl; heard = refl; restart = refl; made = refl; all = refl };
-      becomes = refl;
-      role = refl;
-    })
+    inl (
+      no_such_pair source octets old first second view.back lie (no c.takes_pair.ensures c.if-not-takes_pair.true),
+      subst (λ (s : ControlStep). IsTaken source octets old s old) (sym c.dropped.ensures)
+          (record {
+            effect = effect;
+            takes = subst (λ (r : ControlReading). MachineStep old.role old.node (Control_came (arrival_of source octets) r) effect) (sym (ap taken_as (two_read octets first second view.back lie))) (message_left old.role old.node (arrival_of source octets) (Other_control 0) fresh.peer fresh.new (none_takes old.role));
+            tells = record { sent = none_sent old.node.config; outcome = refl; alone = refl; heard = refl; restart = refl; made = refl; all = refl };
+            becomes = refl;
+            role = refl;
+          }),
+    )
+
+pub returns-then-not-takes_pair-clause-goes : goal.returns-then-not-takes_pair-clause-goes
+returns-then-not-takes_pair-clause-goes c =
+    let old = station_of c.args.self.now in
+    let octets = c.args.octets.now in
+    let view = c.in-Ok.view in
+    let lie = lies_so octets view.message c.message-message.result.now view.second c.in-Some.second view.back view.back c.message-message.ensures (sym c.second.ensures ∙ c.in-Some.is) refl c.in-Ok.ensures.lie in
+    inl (no_such_pair c.args.source octets old c.message-message.result.now c.in-Some.second view.back lie (no c.takes_pair.ensures c.if-not-takes_pair.true), same_goes c.args.source octets old old refl (tied_of c.args.self.now))
+
+pub take_pair-requires-clause-lie : goal.take_pair-requires-clause-lie
+take_pair-requires-clause-lie c =
+    let octets = c.args.octets.now in
+    let view = c.in-Ok.view in
+    (octets, lies_so octets view.message c.message-message.result.now view.second c.in-Some.second view.back c.back.result.now c.message-message.ensures (sym c.second.ensures ∙ c.in-Some.is) c.back.ensures c.in-Ok.ensures.lie)
+
+pub returns-in-Some-clause-taken : goal.returns-in-Some-clause-taken
+returns-in-Some-clause-taken c =
+    let old = station_of c.args.self.now in
+    let source = c.args.source in
+    let octets = c.args.octets.now in
+    let view = c.in-Ok.view in
+    let first = c.message-message.result.now in
+    let second = c.in-Some.second in
+    let back = c.back.result.now in
+    let lie = lies_so octets view.message first view.second second view.back back c.message-message.ensures (sym c.second.ensures ∙ c.in-Some.is) c.back.ensures c.in-Ok.ensures.lie in
+    let fresh = subst (IsEntered source octets old c.args.self.now.held.pairs) c.in-New.is c.in_ok-step.ensures.entered in
+    let are = yes c.takes_pair.ensures c.if-not-takes_pair.false in
+    let pair = the_pair source octets old first second back lie are.0 fresh.peer are.1 are.2 in
+    IfOk-weaker c.take_pair.result _ _ (λ step taken. inr (pair, taken octets lie pair.answer pair.asked (pair_viewed source octets old first second back lie pair))) c.take_pair.ensures.taken
+
+pub returns-in-Some-clause-goes : goal.returns-in-Some-clause-goes
+returns-in-Some-clause-goes c =
+    let old = station_of c.args.self.now in
+    let source = c.args.source in
+    let octets = c.args.octets.now in
+    let view = c.in-Ok.view in
+    let first = c.message-message.result.now in
+    let second = c.in-Some.second in
+    let back = c.back.result.now in
+    let lie = lies_so octets view.message first view.second second view.back back c.message-message.ensures (sym c.second.ensures ∙ c.in-Some.is) c.back.ensures c.in-Ok.ensures.lie in
+    let fresh = subst (IsEntered source octets old c.args.self.now.held.pairs) c.in-New.is c.in_ok-step.ensures.entered in
+    let are = yes c.takes_pair.ensures c.if-not-takes_pair.false in
+    let pair = the_pair source octets old first second back lie are.0 fresh.peer are.1 are.2 in
+    on_ok c.take_pair.result (λ goes. inr (pair, subst (λ (o : List ℕ). GoesOn source o old (station_of c.take_pair.new.self)) (sym (parts_of octets lie.0 back lie.1).second) goes)) c.take_pair.ensures.goes
+
+pub returns-in-Some-clause-memory : goal.returns-in-Some-clause-memory
+returns-in-Some-clause-memory c =
+    let old = station_of c.args.self.now in
+    let source = c.args.source in
+    let octets = c.args.octets.now in
+    let view = c.in-Ok.view in
+    let first = c.message-message.result.now in
+    let second = c.in-Some.second in
+    let back = c.back.result.now in
+    let lie = lies_so octets view.message first view.second second view.back back c.message-message.ensures (sym c.second.ensures ∙ c.in-Some.is) c.back.ensures c.in-Ok.ensures.lie in
+    let fresh = subst (IsEntered source octets old c.args.self.now.held.pairs) c.in-New.is c.in_ok-step.ensures.entered in
+    let are = yes c.takes_pair.ensures c.if-not-takes_pair.false in
+    let pair = the_pair source octets old first second back lie are.0 fresh.peer are.1 are.2 in
+    on_err_weaker c.take_pair.result (λ needs. inr (pair, needs octets lie pair.answer pair.asked (pair_viewed source octets old first second back lie pair))) c.take_pair.ensures.memory
+
+pub returns-in-Some-procedure_for-clause-taken : goal.returns-in-Some-procedure_for-clause-taken
+returns-in-Some-procedure_for-clause-taken c =
+    let old = station_of c.args.self.now in
+    let octets = c.args.octets.now in
+    let view = c.in-Ok.view in
+    let alone = lies_one octets view.message view.second view.back (sym c.second.ensures ∙ c.in_default.is) c.in-Ok.ensures.lie in
+    IfOk-weaker c.take_message.result _ _ (λ step taken. inl (alone_no_pair c.args.source octets old _ (one_reads octets view.message.message alone.spelled), taken)) c.take_message.ensures.taken
 
 pub returns-in-None-clause-taken : goal.returns-in-None-clause-taken
 returns-in-None-clause-taken c =
@@ -64,35 +197,26 @@ returns-in-None-clause-taken c =
     let octets = c.args.octets.now in
     let view = c.in-Ok.view in
     let m = view.message.message in
-    let alone : LiesIn octets view.message = lies_alone octets view.message view.second view.back c.in-Ok.ensures.lie (sym (c.is_some.ensures ∙ ap is_some c.second.ensures) ∙ c.if-is_some.false) in
+    let alone = lies_one octets view.message view.second view.back (sym c.second.ensures ∙ c.in_default.is) c.in-Ok.ensures.lie in
     let fresh = subst (IsEntered source octets old c.args.self.now.held.pairs) c.in-New.is c.in_ok-step.ensures.entered in
     let none : takes_by old.role (message_of m) ≡ false = not_taken old.role m (subst (λ (k : ℕ). HasNot old.role (procedure_at k)) (c.kind.ensures ∙ ap (λ (v : Viewed). v.message.kind) c.message-message.ensures) c.in-None.ensures.none) in
     let effect : Effect = dropped old.node Unexpected in
-    subst (λ (s : ControlStep). IsTaken source octets old s old) (sym c.dropped-in-None.ensures)
-    (record {
-      effect = effect;
-      takes = subst (λ (r : ControlReading). MachineStep old.role old.node (Control_came (arrival_of source octets) r) effect) (reads_message octets m alone.spelled) (message_left old.role old.node (arrival_of source octets) (message_of m) fresh.peer fresh.new (λ taken. let both : true ≡ false = sym taken ∙ none in cc));
-      tells = record { sent = none_sent old.node.config; outcome = refl; heard = refl; restart = refl; made = refl; all = refl };
-      becomes = refl;
-      role = refl;
-    })
+    inl (
+      alone_no_pair source octets old _ (one_reads octets m alone.spelled),
+      subst (λ (s : ControlStep). IsTaken source octets old s old) (sym c.dropped-in-None.ensures)
+          (record {
+            effect = effect;
+            takes = subst (λ (r : ControlReading). MachineStep old.role old.node (Control_came (arrival_of source octets) r) effect) (reads_message octets m alone.spelled) (message_left old.role old.node (arrival_of source octets) (message_of m) fresh.peer fresh.new (λ taken. let both : true ≡ false = sym taken ∙ none in cc));
+            tells = record { sent = none_sent old.node.config; outcome = refl; alone = refl; heard = refl; restart = refl; made = refl; all = refl };
+            becomes = refl;
+            role = refl;
+          }),
+    )
 
-pub returns-in-Err-clause-memory : goal.returns-in-Err-clause-memory
-returns-in-Err-clause-memory c =
+pub returns-in-None-clause-goes : goal.returns-in-None-clause-goes
+returns-in-None-clause-goes c =
     let old = station_of c.args.self.now in
     let octets = c.args.octets.now in
-    let request = arrival_of c.args.source octets in
-    let fresh = subst (IsEntered c.args.source octets old c.args.self.now.held.pairs) c.in-New.is c.in_ok-step.ensures.entered in
-    on_err_weaker c.take_flaw.result (λ needs. subst (λ (r : ControlReading). StepSendsOrOpens request r old) (c.flaw_of.ensures ∙ reads_fault octets c.in-Err.fault c.in-Err.ensures.fault) (needs request refl fresh.peer)) c.take_flaw.ensures.memory
-
-pub take_message-requires-clause-spelled : goal.take_message-requires-clause-spelled
-take_message-requires-clause-spelled c =
     let view = c.in-Ok.view in
-    let alone : LiesIn c.args.octets.now view.message = lies_alone c.args.octets.now view.message view.second view.back c.in-Ok.ensures.lie (sym (c.is_some.ensures ∙ ap is_some c.second.ensures) ∙ c.if-is_some.false) in
-    subst (λ (v : Viewed). IsMessage c.args.octets.now v.message) (sym c.message-message.ensures) alone.spelled
-
-pub take_message-requires-clause-carries : goal.take_message-requires-clause-carries
-take_message-requires-clause-carries c =
-    let view = c.in-Ok.view in
-    let alone : LiesIn c.args.octets.now view.message = lies_alone c.args.octets.now view.message view.second view.back c.in-Ok.ensures.lie (sym (c.is_some.ensures ∙ ap is_some c.second.ensures) ∙ c.if-is_some.false) in
-    subst (Carries c.args.octets.now) (sym c.message-message.ensures) alone.elements
+    let alone = lies_one octets view.message view.second view.back (sym c.second.ensures ∙ c.in_default.is) c.in-Ok.ensures.lie in
+    inl (alone_no_pair c.args.source octets old _ (one_reads octets view.message.message alone.spelled), same_goes c.args.source octets old old refl (tied_of c.args.self.now))

@@ -1,4 +1,4 @@
-use Rattle.std.proofs.Common.{◌≡◌, ◌∙◌, ap, subst, List, ℕ, [], ◌∷◌}
+use Rattle.std.proofs.Common.{◌≡◌, ◌∙◌, ap, subst, [], ◌∷◌}
 use Rattle.gtp_machine.specs.Answer.{refusing}
 use Rattle.gtp_machine.specs.Config.{control_end}
 use Rattle.gtp_machine.specs.Input.{Of_create_session}
@@ -6,9 +6,9 @@ use Rattle.gtp_machine.specs.Message.{Message, Control}
 use Rattle.gtp_machine.specs.Node.{holding}
 use Rattle.gtp_machine.specs.Reading.{control_message}
 use Rattle.gtp_machine.specs.Spelling.{spelled}
-use Rattle.gtp_gateway.specs.GoesOn.{GoesOn}
+use Rattle.gtp_gateway.specs.Answering.{after_held}
 use Rattle.gtp_gateway.specs.UserTaken.{WaitOn}
-use Rattle.gtp_gateway.proofs.GoingOn.{then_goes}
+use Rattle.gtp_gateway.proofs.GoingOn.{tied_of, answered_goes}
 use Rattle.gtp_gateway.specs.Hearing.{node_heard}
 use Rattle.gtp_gateway.specs.Parts.{arrival_of}
 use Rattle.gtp_gateway.specs.Sent.{ReadsBack}
@@ -39,4 +39,6 @@ returns-clause-goes c =
     let old = station_of c.args.self.now in
     let new = station_of c.give-out.new.self in
     let waits = subst (λ (s : Station). WaitOn s (station_of c.hear.new.self)) c.ready_answer.ensures.same c.hear.ensures.waits in
-    then_goes c.args.source c.args.octets.now old (station_of c.hear.new.self) new waits (subst (λ (r : List ℕ). GoesOn c.args.source r (station_of c.hear.new.self) new) c.in_ok-ready.ensures.request c.give-out.ensures.goes)
+    let heard = station_of c.hear.new.self in
+    let answer = c.in_ok-ready.ready.answer.items in
+    answered_goes c.args.source c.args.octets.now old heard new answer waits (c.give-out.ensures.timing ∙ (λ i. record heard.timing { held = after_held c.args.source (c.in_ok-ready.ensures.request i) answer heard.timing.held })) (tied_of c.give-out.new.self)

@@ -24,7 +24,7 @@ returns-clause-taken c = λ request q from number.
     (record {
       effect = echoed request q node;
       takes = refl;
-      tells = record { sent = one_sent node.config _ _ sent (subst (λ m. ReadsBack (m ∷ [])) says c.in_ok-out.ensures.back); outcome = refl; made = refl; heard = refl; learned = refl; untold = refl; unlearned = refl; all = refl };
+      tells = record { sent = one_sent node.config _ _ sent (subst (λ m. ReadsBack (m ∷ [])) says c.in_ok-out.ensures.back); outcome = refl; alone = refl; made = refl; heard = refl; learned = refl; untold = refl; unlearned = refl; all = refl };
       becomes = c.hear.ensures.node;
       role_stays = c.hear.ensures.role;
     })

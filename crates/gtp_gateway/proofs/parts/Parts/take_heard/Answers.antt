@@ -17,7 +17,7 @@ use Rattle.gtp_gateway.specs.Station.{station_of}
 use Rattle.gtp_gateway.proofs.ByProcedure.{unheard, deletion_request_is, takes_deletion_request, echo_request_is, takes_echo_request, echo_response_is, takes_echo_response, deletion_response_is, takes_deletion_response, removal_response_is, takes_removal_response, takes_session_request}
 use Rattle.gtp_gateway.proofs.Endings.{delete_bearer_is, takes_removal_request}
 use Rattle.gtp_gateway.proofs.Giving.{wait_on}
-use Rattle.gtp_gateway.proofs.GoingOn.{tied_of, on_goes}
+use Rattle.gtp_gateway.proofs.GoingOn.{on_ok, tied_of, on_goes}
 use Rattle.gtp_gateway.proofs.InPlace.{type_is}
 use Rattle.gtp_gateway.proofs.Grants.{has_context, create_bearer_is, takes_bearer_request}
 use Rattle.gtp_gateway.proofs.BearerAnswers.{takes_bearer_response}
@@ -234,3 +234,9 @@ returns-in-BearerAnswered-clause-memory c =
     let reads = c.bearer_response_in-answer.ensures in
     on_err_weaker c.take_bearer_response.result (λ needs. needs_bearer_response old.role (arrival_of c.args.source c.args.octets.now) (message_of c.args.view.now.message) (node_heard c.args.heard old.node) reads.response (subst (λ (p : Procedure). has old.role p ≡ true) c.in-BearerAnswered.is c.requires.has) reads.is (needs reads.response reads.says))
     c.take_bearer_response.ensures.memory
+
+pub returns-in-SessionAnswered-clause-goes : goal.returns-in-SessionAnswered-clause-goes
+returns-in-SessionAnswered-clause-goes c = on_ok c.take_session_response.result (λ waits. on_goes c.args.source c.args.octets.now (station_of c.args.self.now) (station_of c.take_session_response.new.self) waits (tied_of c.take_session_response.new.self)) c.take_session_response.ensures.waits
+
+pub returns-in-BearerAnswered-clause-goes : goal.returns-in-BearerAnswered-clause-goes
+returns-in-BearerAnswered-clause-goes c = on_ok c.take_bearer_response.result (λ waits. on_goes c.args.source c.args.octets.now (station_of c.args.self.now) (station_of c.take_bearer_response.new.self) waits (tied_of c.take_bearer_response.new.self)) c.take_bearer_response.ensures.waits

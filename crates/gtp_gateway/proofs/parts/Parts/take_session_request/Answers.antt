@@ -14,7 +14,7 @@ use Rattle.gtp_gateway.specs.Hearing.{node_heard}
 use Rattle.gtp_gateway.specs.Parts.{arrival_of, node_of}
 use Rattle.gtp_gateway.specs.Station.{station_of}
 use Rattle.gtp_gateway.proofs.Answers.{held_few, held_many}
-use Rattle.gtp_gateway.proofs.Answered.{answered_so, refusal_same, grant_same, made_same}
+use Rattle.gtp_gateway.proofs.Answered.{answered_so, refusal_same, grant_same, made_same, both_same, begun_same}
 use Rattle.gtp_gateway.proofs.Columns.{yes, no}
 use Rattle.gtp_gateway.proofs.Rows.{ends}
 use Rattle.gtp_gateway.proofs.Needing.{on_err, session_asked}
@@ -56,7 +56,7 @@ returns-in-Granted-clause-taken c =
     let r = c.args.request.now in
     let g = c.in-Granted.grant in
     let room : HasHeldRoom left = record { few = subst (λ (held : List Held). length held < 4096) (sym (held_stays c.args.heard old.node)) (held_few c.args.self.now.held.pairs (no c.is_full.ensures.full c.if-is_full.false)) } in
-    let chosen = subst (λ (v : SessionVerdict). IsVerdict r.default.identity r.pdn.0 v c.args.heard old.node) c.in-Granted.is c.judge_session.ensures.is in
+    let chosen = subst (λ (v : SessionVerdict). IsVerdict r.default.identity r.pdn.0 v c.args.heard old) c.in-Granted.is c.judge_session.ensures.is in
     IfOk-weaker c.grant_session.result _ _ (λ step a q says.
     answered_so (SessionAsked request q) c.args.source c.args.octets.now _ (session_cause r.pdn.0 g.address) true _ left old step (station_of c.grant_session.new.self) (config_stays c.args.heard old.node) a
     (inr (
@@ -65,6 +65,38 @@ returns-in-Granted-clause-taken c =
           (subst (λ (v : SessionVerdict). SessionJudged request q left (session_effect request q v left)) c.in-Granted.is (c.judge_session.ensures.judged request q says)),
     )))
     c.grant_session.ensures.granted
+
+pub returns-in-GrantedWith-clause-taken : goal.returns-in-GrantedWith-clause-taken
+returns-in-GrantedWith-clause-taken c =
+    let old = station_of c.args.self.now in
+    let left = node_heard c.args.heard old.node in
+    let request = arrival_of c.args.source c.args.octets.now in
+    let r = c.args.request.now in
+    let g = c.in-GrantedWith.grant in
+    let x = c.in-GrantedWith.added in
+    let room : HasHeldRoom left = record { few = subst (λ (held : List Held). length held < 4096) (sym (held_stays c.args.heard old.node)) (held_few c.args.self.now.held.pairs (no c.is_full.ensures.full c.if-is_full.false)) } in
+    let chosen = subst (λ (v : SessionVerdict). IsVerdict r.default.identity r.pdn.0 v c.args.heard old) c.in-GrantedWith.is c.judge_session.ensures.is in
+    IfOk-weaker c.grant_with.result _ _ (λ step a q says.
+    answered_so (SessionAsked request q) c.args.source c.args.octets.now _ (session_cause r.pdn.0 g.address) true _ left old step (station_of c.grant_with.new.self) (config_stays c.args.heard old.node) a
+    (inr (
+      room,
+      subst (λ (e : Effect). SessionJudged request q left e) (λ i. making request (sym (both_same r q says c.args.heard old.node g chosen.0.identity_is x) i) (session_cause (says.pdn i) g.address) (sym (begun_same r q says c.args.heard old.node g chosen.0.identity_is x) i))
+          (subst (λ (v : SessionVerdict). SessionJudged request q left (session_effect request q v left)) c.in-GrantedWith.is (c.judge_session.ensures.judged request q says)),
+    )))
+    c.grant_with.ensures.granted
+
+pub returns-in-GrantedWith-clause-memory : goal.returns-in-GrantedWith-clause-memory
+returns-in-GrantedWith-clause-memory c =
+    let old = station_of c.args.self.now in
+    let left = node_heard c.args.heard old.node in
+    on_err c.grant_with.result (λ arrival q. session_asked arrival q left (record { few = subst (λ (held : List Held). length held < 4096) (sym (held_stays c.args.heard old.node)) (held_few c.args.self.now.held.pairs (no c.is_full.ensures.full c.if-is_full.false)) }))
+
+pub returns-in-GrantedWith-clause-choices : goal.returns-in-GrantedWith-clause-choices
+returns-in-GrantedWith-clause-choices c =
+    let r = c.args.request.now in
+    let old = node_of c.args.self.now in
+    let chosen = subst (λ (v : SessionVerdict). IsVerdict r.default.identity r.pdn.0 v c.args.heard (station_of c.args.self.now)) c.in-GrantedWith.is c.judge_session.ensures.is in
+    IfOk-weaker c.grant_with.result _ _ (λ step a made. lowest_session r.default.identity r.pdn.0 r c.in-GrantedWith.grant c.args.heard old (node_of c.grant_with.new.self) chosen.0 (ap (λ (n : Node). n.sessions) a.becomes)) c.grant_with.ensures.granted
 
 pub returns-in-Refused-clause-memory : goal.returns-in-Refused-clause-memory
 returns-in-Refused-clause-memory c =
@@ -85,7 +117,7 @@ pub returns-in-Granted-clause-choices : goal.returns-in-Granted-clause-choices
 returns-in-Granted-clause-choices c =
     let r = c.args.request.now in
     let old = node_of c.args.self.now in
-    let chosen = subst (λ (v : SessionVerdict). IsVerdict r.default.identity r.pdn.0 v c.args.heard old) c.in-Granted.is c.judge_session.ensures.is in
+    let chosen = subst (λ (v : SessionVerdict). IsVerdict r.default.identity r.pdn.0 v c.args.heard (station_of c.args.self.now)) c.in-Granted.is c.judge_session.ensures.is in
     IfOk-weaker c.grant_session.result _ _ (λ step a made. lowest_session r.default.identity r.pdn.0 r c.in-Granted.grant c.args.heard old (node_of c.grant_session.new.self) chosen (ap (λ (n : Node). n.sessions) a.becomes)) c.grant_session.ensures.granted
 
 pub returns-then-is_full-clause-choices : goal.returns-then-is_full-clause-choices

@@ -11,8 +11,8 @@ invariant_of-self g c = (
   record {
     limits = c.self.invariant.0.limits;
     next = c.self.invariant.0.next;
-    count = omega (arith, ap length c.drop_where.ensures, fewer_filter (λ w. not (g.meets w.purpose)) c.self.inside.waiting.items, c.self.invariant.0.count);
-    distinct = subst AreDistinct (sym c.drop_where.ensures) (distinct_filter (λ w. not (g.meets w.purpose)) c.self.inside.waiting.items c.self.invariant.0.distinct);
+    count = omega (arith, ap length c.drop_where.ensures.left, fewer_filter (λ w. not (g.meets w.purpose)) c.self.inside.waiting.items, c.self.invariant.0.count);
+    distinct = subst AreDistinct (sym c.drop_where.ensures.left) (distinct_filter (λ w. not (g.meets w.purpose)) c.self.inside.waiting.items c.self.invariant.0.distinct);
   },
-  rw (c.take_out_where.ensures, c.drop_where.ensures) (numbered_where (λ p. not (g.meets p)) c.self.inside.purposes.items c.self.inside.waiting.items c.self.invariant.1 c.self.invariant.0.distinct),
+  rw (c.take_out_where.ensures.left, c.drop_where.ensures.left) (numbered_where (λ p. not (g.meets p)) c.self.inside.purposes.items c.self.inside.waiting.items c.self.invariant.1 c.self.invariant.0.distinct),
 )

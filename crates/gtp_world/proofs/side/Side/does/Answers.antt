@@ -14,7 +14,7 @@ pub returns-in-Ok-clause-done : goal.returns-in-Ok-clause-done
 returns-in-Ok-clause-done c =
     let command = command_of c.args.event.now in
     let handed = c.in_ok-handed.handed in
-    let came = c.begun.ensures ∙ ap (λ (o : Outcome). record { outcome = o; restart = None; out = Some c.in-Ok.begun.out; handed = handed; accepted = None }) c.outcome_of-outcome.ensures in
+    let came = c.begun.ensures ∙ ap (λ (o : Outcome). record { outcome = o; second = None; restart = None; out = Some c.in-Ok.begun.out; handed = handed; accepted = None }) c.outcome_of-outcome.ensures in
     subst (λ (k : Came). IsInput c.args.node (Commanded command) AsksFor (half_of c.args.self.now) k (record (half_of c.args.self.now) { station = c.tell.new.gateway })) (sym came)
     (done c.args.node command (half_of c.args.self.now) c.in-Ok.begun c.tell.new.gateway handed c.in-Ok.ensures.done c.in-Ok.ensures.timed c.in_ok-handed.ensures)
 

@@ -4,7 +4,7 @@ use Rattle.std.proofs.lemmas.Result.{on_ok_weaker}
 use Rattle.gtp_machine.specs.World.{Cut}
 use Rattle.gtp_world.specs.Kept.{Kept, Log, kept_of, log_of}
 use Rattle.gtp_world.specs.Stepped.{Comes}
-use Rattle.gtp_world.proofs.Finding.{there, octets_at}
+use Rattle.gtp_world.proofs.Finding.{there, octets_at, cut_short}
 use Rattle.gtp_world.proofs.sides.Sides.cut.Goals as goal
 
 pub returns-then-count-length-clause-comes : goal.returns-then-count-length-clause-comes
@@ -43,8 +43,8 @@ returns-clause-comes c =
     let long = c.len-length.ensures ∙ d.sent.octets.ok.0 ∙ sym (octets_at datagrams i d found at) in
     let short : c.args.count < length found.sent.what.octets = omega (arith, c.if-count-length.false, long) in
     let new = kept_of c.bring.new.self in
-    on_ok_weaker c.bring.result (λ takes.
+    on_ok_weaker c.bring.result (λ brings.
     subst (λ (n : ℕ). Comes (kept_of old) (Cut n c.args.count) new) is.0
     (subst (λ (k : Kept). Comes k (Cut i c.args.count) new) same
-    (inr (found, inr (short, takes found)))))
-    c.bring.ensures.takes
+    (inr (found, inr (short, cut_short v found.sent c.args.count new (brings found))))))
+    c.bring.ensures.brings

@@ -4,7 +4,7 @@ use Rattle.std.proofs.lemmas.Result.{on_ok_weaker}
 use Rattle.gtp_machine.specs.World.{Deliver}
 use Rattle.gtp_world.specs.Kept.{Kept, Log, kept_of, log_of}
 use Rattle.gtp_world.specs.Stepped.{Comes}
-use Rattle.gtp_world.proofs.Finding.{there, delivered, all_of}
+use Rattle.gtp_world.proofs.Finding.{there, delivered, octets_at}
 use Rattle.gtp_world.proofs.sides.Sides.deliver.Goals as goal
 
 pub returns-clause-comes : goal.returns-clause-comes
@@ -21,9 +21,9 @@ returns-clause-comes c =
     let found = there datagrams i within in
     let at = slice_get_read datagrams _ i d refl within c.index.ensures in
     let new = kept_of c.bring.new.self in
-    on_ok_weaker c.bring.result (λ takes.
+    let long = c.len-count.ensures ∙ d.sent.octets.ok.0 ∙ sym (octets_at datagrams i d found at) in
+    on_ok_weaker c.bring.result (λ brings.
     subst (λ (n : ℕ). Comes (kept_of old) (Deliver n) new) is.0
     (subst (λ (k : Kept). Comes k (Deliver i) new) same
-    (delivered v i new c.in_ok-late.late found (c.in_ok-late.ensures found)
-    (all_of v c.in_ok-late.late new c.len-count.result datagrams i d found at (c.len-count.ensures ∙ d.sent.octets.ok.0) (takes found)))))
-    c.bring.ensures.takes
+    (delivered v i c.len-count.result new found long (brings found))))
+    c.bring.ensures.brings

@@ -1,0 +1,96 @@
+-- What is told of the lines of a hex dump.
+use Rattle.std.specs.Prelude.{◌≡◌, ◌≢◌, ℕ, ◌+◌, ◌||◌, ◌⊎◌, Bool, true, false, List, [], ◌∷◌, ◌++◌, Option, codes, decimal}
+use Rattle.std.specs.Io.BufRead.{take_through, drop_through}
+use Rattle.std.specs.Io.KnownBytes.{Appends}
+use Rattle.gtp_values.specs.declared.plane.Plane.{Plane}
+use Rattle.gtp_lines.specs.Lines.{LinesOf}
+use Rattle.gtp_lines.specs.All.{AllLines}
+use Rattle.gtp_dump.specs.Text.{Spells, IsBlank, IsBad}
+use Rattle.gtp_dump.specs.declared.decoding.Asked.{Asked}
+use Rattle.gtp_dump.specs.declared.decoding.Tally.{Tally}
+
+-- the line before those of a datagram
+abbrev pub datagram_line : ℕ → List ℕ
+datagram_line index = codes "datagram " ++ (decimal index ++ codes "\n")
+
+-- the line on a line that is no hexadecimal
+abbrev pub bad_line : ℕ → List ℕ
+bad_line number = codes "bad hex line " ++ (decimal number ++ codes "\n")
+
+-- all that can be shown of a datagram, or its lines
+abbrev pub ShowsAs : Bool → Plane → List ℕ → List ℕ → Bool → Type 0
+ShowsAs true plane octets text faulty = AllLines plane octets text faulty
+ShowsAs false plane octets text faulty = LinesOf plane octets text faulty
+
+-- this of the datagram of a line
+abbrev pub ShowsOne : Asked → List ℕ → List ℕ → Bool → Type 0
+ShowsOne asked line text faulty = (plane : Plane) × (octets : List ℕ) × Spells asked.plane line plane octets × ShowsAs asked.all plane octets text faulty
+
+-- of a datagram its index, and then this
+abbrev pub Shows : Bool → Plane → List ℕ → ℕ → List ℕ → Bool → Type 0
+Shows all plane octets index text faulty = (lines : List ℕ) × ShowsAs all plane octets lines faulty × (text ≡ datagram_line index ++ lines)
+
+-- nothing was read yet
+abbrev pub nothing_read : Tally
+nothing_read = record { lines = 0; datagrams = 0; faulty = false; bad = false }
+
+-- a line without digits tells nothing
+pub record TellsNothing (before : Tally) (line : List ℕ) (after : Tally) (out err : List ℕ) : Type 0 where
+  pub blank : IsBlank line
+  pub tally : after ≡ record before { lines = before.lines + 1 }
+  pub output : out ≡ []
+  pub error : err ≡ []
+
+-- of a bad line its number is told, as an error; lines count from 1
+pub record TellsBad (before : Tally) (line : List ℕ) (after : Tally) (out err : List ℕ) : Type 0 where
+  pub is_bad : IsBad line
+  pub tally : after ≡ record before { lines = before.lines + 1; bad = true }
+  pub output : out ≡ []
+  pub error : err ≡ bad_line (before.lines + 1)
+
+-- a datagram is shown, and its index told, which counts from 0
+pub record TellsDatagram (asked : Asked) (before : Tally) (line : List ℕ) (after : Tally) (out err : List ℕ) : Type 0 where
+  pub plane : Plane
+  pub octets : List ℕ
+  pub faulty : Bool
+  pub spells : Spells asked.plane line plane octets
+  pub shows : Shows asked.all plane octets before.datagrams out faulty
+  pub tally : after ≡ record before { lines = before.lines + 1; datagrams = before.datagrams + 1; faulty = before.faulty || faulty }
+  pub error : err ≡ []
+
+-- what a line adds to the output and to the errors
+abbrev pub Tells : Asked → Tally → List ℕ → Tally → List ℕ → List ℕ → Type 0
+Tells asked before line after out err = TellsNothing before line after out err ⊎ TellsBad before line after out err ⊎ TellsDatagram asked before line after out err
+
+-- and lines, one after the other
+abbrev pub TellAll : Asked → Tally → List (List ℕ) → Tally → List ℕ → List ℕ → Type 0
+TellAll asked before [] after out err = (after ≡ before) × (out ≡ []) × (err ≡ [])
+TellAll asked before (line ∷ lines) after out err = (next : Tally) × (o : List ℕ) × (os : List ℕ) × (e : List ℕ) × (es : List ℕ)
+    × Tells asked before line next o e × TellAll asked next lines after os es × (out ≡ o ++ os) × (err ≡ e ++ es)
+
+-- the octets begin with these lines, each up to its line feed or the end, and then have the rest
+abbrev pub BeginsWithLines : List ℕ → List (List ℕ) → List ℕ → Type 0
+BeginsWithLines octets [] rest = octets ≡ rest
+BeginsWithLines octets (line ∷ lines) rest = (octets ≢ []) × (line ≡ take_through 10 octets) × BeginsWithLines (drop_through 10 octets) lines rest
+
+-- the lines before the rest were told, and nothing else
+pub record AreTold (asked : Asked) (octets rest : List ℕ) (tally : Tally) (out out_after err err_after : Option (List ℕ)) : Type 0 where
+  pub lines : List (List ℕ)
+  pub text : List ℕ
+  pub errors : List ℕ
+  pub begins : BeginsWithLines octets lines rest
+  pub tells : TellAll asked nothing_read lines tally text errors
+  pub output : Appends out out_after text
+  pub error : Appends err err_after errors
+
+-- one line was told
+pub record IsTold (asked : Asked) (before : Tally) (line : List ℕ) (after : Tally) (out out_after err err_after : Option (List ℕ)) : Type 0 where
+  pub text : List ℕ
+  pub errors : List ℕ
+  pub tells : Tells asked before line after text errors
+  pub output : Appends out out_after text
+  pub error : Appends err err_after errors
+
+-- the first lines were told, and nothing else
+abbrev pub AreFirstTold : Asked → List ℕ → (out out_after err err_after : Option (List ℕ)) → Type 0
+AreFirstTold asked octets out out_after err err_after = (rest : List ℕ) × (tally : Tally) × AreTold asked octets rest tally out out_after err err_after

@@ -1,0 +1,62 @@
+-- A line of a hex dump.
+use Rattle.std.specs.Prelude.{◌≡◌, ◌≢◌, ℕ, ◌/◌, ◌==◌, ◌||◌, ◌&&◌, Bool, false, if◌then◌else◌, List, [], ◌∷◌, ◌++◌, slice_index, codes, Option, Some, None, Ok, IsErr}
+use Rattle.std.specs.Char.{is_ascii_whitespace}
+use Rattle.hex.specs.Hex.{decode_of}
+use Rattle.gtp_values.specs.declared.plane.Plane.{Plane}
+use Rattle.gtp_values.specs.declared.plane.Plane.TheVariants.{Control, User}
+
+-- a blank, a line feed, a colon or a comma
+abbrev pub is_between : ℕ → Bool
+is_between c = is_ascii_whitespace c || ((c == 58) || (c == 44))
+
+-- 0x or 0X
+abbrev pub is_prefix : ℕ → ℕ → Bool
+is_prefix a b = (a == 48) && ((b == 120) || (b == 88))
+
+-- whether a text of this character and what follows begins with a prefix
+abbrev pub begins_prefix : ℕ → List ℕ → Bool
+begins_prefix a [] = false
+begins_prefix a (b ∷ rest) = is_prefix a b
+
+-- a character that begins no prefix, before the digits of what follows: `#` begins a comment
+abbrev pub with_digits : ℕ → List ℕ → List ℕ
+with_digits c more = if c == 35 then [] else (if is_between c then more else (c ∷ more))
+
+-- the digits of a text: what stands between octets, prefixes and a comment are passed over
+unfoldable pub digits_in : List ℕ → List ℕ
+digits_in [] = []
+digits_in (a ∷ []) = with_digits a []
+digits_in (a ∷ b ∷ rest) = if is_prefix a b then digits_in rest else with_digits a (digits_in (b ∷ rest))
+
+-- whether the text begins with the word of a plane, and what follows
+abbrev pub Names : List ℕ → Option Plane → List ℕ → Type 0
+Names text (Some Control) rest = text ≡ codes "control" ++ rest
+Names text (Some User) rest = text ≡ codes "user" ++ rest
+Names text None rest = (rest ≡ text) × ((after : List ℕ) → text ≢ codes "control" ++ after) × ((after : List ℕ) → text ≢ codes "user" ++ after)
+
+-- the plane by the version in the first three bits: 1 is GTP-U (TS 29.281 5.1); the other versions are control's (TS 29.274 5.1)
+abbrev pub plane_by_version : List ℕ → Plane
+plane_by_version octets = if slice_index octets 0 / 32 == 1 then User else Control
+
+-- the plane that is named, or else the one that is asked for, or else that of the version
+abbrev pub plane_of : Option Plane → Option Plane → List ℕ → Plane
+plane_of (Some named) asked octets = named
+plane_of None (Some asked) octets = asked
+plane_of None None octets = plane_by_version octets
+
+-- the line spells the octets of a datagram
+pub record Spells (asked : Option Plane) (line : List ℕ) (plane : Plane) (octets : List ℕ) : Type 0 where
+  pub named : Option Plane
+  pub rest : List ℕ
+  pub names : Names line named rest
+  pub some : digits_in rest ≢ []
+  pub spelled : decode_of (digits_in rest) ≡ Ok octets
+  pub plane_is : plane ≡ plane_of named asked octets
+
+-- the line has no digits
+abbrev pub IsBlank : List ℕ → Type 0
+IsBlank line = (named : Option Plane) × (rest : List ℕ) × Names line named rest × (digits_in rest ≡ [])
+
+-- the line has what is no digit, or an odd number of digits
+abbrev pub IsBad : List ℕ → Type 0
+IsBad line = (named : Option Plane) × (rest : List ℕ) × Names line named rest × IsErr (decode_of (digits_in rest))

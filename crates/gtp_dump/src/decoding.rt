@@ -1,0 +1,239 @@
+//! All lines of a hex dump.
+
+ghost use Rattle.std.specs.Prelude.{◌≡◌, ◌≢◌, ◌+◌, ◌-◌, ◌^◌, ◌<◌, ◌≤◌, ◌⊎◌, [], None, Ok, Err, IfOk, IfErr, IfSome};
+ghost use Rattle.std.specs.IoError.{error_kind};
+ghost use Rattle.gtp_dump.specs.declared.decoding.DumpFault.TheVariants as faults;
+ghost use Rattle.gtp_dump.specs.Text.{IsBlank, IsBad};
+ghost use Rattle.gtp_dump.specs.Decoded.{nothing_read, bad_line, ShowsAs, ShowsOne, Shows, IsTold, AreTold, AreFirstTold};
+
+use crate::text::{Dumped, LineFault, read_line};
+use gtp_lines::text::{put, put_number};
+use gtp_lines::{Shown, all_lines, decode_lines};
+use gtp_values::{Memory, Plane};
+use std::alloc::Global;
+use std::io::{self, BufRead, ErrorKind, Write};
+use thiserror::Error;
+
+/// How the lines of a dump are read and shown.
+#[derive(Clone, Copy, Debug, PartialEq, Eq)]
+pub struct Asked {
+    /// The plane of the datagrams whose lines do not name one; without it their version decides.
+    pub plane: Option<Plane>,
+    /// Whether all that can be shown of a datagram is shown, and not only the fault of one at fault.
+    pub all: bool,
+}
+
+/// What came of the lines of a dump.
+#[derive(Clone, Copy, Debug, PartialEq, Eq)]
+pub struct Tally {
+    /// The lines that were read.
+    pub lines: u64,
+    /// The datagrams that were shown.
+    pub datagrams: u64,
+    /// Whether one of them had a fault.
+    pub faulty: bool,
+    /// Whether a line was no hexadecimal.
+    pub bad: bool,
+}
+
+/// Why a dump was not read to its end.
+#[derive(Clone, Copy, Debug, PartialEq, Eq, Error)]
+pub enum DumpFault {
+    /// There are more lines than 64 bits count.
+    #[error("too long")]
+    TooLong,
+    /// An allocation was refused.
+    #[error("no memory")]
+    Memory,
+    /// A read failed.
+    #[error("read failed")]
+    Read,
+    /// A write failed.
+    #[error("write failed")]
+    Write,
+    /// The output was closed by whoever reads it.
+    #[error("closed")]
+    Closed,
+}
+
+/// Why a write failed.
+fn unwritten(error: &io::Error) -> DumpFault
+    ensures closed { error_kind error.now ≡ ErrorKind.BrokenPipe → result ≡ DumpFault.Closed }
+    ensures write { error_kind error.now ≢ ErrorKind.BrokenPipe → result ≡ DumpFault.Write }
+{
+    match error.kind() {
+        ErrorKind::BrokenPipe => DumpFault::Closed,
+        _ => DumpFault::Write,
+    }
+}
+
+impl From<Memory> for DumpFault {
+    ghost from_gives = { λ memory fault. fault ≡ faults.Memory };
+
+    fn from(_: Memory) -> DumpFault {
+        DumpFault::Memory
+    }
+}
+
+impl Tally {
+    /// Nothing was read yet.
+    fn nothing_read() -> Tally
+        ensures { result ≡ nothing_read }
+    {
+        Tally {
+            lines: 0,
+            datagrams: 0,
+            faulty: false,
+            bad: false,
+        }
+    }
+}
+
+/// The lines of a datagram.
+fn lines_of(alloc: Global, all: bool, dumped: &Dumped) -> Result<Shown, Memory>
+    ensures { IfOk result (λ shown. ShowsAs all dumped.now.plane dumped.now.octets.items
+        shown.text.items shown.faulty) }
+{
+    if all {
+        all_lines(alloc, dumped.plane, &dumped.octets)
+    } else {
+        decode_lines(alloc, dumped.plane, &dumped.octets)
+    }
+}
+
+/// The line before those of a datagram, and these.
+#[tactic(auto, using(crate::proofs::Texts::appending))]
+fn shown(alloc: Global, all: bool, index: u64, dumped: &Dumped) -> Result<Shown, Memory>
+    ensures { IfOk result (λ shown. Shows all dumped.now.plane dumped.now.octets.items index
+        shown.text.items shown.faulty) }
+{
+    let mut text = Vec::new(alloc);
+    put(&mut text, b"datagram ")?;
+    put_number(&mut text, index)?;
+    put(&mut text, b"\n")?;
+    let lines = lines_of(alloc, all, dumped)?;
+    put(&mut text, &lines.text)?;
+    Ok(Shown {
+        text,
+        faulty: lines.faulty,
+    })
+}
+
+/// The line on a line that is no hexadecimal.
+#[tactic(auto, using(crate::proofs::Texts::appending))]
+fn bad_text(alloc: Global, number: u64) -> Result<Vec<u8>, Memory>
+    ensures { IfOk result (λ text. text.items ≡ bad_line number) }
+{
+    let mut text = Vec::new(alloc);
+    put(&mut text, b"bad hex line ")?;
+    put_number(&mut text, number)?;
+    put(&mut text, b"\n")?;
+    Ok(text)
+}
+
+/// Tells of a line, after these.
+fn tell<W: Write, E: Write>(
+    alloc: Global,
+    asked: Asked,
+    before: Tally,
+    line: &[u8],
+    out: &mut W,
+    err: &mut E,
+) -> Result<Tally, DumpFault>
+    requires lines { before.lines < 2 ^ 64 - 1 }
+    requires datagrams { before.datagrams ≤ before.lines }
+    ensures told { IfOk result (λ after. IsTold asked before line.now after
+        (W.contents out.old) (W.contents out.new) (E.contents err.old) (E.contents err.new)) }
+    ensures number { IfOk result (λ after. after.lines ≡ before.lines + 1) }
+    ensures count { IfOk result (λ after. after.datagrams ≤ after.lines) }
+    ensures memory { result ≡ Err DumpFault.Memory → (out.new ≡ out.old) × (err.new ≡ err.old) }
+    ensures kind { IfErr result (λ fault. (fault ≡ DumpFault.Memory) ⊎ (fault ≡ DumpFault.Write)
+        ⊎ (fault ≡ DumpFault.Closed)) }
+{
+    let number = before.lines + 1;
+    match read_line(alloc, asked.plane, line) {
+        Ok(None) => Ok(Tally {
+            lines: number,
+            ..before
+        }),
+        Ok(Some(dumped)) => {
+            let shown = shown(alloc, asked.all, before.datagrams, &dumped)?;
+            if let Err(error) = out.write_all(&shown.text) {
+                return Err(unwritten(&error));
+            }
+            Ok(Tally {
+                lines: number,
+                datagrams: before.datagrams + 1,
+                faulty: before.faulty | shown.faulty,
+                ..before
+            })
+        }
+        Err(LineFault::BadHex) => {
+            let text = bad_text(alloc, number)?;
+            if let Err(error) = err.write_all(&text) {
+                return Err(unwritten(&error));
+            }
+            Ok(Tally {
+                lines: number,
+                bad: true,
+                ..before
+            })
+        }
+        Err(LineFault::Memory) => Err(DumpFault::Memory),
+    }
+}
+
+/// Decodes the datagrams of a dump, a line each, and tells what came of its lines. Before the lines of each datagram stands
+/// `datagram <index>`, which counts from 0. For a line that is no hexadecimal `bad hex line <number>` is written as an error; lines
+/// count from 1. A line ends with a line feed, or with the text, and is held whole.
+///
+/// `Read` if a read failed, `Write` if a write did, `Closed` if the reader of the output closed it, `Memory` if an allocation was
+/// refused: except after `Write` and `Closed`, what was written is that of the first lines.
+pub fn decode_dump<R: BufRead, W: Write, E: Write>(
+    alloc: Global,
+    asked: Asked,
+    reader: &mut R,
+    out: &mut W,
+    err: &mut E,
+) -> Result<Tally, DumpFault>
+    ensures all { IfOk result (λ tally. IfSome (R.remaining reader.old) (λ octets.
+        AreTold asked octets [] tally
+        (W.contents out.old) (W.contents out.new) (E.contents err.old) (E.contents err.new))) }
+    ensures first { IfErr result (λ fault. fault ≢ DumpFault.Write → fault ≢ DumpFault.Closed →
+        IfSome (R.remaining reader.old) (λ octets.
+        AreFirstTold asked octets
+        (W.contents out.old) (W.contents out.new) (E.contents err.old) (E.contents err.new))) }
+{
+    let mut tally = Tally::nothing_read();
+    let mut line = Vec::new(alloc);
+    for _ in 1..u64::MAX {
+        line.clear();
+        match reader.read_until(b'\n', &mut line) {
+            Ok(0) => return Ok(tally),
+            Ok(_) => {}
+            Err(error) if error.kind() == ErrorKind::OutOfMemory => return Err(DumpFault::Memory),
+            Err(_) => return Err(DumpFault::Read),
+        }
+        tally = match tell(alloc, asked, tally, &line, out, err) {
+            Ok(after) => after,
+            Err(fault) => return Err(fault),
+        };
+    }
+    Err(DumpFault::TooLong)
+}
+
+/// The lines of the datagram that a line spells, as `read_line` reads it, or none in a line without digits.
+pub fn decode_line(alloc: Global, asked: Asked, line: &[u8]) -> Result<Option<Shown>, LineFault>
+    ensures some { IfOk result (λ found. IfSome found (λ shown.
+        ShowsOne asked line.now shown.text.items shown.faulty)) }
+    ensures none { result ≡ Ok None → IsBlank line.now }
+    ensures bad { result ≡ Err LineFault.BadHex → IsBad line.now }
+{
+    let Some(dumped) = read_line(alloc, asked.plane, line)? else {
+        return Ok(None);
+    };
+    match lines_of(alloc, asked.all, &dumped) {
+        Ok(shown) => Ok(Some(shown)),
+        Err(_) => Err(LineFault::Memory),
+    }
+}

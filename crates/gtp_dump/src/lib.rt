@@ -1,0 +1,11 @@
+//! Datagrams in text, as dumps and logs have them: hexadecimal digits, a datagram a line.
+#![tactic(auto)]
+
+mod decoding;
+mod text;
+
+pub use decoding::{Asked, DumpFault, Tally, decode_dump, decode_line};
+pub use text::{Dumped, LineFault, read_line};
+
+/// What the signatures here name of the crate below.
+pub use gtp_values::Plane;

@@ -1,0 +1,117 @@
+//! One line of a hex dump.
+
+ghost use Rattle.std.specs.Prelude.{◌≡◌, ◌≤◌, length, IsTrue, None, Ok, Err, IfOk, IfSome};
+ghost use Rattle.gtp_dump.specs.Text.{is_between, begins_prefix, digits_in, Names, plane_by_version, Spells, IsBlank, IsBad};
+
+use gtp_values::{Memory, Plane};
+use hex::FromHexError;
+use std::alloc::Global;
+use thiserror::Error;
+
+/// The datagram of a line, and its plane.
+#[derive(Debug, Drop)]
+pub struct Dumped {
+    pub plane: Plane,
+    pub octets: Vec<u8>,
+}
+
+/// Why a line has no datagram.
+#[derive(Clone, Copy, Debug, PartialEq, Eq, Error)]
+pub enum LineFault {
+    /// A character is no hexadecimal digit, or the number of digits is odd.
+    #[error("bad hex")]
+    BadHex,
+    /// An allocation was refused.
+    #[error("no memory")]
+    Memory,
+}
+
+/// Whether a character may stand between octets: a blank, a colon or a comma.
+fn is_between(c: u8) -> bool
+    ensures { result ≡ is_between c }
+{
+    c.is_ascii_whitespace() || c == b':' || c == b','
+}
+
+/// Whether a text of this character and what follows begins with `0x` or `0X`.
+fn begins_prefix(first: u8, after: &[u8]) -> bool
+    ensures value { result ≡ begins_prefix first after.now }
+    ensures one { IsTrue result → 1 ≤ length after.now }
+{
+    first == b'0' && matches!(after.first(), Some(b'x' | b'X'))
+}
+
+/// The digits of a text, without a comment, prefixes, and what stands between octets.
+fn digits_in(alloc: Global, text: &[u8]) -> Result<Vec<u8>, Memory>
+    ensures { IfOk result (λ digits. digits.items ≡ digits_in text.now) }
+{
+    let mut digits = Vec::with_capacity(alloc, text.len())?;
+    let mut rest = text;
+    while let Some((first, after)) = rest.split_first() {
+        if begins_prefix(*first, after) {
+            let (_, behind) = after.split_at(1);
+            rest = behind;
+            continue;
+        }
+        if *first == b'#' {
+            return Ok(digits);
+        }
+        if !is_between(*first) {
+            digits.push(*first)?;
+        }
+        rest = after;
+    }
+    Ok(digits)
+}
+
+/// The plane whose word the text begins with, and what follows.
+fn named(text: &[u8]) -> (Option<Plane>, &[u8])
+    ensures { Names text.now result.0 result.1.now }
+{
+    if let Some(rest) = text.strip_prefix(b"control") {
+        return (Some(Plane::Control), rest);
+    }
+    if let Some(rest) = text.strip_prefix(b"user") {
+        return (Some(Plane::User), rest);
+    }
+    (None, text)
+}
+
+/// The plane by the version of a datagram.
+fn plane_by_version(octets: &[u8]) -> Plane
+    ensures { result ≡ plane_by_version octets.now }
+{
+    match octets.first() {
+        Some(first) if *first / 32 == 1 => Plane::User,
+        _ => Plane::Control,
+    }
+}
+
+/// The datagram that a line spells, or none in a line without digits: hexadecimal digits of either case; blanks, colons,
+/// commas and the prefix `0x` are passed over, and `#` begins a comment. The line may begin with `control` or `user`: its plane.
+/// Else it is the plane that is asked for, and else that of the version: 1 is of the user plane, any other of the control plane.
+pub fn read_line(
+    alloc: Global,
+    asked: Option<Plane>,
+    line: &[u8],
+) -> Result<Option<Dumped>, LineFault>
+    ensures some { IfOk result (λ found. IfSome found (λ dumped.
+        Spells asked line.now dumped.plane dumped.octets.items)) }
+    ensures none { result ≡ Ok None → IsBlank line.now }
+    ensures bad { result ≡ Err LineFault.BadHex → IsBad line.now }
+{
+    let (plane, text) = named(line);
+    let Ok(digits) = digits_in(alloc, text) else {
+        return Err(LineFault::Memory);
+    };
+    if digits.is_empty() {
+        return Ok(None);
+    }
+    let octets = match hex::decode(alloc, digits.as_slice()) {
+        Ok(octets) => octets,
+        Err(FromHexError::OutOfMemory) => return Err(LineFault::Memory),
+        Err(_) => return Err(LineFault::BadHex),
+    };
+    let plane = plane.or(asked).unwrap_or_else(|| plane_by_version(&octets));
+    Ok(Some(Dumped { plane, octets }))
+}

@@ -1,0 +1,164 @@
+-- The first message of a pair, as a step of the machine.
+use Rattle.std.proofs.Common.{◌≡◌, ◌⊎◌, inl, inr, ℕ, true, List, Option, Some, None, option_map, refl, sym, ◌∙◌, ap, subst}
+use Rattle.gtp_values.specs.Counter.{age_of}
+use Rattle.gtp_values.specs.declared.address.Endpoint.{Endpoint}
+use Rattle.gtp_values.specs.declared.counter.Age.{Age}
+use Rattle.gtp_values.specs.declared.counter.Age.TheVariants as ages
+use Rattle.gtp_values.specs.declared.counter.Counter.{Counter}
+use Rattle.gtp_machine.specs.declared.role.Role.{Role}
+use Rattle.gtp_machine.specs.declared.role.Role.TheVariants.{Serving}
+use Rattle.gtp_machine.specs.declared.outcome.DropReason.TheVariants.{OldCounter}
+use Rattle.gtp_machine.specs.declared.outcome.Outcome.TheVariants.{Dropped, Opened}
+use Rattle.gtp_machine.specs.Answer.{IsNew}
+use Rattle.gtp_machine.specs.Input.{Came_to, Control_message, Control_came, Moves_on, Resend, nothing, dropped, Effect}
+use Rattle.gtp_machine.specs.Message.{CreateSessionResponse, Message, Create_session_response, recovery_of}
+use Rattle.gtp_machine.specs.Node.{Arrival, Node}
+use Rattle.gtp_machine.specs.Recovery.{Judges, Weighs, Hears, peer_restarted}
+use Rattle.gtp_machine.specs.Serving.{SessionAnswered}
+use Rattle.gtp_machine.specs.Step.{Step as MachineStep}
+use Rattle.gtp_machine.proofs.Changes.Shrinking.{Shrunk-finished}
+use Rattle.gtp_machine.proofs.Determined.Responses.{session_answered}
+use Rattle.gtp_gateway.specs.declared.hearing.Heard.{Heard}
+use Rattle.gtp_gateway.specs.declared.hearing.Heard.TheVariants as heards
+use Rattle.gtp_gateway.specs.declared.procedure.Procedure.TheVariants as procedures
+use Rattle.gtp_gateway.specs.declared.session_response.SessionResponse.{SessionResponse}
+use Rattle.gtp_gateway.specs.declared.settle.Verdict.{Verdict}
+use Rattle.gtp_gateway.specs.Hearing.{weighed_by, node_heard, IsEarlier, told_in, later_in}
+use Rattle.gtp_gateway.specs.Needing.{StepSendsOrOpens}
+use Rattle.gtp_gateway.specs.Pairing.{node_settled}
+use Rattle.gtp_gateway.specs.Parts.{arrival_of}
+use Rattle.gtp_gateway.specs.Procedure.{has, TakesBy, takes_by}
+use Rattle.gtp_gateway.specs.SessionAnswer.{SaysSession, JudgesAnswer}
+use Rattle.gtp_gateway.specs.Settled.{outcome_by, effect_by}
+use Rattle.gtp_gateway.specs.Station.{Station}
+use Rattle.gtp_gateway.proofs.Needing.{needs_session_response, message_needs}
+use Rattle.gtp_gateway.proofs.Needing as needing
+use Rattle.gtp_gateway.proofs.Rows.{told, hears, hears_early, message_taken, told_node}
+use Rattle.gtp_gateway.proofs.Weighing.{told_is, later_is}
+
+-- ---- what is told of it
+
+pub record FirstTells (heard : Heard) (v : Verdict) (e : Effect) : Type 0 where
+  pub outcome : Came_to (outcome_by v) ≡ e.outcome
+  pub heard_is : option_map (λ (c : Counter). c.0) (told_in heard) ≡ e.out.heard
+  pub later : option_map (λ (c : Counter). c.0) (later_in heard) ≡ e.out.learned
+  pub all : e.out ≡ record nothing { heard = e.out.heard; learned = e.out.learned }
+
+first_told : (recovery : Option Counter) (known : Option ℕ) (v : Verdict) (number : ℕ) (n : Node) → FirstTells (weighed_by recovery known) v (told recovery known (effect_by v number n))
+first_told None known v number n = record { outcome = refl; heard_is = refl; later = refl; all = refl }
+first_told (Some counter) known v number n = record { outcome = refl; heard_is = told_is known counter; later = later_is known counter; all = refl }
+
+-- ---- whether its counter is of an earlier start
+
+earlier_or_not : (h : Heard) → IsEarlier h ⊎ (IsEarlier h → ⊥)
+earlier_or_not heards.Nothing = inr (λ early. early)
+earlier_or_not (heards.First counter) = inr (λ early. early)
+earlier_or_not (heards.Same counter) = inr (λ early. early)
+earlier_or_not (heards.Later counter) = inr (λ early. early)
+earlier_or_not (heards.Earlier counter) = inl tt
+
+earlier_changes_none : (h : Heard) (n : Node) → IsEarlier h → node_heard h n ≡ n
+earlier_changes_none heards.Nothing n early = absurd early
+earlier_changes_none (heards.First counter) n early = absurd early
+earlier_changes_none (heards.Same counter) n early = absurd early
+earlier_changes_none (heards.Later counter) n early = absurd early
+earlier_changes_none (heards.Earlier counter) n early = refl
+
+-- ---- a response chooses nothing
+
+answered_drawn : (a : CreateSessionResponse) (old : Node) (e : Effect) → SessionAnswered a old e → e.node.drawn ≡ old.drawn
+answered_drawn a old e (inl f) = ap (λ (x : Effect). x.node.drawn) f.1
+answered_drawn a old e (inr (b, inl f)) = ap (λ (x : Effect). x.node.drawn) f.1
+answered_drawn a old e (inr (b, inr (c, inl f))) = ap (λ (x : Effect). x.node.drawn) f.1 ∙ (Shrunk-finished old a.number b.pending.session b.pending.bearer).drawn
+answered_drawn a old e (inr (b, inr (c, inr (d, inl f)))) = ap (λ (x : Effect). x.node.drawn) f.1
+answered_drawn a old e (inr (b, inr (c, inr (d, inr (g, inl f))))) = ap (λ (x : Effect). x.node.drawn) f.1 ∙ (Shrunk-finished old a.number b.pending.session b.pending.bearer).drawn
+answered_drawn a old e (inr (b, inr (c, inr (d, inr (g, inr (h, r)))))) = ap (λ (x : Effect). x.node.drawn) r.gives
+
+one_answered : (a : CreateSessionResponse) (old : Node) (e f : Effect) → SessionAnswered a old e → SessionAnswered a old f → e.node ≡ f.node
+one_answered a old e f first second =
+    ap (λ (x : Effect). x.node) ((session_answered {role = Serving} {first = old} {input = Moves_on (Resend 0)} old a e f first second).one (record {
+      drawn = answered_drawn a old e first ∙ sym (answered_drawn a old f second);
+      addresses = λ request reading is. absurd (cc is);
+      identities = λ request reading is. absurd (cc is);
+      numbers = λ command is. absurd (cc is);
+      wanted = λ request reading is. absurd (cc is);
+    }))
+
+-- so none is chosen once its counter is heard
+module _ (Takes : Node → Effect → Type 0) (one : (n : Node) (e f : Effect) → Takes n e → Takes n f → e.node ≡ f.node) (old : Node) (counter : ℕ) where
+  one_judged : (age : Age) (e f : Effect) → Judges Takes old counter age e → Judges Takes old counter age f → e.node ≡ f.node
+  one_judged ages.Same e f r s = one old e f r s
+  one_judged ages.Later e f r s = one (peer_restarted old counter) e f r s
+  one_judged ages.Earlier e f r s = ap (λ (x : Effect). x.node) (r ∙ sym s)
+
+  one_weighed : (known : Option ℕ) (e f : Effect) → Weighs Takes old counter known e → Weighs Takes old counter known f → e.node ≡ f.node
+  one_weighed None e f r s = one (record old { known = Some counter }) e f r s
+  one_weighed (Some known) e f r s = one_judged (age_of known counter) e f r s
+
+one_heard : (Takes : Node → Effect → Type 0) → ((n : Node) (e f : Effect) → Takes n e → Takes n f → e.node ≡ f.node) → (old : Node) (recovery : Option ℕ) (e f : Effect) → Hears Takes old recovery e → Hears Takes old recovery f → e.node ≡ f.node
+one_heard Takes one old None e f r s = one old e f r s
+one_heard Takes one old (Some counter) e f (x, weighs_x, is_x) (y, weighs_y, is_y) = ap (λ (k : Effect). k.node) is_x ∙ (one_weighed Takes one old counter old.known x y weighs_x weighs_y ∙ sym (ap (λ (k : Effect). k.node) is_y))
+
+-- ---- the step
+
+module _ (source : Endpoint) (octets : List ℕ) (old : Station) (serving : old.role ≡ Serving) (peer : source.ip ≡ old.node.config.peer.control) (fresh : IsNew old.node (arrival_of source octets)) (a : CreateSessionResponse) (recovery : Option Counter) (counted : option_map (λ (c : Counter). c.0) recovery ≡ a.recovery)
+    (r : SessionResponse) (v : Verdict) (j : JudgesAnswer r (weighed_by recovery old.node.known) old.node v) (says : SaysSession r a) where
+  abbrev request : Arrival
+  request = arrival_of source octets
+
+  abbrev message : Message
+  message = Create_session_response a
+
+  abbrev heard : Heard
+  heard = weighed_by recovery old.node.known
+
+  abbrev left : Node
+  left = node_heard heard old.node
+
+  abbrev pub first_effect : Effect
+  first_effect = told recovery old.node.known (effect_by v a.number left)
+
+  takes_it : takes_by old.role message ≡ true
+  takes_it = ap (λ (k : Role). takes_by k message) serving
+
+  has_it : has old.role procedures.SessionAnswered ≡ true
+  has_it = ap (λ (k : Role). has k procedures.SessionAnswered) serving
+
+  by_counter : IsEarlier heard ⊎ (IsEarlier heard → ⊥) → Hears (SessionAnswered a) old.node (option_map (λ (c : Counter). c.0) recovery) first_effect
+  by_counter (inr on) = hears (SessionAnswered a) old.node recovery (effect_by v a.number left) on (j.judged on a says)
+  by_counter (inl early) =
+      let is : effect_by v a.number left ≡ dropped old.node OldCounter =
+      ap (λ (w : Verdict). effect_by w a.number left) (j.early early) ∙ (λ i. record { out = nothing; outcome = Came_to (Dropped OldCounter); node = earlier_changes_none heard old.node early i }) in
+      subst (λ (e : Effect). Hears (SessionAnswered a) old.node (option_map (λ (c : Counter). c.0) recovery) (told recovery old.node.known e)) (sym is) (hears_early (SessionAnswered a) old.node recovery early)
+
+  heard_first : Hears (TakesBy old.role request message) old.node (recovery_of message) first_effect
+  heard_first =
+      subst (λ (k : Role). Hears (TakesBy k request message) old.node (recovery_of message) first_effect) (sym serving)
+      (subst (λ (o : Option ℕ). Hears (SessionAnswered a) old.node o first_effect) counted (by_counter (earlier_or_not heard)))
+
+  pub first_step : MachineStep old.role old.node (Control_came request (Control_message message)) first_effect
+  first_step = message_taken old.role old.node request message first_effect peer fresh takes_it heard_first
+
+  pub first_node : first_effect.node ≡ node_settled heard v a.number old.node
+  first_node = told_node recovery old.node.known (effect_by v a.number left)
+
+  pub first_tells : FirstTells heard v first_effect
+  first_tells = first_told recovery old.node.known v a.number left
+
+  -- whatever step there is leaves this node
+  pub one_first : (e : Effect) → MachineStep old.role old.node (Control_came request (Control_message message)) e → e.node ≡ first_effect.node
+  one_first e step = by (subst (λ (k : Role). MachineStep k old.node (Control_came request (Control_message message)) e) serving step)
+    where
+      by : MachineStep Serving old.node (Control_came request (Control_message message)) e → e.node ≡ first_effect.node
+      by (inl f) = absurd (f.0 peer)
+      by (inr (from, inl repeats)) = absurd (fresh repeats.held repeats.stands repeats.same)
+      by (inr (from, inr (none, inl f))) = absurd (f.0 refl)
+      by (inr (from, inr (none, inr (takes, hears)))) =
+          one_heard (SessionAnswered a) (λ n x y. one_answered a n x y) old.node a.recovery e first_effect hears (subst (λ (o : Option ℕ). Hears (SessionAnswered a) old.node o first_effect) counted (by_counter (earlier_or_not heard)))
+
+  -- where a session is opened, it is so by whatever step
+  pub first_needs : outcome_by v ≡ Opened → StepSendsOrOpens request (Control_message message) old
+  first_needs opened =
+      let on = λ (early : IsEarlier heard). (let is : Dropped OldCounter ≡ Opened = sym (ap outcome_by (j.early early)) ∙ opened in let never : ⊥ = cc is in never) in
+      message_needs request old message recovery peer takes_it counted on
+      (needs_session_response old.role request message left a has_it refl (needing.session_answered a left (effect_by v a.number left) (ap (λ o. Came_to o) opened) (j.judged on a says)))

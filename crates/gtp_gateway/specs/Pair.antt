@@ -1,0 +1,30 @@
+-- Two messages in one datagram (TS 29.274 5.5.1), where they lie.
+use Rattle.std.specs.Prelude.{◌≡◌, ℕ, ◌+◌, ◌*◌, List, ◌∷◌, length, take, drop}
+use Rattle.gtp_v2.specs.Message.{MessageValue}
+use Rattle.gtp_v2.specs.Datagram.{IsMessage}
+use Rattle.gtp_v2.specs.Pair.{Announces}
+
+-- the length of the first message, as its header states it
+abbrev pub first_length : List ℕ → ℕ
+first_length (first ∷ kind ∷ high ∷ low ∷ held) = 4 + (256 * high + low)
+first_length octets = length octets
+
+-- the octets of the first message as they lie: in them the second is announced
+abbrev pub first_part : List ℕ → List ℕ
+first_part octets = take (first_length octets) octets
+
+-- the octets after it, which are those of the second message
+abbrev pub second_part : List ℕ → List ℕ
+second_part octets = drop (first_length octets) octets
+
+-- the octets read as two messages, of which the second begins at this place
+pub record IsSecondAt (octets : List ℕ) (place : ℕ) : Type 0 where
+  pub front : List ℕ
+  pub back : List ℕ
+  pub announced : Announces octets front back
+  pub first : MessageValue
+  pub spells_first : IsMessage front first
+  pub second : MessageValue
+  pub spells_second : IsMessage back second
+  pub place_is : place ≡ length front
+  pub rest : drop place octets ≡ back

@@ -1,0 +1,79 @@
+-- All that can be shown of a datagram is one text.
+use Rattle.std.proofs.Common.{◌≡◌, ℕ, true, false, List, ◌++◌, Option, Some, None, Result, refl, sym, ap, ◌∙◌}
+use Rattle.std.specs.List.{flat_map}
+use Rattle.gtp_values.specs.Decides.{Decides}
+use Rattle.gtp_values.proofs.Outcomes.{ok_same, err_same, apart}
+use Rattle.gtp_values.specs.declared.plane.Plane.TheVariants as planes
+use Rattle.gtp_ie.specs.Element.{Element}
+use Rattle.gtp_v2.specs.Headed.{Headed}
+use Rattle.gtp_v2.specs.declared.fault.V2Fault.{V2Fault}
+use Rattle.gtp_v2.specs.Pair.{IsDatagram, IsDatagramFault}
+use Rattle.gtp_v2.proofs.Pairs.{datagram_decided}
+use Rattle.gtp_user.specs.declared.fault.UserFault.{UserFault}
+use Rattle.gtp_user.specs.Datagram.{IsUserMessage, IsUserFault}
+use Rattle.gtp_user.proofs.Messages.{message_decided}
+use Rattle.gtp_lines.specs.Control.{element_lines, first_line, fault_line}
+use Rattle.gtp_lines.specs.User.{user_fault_line, user_lines}
+use Rattle.gtp_lines.specs.All.{rest_line, head_at, MessageShown, AloneShown, SecondShown, ShownBy, pair_at, user_shown, user_head_at}
+use Rattle.gtp_lines.specs.Laws.{OneText}
+use Rattle.gtp_lines.proofs.Alike.{one_front}
+
+-- ---- one outcome
+
+record One {X E : Type 0} (Is : X → Type 0) (Fails : E → Type 0) : Type 0 where
+  value : (x y : X) → Is x → Is y → x ≡ y
+  fault : (f g : E) → Fails f → Fails g → f ≡ g
+  either : (x : X) (f : E) → Is x → Fails f → ⊥
+
+one_of : {X E : Type 0} (r : Result X E) (Is : X → Type 0) (Fails : E → Type 0) → Decides r Is Fails → One Is Fails
+one_of {X} {E} r Is Fails d = record {
+  value = λ x y a b. ok_same E x y (sym (d.is x a) ∙ d.is y b);
+  fault = λ f g a b. err_same X f g (sym (d.fails f a) ∙ d.fails g b);
+  either = λ x f a b. apart x f (sym (d.is x a) ∙ d.fails f b);
+}
+
+-- ---- control
+
+message_one : (h : Headed) (t u : List ℕ) → MessageShown h t → MessageShown h u → t ≡ u
+message_one h t u (es, rest, front, t_is) (ds, left, other, u_is) =
+    let p = one_front h.at h.rest es rest ds left front other in
+    let lines : flat_map element_lines es ++ rest_line rest ≡ flat_map element_lines ds ++ rest_line left = ap (λ (xs : List Element). flat_map element_lines xs ++ rest_line rest) p.0 ∙ ap (λ (xs : List ℕ). flat_map element_lines ds ++ rest_line xs) p.1 in
+    t_is ∙ (ap (λ (xs : List ℕ). first_line h.kind h.teid h.seq h.priority ++ xs) lines ∙ sym u_is)
+
+alone_one : (w : Option Headed) (t u : List ℕ) → AloneShown w t → AloneShown w u → t ≡ u
+alone_one None t u a b = a ∙ sym b
+alone_one (Some h) t u a b = message_one h t u a b
+
+second_one : (back : List ℕ) (w : Option Headed) (t u : List ℕ) → SecondShown back w t → SecondShown back w u → t ≡ u
+second_one back None t u a b = a ∙ sym b
+second_one back (Some h) t u a b = message_one h t u a b
+
+shown_one : (p : Option (Headed × List ℕ)) (w : Option Headed) (t u : List ℕ) → ShownBy p w t → ShownBy p w u → t ≡ u
+shown_one None w t u a b = alone_one w t u a b
+shown_one (Some pair) w t u (first, second, m, s, is) (front, back, n, r, other) =
+    is ∙ (ap (λ (xs : List ℕ). xs ++ second) (message_one pair.0 first front m n) ∙ (ap (λ (xs : List ℕ). front ++ xs) (second_one pair.1 (head_at pair.1) second back s r) ∙ sym other))
+
+pub one_text : OneText
+one_text planes.Control octets t true u true (f, fails, (shown, a, is)) (g, fault, (other, b, u_is)) =
+    let one = one_of _ (IsDatagram octets) (IsDatagramFault octets) (datagram_decided octets) in
+    let same = shown_one (pair_at octets) (head_at octets) shown other a b in
+    (is ∙ (ap (λ (xs : List ℕ). xs ++ fault_line f) same ∙ (ap (λ (x : V2Fault). other ++ fault_line x) (one.fault f g fails fault) ∙ sym u_is)), refl)
+one_text planes.Control octets t true u false (f, fails, more) ((d, spelled), b) =
+    let one = one_of _ (IsDatagram octets) (IsDatagramFault octets) (datagram_decided octets) in
+    absurd (one.either d f spelled fails)
+one_text planes.Control octets t false u true ((d, spelled), a) (f, fails, more) =
+    let one = one_of _ (IsDatagram octets) (IsDatagramFault octets) (datagram_decided octets) in
+    absurd (one.either d f spelled fails)
+one_text planes.Control octets t false u false (d, a) (e, b) = (shown_one (pair_at octets) (head_at octets) t u a b, refl)
+one_text planes.User octets t true u true (f, fails, is) (g, fault, u_is) =
+    let one = one_of _ (IsUserMessage octets) (IsUserFault octets) (message_decided octets) in
+    (is ∙ (ap (λ (x : UserFault). user_shown (user_head_at octets) ++ user_fault_line x) (one.fault f g fails fault) ∙ sym u_is), refl)
+one_text planes.User octets t true u false (f, fails, is) (m, spelled, u_is) =
+    let one = one_of _ (IsUserMessage octets) (IsUserFault octets) (message_decided octets) in
+    absurd (one.either m f spelled fails)
+one_text planes.User octets t false u true (m, spelled, is) (f, fails, u_is) =
+    let one = one_of _ (IsUserMessage octets) (IsUserFault octets) (message_decided octets) in
+    absurd (one.either m f spelled fails)
+one_text planes.User octets t false u false (m, spelled, is) (n, other, u_is) =
+    let one = one_of _ (IsUserMessage octets) (IsUserFault octets) (message_decided octets) in
+    (is ∙ (ap user_lines (one.value m n spelled other) ∙ sym u_is), refl)

@@ -1,0 +1,137 @@
+-- All that can be shown of a datagram, and then its fault.
+use Rattle.std.specs.Prelude.{◌≡◌, ℕ, ◌+◌, ◌*◌, ◌/◌, ◌%◌, ◌==◌, nat_lt, if◌then◌else◌, Bool, true, false, List, [], ◌∷◌, ◌++◌, length, take, drop, Option, Some, None, option_map, codes}
+use Rattle.std.specs.Int.{w32, from_be_bytes}
+use Rattle.std.specs.List.{flat_map}
+use Rattle.byteorder.specs.Endian.{big_number}
+use Rattle.gtp_values.specs.declared.plane.Plane.{Plane}
+use Rattle.gtp_values.specs.declared.plane.Plane.TheVariants as planes
+use Rattle.gtp_values.specs.Teid.{teid_text}
+use Rattle.gtp_ie.specs.Element.{Element}
+use Rattle.gtp_ie.specs.Octets.{BeginsWith, Spans}
+use Rattle.gtp_v2.specs.declared.fault.V2Fault.{V2Fault}
+use Rattle.gtp_v2.specs.Headed.{Headed}
+use Rattle.gtp_v2.specs.Pair.{DatagramValue, IsDatagram, IsDatagramFault}
+use Rattle.gtp_user.specs.declared.fault.UserFault.{UserFault}
+use Rattle.gtp_user.specs.Datagram.{IsUserFault}
+use Rattle.gtp_lines.specs.Text.{octets_text}
+use Rattle.gtp_lines.specs.Control.{element_lines, first_line, fault_line}
+use Rattle.gtp_lines.specs.User.{kind_title, some_shown, user_fault_line, UserLines}
+
+-- ---- elements
+
+-- the octets are those of whole elements in order (TS 29.274 8.2), and then the rest, which begins with no element: none that is whole is left out
+abbrev pub IsFront : ℕ → List ℕ → List Element → List ℕ → Type 0
+IsFront at octets es rest = (place : ℕ) × Spans at octets es rest place × ((e : Element) (after : List ℕ) → BeginsWith place rest e after → ⊥)
+
+-- octets that are left, where there are some
+abbrev pub rest_line : List ℕ → List ℕ
+rest_line [] = []
+rest_line (octet ∷ octets) = codes "rest " ++ (octets_text (octet ∷ octets) ++ codes "\n")
+
+-- ---- headers of the control plane, whatever length they state (TS 29.274 5.1)
+
+-- after the first four octets, without a TEID: a sequence number in three octets, and one that is spare
+abbrev pub after_no_teid : ℕ → List ℕ → Option Headed
+after_no_teid kind (a ∷ b ∷ c ∷ spare ∷ rest) = Some (record { kind = kind; teid = None; seq = big_number 3 (a ∷ b ∷ c ∷ []); priority = None; rest = rest; at = 8 })
+after_no_teid kind octets = None
+
+-- with a TEID in four octets; the last octet has the priority where MP is set
+abbrev pub after_teid : Bool → ℕ → List ℕ → Option Headed
+after_teid ranked kind (a ∷ b ∷ c ∷ d ∷ e ∷ f ∷ g ∷ last ∷ rest) =
+    Some (record {
+      kind = kind;
+      teid = Some (big_number 4 (a ∷ b ∷ c ∷ d ∷ []));
+      seq = big_number 3 (e ∷ f ∷ g ∷ []);
+      priority = if ranked then Some (last / 16) else None;
+      rest = rest;
+      at = 12;
+    })
+after_teid ranked kind octets = None
+
+-- the header of a message of version 2 by its first octet and its type, where the octets after the first four have all of it: T says whether there is a TEID
+abbrev pub head_of : ℕ → ℕ → List ℕ → Option Headed
+head_of first kind following =
+    if first / 32 == 2 then (if (first / 8) % 2 == 1 then after_teid ((first / 4) % 2 == 1) kind following else after_no_teid kind following) else None
+
+-- the header at the front of octets
+abbrev pub head_at : List ℕ → Option Headed
+head_at (first ∷ kind ∷ high ∷ low ∷ following) = head_of first kind following
+head_at octets = None
+
+-- the header of a first message which announces a second one (P is set, 5.5.1) and is held as far as it states, and the octets after that message
+abbrev pub pair_at : List ℕ → Option (Headed × List ℕ)
+pair_at (first ∷ kind ∷ high ∷ low ∷ held) =
+    if (first / 16) % 2 == 1
+    then (if nat_lt (length held) (256 * high + low) then None
+    else option_map (λ (h : Headed). (h, drop (256 * high + low) held)) (head_of first kind (take (256 * high + low) held)))
+    else None
+pair_at octets = None
+
+-- ---- lines of the control plane
+
+-- the first line of a message, the lines of its elements, as many as are whole, and the octets that are left
+abbrev pub MessageShown : Headed → List ℕ → Type 0
+MessageShown h text =
+    (es : List Element) × (rest : List ℕ) × IsFront h.at h.rest es rest × (text ≡ first_line h.kind h.teid h.seq h.priority ++ (flat_map element_lines es ++ rest_line rest))
+
+-- a message without a header shows nothing
+abbrev pub AloneShown : Option Headed → List ℕ → Type 0
+AloneShown None text = text ≡ []
+AloneShown (Some h) text = MessageShown h text
+
+-- a second message without one shows its octets
+abbrev pub SecondShown : List ℕ → Option Headed → List ℕ → Type 0
+SecondShown octets None text = text ≡ rest_line octets
+SecondShown octets (Some h) text = MessageShown h text
+
+-- the lines of a first message, and then those of the octets after it
+abbrev pub PairShown : Headed → List ℕ → List ℕ → Type 0
+PairShown h back text = (first : List ℕ) × (second : List ℕ) × MessageShown h first × SecondShown back (head_at back) second × (text ≡ first ++ second)
+
+-- two messages, or one
+abbrev pub ShownBy : Option (Headed × List ℕ) → Option Headed → List ℕ → Type 0
+ShownBy None whole text = AloneShown whole text
+ShownBy (Some pair) whole text = PairShown pair.0 pair.1 text
+
+-- what can be shown of a datagram: where no second message is announced, or the first is not whole, all its octets are those of one
+abbrev pub ControlShown : List ℕ → List ℕ → Type 0
+ControlShown octets text = ShownBy (pair_at octets) (head_at octets) text
+
+-- and then the line of its first fault, if it has one
+abbrev pub AllControl : List ℕ → List ℕ → Bool → Type 0
+AllControl octets text true = (f : V2Fault) × IsDatagramFault octets f × ((shown : List ℕ) × ControlShown octets shown × (text ≡ shown ++ fault_line f))
+AllControl octets text false = ((d : DatagramValue) × IsDatagram octets d) × ControlShown octets text
+
+-- ---- the user plane
+
+-- what the first octets of a datagram say, and those after them
+pub record UserHead : Type 0 where
+  pub kind : ℕ
+  pub teid : ℕ
+  pub seq : Option ℕ
+  pub rest : List ℕ
+
+-- after the first eight octets: where S is set and four more octets are there, these with their sequence number
+abbrev pub numbered_head : Bool → ℕ → ℕ → List ℕ → UserHead
+numbered_head true kind teid (a ∷ b ∷ npdu ∷ next ∷ rest) = record { kind = kind; teid = teid; seq = Some (256 * a + b); rest = rest }
+numbered_head set kind teid rest = record { kind = kind; teid = teid; seq = None; rest = rest }
+
+-- the header of version 1 and protocol type 1 at the front of octets, whatever length it states (TS 29.281 5.1)
+abbrev pub user_head_at : List ℕ → Option UserHead
+user_head_at (first ∷ kind ∷ high ∷ low ∷ a ∷ b ∷ c ∷ d ∷ rest) =
+    if first / 16 == 3 then Some (numbered_head ((first / 2) % 2 == 1) kind (from_be_bytes w32 (a ∷ b ∷ c ∷ d ∷ [])) rest) else None
+user_head_at octets = None
+
+-- what can be shown of a datagram at fault
+abbrev pub user_shown : Option UserHead → List ℕ
+user_shown None = []
+user_shown (Some h) = kind_title h.kind ++ (codes " teid " ++ (teid_text h.teid ++ (some_shown (codes " seq ") h.seq ++ (codes "\n" ++ rest_line h.rest))))
+
+abbrev pub AllUser : List ℕ → List ℕ → Bool → Type 0
+AllUser octets text true = (f : UserFault) × IsUserFault octets f × (text ≡ user_shown (user_head_at octets) ++ user_fault_line f)
+AllUser octets text false = UserLines octets text false
+
+-- All that can be shown of a datagram; and then the line of its first fault, if it has one.
+abbrev pub AllLines : Plane → List ℕ → List ℕ → Bool → Type 0
+AllLines planes.Control octets text faulty = AllControl octets text faulty
+AllLines planes.User octets text faulty = AllUser octets text faulty

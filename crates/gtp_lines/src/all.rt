@@ -1,0 +1,180 @@
+//! All that can be shown of a datagram, and then its fault.
+
+ghost use Rattle.std.specs.Prelude.{◌≡◌, ◌++◌, OnOk, IfOk, option_map};
+ghost use Rattle.std.specs.List.{flat_map};
+ghost use Rattle.gtp_lines.specs.Text.{Adds};
+ghost use Rattle.gtp_lines.specs.Control.{element_lines};
+ghost use Rattle.gtp_lines.specs.All.{rest_line, MessageShown, AloneShown, SecondShown, PairShown, ControlShown, AllControl, user_shown, AllUser, AllLines, head_at as spec_head_at};
+ghost use Rattle.gtp_lines.specs.reading.Header.{headed_of, user_head_of};
+
+use crate::control::{put_elements, put_fault_line, put_first_line};
+use crate::fronts::front_elements;
+use crate::header::{Header, head_at, pair_at};
+use crate::lines::Shown;
+use crate::text::{put, put_octets, put_teid};
+use crate::user::{put_kind_title, put_some, put_user_fault_line, put_user_message};
+use crate::user_header::{UserHeader, user_head_at};
+use gtp_ie::Elements;
+use gtp_v2::view;
+use gtp_values::{Memory, Plane};
+use std::alloc::{AllocError, Global};
+
+/// Appends the line of octets that are left, where there are some.
+#[tactic(auto, using(crate::proofs::Appends::appending))]
+fn put_rest(out: &mut Vec<u8>, rest: &[u8]) -> Result<(), AllocError>
+    ensures ok { OnOk result (out.new.items ≡ out.old.items ++ rest_line rest.now) }
+{
+    if rest.is_empty() {
+        return Ok(());
+    }
+    put(out, b"rest ")?;
+    put_octets(out, rest)?;
+    put(out, b"\n")
+}
+
+/// Appends the lines of elements and of the octets after them.
+#[tactic(auto, using(crate::proofs::Appends::appending))]
+fn put_list(out: &mut Vec<u8>, elements: &Elements, rest: &[u8]) -> Result<(), AllocError>
+    ensures ok { OnOk result (out.new.items
+        ≡ out.old.items ++ (flat_map element_lines elements.now ++ rest_line rest.now)) }
+{
+    put_elements(out, elements)?;
+    put_rest(out, rest)
+}
+
+/// Appends the lines of a message with this header.
+fn put_message(out: &mut Vec<u8>, header: &Header) -> Result<(), AllocError>
+    ensures ok { OnOk result
+        (Adds (MessageShown (headed_of header.now)) out.old.items out.new.items) }
+{
+    put_first_line(out, header.kind, header.teid, header.seq, header.priority)?;
+    let (elements, rest) = front_elements(header.rest, header.place());
+    put_list(out, &elements, rest)?;
+    Ok(())
+}
+
+/// Appends the lines of a message, where there is a header.
+fn put_alone(out: &mut Vec<u8>, octets: &[u8]) -> Result<(), AllocError>
+    ensures ok { OnOk result
+        (Adds (AloneShown (spec_head_at octets.now)) out.old.items out.new.items) }
+{
+    match head_at(octets) {
+        Some(header) => {
+            put_message(out, &header)?;
+            Ok(())
+        }
+        None => Ok(()),
+    }
+}
+
+/// Appends the lines of a second message, or its octets where there is no header.
+fn put_second(out: &mut Vec<u8>, octets: &[u8]) -> Result<(), AllocError>
+    ensures ok { OnOk result
+        (Adds (SecondShown octets.now (spec_head_at octets.now)) out.old.items out.new.items) }
+{
+    match head_at(octets) {
+        Some(header) => {
+            put_message(out, &header)?;
+            Ok(())
+        }
+        None => {
+            put_rest(out, octets)?;
+            Ok(())
+        }
+    }
+}
+
+/// Appends the lines of a first message with this header, and of the octets after it.
+fn put_pair(out: &mut Vec<u8>, header: &Header, back: &[u8]) -> Result<(), AllocError>
+    ensures ok { OnOk result
+        (Adds (PairShown (headed_of header.now) back.now) out.old.items out.new.items) }
+{
+    put_message(out, header)?;
+    put_second(out, back)?;
+    Ok(())
+}
+
+/// Appends what can be shown of a control datagram.
+fn put_shown(out: &mut Vec<u8>, octets: &[u8]) -> Result<(), AllocError>
+    ensures ok { OnOk result (Adds (ControlShown octets.now) out.old.items out.new.items) }
+{
+    match pair_at(octets) {
+        Some((header, back)) => {
+            put_pair(out, &header, back)?;
+            Ok(())
+        }
+        None => {
+            put_alone(out, octets)?;
+            Ok(())
+        }
+    }
+}
+
+/// All lines of a control datagram; `Memory` where an allocation was refused.
+fn all_control(alloc: Global, octets: &[u8]) -> Result<Shown, Memory>
+    ensures { IfOk result (λ shown. AllControl octets.now shown.text.items shown.faulty) }
+{
+    let mut text = Vec::new(alloc);
+    put_shown(&mut text, octets)?;
+    match view(octets) {
+        Ok(_) => Ok(Shown {
+            text,
+            faulty: false,
+        }),
+        Err(fault) => {
+            put_fault_line(&mut text, &fault)?;
+            Ok(Shown { text, faulty: true })
+        }
+    }
+}
+
+/// Appends what can be shown of a datagram of the user plane that is at fault.
+#[tactic(auto, using(crate::proofs::Appends::appending))]
+fn put_user_shown(out: &mut Vec<u8>, header: &Option<UserHeader>) -> Result<(), AllocError>
+    ensures ok { OnOk result (out.new.items
+        ≡ out.old.items ++ user_shown (option_map user_head_of header.now)) }
+{
+    let Some(header) = header else {
+        return Ok(());
+    };
+    put_kind_title(out, header.kind)?;
+    put(out, b" teid ")?;
+    put_teid(out, header.teid)?;
+    put_some(out, b" seq ", header.seq.map(u64::from))?;
+    put(out, b"\n")?;
+    put_rest(out, header.rest)
+}
+
+/// All lines of a datagram of the user plane; `Memory` where an allocation was refused.
+fn all_user(alloc: Global, octets: &[u8]) -> Result<Shown, Memory>
+    ensures { IfOk result (λ shown. AllUser octets.now shown.text.items shown.faulty) }
+{
+    let mut text = Vec::new(alloc);
+    match gtp_user::decode(octets) {
+        Ok(message) => {
+            put_user_message(&mut text, &message)?;
+            Ok(Shown {
+                text,
+                faulty: false,
+            })
+        }
+        Err(fault) => {
+            put_user_shown(&mut text, &user_head_at(octets))?;
+            put_user_fault_line(&mut text, &fault)?;
+            Ok(Shown { text, faulty: true })
+        }
+    }
+}
+
+/// All lines of a datagram. Control plane: of each message its header and its elements, as many as are whole, and the
+/// octets that are left; then the line of the datagram's first fault, if it has one. User plane: the lines of
+/// `decode_lines`; before the line of a fault what the header says, and the octets after that. `Memory` where an
+/// allocation was refused.
+pub fn all_lines(alloc: Global, plane: Plane, octets: &[u8]) -> Result<Shown, Memory>
+    ensures { IfOk result (λ shown. AllLines plane octets.now shown.text.items shown.faulty) }
+{
+    match plane {
+        Plane::Control => all_control(alloc, octets),
+        Plane::User => all_user(alloc, octets),
+    }
+}

@@ -1,0 +1,110 @@
+//! The header of a message, as far as its octets are there (TS 29.274 5.1).
+
+ghost use Rattle.std.specs.Prelude.{◌≡◌, ◌≤◌, option_map};
+ghost use Rattle.gtp_v2.specs.Viewed.{place_of};
+ghost use Rattle.gtp_lines.specs.All.{after_no_teid, after_teid, head_of as spec_head_of, head_at as spec_head_at, pair_at as spec_pair_at};
+ghost use Rattle.gtp_lines.specs.reading.Header.{headed_of, pair_of};
+
+use byteorder::{BigEndian, ByteOrder};
+use gtp_values::{Below, Seq, Teid};
+
+/// What the octets before the elements say, and the octets after them.
+#[derive(Clone, Copy, Debug)]
+pub struct Header<'a> {
+    pub kind: u8,
+    pub teid: Option<Teid>,
+    pub seq: Seq,
+    pub priority: Option<Below<16>>,
+    pub rest: &'a [u8],
+}
+
+impl Header<'_> {
+    /// The place of the rest in the message.
+    pub fn place(&self) -> usize
+        ensures place { result ≡ place_of (option_map (λ t. t.0) self.now.teid) }
+        ensures few { result ≤ 12 }
+    {
+        match self.teid {
+            Some(_) => 12,
+            None => 8,
+        }
+    }
+}
+
+/// The header without a TEID, after its first four octets.
+fn without_teid(kind: u8, octets: &[u8]) -> Option<Header<'_>>
+    ensures { option_map headed_of result ≡ after_no_teid kind octets.now }
+{
+    let [a, b, c, _, rest @ ..] = octets else {
+        return None;
+    };
+    Some(Header {
+        kind,
+        teid: None,
+        seq: Seq::new(BigEndian::read_u24(&[*a, *b, *c])),
+        priority: None,
+        rest,
+    })
+}
+
+/// The same with a TEID, and with a priority where there is one.
+fn with_teid(ranked: bool, kind: u8, octets: &[u8]) -> Option<Header<'_>>
+    ensures { option_map headed_of result ≡ after_teid ranked kind octets.now }
+{
+    let [a, b, c, d, e, f, g, last, rest @ ..] = octets else {
+        return None;
+    };
+    Some(Header {
+        kind,
+        teid: Some(Teid(BigEndian::read_u32(&[*a, *b, *c, *d]))),
+        seq: Seq::new(BigEndian::read_u24(&[*e, *f, *g])),
+        priority: ranked.then_some(Below::new(*last >> 4)),
+        rest,
+    })
+}
+
+/// The header of a message with this first octet and this type, and these octets after the first four.
+fn head_of(first: u8, kind: u8, following: &[u8]) -> Option<Header<'_>>
+    ensures { option_map headed_of result ≡ spec_head_of first kind following.now }
+{
+    if first >> 5 != 2 {
+        return None;
+    }
+    if first >> 3 & 1 == 1 {
+        with_teid(first >> 2 & 1 == 1, kind, following)
+    } else {
+        without_teid(kind, following)
+    }
+}
+
+/// The header at the front of octets, whatever length it states.
+pub fn head_at(octets: &[u8]) -> Option<Header<'_>>
+    ensures { option_map headed_of result ≡ spec_head_at octets.now }
+{
+    let [first, kind, _, _, following @ ..] = octets else {
+        return None;
+    };
+    head_of(*first, *kind, following)
+}
+
+/// The header of a first message that announces a second one, and the octets of that; `None` where it states
+/// more octets than are held.
+pub fn pair_at(octets: &[u8]) -> Option<(Header<'_>, &[u8])>
+    ensures { option_map pair_of result ≡ spec_pair_at octets.now }
+{
+    let [first, kind, high, low, held @ ..] = octets else {
+        return None;
+    };
+    if *first >> 4 & 1 == 0 {
+        return None;
+    }
+    let stated = usize::from(BigEndian::read_u16(&[*high, *low]));
+    if held.len() < stated {
+        return None;
+    }
+    let (front, back) = held.split_at(stated);
+    match head_of(*first, *kind, front) {
+        Some(header) => Some((header, back)),
+        None => None,
+    }
+}

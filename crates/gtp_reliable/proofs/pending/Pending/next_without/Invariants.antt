@@ -1,0 +1,15 @@
+use Rattle.gtp_reliable.specs.Pending.{others}
+use Rattle.gtp_reliable.proofs.Numbers.{distance, ahead, IsReached}
+use Rattle.gtp_reliable.proofs.pending.Pending.next_without.Given as goal
+
+abbrev pub ghost-count_others : goal.ghost-count_others
+ghost-count_others g a = g.meets
+
+abbrev pub ghost-is_other : goal.ghost-is_other
+ghost-is_other g a = g.meets
+
+abbrev pub invariant-loop-self : goal.invariant-loop-self
+invariant-loop-self g l = IsReached l.self.next (others g.meets l.self.waiting) l.number
+
+abbrev pub decreases-loop-self : goal.decreases-loop-self
+decreases-loop-self g l = ahead l.self.next (distance l.self.next l.number) (others g.meets l.self.waiting)

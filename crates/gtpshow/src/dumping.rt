@@ -1,0 +1,55 @@
+//! Showing the datagrams of standard input, a line each.
+
+ghost use Rattle.std.specs.Prelude.{◌≤◌, IfOk};
+
+use crate::capturing::unwritten;
+use crate::command::Failure;
+use crate::showing::show_dump;
+use gtp_dump::Asked;
+use std::alloc::Global;
+use std::io::{self, BufReader, BufWriter, ErrorKind, Write};
+use std::str;
+
+/// How many octets are read or written at once.
+const BUFFERED: usize = 65_536;
+
+/// Standard error, as a writer of text.
+#[derive(Drop)]
+struct Errors<'a, P> {
+    to: &'a P,
+}
+
+impl<P: Eprint> Write for Errors<'_, P> {
+    fn write(&mut self, buf: &[u8]) -> io::Result<usize> {
+        match str::from_utf8(buf) {
+            Ok(text) => {
+                self.to.eprint(text)?;
+                Ok(buf.len())
+            }
+            Err(_) => Err(io::Error::from(ErrorKind::InvalidData)),
+        }
+    }
+
+    fn flush(&mut self) -> io::Result<()> {
+        Ok(())
+    }
+}
+
+/// Shows the datagrams of standard input, and returns the exit status.
+pub fn dump_printed<R: Print + Eprint + Input>(
+    rt: &R,
+    alloc: Global,
+    asked: Asked,
+) -> Result<u8, Failure>
+    ensures { IfOk result (λ status. status ≤ 2) }
+{
+    let mut reader = BufReader::with_capacity(alloc, BUFFERED, rt.reader()).map_err(
+        |_| Failure::Memory,
+    )?;
+    let mut out = BufWriter::with_capacity(alloc, BUFFERED, io::writer(rt)).map_err(
+        |_| Failure::Memory,
+    )?;
+    let shown = show_dump(alloc, asked, &mut reader, &mut out, &mut Errors { to: rt });
+    out.flush().map_err(|error| unwritten(&error))?;
+    shown
+}

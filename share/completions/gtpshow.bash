@@ -1,0 +1,22 @@
+# Completion of gtpshow for bash.
+_gtpshow() {
+  local word=${COMP_WORDS[COMP_CWORD]} command= each
+  for each in "${COMP_WORDS[@]:1:COMP_CWORD-1}"; do
+    case $each in
+      decode | capture | replay | help) command=$each && break ;;
+    esac
+  done
+  local words='--help'
+  case $command in
+    decode) words='--user --all --help' ;;
+    capture) words='--brief --all --control-port --user-port --help' ;;
+    replay) words='--diagram --help' ;;
+    help) words='decode capture replay' ;;
+    '') words='decode capture replay help --help --version' ;;
+  esac
+  mapfile -t COMPREPLY < <(compgen -W "$words" -- "$word")
+  case $command in
+    capture | replay) [[ $word == -* ]] || mapfile -t COMPREPLY < <(compgen -f -- "$word") ;;
+  esac
+}
+complete -o filenames -F _gtpshow gtpshow

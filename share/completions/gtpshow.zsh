@@ -1,0 +1,22 @@
+#compdef gtpshow
+# Completion of gtpshow for zsh.
+_gtpshow() {
+  local -a commands
+  commands=(
+    'decode:shows one datagram, or its first fault'
+    'capture:shows the GTP datagrams of a packet capture'
+    'replay:runs a scenario between two gateways, and reports what comes of it'
+    'help:prints help'
+  )
+  if (( CURRENT == 2 )); then
+    _describe 'command' commands
+    _arguments '--help[print help]' '--version[print version]'
+    return
+  fi
+  case $words[2] in
+    decode) _arguments '--user[the datagram is of the user plane]' '--all[show each element that is whole]' '--help[print help]' ':octets in hexadecimal:' ;;
+    capture) _arguments '--brief[show one line a datagram]' '--all[show each element that is whole]' '--control-port[a port of control datagrams]:port:' '--user-port[a port of user datagrams]:port:' '--help[print help]' ':capture:_files' ;;
+    replay) _arguments '--diagram[draw the run as a sequence diagram]' '--help[print help]' ':scenario:_files' ;;
+  esac
+}
+_gtpshow "$@"
