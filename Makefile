@@ -29,7 +29,7 @@ install: $(program)
 	$(INSTALL) -D -m 644 share/completions/gtpshow.zsh $(word 2,$(shell_files))
 	$(INSTALL) -D -m 644 share/completions/gtpshow.fish $(word 3,$(shell_files))
 	$(INSTALL) -d $(pages)/examples
-	$(INSTALL) -m 644 docs/PROTOCOL.md docs/FORMATS.md docs/PROVED.md docs/BELIEVE.md docs/CHANGELOG.md $(pages)
+	$(INSTALL) -m 644 docs/PROTOCOL.md docs/FORMATS.md docs/JSON.md docs/PROVED.md docs/BELIEVE.md docs/CHANGELOG.md $(pages)
 	cp -R examples/scenarios examples/captures examples/datagrams $(pages)/examples
 
 uninstall:

@@ -8,9 +8,9 @@ _gtpshow() {
   done
   local words='--help'
   case $command in
-    decode) words='--user --all --help' ;;
-    capture) words='--brief --all --control-port --user-port --help' ;;
-    replay) words='--diagram --help' ;;
+    decode) words='--user --all --json --help' ;;
+    capture) words='--brief --all --json --control-port --user-port --help' ;;
+    replay) words='--diagram --pcap --help' ;;
     help) words='decode capture replay' ;;
     '') words='decode capture replay help --help --version' ;;
   esac

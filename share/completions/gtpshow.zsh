@@ -14,9 +14,9 @@ _gtpshow() {
     return
   fi
   case $words[2] in
-    decode) _arguments '--user[the datagram is of the user plane]' '--all[show each element that is whole]' '--help[print help]' ':octets in hexadecimal:' ;;
-    capture) _arguments '--brief[show one line a datagram]' '--all[show each element that is whole]' '--control-port[a port of control datagrams]:port:' '--user-port[a port of user datagrams]:port:' '--help[print help]' ':capture:_files' ;;
-    replay) _arguments '--diagram[draw the run as a sequence diagram]' '--help[print help]' ':scenario:_files' ;;
+    decode) _arguments '--user[the datagram is of the user plane]' '--all[show each element that is whole]' '--json[show a JSON object a line]' '--help[print help]' ':octets in hexadecimal:' ;;
+    capture) _arguments '--brief[show one line a datagram]' '--all[show each element that is whole]' '--json[show a JSON object a line]' '--control-port[a port of control datagrams]:port:' '--user-port[a port of user datagrams]:port:' '--help[print help]' ':capture:_files' ;;
+    replay) _arguments '--diagram[draw the run as a sequence diagram]' '--pcap[write the run as a packet capture]' '--help[print help]' ':scenario:_files' ;;
   esac
 }
 _gtpshow "$@"

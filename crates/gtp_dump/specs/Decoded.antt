@@ -5,8 +5,11 @@ use Rattle.std.specs.Io.KnownBytes.{Appends}
 use Rattle.gtp_values.specs.declared.plane.Plane.{Plane}
 use Rattle.gtp_lines.specs.Lines.{LinesOf}
 use Rattle.gtp_lines.specs.All.{AllLines}
+use Rattle.gtp_json.specs.Datagram.{DatagramJson}
 use Rattle.gtp_dump.specs.Text.{Spells, IsBlank, IsBad}
 use Rattle.gtp_dump.specs.declared.decoding.Asked.{Asked}
+use Rattle.gtp_dump.specs.declared.decoding.Form.{Form}
+use Rattle.gtp_dump.specs.declared.decoding.Form.TheVariants as forms
 use Rattle.gtp_dump.specs.declared.decoding.Tally.{Tally}
 
 -- the line before those of a datagram
@@ -17,18 +20,25 @@ datagram_line index = codes "datagram " ++ (decimal index ++ codes "\n")
 abbrev pub bad_line : ℕ → List ℕ
 bad_line number = codes "bad hex line " ++ (decimal number ++ codes "\n")
 
--- all that can be shown of a datagram, or its lines
-abbrev pub ShowsAs : Bool → Plane → List ℕ → List ℕ → Bool → Type 0
-ShowsAs true plane octets text faulty = AllLines plane octets text faulty
-ShowsAs false plane octets text faulty = LinesOf plane octets text faulty
+-- a datagram in a form
+abbrev pub ShowsAs : Form → Plane → List ℕ → List ℕ → Bool → Type 0
+ShowsAs forms.Lines plane octets text faulty = LinesOf plane octets text faulty
+ShowsAs forms.All plane octets text faulty = AllLines plane octets text faulty
+ShowsAs forms.Json plane octets text faulty = DatagramJson plane octets text faulty
 
 -- this of the datagram of a line
 abbrev pub ShowsOne : Asked → List ℕ → List ℕ → Bool → Type 0
-ShowsOne asked line text faulty = (plane : Plane) × (octets : List ℕ) × Spells asked.plane line plane octets × ShowsAs asked.all plane octets text faulty
+ShowsOne asked line text faulty = (plane : Plane) × (octets : List ℕ) × Spells asked.plane line plane octets × ShowsAs asked.form plane octets text faulty
+
+-- the line before those of a datagram; none before an object
+abbrev pub index_line : Form → ℕ → List ℕ
+index_line forms.Lines index = datagram_line index
+index_line forms.All index = datagram_line index
+index_line forms.Json index = []
 
 -- of a datagram its index, and then this
-abbrev pub Shows : Bool → Plane → List ℕ → ℕ → List ℕ → Bool → Type 0
-Shows all plane octets index text faulty = (lines : List ℕ) × ShowsAs all plane octets lines faulty × (text ≡ datagram_line index ++ lines)
+abbrev pub Shows : Form → Plane → List ℕ → ℕ → List ℕ → Bool → Type 0
+Shows form plane octets index text faulty = (lines : List ℕ) × ShowsAs form plane octets lines faulty × (text ≡ index_line form index ++ lines)
 
 -- nothing was read yet
 abbrev pub nothing_read : Tally
@@ -54,7 +64,7 @@ pub record TellsDatagram (asked : Asked) (before : Tally) (line : List ℕ) (aft
   pub octets : List ℕ
   pub faulty : Bool
   pub spells : Spells asked.plane line plane octets
-  pub shows : Shows asked.all plane octets before.datagrams out faulty
+  pub shows : Shows asked.form plane octets before.datagrams out faulty
   pub tally : after ≡ record before { lines = before.lines + 1; datagrams = before.datagrams + 1; faulty = before.faulty || faulty }
   pub error : err ≡ []
 

@@ -1,26 +1,37 @@
 //! All lines of a hex dump.
 
-ghost use Rattle.std.specs.Prelude.{◌≡◌, ◌≢◌, ◌+◌, ◌-◌, ◌^◌, ◌<◌, ◌≤◌, ◌⊎◌, [], None, Ok, Err, IfOk, IfErr, IfSome};
+ghost use Rattle.std.specs.Prelude.{◌≡◌, ◌≢◌, ◌+◌, ◌++◌, ◌-◌, ◌^◌, ◌<◌, ◌≤◌, ◌⊎◌, [], None, Ok, Err, IfOk, IfErr, IfSome, OnOk};
 ghost use Rattle.std.specs.IoError.{error_kind};
 ghost use Rattle.gtp_dump.specs.declared.decoding.DumpFault.TheVariants as faults;
 ghost use Rattle.gtp_dump.specs.Text.{IsBlank, IsBad};
-ghost use Rattle.gtp_dump.specs.Decoded.{nothing_read, bad_line, ShowsAs, ShowsOne, Shows, IsTold, AreTold, AreFirstTold};
+ghost use Rattle.gtp_dump.specs.Decoded.{nothing_read, bad_line, index_line, ShowsAs, ShowsOne, Shows, IsTold, AreTold, AreFirstTold};
 
 use crate::text::{Dumped, LineFault, read_line};
+use gtp_json::datagram_json;
 use gtp_lines::text::{put, put_number};
 use gtp_lines::{Shown, all_lines, decode_lines};
 use gtp_values::{Memory, Plane};
-use std::alloc::Global;
+use std::alloc::{AllocError, Global};
 use std::io::{self, BufRead, ErrorKind, Write};
 use thiserror::Error;
+
+/// In which form a datagram of a dump is shown.
+#[derive(Clone, Copy, Debug, PartialEq, Eq)]
+pub enum Form {
+    /// The lines of its message, or of its first fault.
+    Lines,
+    /// The lines of all that can be shown of it, and then of its fault.
+    All,
+    /// A JSON object on one line.
+    Json,
+}
 
 /// How the lines of a dump are read and shown.
 #[derive(Clone, Copy, Debug, PartialEq, Eq)]
 pub struct Asked {
     /// The plane of the datagrams whose lines do not name one; without it their version decides.
     pub plane: Option<Plane>,
-    /// Whether all that can be shown of a datagram is shown, and not only the fault of one at fault.
-    pub all: bool,
+    pub form: Form,
 }
 
 /// What came of the lines of a dump.
@@ -90,28 +101,41 @@ impl Tally {
 }
 
 /// The lines of a datagram.
-fn lines_of(alloc: Global, all: bool, dumped: &Dumped) -> Result<Shown, Memory>
-    ensures { IfOk result (λ shown. ShowsAs all dumped.now.plane dumped.now.octets.items
+fn lines_of(alloc: Global, form: Form, dumped: &Dumped) -> Result<Shown, Memory>
+    ensures { IfOk result (λ shown. ShowsAs form dumped.now.plane dumped.now.octets.items
         shown.text.items shown.faulty) }
 {
-    if all {
-        all_lines(alloc, dumped.plane, &dumped.octets)
-    } else {
-        decode_lines(alloc, dumped.plane, &dumped.octets)
+    match form {
+        Form::Lines => decode_lines(alloc, dumped.plane, &dumped.octets),
+        Form::All => all_lines(alloc, dumped.plane, &dumped.octets),
+        Form::Json => datagram_json(alloc, dumped.plane, &dumped.octets),
     }
 }
 
-/// The line before those of a datagram, and these.
+/// Appends the line before those of a datagram; there is none before an object.
 #[tactic(auto, using(crate::proofs::Texts::appending))]
-fn shown(alloc: Global, all: bool, index: u64, dumped: &Dumped) -> Result<Shown, Memory>
-    ensures { IfOk result (λ shown. Shows all dumped.now.plane dumped.now.octets.items index
+fn put_index(out: &mut Vec<u8>, form: Form, index: u64) -> Result<(), AllocError>
+    ensures ok { OnOk result (out.new.items ≡ out.old.items ++ index_line form index) }
+{
+    match form {
+        Form::Lines | Form::All => {
+            put(out, b"datagram ")?;
+            put_number(out, index)?;
+            put(out, b"\n")
+        }
+        Form::Json => Ok(()),
+    }
+}
+
+/// What stands before the lines of a datagram, and these.
+#[tactic(auto, using(crate::proofs::Texts::appending))]
+fn shown(alloc: Global, form: Form, index: u64, dumped: &Dumped) -> Result<Shown, Memory>
+    ensures { IfOk result (λ shown. Shows form dumped.now.plane dumped.now.octets.items index
         shown.text.items shown.faulty) }
 {
     let mut text = Vec::new(alloc);
-    put(&mut text, b"datagram ")?;
-    put_number(&mut text, index)?;
-    put(&mut text, b"\n")?;
-    let lines = lines_of(alloc, all, dumped)?;
+    put_index(&mut text, form, index)?;
+    let lines = lines_of(alloc, form, dumped)?;
     put(&mut text, &lines.text)?;
     Ok(Shown {
         text,
@@ -157,7 +181,7 @@ fn tell<W: Write, E: Write>(
             ..before
         }),
         Ok(Some(dumped)) => {
-            let shown = shown(alloc, asked.all, before.datagrams, &dumped)?;
+            let shown = shown(alloc, asked.form, before.datagrams, &dumped)?;
             if let Err(error) = out.write_all(&shown.text) {
                 return Err(unwritten(&error));
             }
@@ -184,7 +208,7 @@ fn tell<W: Write, E: Write>(
 }
 
 /// Decodes the datagrams of a dump, a line each, and tells what came of its lines. Before the lines of each datagram stands
-/// `datagram <index>`, which counts from 0. For a line that is no hexadecimal `bad hex line <number>` is written as an error; lines
+/// `datagram <index>`, which counts from 0; before an object none. For a line that is no hexadecimal `bad hex line <number>` is written as an error; lines
 /// count from 1. A line ends with a line feed, or with the text, and is held whole.
 ///
 /// `Read` if a read failed, `Write` if a write did, `Closed` if the reader of the output closed it, `Memory` if an allocation was
@@ -232,7 +256,7 @@ pub fn decode_line(alloc: Global, asked: Asked, line: &[u8]) -> Result<Option<Sh
     let Some(dumped) = read_line(alloc, asked.plane, line)? else {
         return Ok(None);
     };
-    match lines_of(alloc, asked.all, &dumped) {
+    match lines_of(alloc, asked.form, &dumped) {
         Ok(shown) => Ok(Some(shown)),
         Err(_) => Err(LineFault::Memory),
     }

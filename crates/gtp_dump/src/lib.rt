@@ -4,7 +4,7 @@
 mod decoding;
 mod text;
 
-pub use decoding::{Asked, DumpFault, Tally, decode_dump, decode_line};
+pub use decoding::{Asked, DumpFault, Form, Tally, decode_dump, decode_line};
 pub use text::{Dumped, LineFault, read_line};
 
 /// What the signatures here name of the crate below.

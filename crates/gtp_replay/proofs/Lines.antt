@@ -13,7 +13,7 @@ use Rattle.gtp_replay.specs.Events.{event_lines, lines_from}
 use Rattle.gtp_replay.proofs.Numbered.{numbered_front, numbered_rest}
 
 -- the first of the datagrams that are left, as many as there are at most
-front_is : {X Y : Type 0} (f : X → Y) (first count sent : ℕ) (xs : List X) → count ≡ min (length xs) sent → enumerate_from first (map f (take count xs)) ≡ take sent (enumerate_from first (map f xs))
+pub front_is : {X Y : Type 0} (f : X → Y) (first count sent : ℕ) (xs : List X) → count ≡ min (length xs) sent → enumerate_from first (map f (take count xs)) ≡ take sent (enumerate_from first (map f xs))
 front_is f first count sent xs is = ⊎_elim
     (λ short. let all : count ≡ length xs = omega (arith, is, short) in
     ap (λ n. enumerate_from first (map f (take n xs))) all ∙ (ap (λ l. enumerate_from first (map f l)) (take_all (length xs) xs (omega arith))
@@ -22,7 +22,7 @@ front_is f first count sent xs is = ⊎_elim
     (cases_lt (length xs) sent)
 
 -- and the others
-rest_is : {X Y : Type 0} (f : X → Y) (first count sent : ℕ) (xs : List X) → count ≡ min (length xs) sent → enumerate_from (first + count) (map f (drop count xs)) ≡ drop sent (enumerate_from first (map f xs))
+pub rest_is : {X Y : Type 0} (f : X → Y) (first count sent : ℕ) (xs : List X) → count ≡ min (length xs) sent → enumerate_from (first + count) (map f (drop count xs)) ≡ drop sent (enumerate_from first (map f xs))
 rest_is f first count sent xs is = ⊎_elim
     (λ short. let all : length xs ≤ count = omega (arith, is, short) in
     ap (λ l. enumerate_from (first + count) (map f l)) (drop_all count xs all)

@@ -6,6 +6,8 @@ pub mod Report
 pub mod Counts
 pub mod Streams
 pub mod Expected
+pub mod Captures
+pub mod Recaptured
 pub mod Told
 pub mod Ran
 pub mod Determined

@@ -9,9 +9,10 @@ use Rattle.gtp_scenario.specs.declared.fault.Refusal.{Refusal}
 use Rattle.gtp_scenario.specs.declared.fault.Refusal.TheVariants as refusals
 use Rattle.gtp_scenario.specs.Entries.{events_in}
 use Rattle.gtp_scenario.specs.Scenarios.{Scenario, scenario_of}
+use Rattle.gtp_replay.specs.Captures.{IsCaptureOf}
 use Rattle.gtp_replay.specs.Report.{IsReport}
 use Rattle.gtp_replay.specs.declared.replaying.Form.{Form}
-use Rattle.gtp_replay.specs.declared.replaying.Form.TheVariants.{Report, Diagram}
+use Rattle.gtp_replay.specs.declared.replaying.Form.TheVariants.{Report, Diagram, Capture}
 use Rattle.gtp_replay.specs.declared.verdict.Verdict.{Verdict}
 use Rattle.gtp_replay.specs.declared.verdict.Verdict.TheVariants.{Expected, Unexpected, Bad}
 use Rattle.gtp_replay.specs.Expected.{all_met}
@@ -25,12 +26,13 @@ events_of scenario = flat_map events_in scenario.entries
 abbrev pub verdict_on : Scenario → Kept → Verdict
 verdict_on scenario world = if all_met scenario.entries world.log.notes then Expected else Unexpected
 
--- a text of a world in which these events happened: its report, or a diagram, of which nothing is said
+-- a text of a world in which these events happened: its report, its capture, or a diagram, of which nothing is said
 abbrev pub IsText : Form → List Event → Kept → List ℕ → Type 0
 IsText Report events world text = IsReport events world text
 IsText Diagram events world text = Unit {0}
+IsText Capture events world text = IsCaptureOf world text
 
--- In a world that a run of the scenario's events leaves, the text is its report, or some diagram, and the verdict says whether each event came to what is expected.
+-- In a world that a run of the scenario's events leaves, the text is its report, its capture, or some diagram, and the verdict says whether each event came to what is expected.
 pub record TellsScenario (form : Form) (scenario : Scenario) (text : List ℕ) (verdict : Verdict) : Type 0 where
   pub world : Kept
   pub run : IsWhole scenario.setup (events_of scenario) world
@@ -73,3 +75,10 @@ Drawn octets verdict before now = ToldAs Diagram octets verdict before now
 
 abbrev pub DrawnFront : List ℕ → Option (List ℕ) → Option (List ℕ) → Type 0
 DrawnFront octets before now = ToldFrontAs Diagram octets before now
+
+-- such a text with a capture, or a beginning of one
+abbrev pub Captured : List ℕ → Verdict → Option (List ℕ) → Option (List ℕ) → Type 0
+Captured octets verdict before now = ToldAs Capture octets verdict before now
+
+abbrev pub CapturedFront : List ℕ → Option (List ℕ) → Option (List ℕ) → Type 0
+CapturedFront octets before now = ToldFrontAs Capture octets before now

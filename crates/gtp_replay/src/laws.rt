@@ -1,6 +1,9 @@
-//! What the clauses of a replay leave open. The function does nothing: each clause is a law.
+//! What the clauses of a replay leave open. The functions do nothing: each clause is a law.
 
 ghost use Rattle.gtp_replay.specs.Determined.{WorldsHaveOneReport, OctetsHaveOneText};
+ghost use Rattle.gtp_replay.specs.Recaptured.{CaptureReadsBack};
+
+use gtp_capture::what_is_written_is_read_back;
 
 /// The clauses of `replay` allow one text and one verdict for given octets: the report of the scenario.
 pub fn reports_are_determined()
@@ -9,3 +12,10 @@ pub fn reports_are_determined()
     // Octets have one report, or one line of a refusal, and one verdict.
     ensures told { OctetsHaveOneText }
 {}
+
+/// The capture of a run is read as its datagrams, where each has its plane by its ports, and a packet has room for it.
+pub fn captures_are_read_back()
+    ensures { CaptureReadsBack }
+{
+    what_is_written_is_read_back();
+}

@@ -1,6 +1,7 @@
-//! Replays: a scenario is read and run, and its report or its diagram is written.
+//! Replays: a scenario is read and run, and its report, its diagram or a capture of it is written.
 #![tactic(auto)]
 
+mod capturing;
 mod counted;
 mod expected;
 pub mod laws;
@@ -9,8 +10,9 @@ mod reporting;
 mod streams;
 mod verdict;
 
+pub use capturing::capture;
 pub use counted::{Counted, Failed};
-pub use replaying::{replay, replay_diagram};
+pub use replaying::{replay, replay_capture, replay_diagram};
 pub use reporting::{diagram, report};
 pub use verdict::{ReplayFault, Verdict};
 

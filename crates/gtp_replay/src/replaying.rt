@@ -1,4 +1,4 @@
-//! Replays: from the octets of a scenario to those of a report or a diagram.
+//! Replays: from the octets of a scenario to those of a report, a diagram or a capture.
 
 ghost use Rattle.std.specs.Prelude.{◌≡◌, ◌≢◌, ◌+◌, ◌-◌, ◌^◌, ◌<◌, map, IfOk, IfErr, IfSome};
 ghost use Rattle.gtp_world.specs.Events.{event_of};
@@ -7,8 +7,9 @@ ghost use Rattle.gtp_scenario.specs.Views.{scenario as scenario_view};
 ghost use Rattle.gtp_replay.specs.Ran.{IsRan};
 ghost use Rattle.gtp_replay.specs.Counts.{inner_of, failures_of};
 ghost use Rattle.gtp_replay.specs.Streams.{ConsumesUpTo};
-ghost use Rattle.gtp_replay.specs.Told.{refusal_line, verdict_on, IsText, TellsScenario, Tells, ToldAs, ToldFrontAs, Told, ToldFront, Drawn, DrawnFront};
+ghost use Rattle.gtp_replay.specs.Told.{refusal_line, verdict_on, IsText, TellsScenario, Tells, ToldAs, ToldFrontAs, Told, ToldFront, Drawn, DrawnFront, Captured, CapturedFront};
 
+use crate::capturing::capture;
 use crate::counted::Counted;
 use crate::expected::all_met;
 use crate::reporting::{diagram, report};
@@ -48,6 +49,7 @@ fn refusal_text(alloc: Global, refusal: Refusal) -> Result<Vec<u8>, ReplayFault>
 enum Form {
     Report,
     Diagram,
+    Capture,
 }
 
 /// A run of a scenario: its events, and the world that they leave.
@@ -95,6 +97,7 @@ fn text_of(alloc: Global, form: Form, ran: &Ran) -> Result<Vec<u8>, Memory>
     match form {
         Form::Report => report(alloc, &ran.events, &ran.world),
         Form::Diagram => diagram(alloc, &ran.events, &ran.world),
+        Form::Capture => capture(alloc, &ran.world),
     }
 }
 
@@ -242,4 +245,40 @@ pub fn replay_diagram<R: Read, W: Write>(
     ensures memory { result ≡ Err ReplayFault.Memory → writer.new ≡ writer.old }
 {
     replay_as(alloc, Form::Diagram, reader, writer)
+}
+
+/// Reads a scenario, runs it, and writes the datagrams of the run as a packet capture (pcap), in the form of `capture`;
+/// or, if the octets are not a scenario, one line with the first error in them. It reads and writes as `replay` does,
+/// with the same errors.
+pub fn replay_capture<R: Read, W: Write>(
+    alloc: Global,
+    reader: &mut Counted<R>,
+    writer: &mut Counted<W>,
+) -> Result<Verdict, ReplayFault>
+    requires reads { failures_of reader.old < 2 ^ 64 - 1 }
+    requires writes { failures_of writer.old < 2 ^ 64 - 1 }
+    // What is written is the capture of a world that the events leave, or the line of the refusal; the verdict is that
+    // of the same octets.
+    ensures captured { IfOk result (λ verdict. IfSome (R.remaining (inner_of reader.old)) (λ octets.
+        Captured octets verdict
+        (W.contents (inner_of writer.old)) (W.contents (inner_of writer.new)))) }
+    ensures consumed { ConsumesUpTo 16777217
+        (R.remaining (inner_of reader.old)) (R.remaining (inner_of reader.new)) }
+    // `Read` means one more failed call of the reader, and every other result none; likewise `Write`.
+    ensures read { result ≡ Err ReplayFault.Read
+        → failures_of reader.new ≡ failures_of reader.old + 1 }
+    ensures reads_on { result ≢ Err ReplayFault.Read
+        → failures_of reader.new ≡ failures_of reader.old }
+    ensures write { result ≡ Err ReplayFault.Write
+        → failures_of writer.new ≡ failures_of writer.old + 1 }
+    ensures writes_on { result ≢ Err ReplayFault.Write
+        → failures_of writer.new ≡ failures_of writer.old }
+    // A failed write leaves a beginning of the capture or line, and any other fault leaves the writer alone.
+    ensures front { result ≡ Err ReplayFault.Write
+        → IfSome (R.remaining (inner_of reader.old)) (λ octets. CapturedFront octets
+        (W.contents (inner_of writer.old)) (W.contents (inner_of writer.new))) }
+    ensures unread { result ≡ Err ReplayFault.Read → writer.new ≡ writer.old }
+    ensures memory { result ≡ Err ReplayFault.Memory → writer.new ≡ writer.old }
+{
+    replay_as(alloc, Form::Capture, reader, writer)
 }

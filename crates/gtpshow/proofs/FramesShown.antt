@@ -6,7 +6,7 @@ use Rattle.std.proofs.lemmas.List.{append-nil}
 use Rattle.gtp_capture.specs.Frame.{Frame}
 use Rattle.gtp_capture.specs.Seen.{Seen, datagrams, Takes}
 use Rattle.gtp_capture.specs.declared.ports.Ports.{Ports}
-use Rattle.gtp_lines.specs.declared.frames.Form.{Form}
+use Rattle.gtpshow.specs.declared.capturing.CaptureForm.{CaptureForm}
 use Rattle.gtp_capture.specs.Outcome.{IsRead, HandsOnSome, StopsAt}
 use Rattle.gtp_capture.specs.declared.fault.CaptureFault.TheVariants.{Broken}
 use Rattle.gtpshow.specs.Captured.{nothing_shown, counted, AreShown, TakesFrame, RefusesFrame, AreWritten, IsBrokenShown, IsFirstShown}
@@ -35,7 +35,7 @@ has_shown contents before [] after same =
 has_shown contents before (d ∷ ds) after (next, (lines, faulty, shows, form, written, counts, memory), later) =
     let rest = has_shown contents next ds after later in
     let others : AreShown before.form (counted before.counts d.packet faulty) ds rest.text after.counts =
-    subst (λ (f : Form). AreShown f (counted before.counts d.packet faulty) ds rest.text after.counts) form (subst (λ (c : Counts). AreShown next.form c ds rest.text after.counts) counts rest.lines) in
+    subst (λ (f : CaptureForm). AreShown f (counted before.counts d.packet faulty) ds rest.text after.counts) form (subst (λ (c : Counts). AreShown next.form c ds rest.text after.counts) counts rest.lines) in
     record {
       text = lines ++ rest.text;
       lines = (lines, faulty, rest.text, shows, others, refl);

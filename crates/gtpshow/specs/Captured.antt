@@ -8,7 +8,9 @@ use Rattle.gtp_capture.specs.Packet.{Packet}
 use Rattle.gtp_capture.specs.Seen.{Seen, datagrams}
 use Rattle.gtp_capture.specs.declared.ports.Ports.{Ports}
 use Rattle.gtp_lines.specs.Frames.{FrameLines}
-use Rattle.gtp_lines.specs.declared.frames.Form.{Form}
+use Rattle.gtp_json.specs.Frames.{FrameJson}
+use Rattle.gtpshow.specs.declared.capturing.CaptureForm.{CaptureForm}
+use Rattle.gtpshow.specs.declared.capturing.CaptureForm.TheVariants.{Text, Json}
 use Rattle.gtpshow.specs.declared.capturing.Counts.{Counts}
 use Rattle.gtpshow.specs.declared.capturing.FrameWriter.{FrameWriter}
 
@@ -29,20 +31,35 @@ abbrev pub counts_line : ℕ → Counts → List ℕ
 counts_line frames c =
     codes "frames " ++ (decimal frames ++ (codes " gtp " ++ (decimal c.gtp ++ (codes " faults " ++ (decimal c.faults ++ (codes " cut " ++ (decimal c.cut ++ (codes " fragments " ++ (decimal c.fragments ++ codes "\n")))))))))
 
+-- and the same as a JSON object
+abbrev pub counts_json : ℕ → Counts → List ℕ
+counts_json frames c =
+    codes "{\"frames\":" ++ (decimal frames ++ (codes ",\"gtp\":" ++ (decimal c.gtp ++ (codes ",\"faults\":" ++ (decimal c.faults ++ (codes ",\"cut\":" ++ (decimal c.cut ++ (codes ",\"fragments\":" ++ (decimal c.fragments ++ codes "}\n")))))))))
+
+-- in each form
+abbrev pub last_line : CaptureForm → ℕ → Counts → List ℕ
+last_line (Text form) frames c = counts_line frames c
+last_line Json frames c = counts_json frames c
+
+-- a datagram in a form: its lines, or its object, and whether it has a fault
+abbrev pub IsShownAs : CaptureForm → Seen → List ℕ → Bool → Type 0
+IsShownAs (Text form) d text faulty = FrameLines form d text faulty
+IsShownAs Json d text faulty = FrameJson d text faulty
+
 -- the exit status: 1 where a datagram has a fault
 abbrev pub capture_status : Counts → ℕ
 capture_status c = if c.faults == 0 then 0 else 1
 
 -- the lines of datagrams, one after the other, and the counts after them
-abbrev pub AreShown : Form → Counts → List Seen → List ℕ → Counts → Type 0
+abbrev pub AreShown : CaptureForm → Counts → List Seen → List ℕ → Counts → Type 0
 AreShown form before [] text after = (text ≡ []) × (after ≡ before)
 AreShown form before (d ∷ ds) text after = (lines : List ℕ) × (faulty : Bool) × (rest : List ℕ)
-    × FrameLines form d lines faulty × AreShown form (counted before d.packet faulty) ds rest after × (text ≡ lines ++ rest)
+    × IsShownAs form d lines faulty × AreShown form (counted before d.packet faulty) ds rest after × (text ≡ lines ++ rest)
 
 -- a writer that shows a datagram has its lines after what it had
 abbrev pub TakesFrame : {W : Type 0} → (W → Option (List ℕ)) → FrameWriter W → Seen → FrameWriter W → Type 0
 TakesFrame contents before d after = (lines : List ℕ) × (faulty : Bool)
-    × FrameLines before.form d lines faulty × (after.form ≡ before.form) × Appends (contents before.out) (contents after.out) lines
+    × IsShownAs before.form d lines faulty × (after.form ≡ before.form) × Appends (contents before.out) (contents after.out) lines
     × (after.counts ≡ counted before.counts d.packet faulty) × (after.no_memory ≡ before.no_memory)
 
 -- a writer that does not show one wants memory, and has written nothing more; or a write failed
@@ -50,28 +67,28 @@ abbrev pub RefusesFrame : {W : Type 0} → FrameWriter W → Seen → FrameWrite
 RefusesFrame before d after = ((after.no_memory ≡ true) × (after.out ≡ before.out)) ⊎ (after.no_memory ≡ before.no_memory)
 
 -- The writer has the lines of the datagrams that these frames carry, in their order, and no others.
-pub record AreWritten (form : Form) (ports : Ports) (frames : List Frame) (before now : Option (List ℕ)) (counts : Counts) : Type 0 where
+pub record AreWritten (form : CaptureForm) (ports : Ports) (frames : List Frame) (before now : Option (List ℕ)) (counts : Counts) : Type 0 where
   pub text : List ℕ
   pub lines : AreShown form nothing_shown (datagrams ports 1 frames) text counts
   pub written : Appends before now text
 
 -- The file is a capture of so many frames, whose datagrams were shown.
-abbrev pub AreFramesShown : Form → Ports → List ℕ → Option (List ℕ) → Option (List ℕ) → ℕ → Counts → Type 0
+abbrev pub AreFramesShown : CaptureForm → Ports → List ℕ → Option (List ℕ) → Option (List ℕ) → ℕ → Counts → Type 0
 AreFramesShown form ports file before now count counts = (state : State) × (frames : List Frame)
     × IsCapture file state frames [] × AreWritten form ports frames before now counts × (count ≡ length frames)
 
 -- Then came the line that counts.
-abbrev pub IsCaptureShown : Form → Ports → List ℕ → Option (List ℕ) → Option (List ℕ) → ℕ → Type 0
+abbrev pub IsCaptureShown : CaptureForm → Ports → List ℕ → Option (List ℕ) → Option (List ℕ) → ℕ → Type 0
 IsCaptureShown form ports file before now status = (shown : Option (List ℕ)) × (count : ℕ) × (counts : Counts)
-    × AreFramesShown form ports file before shown count counts × Appends shown now (counts_line count counts) × (status ≡ capture_status counts)
+    × AreFramesShown form ports file before shown count counts × Appends shown now (last_line form count counts) × (status ≡ capture_status counts)
 
 -- The datagrams of the first frames were shown; from this octet of the file on, no record or block stands.
-abbrev pub IsBrokenShown : Form → Ports → List ℕ → Option (List ℕ) → Option (List ℕ) → ℕ → Type 0
+abbrev pub IsBrokenShown : CaptureForm → Ports → List ℕ → Option (List ℕ) → Option (List ℕ) → ℕ → Type 0
 IsBrokenShown form ports file before now at = (state : State) × (frames : List Frame) × (rest : List ℕ) × (counts : Counts)
     × IsCapture file state frames rest × IsBroken state rest × (at + length rest ≡ length file) × AreWritten form ports frames before now counts
 
 -- The datagrams of some first frames were shown, or nothing was.
-abbrev pub IsFirstShown : Form → Ports → List ℕ → Option (List ℕ) → Option (List ℕ) → Type 0
+abbrev pub IsFirstShown : CaptureForm → Ports → List ℕ → Option (List ℕ) → Option (List ℕ) → Type 0
 IsFirstShown form ports file before now = (before ≡ now) ⊎ ((state : State) × (frames : List Frame) × (rest : List ℕ) × (counts : Counts) × IsCapture file state frames rest × AreWritten form ports frames before now counts)
 
 -- The file is no capture, and nothing was shown.

@@ -19,10 +19,10 @@ IsShown plane digits before now status =
     (octets : List ℕ) × (text : List ℕ) × (faulty : Bool) × (decode_of digits ≡ Ok octets) × LinesOf plane octets text faulty
     × Appends before now text × (status ≡ status_shown faulty)
 
--- the word spells a datagram, as a line of a dump does, and all that can be shown of it was written
-abbrev pub IsAllShown : Option Plane → List ℕ → Option (List ℕ) → Option (List ℕ) → ℕ → Type 0
-IsAllShown plane word before now status =
-    (text : List ℕ) × (faulty : Bool) × ShowsOne (record { plane = plane; all = true }) word text faulty × Appends before now text × (status ≡ status_shown faulty)
+-- the word spells a datagram, as a line of a dump does, and this was written of it
+abbrev pub IsWordShown : Asked → List ℕ → Option (List ℕ) → Option (List ℕ) → ℕ → Type 0
+IsWordShown asked word before now status =
+    (text : List ℕ) × (faulty : Bool) × ShowsOne asked word text faulty × Appends before now text × (status ≡ status_shown faulty)
 
 -- the exit status of a dump: 2 where a line was bad
 abbrev pub dump_status : Tally → ℕ

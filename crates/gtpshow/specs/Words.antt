@@ -21,7 +21,7 @@ needed_word name = record (plain_word name) { required = true }
 
 -- to show datagrams
 abbrev pub decode_words : App
-decode_words = with_rule (with_rule (with_rule (new_app (codes "decode")) (flag_word (codes "user"))) (flag_word (codes "all"))) (needed_word (codes "octets"))
+decode_words = with_rule (with_rule (with_rule (with_rule (new_app (codes "decode")) (flag_word (codes "user"))) (flag_word (codes "all"))) (flag_word (codes "json"))) (needed_word (codes "octets"))
 
 -- further ports of each plane
 abbrev pub with_port_words : App → App
@@ -30,11 +30,11 @@ with_port_words app = with_rule (with_rule app (option_word (codes "control-port
 -- to show a capture
 abbrev pub capture_words : App
 capture_words =
-    with_rule (with_port_words (with_rule (with_rule (new_app (codes "capture")) (flag_word (codes "brief"))) (flag_word (codes "all")))) (plain_word (codes "file"))
+    with_rule (with_port_words (with_rule (with_rule (with_rule (new_app (codes "capture")) (flag_word (codes "brief"))) (flag_word (codes "all"))) (flag_word (codes "json")))) (plain_word (codes "file"))
 
 -- to replay a scenario
 abbrev pub replay_words : App
-replay_words = with_rule (with_rule (new_app (codes "replay")) (flag_word (codes "diagram"))) (plain_word (codes "file"))
+replay_words = with_rule (with_rule (with_rule (new_app (codes "replay")) (flag_word (codes "diagram"))) (flag_word (codes "pcap"))) (plain_word (codes "file"))
 
 -- the program's name, before a subcommand; the program has a version
 abbrev pub gtpshow_word : Shape

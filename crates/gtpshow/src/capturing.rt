@@ -3,15 +3,17 @@
 ghost use Rattle.std.specs.Prelude.{◌≡◌, ◌≢◌, ◌≤◌, ◌⊎◌, ◌++◌, ℕ, false, decimal, Err, IfOk, IfErr, IfSome, OnOk};
 ghost use Rattle.std.specs.IoError.{error_kind};
 ghost use Rattle.std.specs.Io.KnownBytes.{Appends};
-ghost use Rattle.gtp_capture.specs.Seen.{Seen};
+ghost use Rattle.gtp_capture.specs.Seen.{Seen, seen_of};
 ghost use Rattle.gtp_capture.specs.reading.Packet.{packet_of};
-ghost use Rattle.gtpshow.specs.Captured.{nothing_shown, is_cut, counted, counts_line, capture_status, TakesFrame, RefusesFrame, AreFramesShown, IsCaptureShown, IsBrokenShown, IsFirstShown, IsNoCapture};
+ghost use Rattle.gtpshow.specs.Captured.{nothing_shown, is_cut, counted, counts_line, counts_json, last_line, capture_status, IsShownAs, TakesFrame, RefusesFrame, AreFramesShown, IsCaptureShown, IsBrokenShown, IsFirstShown, IsNoCapture};
 
 use crate::command::Failure;
 use crate::replaying::unopened;
 use gtp_capture::{CaptureFault, Captured, Packet, Ports, Refused, Sink, Stop, read_capture};
+use gtp_json::frame_json;
 use gtp_lines::text::{put, put_number};
-use gtp_lines::{Form, frame_lines};
+use gtp_lines::{Form, Shown, frame_lines};
+use gtp_values::Memory;
 use std::alloc::{AllocError, Global};
 use std::io::{BufReader, BufWriter, ErrorKind, Read, Write};
 use std::rt::Files;
@@ -77,6 +79,36 @@ fn put_count(out: &mut Vec<u8>, word: &str, count: u64) -> Result<(), AllocError
     put_number(out, count)
 }
 
+/// The same as a JSON object.
+#[tactic(auto, using(crate::proofs::Texts::appending))]
+fn counts_object(alloc: Global, frames: u64, counts: Counts) -> Result<Vec<u8>, AllocError>
+    ensures { IfOk result (λ text. text.items ≡ counts_json frames counts) }
+{
+    let mut text = Vec::new(alloc);
+    put_count(&mut text, "{\"frames\":", frames)?;
+    put_count(&mut text, ",\"gtp\":", counts.gtp)?;
+    put_count(&mut text, ",\"faults\":", counts.faults)?;
+    put_count(&mut text, ",\"cut\":", counts.cut)?;
+    put_count(&mut text, ",\"fragments\":", counts.fragments)?;
+    put(&mut text, b"}\n")?;
+    Ok(text)
+}
+
+/// The last line of a capture in a form.
+fn last_line(
+    alloc: Global,
+    form: CaptureForm,
+    frames: u64,
+    counts: Counts,
+) -> Result<Vec<u8>, AllocError>
+    ensures { IfOk result (λ text. text.items ≡ last_line form frames counts) }
+{
+    match form {
+        CaptureForm::Text(_) => counts_text(alloc, frames, counts),
+        CaptureForm::Json => counts_object(alloc, frames, counts),
+    }
+}
+
 /// The last line of a capture, which counts.
 #[tactic(auto, using(crate::proofs::Texts::appending))]
 fn counts_text(alloc: Global, frames: u64, counts: Counts) -> Result<Vec<u8>, AllocError>
@@ -92,11 +124,31 @@ fn counts_text(alloc: Global, frames: u64, counts: Counts) -> Result<Vec<u8>, Al
     Ok(text)
 }
 
+/// In which form the datagrams of a capture are shown.
+#[derive(Clone, Copy, Debug, PartialEq, Eq)]
+pub enum CaptureForm {
+    /// As lines.
+    Text(Form),
+    /// As JSON objects, one a line.
+    Json,
+}
+
+/// What is shown of a datagram.
+fn shown_as(alloc: Global, form: CaptureForm, captured: &Captured) -> Result<Shown, Memory>
+    ensures { IfOk result (λ shown.
+        IsShownAs form (seen_of captured.now) shown.text.items shown.faulty) }
+{
+    match form {
+        CaptureForm::Text(form) => frame_lines(alloc, form, captured),
+        CaptureForm::Json => frame_json(alloc, captured),
+    }
+}
+
 /// A writer of the lines of datagrams, in a form.
 #[derive(Drop)]
 pub struct FrameWriter<W> {
     alloc: Global,
-    form: Form,
+    form: CaptureForm,
     out: W,
     counts: Counts,
     /// Whether an allocation was refused.
@@ -107,7 +159,7 @@ pub struct FrameWriter<W> {
 
 impl<W: Write> FrameWriter<W> {
     /// A writer that has shown no datagram.
-    fn new(alloc: Global, form: Form, out: W) -> FrameWriter<W>
+    fn new(alloc: Global, form: CaptureForm, out: W) -> FrameWriter<W>
         ensures form { result.form ≡ form }
         ensures out { result.out ≡ out }
         ensures counts { result.counts ≡ nothing_shown }
@@ -135,7 +187,7 @@ impl<W: Write> Sink for FrameWriter<W> {
     ghost refuses = { λ before d after. RefusesFrame before d after };
 
     fn take(&mut self, captured: &Captured) -> Result<(), Refused> {
-        let Ok(shown) = frame_lines(self.alloc, self.form, captured) else {
+        let Ok(shown) = shown_as(self.alloc, self.form, captured) else {
             self.no_memory = true;
             return Err(Refused);
         };
@@ -190,17 +242,18 @@ fn frames_from<I: Read, W: Write>(
 /// Writes the last line of a capture of so many frames, and returns the exit status.
 fn count_from<W: Write>(
     alloc: Global,
+    form: CaptureForm,
     frames: u64,
     writer: &mut FrameWriter<W>,
 ) -> Result<u8, Failure>
     ensures counted { OnOk result (Appends (W.contents writer.old.out) (W.contents writer.new.out)
-        (counts_line frames writer.old.counts)) }
+        (last_line form frames writer.old.counts)) }
     ensures status { IfOk result (λ status. status ≡ capture_status writer.old.counts) }
     ensures memory { result ≡ Err Failure.Memory → writer.new ≡ writer.old }
     ensures kind { IfErr result (λ failure. (failure ≡ Failure.Memory) ⊎ (failure ≡ Failure.Write)
         ⊎ (failure ≡ Failure.Closed)) }
 {
-    let Ok(text) = counts_text(alloc, frames, writer.counts) else {
+    let Ok(text) = last_line(alloc, form, frames, writer.counts) else {
         return Err(Failure::Memory);
     };
     let faults = writer.counts.faults;
@@ -235,8 +288,9 @@ fn capture_from<I: Read, W: Write>(
         IsFirstShown writer.old.form ports file (W.contents writer.old.out) (W.contents writer.new.out)) }
     ensures kind { (result ≢ Err Failure.BadHex) × (result ≢ Err Failure.BadWords) }
 {
+    let form = writer.form;
     match frames_from(alloc, ports, reader, writer) {
-        Ok(frames) => count_from(alloc, frames, writer),
+        Ok(frames) => count_from(alloc, form, frames, writer),
         Err(failure) => Err(failure),
     }
 }
@@ -244,7 +298,7 @@ fn capture_from<I: Read, W: Write>(
 /// How a capture is shown.
 #[derive(Clone, Copy)]
 pub struct CaptureAsked {
-    pub form: Form,
+    pub form: CaptureForm,
     pub ports: Ports,
 }
 

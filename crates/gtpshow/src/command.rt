@@ -17,7 +17,6 @@ const VERSION: &str = "0.1.0";
 const NOTES: &str = "\
 Examples:
   gtpshow decode 40010009000001000300010007
-  gtpshow decode --user 30ff000301000002616263
   gtpshow decode --all - < FILE
   gtpshow capture --brief examples/captures/attach.pcap
   gtpshow replay examples/scenarios/attach.json
@@ -104,6 +103,14 @@ fn decode_command<'a>(alloc: Global) -> Result<Command<'a>, AllocError>
             "Shows each element that is whole also of a datagram at fault",
         ),
     )?;
+    let command = taking(
+        command,
+        flag(
+            alloc,
+            "json",
+            "Shows a JSON object a line for each datagram",
+        ),
+    )?;
     taking(command, octets)
 }
 
@@ -150,6 +157,14 @@ fn capture_command<'a>(alloc: Global) -> Result<Command<'a>, AllocError>
             "Shows each element that is whole also of a datagram at fault",
         ),
     )?;
+    let command = taking(
+        command,
+        flag(
+            alloc,
+            "json",
+            "Shows a JSON object a line for each datagram",
+        ),
+    )?;
     let command = with_ports(alloc, command)?;
     taking(
         command,
@@ -176,6 +191,14 @@ fn replay_command<'a>(alloc: Global) -> Result<Command<'a>, AllocError>
             alloc,
             "diagram",
             "Draws the run as a sequence diagram, in place of the report",
+        ),
+    )?;
+    let command = taking(
+        command,
+        flag(
+            alloc,
+            "pcap",
+            "Writes the datagrams of the run as a packet capture, in place of the report",
         ),
     )?;
     taking(

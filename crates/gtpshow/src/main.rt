@@ -11,12 +11,12 @@ mod watched;
 
 ghost use Rattle.std.specs.Prelude.{◌≤◌, IfOk};
 
-use crate::capturing::{CaptureAsked, capture_file};
+use crate::capturing::{CaptureAsked, CaptureForm, capture_file};
 use crate::command::{Failure, command};
 use crate::dumping::dump_printed;
 use crate::hinting::hint;
 use crate::replaying::replay_file;
-use crate::showing::{show, show_all};
+use crate::showing::{show, show_word};
 use crate::watched::Watched;
 use clap::ArgMatches;
 use clap::error::ErrorKind;
@@ -37,17 +37,23 @@ fn decode<R: Print + Eprint + Input>(
     ensures { IfOk result (λ status. status ≤ 2) }
 {
     let digits = asked.get_str("octets").unwrap_or("");
-    let all = asked.get_flag("all");
+    let form = if asked.get_flag("json") {
+        gtp_dump::Form::Json
+    } else if asked.get_flag("all") {
+        gtp_dump::Form::All
+    } else {
+        gtp_dump::Form::Lines
+    };
     let plane = if asked.get_flag("user") {
         Some(Plane::User)
     } else {
         None
     };
     if digits == "-" {
-        return dump_printed(rt, alloc, Asked { plane, all });
+        return dump_printed(rt, alloc, Asked { plane, form });
     }
-    if all {
-        return show_all(alloc, &mut io::writer(rt), plane, digits);
+    if form != gtp_dump::Form::Lines {
+        return show_word(alloc, &mut io::writer(rt), Asked { plane, form }, digits);
     }
     show(
         alloc,
@@ -76,12 +82,14 @@ fn capture_asked<R: Print + Input + Files>(
 ) -> Result<u8, Failure>
     ensures { IfOk result (λ status. status ≤ 2) }
 {
-    let form = if asked.get_flag("brief") {
-        Form::Brief
+    let form = if asked.get_flag("json") {
+        CaptureForm::Json
+    } else if asked.get_flag("brief") {
+        CaptureForm::Text(Form::Brief)
     } else if asked.get_flag("all") {
-        Form::All
+        CaptureForm::Text(Form::All)
     } else {
-        Form::Lines
+        CaptureForm::Text(Form::Lines)
     };
     let ports = Ports {
         control: port_of(asked, "control-port")?,
@@ -103,7 +111,9 @@ fn replay_asked<R: Print + Input + Files>(
 ) -> Result<u8, Failure>
     ensures { IfOk result (λ status. status ≤ 2) }
 {
-    let form = if asked.get_flag("diagram") {
+    let form = if asked.get_flag("pcap") {
+        replaying::Form::Capture
+    } else if asked.get_flag("diagram") {
         replaying::Form::Diagram
     } else {
         replaying::Form::Report

@@ -7,7 +7,7 @@ ghost use Rattle.gtpshow.specs.Status.{verdict_status};
 ghost use Rattle.gtpshow.specs.Replayed.{IsReplayed};
 
 use crate::command::Failure;
-use gtp_replay::{Counted, Verdict, replay, replay_diagram};
+use gtp_replay::{Counted, Verdict, replay, replay_capture, replay_diagram};
 use std::alloc::Global;
 use std::io::{ErrorKind, Read, Write};
 use std::rt::Files;
@@ -29,6 +29,8 @@ fn status(verdict: Verdict) -> u8
 pub enum Form {
     Report,
     Diagram,
+    /// A packet capture.
+    Capture,
 }
 
 /// Replays the scenario of a reader, and returns the exit status.
@@ -60,6 +62,7 @@ fn replay_from<I: Read, W: Write>(
     match form {
         Form::Report => Ok(status(replay(alloc, reader, writer)?)),
         Form::Diagram => Ok(status(replay_diagram(alloc, reader, writer)?)),
+        Form::Capture => Ok(status(replay_capture(alloc, reader, writer)?)),
     }
 }
 

@@ -3,7 +3,7 @@
 ghost use Rattle.std.specs.Prelude.{◌≡◌, ◌↔◌, ◌≤◌, ◌⊎◌, false, IsTrue, IsErr, Err, IfOk, IfSome};
 ghost use Rattle.hex.specs.Hex.{decode_of};
 ghost use Rattle.gtp_dump.specs.Text.{IsBlank, IsBad};
-ghost use Rattle.gtpshow.specs.Shown.{IsShown, IsAllShown, IsDumpShown};
+ghost use Rattle.gtpshow.specs.Shown.{IsShown, IsWordShown, IsDumpShown};
 
 use crate::capturing::unwritten;
 use crate::command::Failure;
@@ -45,21 +45,20 @@ pub fn show<W: Write>(
     Ok(if shown.faulty { 1 } else { 0 })
 }
 
-/// Writes all that can be shown of the datagram that a word spells, as a line of a dump does, and returns the exit status: 0, or 1
+/// Writes in a form the datagram that a word spells, as a line of a dump does, and returns the exit status: 0, or 1
 /// for a datagram with a fault. `BadHex` if the word has no digits, an odd number of them, or what is none; `Memory` if an
 /// allocation was refused, `Write` or `Closed` if the write failed.
-pub fn show_all<W: Write>(
+pub fn show_word<W: Write>(
     alloc: Global,
     out: &mut W,
-    plane: Option<Plane>,
+    asked: Asked,
     word: &str,
 ) -> Result<u8, Failure>
     ensures shown { IfOk result
-        (IsAllShown plane word.now (W.contents out.old) (W.contents out.new)) }
+        (IsWordShown asked word.now (W.contents out.old) (W.contents out.new)) }
     ensures bad { result ≡ Err Failure.BadHex → (IsBlank word.now ⊎ IsBad word.now) × (out.new ≡ out.old) }
     ensures memory { result ≡ Err Failure.Memory → out.new ≡ out.old }
 {
-    let asked = Asked { plane, all: true };
     let shown = match decode_line(alloc, asked, word.as_bytes()) {
         Ok(Some(shown)) => shown,
         Ok(None) => return Err(Failure::BadHex),

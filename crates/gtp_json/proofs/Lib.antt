@@ -1,0 +1,6 @@
+pub mod Tokens
+pub mod Names
+pub mod Seen
+pub mod Shallow
+pub mod Reading
+pub mod OneLine

@@ -1,0 +1,307 @@
+-- How deep the JSON of a datagram nests.
+use Rattle.std.proofs.Common.{ℕ, suc, ◌≤◌, Bool, true, false, if◌then◌else◌, List, [], ◌∷◌, ◌++◌, map, Option, Some, None, Result, Ok, Err, codes, sym, subst, arith, inl, inr, ◌==◌, ◌+◌}
+use Rattle.std.specs.Prelude.{⊤}
+use Rattle.json.specs.Json.{Json, boolean}
+use Rattle.json.specs.Tree.{depth, items_depth, members_depth}
+use Rattle.gtp_values.specs.declared.cause.Offending.{Offending}
+use Rattle.gtp_values.specs.declared.paa.Paa.{Paa}
+use Rattle.gtp_values.specs.declared.paa.Paa.TheVariants as paas
+use Rattle.gtp_values.specs.declared.plane.Plane.{Plane}
+use Rattle.gtp_values.specs.declared.plane.Plane.TheVariants as planes
+use Rattle.gtp_ie.specs.declared.fault.ReadFault.{ReadFault}
+use Rattle.gtp_ie.specs.declared.fault.IeFault.{IeFault}
+use Rattle.gtp_ie.specs.declared.fault.IeFault.TheVariants as elements
+use Rattle.gtp_ie.specs.declared.form.Form.{Form}
+use Rattle.gtp_ie.specs.Form.{name_of, form_of, bearer_context}
+use Rattle.gtp_ie.specs.Element.{Element, elements_of}
+use Rattle.gtp_ie.specs.Value.{Value, OfImsi, OfCause, OfRecovery, OfApn, OfAmbr, OfEbi, OfPaa, OfQos, OfRat, OfPlmn, OfTft, OfFTeid, OfChargingId, OfPdnType, OfPti, OfSelection, value_at}
+use Rattle.gtp_v2.specs.declared.fault.V2Fault.{V2Fault}
+use Rattle.gtp_v2.specs.declared.fault.V2Fault.TheVariants as faults
+use Rattle.gtp_v2.specs.Table.{Table}
+use Rattle.gtp_v2.specs.Tables.{table_of}
+use Rattle.gtp_v2.specs.Message.{Content, Fields, Raw, MessageValue}
+use Rattle.gtp_user.specs.declared.fault.UserFault.{UserFault}
+use Rattle.gtp_user.specs.declared.fault.UserFault.TheVariants as user_faults
+use Rattle.gtp_user.specs.Chain.{Extension}
+use Rattle.gtp_user.specs.Message.{EchoRequest, EchoResponse, ErrorIndication, Notification, EndMarker, Packet, Other}
+use Rattle.gtp_user.specs.Message.{Content as UserContent, MessageValue as UserMessage}
+use Rattle.gtp_json.specs.Tree.{members_of, items_of, member, object_of, array_of}
+use Rattle.gtp_json.specs.Values.{offending_members, cause_members, paa_members, v4_members, v6_members, end_members, value_json, octets_members, named_members, form_members, body_members}
+use Rattle.gtp_json.specs.Control.{element_head, inner_json, group_members, element_members, element_json, named_by, title_members, teid_members, priority_members, head_members, CarriedMembers, MessageMembers, second_member, element_fault_members, fault_members, fault_member, ControlMembers}
+use Rattle.gtp_json.specs.User.{user_title, target_members, some_member, user_head, extension_json, extensions_members, user_carried, user_members, user_fault_members, UserMembers}
+use Rattle.gtp_json.specs.Datagram.{plane_member, DatagramMembers}
+use Rattle.gtp_json.specs.Frames.{path_members, frame_members, held_members, part_members, RestMembers}
+use Rattle.gtp_capture.specs.Packet.{Packet as Captured}
+use Rattle.gtp_capture.specs.Seen.{Seen}
+
+-- no value of a member nests deeper
+abbrev pub Within : ℕ → List (List ℕ × Json) → Type 0
+Within n [] = ⊤
+Within n (m ∷ ms) = (depth m.1 ≤ n) × Within n ms
+
+pub join : (n : ℕ) (a b : List (List ℕ × Json)) → Within n a → Within n b → Within n (a ++ b)
+join n [] b h k = k
+join n (m ∷ ms) b h k = (h.0, join n ms b h.1 k)
+
+pub more : (n k : ℕ) (ms : List (List ℕ × Json)) → n ≤ k → Within n ms → Within k ms
+more n k [] le h = tt
+more n k (m ∷ ms) le h = (omega (arith, h.0), more n k ms le h.1)
+
+members_within : (n : ℕ) (ms : List (List ℕ × Json)) → Within n ms → members_depth (members_of ms) ≤ n
+members_within n [] h = omega arith
+members_within n (m ∷ ms) h = let rest = members_within n ms h.1 in let first = h.0 in omega (arith, rest, first)
+
+pub object_depth : (n : ℕ) (ms : List (List ℕ × Json)) → Within n ms → depth (object_of ms) ≤ suc n
+unfolding object_of
+object_depth n ms h = let inner = members_within n ms h in omega (arith, inner)
+
+items_within : {X : Type 0} (n : ℕ) (f : X → Json) (xs : List X) → ((x : X) → depth (f x) ≤ n) → items_depth (items_of (map f xs)) ≤ n
+items_within n f [] h = omega arith
+items_within n f (x ∷ xs) h = let rest = items_within n f xs h in let first = h x in omega (arith, rest, first)
+
+array_depth : {X : Type 0} (n : ℕ) (f : X → Json) (xs : List X) → ((x : X) → depth (f x) ≤ n) → depth (array_of (map f xs)) ≤ suc n
+unfolding array_of
+array_depth n f xs h = let inner = items_within n f xs h in omega (arith, inner)
+
+one : (n : ℕ) (name : List ℕ) (j : Json) → depth j ≤ n → Within n (member name j)
+unfolding member
+one n name j h = (h, tt)
+
+-- ---- elements
+
+offending_within : (o : Option Offending) → Within 1 (offending_members o)
+unfolding member object_of
+offending_within None = tt
+offending_within (Some o) = (omega arith, tt)
+
+paa_within : (p : Paa) → Within 1 (paa_members p)
+unfolding member
+paa_within (paas.V4 v4) = (omega arith, (omega arith, tt))
+paa_within (paas.V6 prefix v6) = (omega arith, (omega arith, (omega arith, tt)))
+paa_within (paas.V4V6 prefix v6 v4) = (omega arith, (omega arith, (omega arith, (omega arith, tt))))
+paa_within (paas.Other pdn) = (omega arith, (omega arith, tt))
+
+v4_within : (v : Option (List ℕ)) → Within 1 (v4_members v)
+unfolding member
+v4_within None = tt
+v4_within (Some v) = (omega arith, tt)
+
+v6_within : (v : Option (List ℕ)) → Within 1 (v6_members v)
+unfolding member
+v6_within None = tt
+v6_within (Some v) = (omega arith, tt)
+
+value_depth : (v : Value) → depth (value_json v) ≤ 2
+unfolding value_json member object_of
+value_depth (OfImsi digits) = omega arith
+value_depth (OfCause c) = object_depth 1 (cause_members c) (omega arith, offending_within c.offending)
+value_depth (OfRecovery n) = omega arith
+value_depth (OfApn octets) = omega arith
+value_depth (OfAmbr a) = omega arith
+value_depth (OfEbi n) = omega arith
+value_depth (OfPaa p) = object_depth 1 (paa_members p) (paa_within p)
+value_depth (OfQos q) = omega arith
+value_depth (OfRat n) = omega arith
+value_depth (OfPlmn n) = omega arith
+value_depth (OfTft octets) = omega arith
+value_depth (OfFTeid e) = object_depth 1 (end_members e) (omega arith, (omega arith, join 1 (v4_members e.v4) (v6_members e.v6) (v4_within e.v4) (v6_within e.v6)))
+value_depth (OfChargingId n) = omega arith
+value_depth (OfPdnType n) = omega arith
+value_depth (OfPti n) = omega arith
+value_depth (OfSelection n) = omega arith
+
+octets_within : (octets : List ℕ) → Within 2 (octets_members octets)
+unfolding member
+octets_within octets = (omega arith, tt)
+
+named_within : (name body : List ℕ) (r : Result Value ReadFault) → Within 2 (named_members name body r)
+unfolding member
+named_within name body (Ok v) = (omega arith, (value_depth v, tt))
+named_within name body (Err f) = octets_within body
+
+form_within : (form : Option Form) (kind : ℕ) (body : List ℕ) → Within 2 (form_members form kind body)
+form_within None kind body = octets_within body
+form_within (Some form) kind body = named_within (name_of form) body (value_at kind body)
+
+body_within : (kind : ℕ) (body : List ℕ) → Within 2 (body_members kind body)
+unfolding body_members
+body_within kind body = form_within (form_of kind) kind body
+
+head_within : (e : Element) → Within 2 (element_head e)
+unfolding member
+head_within e = (omega arith, (omega arith, tt))
+
+inner_depth : (e : Element) → depth (inner_json e) ≤ 3
+inner_depth e = object_depth 2 (element_head e ++ body_members e.kind e.body) (join 2 (element_head e) (body_members e.kind e.body) (head_within e) (body_within e.kind e.body))
+
+group_within : (e : Element) (r : Result (List Element) ℕ) → Within 4 (group_members e r)
+unfolding member
+group_within e (Ok inner) = (omega arith, (array_depth 3 inner_json inner inner_depth, tt))
+group_within e (Err at) = more 2 4 (octets_members e.body) (omega arith) (octets_within e.body)
+
+chosen_within : (b : Bool) (n : ℕ) (x y : List (List ℕ × Json)) → Within n x → Within n y → Within n (if b then x else y)
+chosen_within true n x y h k = h
+chosen_within false n x y h k = k
+
+element_within : (e : Element) → Within 4 (element_members e)
+element_within e =
+    chosen_within (e.kind == bearer_context) 4 (group_members e (elements_of (e.at + 4) e.body)) (body_members e.kind e.body) (group_within e (elements_of (e.at + 4) e.body)) (more 2 4 (body_members e.kind e.body) (omega arith) (body_within e.kind e.body))
+
+element_depth : (e : Element) → depth (element_json e) ≤ 5
+element_depth e = object_depth 4 (element_head e ++ element_members e) (join 4 (element_head e) (element_members e) (more 2 4 (element_head e) (omega arith) (head_within e)) (element_within e))
+
+-- ---- control messages
+
+named_by_within : (t : Option Table) → Within 6 (named_by t)
+unfolding member
+named_by_within None = tt
+named_by_within (Some t) = (omega arith, tt)
+
+title_within : (kind : ℕ) → Within 6 (title_members kind)
+unfolding title_members member
+title_within kind = (omega arith, named_by_within (table_of kind))
+
+teid_within : (t : Option ℕ) → Within 6 (teid_members t)
+unfolding member
+teid_within None = tt
+teid_within (Some t) = (omega arith, tt)
+
+priority_within : (p : Option ℕ) → Within 6 (priority_members p)
+unfolding member
+priority_within None = tt
+priority_within (Some p) = (omega arith, tt)
+
+message_head_within : (m : MessageValue) → Within 6 (head_members m)
+unfolding member
+message_head_within m = join 6 (title_members m.kind) _ (title_within m.kind) (join 6 (teid_members m.teid) _ (teid_within m.teid) (omega arith, priority_within m.priority))
+
+carried_within : (octets : List ℕ) (m : MessageValue) (content : Content) (ms : List (List ℕ × Json)) → CarriedMembers octets m content ms → Within 6 ms
+unfolding member
+carried_within octets m (Raw carried) ms is = subst (Within 6) (sym is) (omega arith, tt)
+carried_within octets m (Fields fields) ms (es, are, is) = subst (Within 6) (sym is) (array_depth 5 element_json es element_depth, tt)
+
+message_within : (octets : List ℕ) (ms : List (List ℕ × Json)) → MessageMembers octets ms → Within 6 ms
+message_within octets ms (m, spelled, (carried, has, is)) = subst (Within 6) (sym is) (join 6 (head_members m) carried (message_head_within m) (carried_within octets m m.content carried has))
+
+element_fault_within : (f : IeFault) → Within 0 (element_fault_members f)
+unfolding member
+element_fault_within (elements.Truncated at) = (omega arith, (omega arith, tt))
+element_fault_within (elements.ShortValue kind instance at) = (omega arith, (omega arith, (omega arith, (omega arith, tt))))
+element_fault_within (elements.BadValue kind instance at) = (omega arith, (omega arith, (omega arith, (omega arith, tt))))
+element_fault_within elements.Memory = (omega arith, tt)
+element_fault_within elements.TooLong = (omega arith, tt)
+
+fault_within : (f : V2Fault) → Within 1 (fault_members f)
+unfolding member
+fault_within (faults.Short held) = (omega arith, (omega arith, tt))
+fault_within (faults.Version version) = (omega arith, (omega arith, tt))
+fault_within (faults.Length stated held) = (omega arith, (omega arith, (omega arith, tt)))
+fault_within (faults.FlagT kind) = (omega arith, (omega arith, tt))
+fault_within (faults.Missing kind instance conditional head) = (omega arith, (omega arith, (omega arith, (omega arith, tt))))
+fault_within (faults.Element fault head) = (omega arith, (object_depth 0 (element_fault_members fault) (element_fault_within fault), tt))
+fault_within (faults.BadPiggyback at) = (omega arith, (omega arith, tt))
+fault_within faults.Memory = (omega arith, tt)
+fault_within faults.TooLong = (omega arith, tt)
+
+fault_member_within : (ms : List (List ℕ × Json)) → Within 1 ms → Within 7 (fault_member ms)
+fault_member_within ms h = more 2 7 (fault_member ms) (omega arith) (one 2 (codes "fault") (object_of ms) (object_depth 1 ms h))
+
+control_within : (octets : List ℕ) (ms : List (List ℕ × Json)) (faulty : Bool) → ControlMembers octets ms faulty → Within 7 ms
+control_within octets ms true (f, first, is) = subst (Within 7) (sym is) (fault_member_within (fault_members f) (fault_within f))
+control_within octets ms false (inl h) = more 6 7 ms (omega arith) (message_within octets ms h)
+control_within octets ms false (inr (front, back, announces, (a, b, ha, hb, is))) =
+    subst (Within 7) (sym is)
+    (join 7 a (second_member b) (more 6 7 a (omega arith) (message_within front a ha)) (one 7 (codes "second") (object_of b) (object_depth 6 b (message_within back b hb))))
+
+-- ---- the user plane
+
+some_within : (name : List ℕ) (n : Option ℕ) → Within 7 (some_member name n)
+unfolding member
+some_within name None = tt
+some_within name (Some n) = (omega arith, tt)
+
+user_title_within : (c : UserContent) → Within 7 (user_title c)
+unfolding member
+user_title_within EchoRequest = (omega arith, (omega arith, tt))
+user_title_within EchoResponse = (omega arith, (omega arith, tt))
+user_title_within (ErrorIndication teid peer) = (omega arith, (omega arith, tt))
+user_title_within (Notification types) = (omega arith, (omega arith, tt))
+user_title_within (EndMarker teid) = (omega arith, (omega arith, tt))
+user_title_within (Packet teid payload) = (omega arith, (omega arith, tt))
+user_title_within (Other kind teid octets) = (omega arith, tt)
+
+target_within : (c : UserContent) → Within 7 (target_members c)
+unfolding member
+target_within EchoRequest = tt
+target_within EchoResponse = tt
+target_within (ErrorIndication teid peer) = tt
+target_within (Notification types) = tt
+target_within (EndMarker teid) = (omega arith, tt)
+target_within (Packet teid payload) = (omega arith, tt)
+target_within (Other kind teid octets) = (omega arith, tt)
+
+user_carried_within : (c : UserContent) → Within 7 (user_carried c)
+unfolding member
+user_carried_within EchoRequest = tt
+user_carried_within EchoResponse = tt
+user_carried_within (ErrorIndication teid peer) = (omega arith, (omega arith, tt))
+user_carried_within (Notification types) = (omega arith, tt)
+user_carried_within (EndMarker teid) = tt
+user_carried_within (Packet teid payload) = (omega arith, tt)
+user_carried_within (Other kind teid octets) = (omega arith, tt)
+
+extension_depth : (e : Extension) → depth (extension_json e) ≤ 1
+unfolding object_of member
+extension_depth e = omega arith
+
+user_message_within : (m : UserMessage) → Within 7 (user_members m)
+user_message_within m =
+    let seq = join 7 (some_member (codes "seq") m.seq) (some_member (codes "npdu") m.npdu) (some_within (codes "seq") m.seq) (some_within (codes "npdu") m.npdu) in
+    let head = join 7 (user_title m.content) _ (user_title_within m.content) (join 7 (target_members m.content) _ (target_within m.content) seq) in
+    let extensions = more 2 7 (extensions_members m.ext) (omega arith) (one 2 (codes "extensions") (array_of (map extension_json m.ext)) (array_depth 1 extension_json m.ext extension_depth)) in
+    join 7 (user_head m) _ head (join 7 (extensions_members m.ext) (user_carried m.content) extensions (user_carried_within m.content))
+
+user_fault_within : (f : UserFault) → Within 1 (user_fault_members f)
+unfolding member
+user_fault_within (user_faults.Short held) = (omega arith, (omega arith, tt))
+user_fault_within (user_faults.Version version) = (omega arith, (omega arith, tt))
+user_fault_within user_faults.Protocol = (omega arith, tt)
+user_fault_within (user_faults.Length stated held) = (omega arith, (omega arith, (omega arith, tt)))
+user_fault_within (user_faults.ExtensionZero at) = (omega arith, (omega arith, tt))
+user_fault_within (user_faults.ExtensionPast at) = (omega arith, (omega arith, tt))
+user_fault_within (user_faults.ExtensionNeeded kind) = (omega arith, (omega arith, tt))
+user_fault_within (user_faults.Missing kind) = (omega arith, (omega arith, tt))
+user_fault_within (user_faults.Element at) = (omega arith, (omega arith, tt))
+user_fault_within user_faults.Memory = (omega arith, tt)
+user_fault_within user_faults.TooLong = (omega arith, tt)
+
+user_within : (octets : List ℕ) (ms : List (List ℕ × Json)) (faulty : Bool) → UserMembers octets ms faulty → Within 7 ms
+user_within octets ms true (f, first, is) = subst (Within 7) (sym is) (fault_member_within (user_fault_members f) (user_fault_within f))
+user_within octets ms false (m, spelled, is) = subst (Within 7) (sym is) (user_message_within m)
+
+-- ---- datagrams
+
+pub datagram_within : (plane : Plane) (octets : List ℕ) (ms : List (List ℕ × Json)) (faulty : Bool) → DatagramMembers plane octets ms faulty → Within 7 ms
+datagram_within planes.Control octets ms faulty h = control_within octets ms faulty h
+datagram_within planes.User octets ms faulty h = user_within octets ms faulty h
+
+pub plane_within : (plane : Plane) → Within 7 (plane_member plane)
+plane_within plane = one 7 (codes "plane") _ (omega arith)
+
+-- ---- captures
+
+path_within : (p : Captured) → Within 7 (path_members p)
+unfolding member object_of
+path_within p = (omega arith, (omega arith, plane_within p.plane))
+
+pub frame_within : (d : Seen) → Within 7 (frame_members d)
+unfolding member
+frame_within d = (omega arith, (omega arith, path_within d.packet))
+
+part_within : (p : Captured) → Within 7 (part_members p)
+unfolding member object_of
+part_within p = chosen_within p.fragment 7 (member (codes "fragment") (boolean true)) (member (codes "cut") (object_of (held_members p))) (omega arith, tt) (omega arith, tt)
+
+pub rest_within : (p : Captured) (ms : List (List ℕ × Json)) (faulty : Bool) → RestMembers p ms faulty → Within 7 ms
+rest_within p ms faulty (inl (part, none, is)) = subst (Within 7) (sym is) (part_within p)
+rest_within p ms faulty (inr (all, h)) = datagram_within p.plane p.octets ms faulty h

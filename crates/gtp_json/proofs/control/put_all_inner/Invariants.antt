@@ -1,0 +1,8 @@
+use Rattle.std.proofs.Common.{◌≡◌, ◌++◌}
+use Rattle.std.specs.List.{flat_map}
+use Rattle.json.specs.Tree.{json_tokens}
+use Rattle.gtp_json.specs.Control.{inner_json}
+use Rattle.gtp_json.proofs.control.put_all_inner.Given as goal
+
+abbrev pub invariant-loop-view : goal.invariant-loop-view
+invariant-loop-view l = l.out ++ flat_map (λ e. json_tokens (inner_json e)) l.view-iterator ≡ l.fn.out ++ flat_map (λ e. json_tokens (inner_json e)) l.elements

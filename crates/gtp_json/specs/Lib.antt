@@ -1,0 +1,10 @@
+pub mod Tree
+pub mod Adds
+pub mod Values
+pub mod Control
+pub mod User
+pub mod Datagram
+pub mod Frames
+pub mod Reads
+pub mod Laws
+pub mod reading

@@ -1,0 +1,2 @@
+-- Reading functions, for private contracts and proofs.
+pub mod Tokens

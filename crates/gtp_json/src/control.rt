@@ -1,0 +1,343 @@
+//! Control datagrams as JSON.
+
+ghost use Rattle.std.specs.Prelude.{◌≡◌, ◌+◌, ◌++◌, OnOk, IfOk, option_map, map, codes};
+ghost use Rattle.std.specs.List.{flat_map};
+ghost use Rattle.json.specs.Tree.{json_tokens};
+ghost use Rattle.gtp_ie.specs.Element.{elements_of};
+ghost use Rattle.gtp_ie.specs.View.{element_of};
+ghost use Rattle.gtp_json.specs.Tree.{member, array_of, object_of};
+ghost use Rattle.gtp_json.specs.reading.Tokens.{written};
+ghost use Rattle.gtp_json.specs.Adds.{Adds};
+ghost use Rattle.gtp_json.specs.Control.{element_head, inner_json, group_members, element_json, element_members, title_members, teid_members, priority_members, head_members, elements_members, carried_members, seen_members, second_members};
+ghost use Rattle.gtp_json.specs.Control.{element_code as spec_element_code, code_of, element_fault_detail, element_fault_members, mark_word, fault_detail, fault_members, fault_member, ControlMembers};
+
+use crate::object::Output;
+use crate::values::{put_body, put_octets};
+use gtp_ie::{ElementView, Elements, IeFault};
+use gtp_v2::{BEARER_CONTEXT, DatagramView, MessageView, V2Fault, type_name, view};
+use gtp_values::{Below, Teid};
+use std::alloc::AllocError;
+
+/// Writes what stands before an element's value.
+#[tactic(auto, using(crate::proofs::Tokens::appending))]
+fn put_element_head(out: &mut Output, view: &ElementView) -> Result<(), AllocError>
+    ensures ok { OnOk result (out.new ≡ out.old ++ written (element_head (element_of view.now))) }
+{
+    out.number_member("type", u64::from(view.kind))?;
+    out.number_member("instance", u64::from(view.instance))
+}
+
+/// Writes an element inside a group.
+#[tactic(auto, using(crate::proofs::Tokens::nesting))]
+fn put_inner(out: &mut Output, view: &ElementView) -> Result<(), AllocError>
+    ensures ok { OnOk result (out.new ≡ out.old ++ json_tokens (inner_json (element_of view.now))) }
+{
+    out.begin_object()?;
+    put_element_head(out, view)?;
+    put_body(out, view.kind, view.body)?;
+    out.end_object()
+}
+
+/// Writes the elements inside a group.
+fn put_all_inner(out: &mut Output, elements: &Elements) -> Result<(), AllocError>
+    ensures ok { OnOk result (out.new
+        ≡ out.old ++ flat_map (λ e. json_tokens (inner_json e)) elements.now) }
+{
+    for view in elements.iter() {
+        put_inner(out, &view)?;
+    }
+    Ok(())
+}
+
+/// Writes the array of the elements inside a group.
+#[tactic(auto, using(crate::proofs::Tokens::nesting, crate::proofs::Tokens::array_tokens))]
+fn put_inner_array(out: &mut Output, elements: &Elements) -> Result<(), AllocError>
+    ensures ok { OnOk result (out.new
+        ≡ out.old ++ json_tokens (array_of (map inner_json elements.now))) }
+{
+    out.begin_array()?;
+    put_all_inner(out, elements)?;
+    out.end_array()
+}
+
+/// Writes a bearer context by its elements, or its octets where they are not whole elements.
+#[tactic(auto, using(crate::proofs::Tokens::nesting))]
+fn put_group(out: &mut Output, view: &ElementView) -> Result<(), AllocError>
+    ensures ok { OnOk result (out.new ≡ out.old
+        ++ written (group_members (element_of view.now)
+        (elements_of (view.now.at + 4) view.now.body.now))) }
+{
+    match view.inner() {
+        Ok(inner) => {
+            out.string_member("name", "bearer-context")?;
+            out.key("elements")?;
+            put_inner_array(out, &inner)
+        }
+        Err(_) => put_octets(out, view.body),
+    }
+}
+
+/// Writes what an element says.
+fn put_element_body(out: &mut Output, view: &ElementView) -> Result<(), AllocError>
+    ensures ok { OnOk result
+        (out.new ≡ out.old ++ written (element_members (element_of view.now))) }
+{
+    if view.kind == BEARER_CONTEXT {
+        return put_group(out, view);
+    }
+    put_body(out, view.kind, view.body)
+}
+
+/// Writes an element.
+#[tactic(auto, using(crate::proofs::Tokens::nesting))]
+fn put_element(out: &mut Output, view: &ElementView) -> Result<(), AllocError>
+    ensures ok { OnOk result
+        (out.new ≡ out.old ++ json_tokens (element_json (element_of view.now))) }
+{
+    out.begin_object()?;
+    put_element_head(out, view)?;
+    put_element_body(out, view)?;
+    out.end_object()
+}
+
+/// Writes elements.
+fn put_all_elements(out: &mut Output, elements: &Elements) -> Result<(), AllocError>
+    ensures ok { OnOk result (out.new
+        ≡ out.old ++ flat_map (λ e. json_tokens (element_json e)) elements.now) }
+{
+    for view in elements.iter() {
+        put_element(out, &view)?;
+    }
+    Ok(())
+}
+
+/// Writes the member of elements.
+#[tactic(auto, using(crate::proofs::Tokens::nesting, crate::proofs::Tokens::array_tokens))]
+fn put_elements(out: &mut Output, elements: &Elements) -> Result<(), AllocError>
+    ensures ok { OnOk result (out.new ≡ out.old ++ written (elements_members elements.now)) }
+{
+    out.key("elements")?;
+    out.begin_array()?;
+    put_all_elements(out, elements)?;
+    out.end_array()
+}
+
+/// Writes the type of a message, by its number and its name.
+#[tactic(auto, unfolding(crate::specs::Control::title_members), using(crate::proofs::Tokens::appending, crate::proofs::Names::name_some, crate::proofs::Names::name_none))]
+fn put_title(out: &mut Output, kind: u8) -> Result<(), AllocError>
+    ensures ok { OnOk result (out.new ≡ out.old ++ written (title_members kind)) }
+{
+    out.number_member("type", u64::from(kind))?;
+    match type_name(kind) {
+        Some(name) => out.string_member("name", name),
+        None => Ok(()),
+    }
+}
+
+/// Writes a TEID, where there is one.
+#[tactic(auto, using(crate::proofs::Tokens::appending))]
+fn put_some_teid(out: &mut Output, teid: Option<Teid>) -> Result<(), AllocError>
+    ensures ok { OnOk result
+        (out.new ≡ out.old ++ written (teid_members (option_map (λ t. t.0) teid))) }
+{
+    match teid {
+        Some(teid) => out.display_member("teid", &teid),
+        None => Ok(()),
+    }
+}
+
+/// Writes a priority, where there is one.
+#[tactic(auto, using(crate::proofs::Tokens::appending))]
+fn put_some_priority(out: &mut Output, priority: Option<Below<16>>) -> Result<(), AllocError>
+    ensures ok { OnOk result (out.new ≡ out.old ++ written (priority_members priority)) }
+{
+    match priority {
+        Some(priority) => out.number_member("priority", u64::from(priority.number())),
+        None => Ok(()),
+    }
+}
+
+/// Writes what a message's header says.
+#[tactic(auto, using(crate::proofs::Tokens::appending))]
+fn put_head(out: &mut Output, seen: &MessageView) -> Result<(), AllocError>
+    ensures ok { OnOk result (out.new ≡ out.old ++ written (head_members seen.now.message)) }
+{
+    put_title(out, seen.kind())?;
+    put_some_teid(out, seen.teid())?;
+    out.number_member("seq", u64::from(seen.seq().number()))?;
+    put_some_priority(out, seen.priority())
+}
+
+/// Writes what a message carries.
+#[tactic(auto, using(crate::proofs::Seen::raw_members, crate::proofs::Seen::typed_members))]
+fn put_carried(out: &mut Output, seen: &MessageView) -> Result<(), AllocError>
+    ensures ok { OnOk result (out.new ≡ out.old
+        ++ written (carried_members seen.now.message.content seen.now.elements)) }
+{
+    match seen.raw() {
+        Some(carried) => put_octets(out, carried),
+        None => put_elements(out, &seen.elements()),
+    }
+}
+
+/// Writes the members of a message.
+#[tactic(auto, using(crate::proofs::Tokens::appending))]
+fn put_message(out: &mut Output, seen: &MessageView) -> Result<(), AllocError>
+    ensures ok { OnOk result (out.new ≡ out.old ++ written (seen_members seen.now)) }
+{
+    put_head(out, seen)?;
+    put_carried(out, seen)
+}
+
+/// Writes a second message, where there is one.
+#[tactic(auto, using(crate::proofs::Tokens::nesting))]
+fn put_second(out: &mut Output, second: &Option<MessageView>) -> Result<(), AllocError>
+    ensures ok { OnOk result (out.new ≡ out.old ++ written (second_members second.now)) }
+{
+    let Some(second) = second else {
+        return Ok(());
+    };
+    out.key("second")?;
+    out.begin_object()?;
+    put_message(out, second)?;
+    out.end_object()
+}
+
+/// Writes the members of a datagram's message or of its two.
+#[tactic(auto, using(crate::proofs::Tokens::appending))]
+fn put_datagram(out: &mut Output, seen: &DatagramView) -> Result<(), AllocError>
+    ensures ok { OnOk result (out.new ≡ out.old
+        ++ written (seen_members seen.now.message ++ second_members seen.now.second)) }
+{
+    put_message(out, seen.message())?;
+    put_second(out, &seen.second())
+}
+
+/// The code of a fault of elements.
+fn element_code(fault: &IeFault) -> &'static str
+    ensures { result.now ≡ spec_element_code fault.now }
+{
+    match fault {
+        IeFault::Truncated { .. } => "I1",
+        IeFault::ShortValue { .. } => "I2",
+        IeFault::BadValue { .. } => "I3",
+        IeFault::Memory => "I4",
+        IeFault::TooLong => "I5",
+    }
+}
+
+/// Writes what follows the code of a fault of elements.
+#[tactic(auto, using(crate::proofs::Tokens::appending))]
+fn put_element_fault_detail(out: &mut Output, fault: &IeFault) -> Result<(), AllocError>
+    ensures ok { OnOk result (out.new ≡ out.old ++ written (element_fault_detail fault.now)) }
+{
+    match fault {
+        IeFault::Truncated { at } => out.number_member("at", *at as u64),
+        IeFault::ShortValue { kind, instance, at } | IeFault::BadValue { kind, instance, at } => {
+            out.number_member("type", u64::from(*kind))?;
+            out.number_member("instance", u64::from(*instance))?;
+            out.number_member("at", *at as u64)
+        }
+        IeFault::Memory | IeFault::TooLong => Ok(()),
+    }
+}
+
+/// Writes the member of a fault of elements.
+#[tactic(auto, using(crate::proofs::Tokens::nesting))]
+fn put_element_fault(out: &mut Output, fault: &IeFault) -> Result<(), AllocError>
+    ensures ok { OnOk result (out.new ≡ out.old
+        ++ written (member (codes "element") (object_of (element_fault_members fault.now)))) }
+{
+    out.key("element")?;
+    out.begin_object()?;
+    out.string_member("code", element_code(fault))?;
+    put_element_fault_detail(out, fault)?;
+    out.end_object()
+}
+
+/// The mark of a row that is missing.
+fn mark(conditional: bool) -> &'static str
+    ensures { result.now ≡ mark_word conditional }
+{
+    if conditional {
+        "conditional"
+    } else {
+        "mandatory"
+    }
+}
+
+/// The code of a fault.
+fn code(fault: &V2Fault) -> &'static str
+    ensures { result.now ≡ code_of fault.now }
+{
+    match fault {
+        V2Fault::Short { .. } => "H1",
+        V2Fault::Version(_) => "H2",
+        V2Fault::Length { .. } => "H3",
+        V2Fault::FlagT { .. } => "H4",
+        V2Fault::BadPiggyback { .. } => "H5",
+        V2Fault::Missing { .. } => "H6",
+        V2Fault::Element { .. } => "H7",
+        V2Fault::Memory => "H8",
+        V2Fault::TooLong => "H9",
+    }
+}
+
+/// Writes what follows the code of a fault.
+#[tactic(auto, using(crate::proofs::Tokens::appending))]
+fn put_fault_detail(out: &mut Output, fault: &V2Fault) -> Result<(), AllocError>
+    ensures ok { OnOk result (out.new ≡ out.old ++ written (fault_detail fault.now)) }
+{
+    match fault {
+        V2Fault::Short { held } => out.number_member("held", *held as u64),
+        V2Fault::Version(version) => out.number_member("version", u64::from(*version)),
+        V2Fault::Length { stated, held } => {
+            out.number_member("stated", *stated as u64)?;
+            out.number_member("held", *held as u64)
+        }
+        V2Fault::FlagT { kind } => out.number_member("type", u64::from(*kind)),
+        V2Fault::Missing {
+            kind,
+            instance,
+            conditional,
+            ..
+        } => {
+            out.number_member("type", u64::from(*kind))?;
+            out.number_member("instance", u64::from(*instance))?;
+            out.string_member("mark", mark(*conditional))
+        }
+        V2Fault::Element { fault, .. } => put_element_fault(out, fault),
+        V2Fault::BadPiggyback { at } => out.number_member("at", *at as u64),
+        V2Fault::Memory | V2Fault::TooLong => Ok(()),
+    }
+}
+
+/// Writes the member of a fault.
+#[tactic(auto, using(crate::proofs::Tokens::nesting))]
+fn put_fault(out: &mut Output, fault: &V2Fault) -> Result<(), AllocError>
+    ensures ok { OnOk result
+        (out.new ≡ out.old ++ written (fault_member (fault_members fault.now))) }
+{
+    out.key("fault")?;
+    out.begin_object()?;
+    out.string_member("code", code(fault))?;
+    put_fault_detail(out, fault)?;
+    out.end_object()
+}
+
+/// Writes the members of a control datagram after its plane, and tells whether they are a fault's.
+pub fn put_control(out: &mut Output, octets: &[u8]) -> Result<bool, AllocError>
+    ensures { IfOk result (λ faulty.
+        Adds (λ ms. ControlMembers octets.now ms faulty) out.old out.new) }
+{
+    match view(octets) {
+        Ok(seen) => {
+            put_datagram(out, &seen)?;
+            Ok(false)
+        }
+        Err(fault) => {
+            put_fault(out, &fault)?;
+            Ok(true)
+        }
+    }
+}

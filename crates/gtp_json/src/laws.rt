@@ -1,0 +1,13 @@
+//! What holds of all octets, each the contract of a function that does nothing.
+
+ghost use Rattle.gtp_json.specs.Laws.{OneLine, OneFrameLine};
+
+/// A datagram has one line of JSON.
+pub fn datagrams_have_one_line()
+    ensures { OneLine }
+{}
+
+/// A datagram of a capture has one line of JSON.
+pub fn frames_have_one_line()
+    ensures { OneFrameLine }
+{}

@@ -1,0 +1,18 @@
+//! A GTP datagram as one JSON object on one line (RFC 8259): what `gtp_lines` shows as lines, for programs.
+#![tactic(auto)]
+
+mod control;
+mod datagram;
+mod frames;
+pub mod laws;
+mod object;
+mod user;
+mod values;
+
+pub use datagram::datagram_json;
+pub use frames::frame_json;
+
+/// What the signatures here name of the crates below.
+pub use gtp_capture::Captured;
+pub use gtp_lines::Shown;
+pub use gtp_values::{Memory, Plane};

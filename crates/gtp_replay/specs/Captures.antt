@@ -1,0 +1,45 @@
+-- A run as a packet capture.
+use Rattle.std.specs.Prelude.{◌≡◌, ℕ, ◌+◌, ◌%◌, List, [], ◌∷◌, ◌++◌, Option, Some, None, option_and_then, option_to_list, nat_le, length, take, drop, if◌then◌else◌}
+use Rattle.std.specs.List.{flat_map, enumerate_from}
+use Rattle.gtp_values.specs.declared.address.Ip.{Ip}
+use Rattle.gtp_values.specs.declared.address.Ip.TheVariants as ip
+use Rattle.gtp_capture.specs.Writing.{Sent, most_octets, head_octets, AreWritten}
+use Rattle.gtp_capture.specs.declared.writing.Ends.{Ends}
+use Rattle.gtp_capture.specs.declared.writing.Ends.TheVariants.{V4, V6}
+use Rattle.gtp_machine.specs.Spelling.{Datagram}
+use Rattle.gtp_machine.specs.World.{By}
+use Rattle.gtp_world.specs.Kept.{Kept, Told, Log}
+
+-- both addresses, where they are of one version
+abbrev pub ends_between : Ip → Ip → Option Ends
+ends_between (ip.V4 from) (ip.V4 to) = Some (V4 from to)
+ends_between (ip.V6 from) (ip.V6 to) = Some (V6 from to)
+ends_between from to = None
+
+-- a datagram of a run under its number, as it is captured between these ends: as many seconds after 1970 as events came before the one that sent it, modulo 2^32, and its number in microseconds, modulo 1,000,000, and as the identification of its packet, modulo 65,536 (RFC 791, 3.2)
+abbrev pub sent_between : ℕ → ℕ × By Datagram → Ends → Sent
+sent_between event d ends = record { seconds = event % 4294967296; microseconds = d.0 % 1000000; ends = ends; from_port = d.1.what.from.port; to_port = d.1.what.to.port; identification = d.0 % 65536; octets = d.1.what.octets }
+
+-- where a packet has room for it
+abbrev pub where_room : Sent → Option Sent
+where_room d = if nat_le (length d.octets) (most_octets d.ends) then Some d else None
+
+-- A datagram that this event sent, as it is captured. It is left out where its addresses are of two versions, or where no packet has room for it.
+abbrev pub captured_in : ℕ → ℕ × By Datagram → Option Sent
+captured_in event d = option_and_then (λ ends. where_room (sent_between event d ends)) (ends_between d.1.what.from.ip d.1.what.to.ip)
+
+abbrev pub frame_in : ℕ → ℕ × By Datagram → List Sent
+frame_in event d = option_to_list (captured_in event d)
+
+-- those that events sent, from this one on, one event after the other; none is left after the last
+abbrev pub frames_from : ℕ → List (ℕ × By Datagram) → List Told → List Sent
+frames_from event sent [] = flat_map (frame_in event) sent
+frames_from event sent (told ∷ notes) = flat_map (frame_in event) (take told.sent sent) ++ frames_from (event + 1) (drop told.sent sent) notes
+
+-- all datagrams, which are numbered from 0, as are the events
+abbrev pub frames_of : Log → List Sent
+frames_of log = frames_from 0 (enumerate_from 0 log.datagrams) log.notes
+
+-- the head of a capture, and the records of all datagrams
+abbrev pub IsCaptureOf : Kept → List ℕ → Type 0
+IsCaptureOf world text = (body : List ℕ) × (text ≡ head_octets ++ body) × AreWritten (frames_of world.log) body
