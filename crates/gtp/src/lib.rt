@@ -29,8 +29,8 @@ pub mod user {
 /// Packet captures (pcap, pcapng): read the GTP datagrams of one.
 pub mod capture {
     pub use gtp_capture::{
-        CaptureFault, Captured, Packet, Ports, Refused, Sink, Stop, Time, Unit, read_capture,
-        read_packet,
+        CaptureFault, Captured, Counted, Packet, Ports, Refused, Sink, Stop, Time, Unit,
+        read_capture, read_packet,
     };
 }
 

@@ -2,9 +2,7 @@
 use Rattle.std.proofs.Common.{◌≡◌, ℕ, suc, ◌+◌, ◌-◌, ◌^◌, ◌≤◌, List, [], ◌∷◌, ◌++◌, length, Option, Some, None, Result, Ok, Err, refl, sym, ap, ◌∙◌, subst, arith, length-append, append-nil, append_assoc, inl, inr}
 use Rattle.std.specs.Prelude.{⊤, ◌⊎◌, IfSome}
 use Rattle.gtp_capture.specs.Frame.{Frame}
-use Rattle.gtp_capture.specs.Capture.{State, Records, Blocks, Piece, Holds, IsStart, IsPiece, ArePieces, after, after_all, frame_in, frames_in, IsCapture}
-use Rattle.gtp_capture.specs.Block.{IsBlock}
-use Rattle.gtp_capture.specs.declared.octets.Order.{Order}
+use Rattle.gtp_capture.specs.Capture.{State, Piece, Holds, IsPiece, ArePieces, after, after_all, frame_in, frames_in, IsCapture}
 use Rattle.gtp_capture.specs.Seen.{Seen, seen_in, datagrams, Takes}
 use Rattle.gtp_capture.specs.Outcome.{Known, IsStep, Steps, HasBegun, HandsOn, HandsOnSome, RefusesNext, IsStopped, IsRead, IsReached, Reached, piece_of, state_of}
 use Rattle.gtp_capture.specs.declared.step.Found.{Found}
@@ -18,6 +16,7 @@ use Rattle.gtp_capture.specs.declared.ports.Ports.{Ports}
 use Rattle.std.proofs.lemmas.Result.{err_from_is_err_and}
 use Rattle.std.specs.Result.{IsErrAnd}
 use Rattle.gtp_capture.proofs.KnownOctets.{known_map, known_then, known_if}
+use Rattle.gtp_capture.proofs.Lengths.{piece_shorter, start_shorter}
 
 pieces_more : (s : State) (octets : List ℕ) (ps : List Piece) (mid : List ℕ) (p : Piece) (rest : List ℕ) → ArePieces s octets ps mid → IsPiece (after_all ps s) mid p rest → ArePieces s octets (ps ++ p ∷ []) rest
 pieces_more s octets [] mid p rest e is = (rest, subst (λ o. IsPiece s o p rest) (sym e) is, refl)
@@ -50,7 +49,7 @@ datagrams_more ports n (f ∷ fs) gs m e =
     let later : m ≡ suc n + length fs = omega (arith, e) in
     ap (λ l. seen_in ports n f ++ l) (datagrams_more ports (suc n) fs gs m later) ∙ sym (append_assoc (seen_in ports n f) (datagrams ports (suc n) fs) (datagrams ports m gs))
 
-takes_more : {S : Type 0} (takes : S → Seen → S → Type 0) (a : S) (ds : List Seen) (b : S) (es : List Seen) (c : S) → Takes takes a ds b → Takes takes b es c → Takes takes a (ds ++ es) c
+pub takes_more : {S : Type 0} (takes : S → Seen → S → Type 0) (a : S) (ds : List Seen) (b : S) (es : List Seen) (c : S) → Takes takes a ds b → Takes takes b es c → Takes takes a (ds ++ es) c
 takes_more takes a [] b es c e then = subst (λ s. Takes takes s es c) (sym e) then
 takes_more takes a (d ∷ ds) b es c (next, first, more) then = (next, first, takes_more takes next ds b es c more then)
 
@@ -167,18 +166,6 @@ pub refused_by : {S : Type 0} (ports : Ports) (takes refuses : S → Seen → S 
 refused_by ports takes refuses a b c state at number before now then f room stop r so is left err =
     let p = err_from_is_err_and r err in
     subst (λ s. IfSome a (λ file. IsRead ports takes refuses file before then s)) (sym (p.1 ∙ ap (λ e. Err e) (p.2 ∙ ap (λ e. Stopped e) left.0))) (refused ports takes refuses a b c state at number before now then f room so is left.1 left.2 left.3)
-
-block_shorter : (order : Order) (octets head body rest : List ℕ) → IsBlock order octets head body rest → length rest + 1 ≤ length octets
-block_shorter order octets head body rest is = omega (arith, ap length is.whole, is.start, length-append head (body ++ (is.tail ++ rest)), length-append body (is.tail ++ rest), length-append is.tail rest)
-
-piece_shorter : (state : State) (octets : List ℕ) (p : Piece) (rest : List ℕ) → IsPiece state octets p rest → length rest + 1 ≤ length octets
-piece_shorter (Records k) octets p rest (f, same, is) = omega (arith, ap length is.whole, is.size, length-append is.head (f.octets ++ rest), length-append f.octets rest)
-piece_shorter (Blocks order is) octets p rest (inl (o, same, s)) = block_shorter o octets s.head s.body rest s.block
-piece_shorter (Blocks order is) octets p rest (inr s) = block_shorter order octets s.head s.body rest s.block
-
-start_shorter : (file : List ℕ) (state : State) (rest : List ℕ) → IsStart file state rest → length rest + 1 ≤ length file
-start_shorter file (Records k) rest is = omega (arith, ap length is.whole, is.size, length-append is.head rest)
-start_shorter file (Blocks order is) rest (s, none) = block_shorter order file s.head s.body rest s.block
 
 -- each piece has an octet or more
 pub begun_long : (a b : Option (List ℕ)) (s : Started) (at : ℕ) → at ≡ s.size → Known (HasBegun (Some s)) a b → Known (λ file left. 1 ≤ at) a b

@@ -66,6 +66,14 @@ HandsOnSome ports takes file before after = (before ≡ after) ⊎ ((state : Sta
 abbrev pub RefusesNext : {S : Type 0} → (S → Seen → S → Type 0) → S → List Seen → S → Type 0
 RefusesNext refuses before seen after = (d : Seen) × (seen ≡ d ∷ []) × refuses before d after
 
+-- the sink took some datagrams, one after the other
+abbrev pub TakesSome : {S : Type 0} → (S → Seen → S → Type 0) → S → S → Type 0
+TakesSome takes before after = (seen : List Seen) × Takes takes before seen after
+
+-- and then it did not take one
+abbrev pub TakesNoMore : {S : Type 0} → (takes refuses : S → Seen → S → Type 0) → S → S → Type 0
+TakesNoMore takes refuses before after = (middle : _) × (d : Seen) × TakesSome takes before middle × refuses middle d after
+
 -- the sink took the datagrams of the first frames, and not that of the next one
 pub record StopsAt {S : Type 0} (ports : Ports) (takes refuses : S → Seen → S → Type 0) (file : List ℕ) (before after : S) : Type 0 where
   pub state : State

@@ -1,6 +1,7 @@
 //! The blocks of a capture (pcapng).
 
-ghost use Rattle.std.specs.Prelude.{◌≡◌, ◌⊎◌, ◌≤◌, ◌≢◌, ◌%◌, ◌++◌, IsTrue, IsFalse, List, ℕ, true, min, length, IfOk, IfErr, IfSome, IfNone};
+ghost use Rattle.std.specs.Prelude.{◌≡◌, ◌⊎◌, ◌≤◌, ◌≢◌, ◌%◌, ◌++◌, IsTrue, IsFalse, List, ℕ, true, min, length, IfOk, IfErr, IfSome, IfNone, ◌+◌, ◌-◌, ◌^◌, ◌<◌, Err};
+ghost use Rattle.gtp_counted.specs.Counts.{inner_of, failures_of};
 ghost use Rattle.gtp_capture.specs.Octets.{four_at};
 ghost use Rattle.gtp_capture.specs.Block.{section_type, order_number, is_read};
 ghost use Rattle.gtp_capture.specs.Capture.{Blocks};
@@ -15,6 +16,7 @@ use crate::interface::Interface;
 use crate::meaning::{is_read_type, item_in};
 use crate::octets::{Order, four};
 use crate::step::{Found, Item, Step};
+use gtp_counted::Counted;
 use std::io::Read;
 
 /// The type of a section's header, in either order.
@@ -27,10 +29,15 @@ const KEPT: usize = 262_164;
 const PART: usize = 512;
 
 /// Passes over so many octets. Are there as many?
-fn pass<R: Read>(reader: &mut R, size: usize) -> Result<bool, Stop>
+fn pass<R: Read>(reader: &mut Counted<R>, size: usize) -> Result<bool, Stop>
+    requires { failures_of reader.old < 2 ^ 64 - 1 }
     ensures ok { IfOk result (λ whole. Known (Passes size whole)
-        (R.remaining reader.old) (R.remaining reader.new)) }
+        (R.remaining (inner_of reader.old)) (R.remaining (inner_of reader.new))) }
     ensures err { IfErr result (λ stop. stop ≡ Stop.Read) }
+    ensures failed { result ≡ Err Stop.Read
+        → failures_of reader.new ≡ failures_of reader.old + 1 }
+    ensures unfailed { result ≢ Err Stop.Read
+        → failures_of reader.new ≡ failures_of reader.old }
 {
     let mut buffer = [0u8; PART];
     let mut left = size;
@@ -45,10 +52,20 @@ fn pass<R: Read>(reader: &mut R, size: usize) -> Result<bool, Stop>
 }
 
 /// Passes over the rest of a block. Is it whole, and says its size again?
-fn finish<R: Read>(reader: &mut R, order: Order, left: usize, size: u32) -> Result<bool, Stop>
+fn finish<R: Read>(
+    reader: &mut Counted<R>,
+    order: Order,
+    left: usize,
+    size: u32,
+) -> Result<bool, Stop>
+    requires { failures_of reader.old < 2 ^ 64 - 1 }
     ensures ok { IfOk result (λ whole. Known (Finishes order left size whole)
-        (R.remaining reader.old) (R.remaining reader.new)) }
+        (R.remaining (inner_of reader.old)) (R.remaining (inner_of reader.new))) }
     ensures err { IfErr result (λ stop. stop ≡ Stop.Read) }
+    ensures failed { result ≡ Err Stop.Read
+        → failures_of reader.new ≡ failures_of reader.old + 1 }
+    ensures unfailed { result ≢ Err Stop.Read
+        → failures_of reader.new ≡ failures_of reader.old }
 {
     if !pass(reader, left)? {
         return Ok(false);
@@ -82,16 +99,21 @@ fn order_of(number: u32) -> Option<Order>
 
 /// Reads the header of a section, of which the first octets were read. Its order, and how many octets it has.
 pub fn finish_section<R: Read>(
-    reader: &mut R,
+    reader: &mut Counted<R>,
     head: &[u8],
     front: &[u8],
 ) -> Result<Option<(Order, u32)>, Stop>
+    requires reads { failures_of reader.old < 2 ^ 64 - 1 }
     requires head { length head.now ≡ 8 }
     requires front { length front.now ≡ 16 }
     requires kind { four_at High 0 head.now ≡ section_type }
     ensures ok { IfOk result (λ found. Known (IsSectionBehind (head.now ++ front.now) found)
-        (R.remaining reader.old) (R.remaining reader.new)) }
+        (R.remaining (inner_of reader.old)) (R.remaining (inner_of reader.new))) }
     ensures err { IfErr result (λ stop. stop ≡ Stop.Read) }
+    ensures failed { result ≡ Err Stop.Read
+        → failures_of reader.new ≡ failures_of reader.old + 1 }
+    ensures unfailed { result ≢ Err Stop.Read
+        → failures_of reader.new ≡ failures_of reader.old }
 {
     let Some(order) = order_of(four(Order::High, front, 0)) else {
         return Ok(None);
@@ -108,16 +130,21 @@ pub fn finish_section<R: Read>(
 
 /// The header of a section, whose head was read.
 fn next_section<R: Read>(
-    reader: &mut R,
+    reader: &mut Counted<R>,
     head: &[u8],
     order: Order,
     interfaces: &[Interface],
 ) -> Result<Step, Stop>
+    requires reads { failures_of reader.old < 2 ^ 64 - 1 }
     requires head { length head.now ≡ 8 }
     requires kind { four_at High 0 head.now ≡ section_type }
     ensures ok { IfOk result (λ step. (room : List ℕ) → StepsBehind head.now
-        (Blocks order interfaces.now) (R.remaining reader.old) (R.remaining reader.new) step room) }
+        (Blocks order interfaces.now) (R.remaining (inner_of reader.old)) (R.remaining (inner_of reader.new)) step room) }
     ensures err { IfErr result (λ stop. (stop ≡ Stop.Read) ⊎ (stop ≡ Stop.Memory)) }
+    ensures failed { result ≡ Err Stop.Read
+        → failures_of reader.new ≡ failures_of reader.old + 1 }
+    ensures unfailed { result ≢ Err Stop.Read
+        → failures_of reader.new ≡ failures_of reader.old }
 {
     let mut front = [0u8; 16];
     if fill(reader, &mut front)? < 16 {
@@ -146,17 +173,22 @@ fn kept(kind: u32, size: usize) -> usize
 
 /// A block that is no header of a section, whose head was read.
 fn next_inside<R: Read>(
-    reader: &mut R,
+    reader: &mut Counted<R>,
     head: &[u8],
     order: Order,
     interfaces: &[Interface],
     room: &mut Vec<u8>,
 ) -> Result<Step, Stop>
+    requires reads { failures_of reader.old < 2 ^ 64 - 1 }
     requires head { length head.now ≡ 8 }
     requires kind { four_at High 0 head.now ≢ section_type }
     ensures ok { IfOk result (λ step. StepsBehind head.now (Blocks order interfaces.now)
-        (R.remaining reader.old) (R.remaining reader.new) step room.new.items) }
+        (R.remaining (inner_of reader.old)) (R.remaining (inner_of reader.new)) step room.new.items) }
     ensures err { IfErr result (λ stop. (stop ≡ Stop.Read) ⊎ (stop ≡ Stop.Memory)) }
+    ensures failed { result ≡ Err Stop.Read
+        → failures_of reader.new ≡ failures_of reader.old + 1 }
+    ensures unfailed { result ≢ Err Stop.Read
+        → failures_of reader.new ≡ failures_of reader.old }
 {
     let size = four(order, head, 4);
     if !is_size(size, 12) {
@@ -180,14 +212,19 @@ fn next_inside<R: Read>(
 
 /// What stands next, and of the octets that it holds those that are read.
 pub fn next_block<R: Read>(
-    reader: &mut R,
+    reader: &mut Counted<R>,
     order: Order,
     interfaces: &[Interface],
     room: &mut Vec<u8>,
 ) -> Result<Step, Stop>
+    requires { failures_of reader.old < 2 ^ 64 - 1 }
     ensures ok { IfOk result (λ step. Steps (Blocks order interfaces.now)
-        (R.remaining reader.old) (R.remaining reader.new) step room.new.items) }
+        (R.remaining (inner_of reader.old)) (R.remaining (inner_of reader.new)) step room.new.items) }
     ensures err { IfErr result (λ stop. (stop ≡ Stop.Read) ⊎ (stop ≡ Stop.Memory)) }
+    ensures failed { result ≡ Err Stop.Read
+        → failures_of reader.new ≡ failures_of reader.old + 1 }
+    ensures unfailed { result ≢ Err Stop.Read
+        → failures_of reader.new ≡ failures_of reader.old }
 {
     let mut head = [0u8; 8];
     let found = fill(reader, &mut head)?;

@@ -1,6 +1,7 @@
 //! The head of a capture.
 
-ghost use Rattle.std.specs.Prelude.{◌≡◌, ◌≤◌, ◌++◌, length, IfSome, IfNone, IfOk, IfErr};
+ghost use Rattle.std.specs.Prelude.{◌≡◌, ◌≤◌, ◌++◌, length, IfSome, IfNone, IfOk, IfErr, ◌≢◌, ◌+◌, ◌-◌, ◌^◌, ◌<◌, Err};
+ghost use Rattle.gtp_counted.specs.Counts.{inner_of, failures_of};
 ghost use Rattle.gtp_capture.specs.Frame.{IsHead, magic};
 ghost use Rattle.gtp_capture.specs.Octets.{four_at};
 ghost use Rattle.gtp_capture.specs.Block.{section_type};
@@ -14,6 +15,7 @@ use crate::fault::Stop;
 use crate::filling::fill;
 use crate::octets::{Order, four, from, front};
 use crate::step::{Format, Started};
+use gtp_counted::Counted;
 use std::io::Read;
 
 /// What the fractions of a second are counted in.
@@ -68,13 +70,18 @@ fn read_kind(head: &[u8]) -> Option<Kind>
 }
 
 /// The header of the first section of a capture, of which the first octets were read.
-fn start_section<R: Read>(reader: &mut R, head: &[u8]) -> Result<Option<Started>, Stop>
+fn start_section<R: Read>(reader: &mut Counted<R>, head: &[u8]) -> Result<Option<Started>, Stop>
+    requires reads { failures_of reader.old < 2 ^ 64 - 1 }
     requires size { length head.now ≡ 24 }
     requires kind { four_at High 0 head.now ≡ section_type }
     requires other { (k : AnyKind) → IsHead head.now k → ⊥ }
     ensures ok { IfOk result (λ s. Known (λ octets left. HasBegun s (head.now ++ octets) left)
-        (R.remaining reader.old) (R.remaining reader.new)) }
+        (R.remaining (inner_of reader.old)) (R.remaining (inner_of reader.new))) }
     ensures err { IfErr result (λ stop. stop ≡ Stop.Read) }
+    ensures failed { result ≡ Err Stop.Read
+        → failures_of reader.new ≡ failures_of reader.old + 1 }
+    ensures unfailed { result ≢ Err Stop.Read
+        → failures_of reader.new ≡ failures_of reader.old }
 {
     match finish_section(reader, front(head, 8), from(head, 8))? {
         Some((order, size)) => Ok(Some(Started {
@@ -86,10 +93,15 @@ fn start_section<R: Read>(reader: &mut R, head: &[u8]) -> Result<Option<Started>
 }
 
 /// How a capture begins.
-pub fn read_start<R: Read>(reader: &mut R) -> Result<Option<Started>, Stop>
+pub fn read_start<R: Read>(reader: &mut Counted<R>) -> Result<Option<Started>, Stop>
+    requires { failures_of reader.old < 2 ^ 64 - 1 }
     ensures ok { IfOk result (λ s. Known (HasBegun s)
-        (R.remaining reader.old) (R.remaining reader.new)) }
+        (R.remaining (inner_of reader.old)) (R.remaining (inner_of reader.new))) }
     ensures err { IfErr result (λ stop. stop ≡ Stop.Read) }
+    ensures failed { result ≡ Err Stop.Read
+        → failures_of reader.new ≡ failures_of reader.old + 1 }
+    ensures unfailed { result ≢ Err Stop.Read
+        → failures_of reader.new ≡ failures_of reader.old }
 {
     let mut head = [0u8; 24];
     if fill(reader, &mut head)? < 24 {

@@ -36,3 +36,6 @@ pub use reading::read_capture;
 pub use writing::{
     Ends, WrittenDatagram, what_is_written_is_read_back, write_capture, write_datagram, write_head,
 };
+
+/// What the signatures and contracts here name of the crate below.
+pub use gtp_counted::Counted;

@@ -1,10 +1,11 @@
 //! Reading a capture.
 
-ghost use Rattle.std.specs.Prelude.{◌≡◌, ◌⊎◌, ◌+◌, ◌-◌, ◌<◌, ◌^◌, List, ℕ, length, OnOk, IfOk, IfErr, IfSome};
+ghost use Rattle.std.specs.Prelude.{◌≡◌, ◌⊎◌, ◌+◌, ◌-◌, ◌<◌, ◌^◌, List, ℕ, length, OnOk, IfOk, IfErr, IfSome, ◌≢◌, Err};
+ghost use Rattle.gtp_counted.specs.Counts.{inner_of, failures_of};
 ghost use Rattle.gtp_capture.specs.Frame.{Frame};
 ghost use Rattle.gtp_capture.specs.Capture.{Holds, after, frame_in};
 ghost use Rattle.gtp_capture.specs.Seen.{Takes, seen_in, datagrams};
-ghost use Rattle.gtp_capture.specs.Outcome.{IsRead, RefusesNext, Steps, frame_of, piece_of, state_of};
+ghost use Rattle.gtp_capture.specs.Outcome.{IsRead, RefusesNext, Steps, TakesSome, TakesNoMore, frame_of, piece_of, state_of};
 
 use crate::block::next_block;
 use crate::captured::{Captured, Sink};
@@ -16,6 +17,7 @@ use crate::packet::packet_in_frame;
 use crate::ports::Ports;
 use crate::record::next_record;
 use crate::step::{Format, Head, Item, Step};
+use gtp_counted::Counted;
 use std::alloc::Global;
 use std::io::Read;
 
@@ -94,14 +96,19 @@ fn note(format: Format, interfaces: &mut Vec<Interface>, item: Item) -> Result<F
 
 /// What stands next, and of the octets that it holds those that are read.
 fn next_step<R: Read>(
-    reader: &mut R,
+    reader: &mut Counted<R>,
     format: Format,
     interfaces: &[Interface],
     room: &mut Vec<u8>,
 ) -> Result<Step, Stop>
+    requires { failures_of reader.old < 2 ^ 64 - 1 }
     ensures ok { IfOk result (λ step. Steps (state_of format interfaces.now)
-        (R.remaining reader.old) (R.remaining reader.new) step room.new.items) }
+        (R.remaining (inner_of reader.old)) (R.remaining (inner_of reader.new)) step room.new.items) }
     ensures err { IfErr result (λ stop. (stop ≡ Stop.Read) ⊎ (stop ≡ Stop.Memory)) }
+    ensures failed { result ≡ Err Stop.Read
+        → failures_of reader.new ≡ failures_of reader.old + 1 }
+    ensures unfailed { result ≢ Err Stop.Read
+        → failures_of reader.new ≡ failures_of reader.old }
 {
     match format {
         Format::Records(kind) => next_record(reader, kind, room),
@@ -118,15 +125,28 @@ fn next_step<R: Read>(
 ///
 /// `NoCapture` if the file does not begin as a capture does: nothing was handed on. `Broken` at the octet from the file's start
 /// from which a record or block is not complete, or is none: the datagrams before it were handed on. `Stopped` if a read, an
-/// allocation or the sink failed, or the file has 2^64 - 1 octets or more: those of the first frames were handed on.
+/// allocation or the sink failed, or the file has 2^64 - 1 octets or more: those of the first frames were handed on. A read
+/// failed exactly where that is what stopped it; a read that is interrupted is made again, and has not failed.
 pub fn read_capture<R: Read, S: Sink>(
     alloc: Global,
     ports: Ports,
-    reader: &mut R,
+    reader: &mut Counted<R>,
     sink: &mut S,
 ) -> Result<u64, CaptureFault>
-    ensures { IfSome (R.remaining reader.old) (λ file.
+    requires { failures_of reader.old < 2 ^ 64 - 1 }
+    ensures read { IfSome (R.remaining (inner_of reader.old)) (λ file.
         IsRead ports S.takes S.refuses file sink.old sink.new result) }
+    // `Read` means one more failed call of the reader, and every other result none.
+    ensures failed { result ≡ Err (CaptureFault.Stopped Stop.Read)
+        → failures_of reader.new ≡ failures_of reader.old + 1 }
+    ensures unfailed { result ≢ Err (CaptureFault.Stopped Stop.Read)
+        → failures_of reader.new ≡ failures_of reader.old }
+    // `Refused` means that the sink did not take a datagram, and every other result that it took each, also where the
+    // octets are not known.
+    ensures refused { result ≡ Err (CaptureFault.Stopped Stop.Refused)
+        → TakesNoMore S.takes S.refuses sink.old sink.new }
+    ensures taken { result ≢ Err (CaptureFault.Stopped Stop.Refused)
+        → TakesSome S.takes sink.old sink.new }
 {
     let Some(started) = read_start(reader)? else {
         return Err(CaptureFault::NoCapture);

@@ -1,6 +1,7 @@
 //! The records of a capture (pcap).
 
-ghost use Rattle.std.specs.Prelude.{◌≡◌, ◌⊎◌, IfOk, IfErr};
+ghost use Rattle.std.specs.Prelude.{◌≡◌, ◌⊎◌, IfOk, IfErr, ◌≢◌, ◌+◌, ◌-◌, ◌^◌, ◌<◌, Err};
+ghost use Rattle.gtp_counted.specs.Counts.{inner_of, failures_of};
 ghost use Rattle.gtp_capture.specs.Capture.{Records};
 ghost use Rattle.gtp_capture.specs.Outcome.{Steps};
 
@@ -10,16 +11,26 @@ use crate::filling::{fill, refill};
 use crate::head::Kind;
 use crate::octets::four;
 use crate::step::{Found, Head, Item, Step};
+use gtp_counted::Counted;
 use std::io::Read;
 
 /// The most octets that are held of a frame.
 pub const LIMIT: usize = 262_144;
 
 /// What stands next, and the octets that it holds.
-pub fn next_record<R: Read>(reader: &mut R, kind: Kind, room: &mut Vec<u8>) -> Result<Step, Stop>
+pub fn next_record<R: Read>(
+    reader: &mut Counted<R>,
+    kind: Kind,
+    room: &mut Vec<u8>,
+) -> Result<Step, Stop>
+    requires { failures_of reader.old < 2 ^ 64 - 1 }
     ensures ok { IfOk result (λ step. Steps (Records kind)
-        (R.remaining reader.old) (R.remaining reader.new) step room.new.items) }
+        (R.remaining (inner_of reader.old)) (R.remaining (inner_of reader.new)) step room.new.items) }
     ensures err { IfErr result (λ stop. (stop ≡ Stop.Read) ⊎ (stop ≡ Stop.Memory)) }
+    ensures failed { result ≡ Err Stop.Read
+        → failures_of reader.new ≡ failures_of reader.old + 1 }
+    ensures unfailed { result ≢ Err Stop.Read
+        → failures_of reader.new ≡ failures_of reader.old }
 {
     let mut head = [0u8; 16];
     let found = fill(reader, &mut head)?;

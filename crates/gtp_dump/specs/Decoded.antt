@@ -2,6 +2,8 @@
 use Rattle.std.specs.Prelude.{◌≡◌, ◌≢◌, ℕ, ◌+◌, ◌||◌, ◌⊎◌, Bool, true, false, List, [], ◌∷◌, ◌++◌, Option, codes, decimal}
 use Rattle.std.specs.Io.BufRead.{take_through, drop_through}
 use Rattle.std.specs.Io.KnownBytes.{Appends}
+use Rattle.gtp_counted.specs.Counts.{NoneFailed, FailedOnce, ClosedOnce}
+use Rattle.gtp_counted.specs.declared.counted.Counted.{Counted}
 use Rattle.gtp_values.specs.declared.plane.Plane.{Plane}
 use Rattle.gtp_lines.specs.Lines.{LinesOf}
 use Rattle.gtp_lines.specs.All.{AllLines}
@@ -16,7 +18,7 @@ use Rattle.gtp_dump.specs.declared.decoding.Tally.{Tally}
 abbrev pub datagram_line : ℕ → List ℕ
 datagram_line index = codes "datagram " ++ (decimal index ++ codes "\n")
 
--- the line on a line that is no hexadecimal
+-- the line on a bad line
 abbrev pub bad_line : ℕ → List ℕ
 bad_line number = codes "bad hex line " ++ (decimal number ++ codes "\n")
 
@@ -100,6 +102,14 @@ pub record IsTold (asked : Asked) (before : Tally) (line : List ℕ) (after : Ta
   pub tells : Tells asked before line after text errors
   pub output : Appends out out_after text
   pub error : Appends err err_after errors
+
+-- one write failed, to the output or to the errors
+abbrev pub WriteFailed : {W E : Type 0} → (out out_after : Counted W) → (err err_after : Counted E) → Type 0
+WriteFailed out out_after err err_after = (FailedOnce out out_after × NoneFailed err err_after) ⊎ (NoneFailed out out_after × FailedOnce err err_after)
+
+-- or found one of them closed by whoever reads it
+abbrev pub WriteClosed : {W E : Type 0} → (out out_after : Counted W) → (err err_after : Counted E) → Type 0
+WriteClosed out out_after err err_after = (ClosedOnce out out_after × NoneFailed err err_after) ⊎ (NoneFailed out out_after × ClosedOnce err err_after)
 
 -- the first lines were told, and nothing else
 abbrev pub AreFirstTold : Asked → List ℕ → (out out_after err err_after : Option (List ℕ)) → Type 0

@@ -1,5 +1,5 @@
 -- A line of a hex dump.
-use Rattle.std.specs.Prelude.{◌≡◌, ◌≢◌, ℕ, ◌/◌, ◌==◌, ◌||◌, ◌&&◌, Bool, false, if◌then◌else◌, List, [], ◌∷◌, ◌++◌, slice_index, codes, Option, Some, None, Ok, IsErr}
+use Rattle.std.specs.Prelude.{◌≡◌, ◌≢◌, ℕ, ◌<◌, ◌≤◌, ◌/◌, ◌==◌, ◌||◌, ◌&&◌, ◌⊎◌, Bool, false, if◌then◌else◌, List, [], ◌∷◌, ◌++◌, length, slice_index, codes, Option, Some, None, Ok, IsErr}
 use Rattle.std.specs.Char.{is_ascii_whitespace}
 use Rattle.hex.specs.Hex.{decode_of}
 use Rattle.gtp_values.specs.declared.plane.Plane.{Plane}
@@ -44,8 +44,13 @@ plane_of (Some named) asked octets = named
 plane_of None (Some asked) octets = asked
 plane_of None None octets = plane_by_version octets
 
+-- a line has more octets than are read of one, its line feed with them
+abbrev pub IsTooLong : List ℕ → Type 0
+IsTooLong line = 1048576 < length line
+
 -- the line spells the octets of a datagram
 pub record Spells (asked : Option Plane) (line : List ℕ) (plane : Plane) (octets : List ℕ) : Type 0 where
+  pub fits : length line ≤ 1048576
   pub named : Option Plane
   pub rest : List ℕ
   pub names : Names line named rest
@@ -55,8 +60,8 @@ pub record Spells (asked : Option Plane) (line : List ℕ) (plane : Plane) (octe
 
 -- the line has no digits
 abbrev pub IsBlank : List ℕ → Type 0
-IsBlank line = (named : Option Plane) × (rest : List ℕ) × Names line named rest × (digits_in rest ≡ [])
+IsBlank line = (length line ≤ 1048576) × (named : Option Plane) × (rest : List ℕ) × Names line named rest × (digits_in rest ≡ [])
 
--- the line has what is no digit, or an odd number of digits
+-- the line is too long, or has what is no digit, or an odd number of digits
 abbrev pub IsBad : List ℕ → Type 0
-IsBad line = (named : Option Plane) × (rest : List ℕ) × Names line named rest × IsErr (decode_of (digits_in rest))
+IsBad line = IsTooLong line ⊎ ((named : Option Plane) × (rest : List ℕ) × Names line named rest × IsErr (decode_of (digits_in rest)))

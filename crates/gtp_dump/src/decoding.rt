@@ -1,18 +1,20 @@
 //! All lines of a hex dump.
 
-ghost use Rattle.std.specs.Prelude.{◌≡◌, ◌≢◌, ◌+◌, ◌++◌, ◌-◌, ◌^◌, ◌<◌, ◌≤◌, ◌⊎◌, [], None, Ok, Err, IfOk, IfErr, IfSome, OnOk};
-ghost use Rattle.std.specs.IoError.{error_kind};
+ghost use Rattle.std.specs.Prelude.{◌≡◌, ◌≢◌, ◌+◌, ◌++◌, ◌-◌, ◌^◌, ◌<◌, ◌≤◌, ◌⊎◌, [], length, None, Ok, Err, IfOk, IfErr, IfSome, OnOk};
+ghost use Rattle.gtp_counted.specs.Counts.{inner_of, failures_of, NoneFailed};
 ghost use Rattle.gtp_dump.specs.declared.decoding.DumpFault.TheVariants as faults;
 ghost use Rattle.gtp_dump.specs.Text.{IsBlank, IsBad};
-ghost use Rattle.gtp_dump.specs.Decoded.{nothing_read, bad_line, index_line, ShowsAs, ShowsOne, Shows, IsTold, AreTold, AreFirstTold};
+ghost use Rattle.gtp_dump.specs.Decoded.{nothing_read, bad_line, index_line, ShowsAs, ShowsOne, Shows, IsTold, AreTold, AreFirstTold, WriteFailed, WriteClosed};
 
+use crate::holding::next_line;
 use crate::text::{Dumped, LineFault, read_line};
+use gtp_counted::{Counted, Failed};
 use gtp_json::datagram_json;
 use gtp_lines::text::{put, put_number};
 use gtp_lines::{Shown, all_lines, decode_lines};
 use gtp_values::{Memory, Plane};
 use std::alloc::{AllocError, Global};
-use std::io::{self, BufRead, ErrorKind, Write};
+use std::io::{BufRead, ErrorKind, Write};
 use thiserror::Error;
 
 /// In which form a datagram of a dump is shown.
@@ -43,14 +45,14 @@ pub struct Tally {
     pub datagrams: u64,
     /// Whether one of them had a fault.
     pub faulty: bool,
-    /// Whether a line was no hexadecimal.
+    /// Whether a line was no hexadecimal, or too long.
     pub bad: bool,
 }
 
 /// Why a dump was not read to its end.
 #[derive(Clone, Copy, Debug, PartialEq, Eq, Error)]
 pub enum DumpFault {
-    /// There are more lines than 64 bits count.
+    /// There are 2^64 - 1 octets or more, which are not counted.
     #[error("too long")]
     TooLong,
     /// An allocation was refused.
@@ -68,11 +70,12 @@ pub enum DumpFault {
 }
 
 /// Why a write failed.
-fn unwritten(error: &io::Error) -> DumpFault
-    ensures closed { error_kind error.now ≡ ErrorKind.BrokenPipe → result ≡ DumpFault.Closed }
-    ensures write { error_kind error.now ≢ ErrorKind.BrokenPipe → result ≡ DumpFault.Write }
+fn unwritten(failed: Failed) -> DumpFault
+    ensures closed { result ≡ DumpFault.Closed → failed.kind ≡ ErrorKind.BrokenPipe }
+    ensures write { result ≡ DumpFault.Write → failed.kind ≢ ErrorKind.BrokenPipe }
+    ensures kind { (result ≡ DumpFault.Write) ⊎ (result ≡ DumpFault.Closed) }
 {
-    match error.kind() {
+    match failed.kind {
         ErrorKind::BrokenPipe => DumpFault::Closed,
         _ => DumpFault::Write,
     }
@@ -143,7 +146,7 @@ fn shown(alloc: Global, form: Form, index: u64, dumped: &Dumped) -> Result<Shown
     })
 }
 
-/// The line on a line that is no hexadecimal.
+/// The line on a bad line.
 #[tactic(auto, using(crate::proofs::Texts::appending))]
 fn bad_text(alloc: Global, number: u64) -> Result<Vec<u8>, Memory>
     ensures { IfOk result (λ text. text.items ≡ bad_line number) }
@@ -161,16 +164,23 @@ fn tell<W: Write, E: Write>(
     asked: Asked,
     before: Tally,
     line: &[u8],
-    out: &mut W,
-    err: &mut E,
+    out: &mut Counted<W>,
+    err: &mut Counted<E>,
 ) -> Result<Tally, DumpFault>
     requires lines { before.lines < 2 ^ 64 - 1 }
     requires datagrams { before.datagrams ≤ before.lines }
+    requires writes { failures_of out.old < 2 ^ 64 - 1 }
+    requires errors { failures_of err.old < 2 ^ 64 - 1 }
     ensures told { IfOk result (λ after. IsTold asked before line.now after
-        (W.contents out.old) (W.contents out.new) (E.contents err.old) (E.contents err.new)) }
+        (W.contents (inner_of out.old)) (W.contents (inner_of out.new))
+        (E.contents (inner_of err.old)) (E.contents (inner_of err.new))) }
     ensures number { IfOk result (λ after. after.lines ≡ before.lines + 1) }
     ensures count { IfOk result (λ after. after.datagrams ≤ after.lines) }
     ensures memory { result ≡ Err DumpFault.Memory → (out.new ≡ out.old) × (err.new ≡ err.old) }
+    ensures write { result ≡ Err DumpFault.Write → WriteFailed out.old out.new err.old err.new }
+    ensures closed { result ≡ Err DumpFault.Closed → WriteClosed out.old out.new err.old err.new }
+    ensures output_on { OnOk result (NoneFailed out.old out.new) }
+    ensures errors_on { OnOk result (NoneFailed err.old err.new) }
     ensures kind { IfErr result (λ fault. (fault ≡ DumpFault.Memory) ⊎ (fault ≡ DumpFault.Write)
         ⊎ (fault ≡ DumpFault.Closed)) }
 {
@@ -182,8 +192,8 @@ fn tell<W: Write, E: Write>(
         }),
         Ok(Some(dumped)) => {
             let shown = shown(alloc, asked.form, before.datagrams, &dumped)?;
-            if let Err(error) = out.write_all(&shown.text) {
-                return Err(unwritten(&error));
+            if let Err(failed) = out.write_all(&shown.text) {
+                return Err(unwritten(failed));
             }
             Ok(Tally {
                 lines: number,
@@ -194,8 +204,8 @@ fn tell<W: Write, E: Write>(
         }
         Err(LineFault::BadHex) => {
             let text = bad_text(alloc, number)?;
-            if let Err(error) = err.write_all(&text) {
-                return Err(unwritten(&error));
+            if let Err(failed) = err.write_all(&text) {
+                return Err(unwritten(failed));
             }
             Ok(Tally {
                 lines: number,
@@ -208,35 +218,53 @@ fn tell<W: Write, E: Write>(
 }
 
 /// Decodes the datagrams of a dump, a line each, and tells what came of its lines. Before the lines of each datagram stands
-/// `datagram <index>`, which counts from 0; before an object none. For a line that is no hexadecimal `bad hex line <number>` is written as an error; lines
-/// count from 1. A line ends with a line feed, or with the text, and is held whole.
+/// `datagram <index>`, which counts from 0; before an object none. For a line that is no hexadecimal, or has more than
+/// 1,048,576 octets with its line feed, `bad hex line <number>` is written as an error; lines count from 1. A line ends with a
+/// line feed, or with the text. No more than 1,048,577 octets of one are held.
 ///
 /// `Read` if a read failed, `Write` if a write did, `Closed` if the reader of the output closed it, `Memory` if an allocation was
-/// refused: except after `Write` and `Closed`, what was written is that of the first lines.
+/// refused, `TooLong` if there are 2^64 - 1 octets or more: except after `Write` and `Closed`, what was written is that of the
+/// first lines.
 pub fn decode_dump<R: BufRead, W: Write, E: Write>(
     alloc: Global,
     asked: Asked,
-    reader: &mut R,
-    out: &mut W,
-    err: &mut E,
+    reader: &mut Counted<R>,
+    out: &mut Counted<W>,
+    err: &mut Counted<E>,
 ) -> Result<Tally, DumpFault>
-    ensures all { IfOk result (λ tally. IfSome (R.remaining reader.old) (λ octets.
+    requires reads { failures_of reader.old < 2 ^ 64 - 1 }
+    requires writes { failures_of out.old < 2 ^ 64 - 1 }
+    requires errors { failures_of err.old < 2 ^ 64 - 1 }
+    ensures all { IfOk result (λ tally. IfSome (R.remaining (inner_of reader.old)) (λ octets.
         AreTold asked octets [] tally
-        (W.contents out.old) (W.contents out.new) (E.contents err.old) (E.contents err.new))) }
+        (W.contents (inner_of out.old)) (W.contents (inner_of out.new))
+        (E.contents (inner_of err.old)) (E.contents (inner_of err.new)))) }
     ensures first { IfErr result (λ fault. fault ≢ DumpFault.Write → fault ≢ DumpFault.Closed →
-        IfSome (R.remaining reader.old) (λ octets.
+        IfSome (R.remaining (inner_of reader.old)) (λ octets.
         AreFirstTold asked octets
-        (W.contents out.old) (W.contents out.new) (E.contents err.old) (E.contents err.new))) }
+        (W.contents (inner_of out.old)) (W.contents (inner_of out.new))
+        (E.contents (inner_of err.old)) (E.contents (inner_of err.new)))) }
+    // `Read` means one more failed call of the reader, and every other result none.
+    ensures read { result ≡ Err DumpFault.Read
+        → failures_of reader.new ≡ failures_of reader.old + 1 }
+    ensures reads_on { result ≢ Err DumpFault.Read
+        → failures_of reader.new ≡ failures_of reader.old }
+    // `Write` and `Closed` mean one more failed call of the output or of the errors, and every other result none.
+    ensures write { result ≡ Err DumpFault.Write → WriteFailed out.old out.new err.old err.new }
+    ensures closed { result ≡ Err DumpFault.Closed → WriteClosed out.old out.new err.old err.new }
+    ensures writes_on { result ≢ Err DumpFault.Write → result ≢ Err DumpFault.Closed
+        → NoneFailed out.old out.new × NoneFailed err.old err.new }
+    ensures long { result ≡ Err DumpFault.TooLong →
+        IfSome (R.remaining (inner_of reader.old)) (λ octets. 2 ^ 64 - 1 ≤ length octets) }
 {
     let mut tally = Tally::nothing_read();
     let mut line = Vec::new(alloc);
-    for _ in 1..u64::MAX {
-        line.clear();
-        match reader.read_until(b'\n', &mut line) {
-            Ok(0) => return Ok(tally),
-            Ok(_) => {}
-            Err(error) if error.kind() == ErrorKind::OutOfMemory => return Err(DumpFault::Memory),
-            Err(_) => return Err(DumpFault::Read),
+    for _ in 0..u64::MAX {
+        if let Err(fault) = next_line(reader, &mut line) {
+            return Err(fault);
+        }
+        if line.is_empty() {
+            return Ok(tally);
         }
         tally = match tell(alloc, asked, tally, &line, out, err) {
             Ok(after) => after,

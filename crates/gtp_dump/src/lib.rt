@@ -2,10 +2,12 @@
 #![tactic(auto)]
 
 mod decoding;
+mod holding;
 mod text;
 
 pub use decoding::{Asked, DumpFault, Form, Tally, decode_dump, decode_line};
-pub use text::{Dumped, LineFault, read_line};
+pub use text::{Dumped, LineFault, MOST_OCTETS, read_line};
 
-/// What the signatures here name of the crate below.
+/// What the signatures here name of the crates below.
+pub use gtp_counted::Counted;
 pub use gtp_values::Plane;

@@ -8,6 +8,9 @@ use hex::FromHexError;
 use std::alloc::Global;
 use thiserror::Error;
 
+/// The most octets that a line may have, its line feed with them.
+pub const MOST_OCTETS: usize = 1_048_576;
+
 /// The datagram of a line, and its plane.
 #[derive(Debug, Drop)]
 pub struct Dumped {
@@ -18,7 +21,7 @@ pub struct Dumped {
 /// Why a line has no datagram.
 #[derive(Clone, Copy, Debug, PartialEq, Eq, Error)]
 pub enum LineFault {
-    /// A character is no hexadecimal digit, or the number of digits is odd.
+    /// The line is too long, a character is no hexadecimal digit, or the number of digits is odd.
     #[error("bad hex")]
     BadHex,
     /// An allocation was refused.
@@ -90,6 +93,7 @@ fn plane_by_version(octets: &[u8]) -> Plane
 /// The datagram that a line spells, or none in a line without digits: hexadecimal digits of either case; blanks, colons,
 /// commas and the prefix `0x` are passed over, and `#` begins a comment. The line may begin with `control` or `user`: its plane.
 /// Else it is the plane that is asked for, and else that of the version: 1 is of the user plane, any other of the control plane.
+/// A line of more than 1,048,576 octets is bad.
 pub fn read_line(
     alloc: Global,
     asked: Option<Plane>,
@@ -100,6 +104,9 @@ pub fn read_line(
     ensures none { result ≡ Ok None → IsBlank line.now }
     ensures bad { result ≡ Err LineFault.BadHex → IsBad line.now }
 {
+    if line.len() > MOST_OCTETS {
+        return Err(LineFault::BadHex);
+    }
     let (plane, text) = named(line);
     let Ok(digits) = digits_in(alloc, text) else {
         return Err(LineFault::Memory);

@@ -4,7 +4,7 @@ ghost use Rattle.std.specs.Prelude.{◌≡◌, ◌<◌, ◌≤◌, ◌++◌, rep
 ghost use Rattle.json.specs.Json.{string};
 ghost use Rattle.gtp_capture.specs.Seen.{seen_of};
 ghost use Rattle.gtp_capture.specs.reading.Packet.{packet_of};
-ghost use Rattle.gtp_lines.specs.Frames.{width_of, second_in, time_text, is_whole as spec_is_whole};
+ghost use Rattle.gtp_frames.specs.Frames.{width_of, second_in, time_text, is_whole as spec_is_whole};
 ghost use Rattle.gtp_json.specs.Tree.{member, object_of};
 ghost use Rattle.gtp_json.specs.reading.Tokens.{written};
 ghost use Rattle.gtp_json.specs.Adds.{Adds};

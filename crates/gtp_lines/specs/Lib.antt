@@ -4,7 +4,5 @@ pub mod Control
 pub mod User
 pub mod Lines
 pub mod All
-pub mod Brief
-pub mod Frames
 pub mod Laws
 pub mod reading

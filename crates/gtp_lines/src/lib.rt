@@ -1,11 +1,9 @@
 //! The lines that show a GTP datagram: its message with each element in order, or its first fault; or all that can be shown
-//! of it, and then its fault; or, of a capture, one line.
+//! of it, and then its fault.
 #![tactic(auto)]
 
 mod all;
-mod brief;
 mod control;
-mod frames;
 mod fronts;
 mod header;
 pub mod laws;
@@ -17,8 +15,12 @@ mod values;
 
 pub use all::all_lines;
 pub use control::message_name;
-pub use frames::{Form, frame_lines};
 pub use lines::{Shown, decode_lines};
+
+/// The pieces of these lines, for other lines.
+pub use control::{put_fault_line, put_some_teid};
+pub use user::{put_some, put_target, put_user_fault_line, user_name};
+pub use values::put_field;
 
 /// What the signatures here name of the crate below.
 pub use gtp_values::{Memory, Plane};

@@ -2,7 +2,7 @@
 use Rattle.std.proofs.Common.{◌≡◌, ℕ, List, take, Option, Some, None, MatchResult, IfSome, subst, lit<}
 use Rattle.std.specs.Io.KnownBytes.{Appends}
 use Rattle.gtp_scenario.proofs.Front.{scenario_of_front}
-use Rattle.gtp_replay.specs.Streams.{WritesFront}
+use Rattle.gtp_counted.specs.Streams.{WritesFront}
 use Rattle.gtp_replay.specs.Told.{ToldAs, ToldFrontAs, Tells, TellsScenario, TellsRefusal}
 use Rattle.gtp_replay.specs.declared.replaying.Form.{Form}
 use Rattle.gtp_replay.specs.declared.verdict.Verdict.{Verdict}

@@ -3,7 +3,6 @@ pub mod Events
 pub mod Contexts
 pub mod Verdicts
 pub mod Report
-pub mod Counts
 pub mod Streams
 pub mod Expected
 pub mod Captures

@@ -16,7 +16,7 @@ use Rattle.gtp_replay.specs.declared.replaying.Form.TheVariants.{Report, Diagram
 use Rattle.gtp_replay.specs.declared.verdict.Verdict.{Verdict}
 use Rattle.gtp_replay.specs.declared.verdict.Verdict.TheVariants.{Expected, Unexpected, Bad}
 use Rattle.gtp_replay.specs.Expected.{all_met}
-use Rattle.gtp_replay.specs.Streams.{WritesFront}
+use Rattle.gtp_counted.specs.Streams.{WritesFront}
 
 -- the events of a scenario, each as often as its entry says
 abbrev pub events_of : Scenario → List Event

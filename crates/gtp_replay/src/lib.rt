@@ -2,7 +2,6 @@
 #![tactic(auto)]
 
 mod capturing;
-mod counted;
 mod expected;
 pub mod laws;
 mod replaying;
@@ -11,11 +10,11 @@ mod streams;
 mod verdict;
 
 pub use capturing::capture;
-pub use counted::{Counted, Failed};
 pub use replaying::{replay, replay_capture, replay_diagram};
 pub use reporting::{diagram, report};
 pub use verdict::{ReplayFault, Verdict};
 
 /// What the signatures and contracts here name of the crates below.
+pub use gtp_counted::Counted;
 pub use gtp_values::Memory;
 pub use gtp_world::{Event, EventOutcome, World};

@@ -5,16 +5,16 @@ ghost use Rattle.gtp_world.specs.Events.{event_of};
 ghost use Rattle.gtp_world.specs.Runs.{IsWhole};
 ghost use Rattle.gtp_scenario.specs.Views.{scenario as scenario_view};
 ghost use Rattle.gtp_replay.specs.Ran.{IsRan};
-ghost use Rattle.gtp_replay.specs.Counts.{inner_of, failures_of};
+ghost use Rattle.gtp_counted.specs.Counts.{inner_of, failures_of};
 ghost use Rattle.gtp_replay.specs.Streams.{ConsumesUpTo};
 ghost use Rattle.gtp_replay.specs.Told.{refusal_line, verdict_on, IsText, TellsScenario, Tells, ToldAs, ToldFrontAs, Told, ToldFront, Drawn, DrawnFront, Captured, CapturedFront};
 
 use crate::capturing::capture;
-use crate::counted::Counted;
 use crate::expected::all_met;
 use crate::reporting::{diagram, report};
 use crate::streams::{read_octets, write_octets};
 use crate::verdict::{ReplayFault, Verdict};
+use gtp_counted::Counted;
 use gtp_lines::text::{put, put_number};
 use gtp_scenario::{ReadFault, Refusal, Scenario, events_of, read_scenario};
 use gtp_values::Memory;

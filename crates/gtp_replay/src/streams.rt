@@ -2,11 +2,12 @@
 
 ghost use Rattle.std.specs.Prelude.{◌≡◌, ◌+◌, ◌-◌, ◌^◌, ◌<◌, ◌≢◌, take, IfOk, IfErr, OnOk, OnErr, IfSome};
 ghost use Rattle.std.specs.Io.KnownBytes.{Appends};
-ghost use Rattle.gtp_replay.specs.Counts.{inner_of, failures_of};
-ghost use Rattle.gtp_replay.specs.Streams.{ConsumesUpTo, WritesFront};
+ghost use Rattle.gtp_counted.specs.Counts.{inner_of, failures_of};
+ghost use Rattle.gtp_counted.specs.Streams.{WritesFront};
+ghost use Rattle.gtp_replay.specs.Streams.{ConsumesUpTo};
 
-use crate::counted::Counted;
 use crate::verdict::ReplayFault;
+use gtp_counted::Counted;
 use std::alloc::Global;
 use std::io::{Read, Write};
 
@@ -58,15 +59,8 @@ pub(crate) fn write_octets<W: Write>(
     ensures unfailed { OnOk result (failures_of writer.new ≡ failures_of writer.old) }
     ensures kind { IfErr result (λ e. e ≡ ReplayFault.Write) }
 {
-    let mut rest = text;
-    while !rest.is_empty() {
-        match writer.write(rest) {
-            Ok(n) => {
-                let (_, left) = rest.split_at(n);
-                rest = left;
-            }
-            Err(_) => return Err(ReplayFault::Write),
-        }
+    match writer.write_all(text) {
+        Ok(()) => Ok(()),
+        Err(_) => Err(ReplayFault::Write),
     }
-    Ok(())
 }

@@ -1,10 +1,16 @@
 pub mod Counts
 pub mod Front
+pub mod Gateways
 pub mod Lists
+pub mod Objects
 pub mod Pools
+pub mod Refused
 pub mod Spelled
+pub mod Strict
+pub mod StrictHeads
 pub mod Templates
 pub mod Texts
 pub mod Tokens
 pub mod Trees
+pub mod Whole
 pub mod Written

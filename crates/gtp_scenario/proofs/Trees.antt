@@ -51,7 +51,7 @@ first_alone : (o : Option Data) → first_of o None ≡ o
 first_alone None = refl
 first_alone (Some d) = refl
 
-get_said : (key : List ℕ) (j : json.Json) → option_map data_of (find.get key j) ≡ get key (data_of j)
+pub get_said : (key : List ℕ) (j : json.Json) → option_map data_of (find.get key j) ≡ get key (data_of j)
 get_said key json.null = refl
 get_said key (json.boolean b) = refl
 get_said key (json.number text) = refl

@@ -9,3 +9,6 @@ pub mod Scenarios
 pub mod Views
 pub mod Words
 pub mod Spelling
+pub mod Keys
+pub mod Reasons
+pub mod reading

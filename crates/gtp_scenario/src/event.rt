@@ -19,7 +19,7 @@ use gtp_world::Event;
 use std::alloc::Global;
 
 /// A gateway, by its name.
-fn role_of(text: &str) -> Option<Role>
+pub(crate) fn role_of(text: &str) -> Option<Role>
     ensures { result ≡ role_of text.now }
 {
     match text {

@@ -79,7 +79,7 @@ fn access_point_of(value: &Tree<'_, '_>) -> Option<Apn>
 }
 
 /// Access points, in order, unless there are too many.
-fn access_points_in(alloc: Global, mut values: Items<'_, '_>) -> Result<Vec<Apn>, Fault>
+pub(crate) fn access_points_in(alloc: Global, mut values: Items<'_, '_>) -> Result<Vec<Apn>, Fault>
     ensures read { Gives (λ v. v.items) result
         (if nat_le (count_of (items_view values.entry)) 16
         then access_points_in (items_view values.entry) else None) }
@@ -96,7 +96,7 @@ fn access_points_in(alloc: Global, mut values: Items<'_, '_>) -> Result<Vec<Apn>
 }
 
 #[tactic(auto, unfolding(crate::specs::Heads::access_points_at))]
-fn access_points_at(alloc: Global, value: &Tree<'_, '_>) -> Result<Vec<Apn>, Fault>
+pub(crate) fn access_points_at(alloc: Global, value: &Tree<'_, '_>) -> Result<Vec<Apn>, Fault>
     ensures read { Gives (λ v. v.items) result (access_points_at (view value.now)) }
     ensures few { IfOk result (λ v. length v.items ≤ 16) }
 {
@@ -114,7 +114,7 @@ fn pool_from(start: u32, count: u32) -> Option<Pool>
 }
 
 #[tactic(auto, unfolding(crate::specs::Heads::pool_at))]
-fn pool_at(value: &Tree<'_, '_>) -> Option<Pool>
+pub(crate) fn pool_at(value: &Tree<'_, '_>) -> Option<Pool>
     ensures { result ≡ pool_at (view value.now) }
 {
     let start = address_of(text_at(value, "pool")?)?;
@@ -131,7 +131,7 @@ fn prefixes_from(start: [u8; 16], count: u32) -> Option<Prefixes>
 }
 
 #[tactic(auto, unfolding(crate::specs::Heads::prefixes_at))]
-fn prefixes_at(value: &Tree<'_, '_>) -> Option<Prefixes>
+pub(crate) fn prefixes_at(value: &Tree<'_, '_>) -> Option<Prefixes>
     ensures { result ≡ prefixes_at (view value.now) }
 {
     if !has(value, "pool6") && !has(value, "count6") {

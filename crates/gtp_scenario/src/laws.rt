@@ -1,10 +1,15 @@
 //! The laws of scenarios. Their functions do nothing: each clause is a law.
 
-ghost use Rattle.std.specs.Prelude.{◌≡◌, ◌<◌, ◌≤◌, Ok, Some, ℕ, List, length, take, option_and_then};
+ghost use Rattle.std.specs.Prelude.{◌≡◌, ◌<◌, ◌≤◌, Ok, Some, None, IsSome, ℕ, List, length, take, option_and_then};
 ghost use Rattle.std.specs.List.{flat_map};
+ghost use Rattle.serde_json.specs.Data.{Data};
 ghost use Rattle.serde_json.specs.Read.{read};
 ghost use Rattle.serde_json.specs.Written.{compact_text};
 ghost use Rattle.gtp_scenario.specs.Entries.{Entry, entry_of, events_in};
+ghost use Rattle.gtp_scenario.specs.declared.reason.event.EventFlaw.{EventFlaw};
+ghost use Rattle.gtp_scenario.specs.declared.reason.head.HeadFlaw.{HeadFlaw};
+ghost use Rattle.gtp_scenario.specs.Heads.{setup_of, events_at};
+ghost use Rattle.gtp_scenario.specs.Reasons.{IsHeadFlaw, IsEntryFlaw};
 ghost use Rattle.gtp_scenario.specs.Scenarios.{Scenario, most_octets, most_events, scenario_of};
 ghost use Rattle.gtp_scenario.specs.Spelling.{spelling, IsEvent, FitsIn64Bits};
 
@@ -27,4 +32,11 @@ pub fn one_octet_past_the_limit_is_enough()
 pub fn scenarios_have_few_events()
     ensures few { (octets : List ℕ) (scenario : Scenario) → scenario_of octets ≡ Ok scenario →
         length (flat_map events_in scenario.entries) ≤ most_events }
+{}
+
+/// A head or an entry with a flaw is refused: no flaw is said of one that is read.
+pub fn flaws_are_refused()
+    ensures head { (d : Data) (flaw : HeadFlaw) → IsHeadFlaw d flaw →
+        IsSome (setup_of d) → ¬ (IsSome (events_at d)) }
+    ensures entry { (d : Data) (flaw : EventFlaw) → IsEntryFlaw d flaw → entry_of d ≡ None }
 {}

@@ -4,7 +4,7 @@ ghost use Rattle.std.specs.Prelude.{◌≡◌, ◌≤◌, ◌<◌, map, length, 
 ghost use Rattle.json.specs.Json as json;
 ghost use Rattle.json.specs.Find.{InMembers};
 ghost use Rattle.serde_json.specs.Data.{no_members};
-ghost use Rattle.serde_json.specs.Find.{get, as_str, as_number, as_array};
+ghost use Rattle.serde_json.specs.Find.{get, as_str, as_number, as_array, as_object};
 ghost use Rattle.gtp_scenario.specs.Json.{text_at, whole_number, number_at, text_if, number_or, within, is_among, all_among, has_only};
 ghost use Rattle.gtp_scenario.specs.Trees.{view, items_view, members_said, number_said, unless_empty};
 
@@ -165,6 +165,16 @@ fn all_among(keys: &[&str], mut members: Members<'_, '_>) -> bool
         }
     }
     true
+}
+
+/// Whether the value is an object.
+pub(crate) fn is_object(value: &Tree<'_, '_>) -> bool
+    ensures { result ≡ is_some (as_object (view value.now)) }
+{
+    match value.element.members() {
+        Some(_) => true,
+        None => false,
+    }
 }
 
 /// Whether the value is an object with no keys but these.

@@ -19,7 +19,7 @@ use json::{Scratch, Tape};
 use std::alloc::Global;
 
 /// The most octets of a scenario.
-const MOST_OCTETS: usize = 16_777_216;
+pub(crate) const MOST_OCTETS: usize = 16_777_216;
 
 /// The most events of a scenario; an entry counts as often as it happens.
 const MOST_EVENTS: u32 = 100_000;
@@ -33,7 +33,11 @@ pub struct Scenario {
 }
 
 #[tactic(auto, unfolding(crate::specs::Scenarios::json_of))]
-fn json_of<'a>(alloc: Global, octets: &'a [u8], scratch: &'a mut Scratch) -> Result<Tape<'a>, Fault>
+pub(crate) fn json_of<'a>(
+    alloc: Global,
+    octets: &'a [u8],
+    scratch: &'a mut Scratch,
+) -> Result<Tape<'a>, Fault>
     ensures { Gives view result (json_of octets.now) }
 {
     if octets.len() > MOST_OCTETS {

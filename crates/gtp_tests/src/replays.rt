@@ -8,11 +8,10 @@ use std::io::{Read, Write};
 use std::process::Abort;
 use std::test::Fail;
 
-/// How the call with this number fails: of two kinds, in turn. One that was interrupted has failed like any
-/// other, and is not made again.
+/// How the call with this number fails: of two kinds, in turn.
 fn failure(call: u64) -> io::Error {
     let kind = if call % 2 == 0 {
-        io::ErrorKind::Interrupted
+        io::ErrorKind::TimedOut
     } else {
         io::ErrorKind::BrokenPipe
     };
@@ -66,6 +65,43 @@ impl Write for Narrow {
 
     fn flush(&mut self) -> io::Result<()> {
         Ok(())
+    }
+}
+
+/// A reader or a writer of which every other call is interrupted, from the first on.
+#[derive(Drop)]
+struct Restless<T> {
+    inner: T,
+    calls: u64,
+}
+
+impl<T> Restless<T> {
+    /// Whether the next call is interrupted.
+    fn is_interrupted(&mut self) -> bool {
+        self.calls = self.calls.saturating_add(1);
+        self.calls % 2 == 1
+    }
+}
+
+impl<R: Read> Read for Restless<R> {
+    fn read(&mut self, buf: &mut [u8]) -> io::Result<usize> {
+        if self.is_interrupted() {
+            return Err(io::Error::from(io::ErrorKind::Interrupted));
+        }
+        self.inner.read(buf)
+    }
+}
+
+impl<W: Write> Write for Restless<W> {
+    fn write(&mut self, buf: &[u8]) -> io::Result<usize> {
+        if self.is_interrupted() {
+            return Err(io::Error::from(io::ErrorKind::Interrupted));
+        }
+        self.inner.write(buf)
+    }
+
+    fn flush(&mut self) -> io::Result<()> {
+        self.inner.flush()
     }
 }
 
@@ -167,6 +203,24 @@ fn a_reader_that_never_ends(rt: HostRuntime) {
 fn a_writer_that_takes_an_octet_a_call(rt: HostRuntime) -> Result<(), Fail> {
     let text = scenario(rt.alloc())?;
     is_whole(&rt, written_so(rt.alloc(), text.as_bytes(), 1, 0));
+    Ok(())
+}
+
+/// A call that was interrupted has not failed, and is made again.
+#[test]
+fn calls_that_are_interrupted(rt: HostRuntime) -> Result<(), Fail> {
+    let text = scenario(rt.alloc())?;
+    let mut reader = Counted::new(Restless {
+        inner: text.as_bytes(),
+        calls: 0,
+    });
+    let mut writer = Counted::new(Restless {
+        inner: Vec::new(rt.alloc()),
+        calls: 0,
+    });
+    let result = replay(rt.alloc(), &mut reader, &mut writer);
+    let failures = reader.failures().max(writer.failures());
+    is_whole(&rt, (result, failures, writer.into_inner().inner));
     Ok(())
 }
 

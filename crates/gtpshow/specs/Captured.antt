@@ -1,14 +1,17 @@
 -- What showing a capture writes and answers.
-use Rattle.std.specs.Prelude.{◌≡◌, ℕ, ◌+◌, ◌==◌, ◌⊎◌, nat_lt, if◌then◌else◌, Bool, true, false, List, [], ◌∷◌, ◌++◌, length, Option, codes, decimal}
+use Rattle.std.specs.Prelude.{◌≡◌, ℕ, ◌+◌, ◌-◌, ◌^◌, ◌<◌, ◌==◌, ◌⊎◌, nat_lt, if◌then◌else◌, Bool, false, List, [], ◌∷◌, ◌++◌, length, Option, Some, codes, decimal}
 use Rattle.std.specs.Int.{from_bool}
 use Rattle.std.specs.Io.KnownBytes.{Appends}
+use Rattle.gtp_counted.specs.Counts.{inner_of, failures_of, NoneFailed, FailedOnce, ClosedOnce}
 use Rattle.gtp_capture.specs.Frame.{Frame}
 use Rattle.gtp_capture.specs.Capture.{State, IsBroken, IsCapture}
 use Rattle.gtp_capture.specs.Packet.{Packet}
 use Rattle.gtp_capture.specs.Seen.{Seen, datagrams}
 use Rattle.gtp_capture.specs.declared.ports.Ports.{Ports}
-use Rattle.gtp_lines.specs.Frames.{FrameLines}
+use Rattle.gtp_frames.specs.Frames.{FrameLines}
 use Rattle.gtp_json.specs.Frames.{FrameJson}
+use Rattle.gtpshow.specs.declared.command.Failure.{Failure}
+use Rattle.gtpshow.specs.declared.command.Failure.TheVariants.{BadWords, BadPort, BadHex, Memory, TooLong, Write, Closed}
 use Rattle.gtpshow.specs.declared.capturing.CaptureForm.{CaptureForm}
 use Rattle.gtpshow.specs.declared.capturing.CaptureForm.TheVariants.{Text, Json}
 use Rattle.gtpshow.specs.declared.capturing.Counts.{Counts}
@@ -59,12 +62,31 @@ AreShown form before (d ∷ ds) text after = (lines : List ℕ) × (faulty : Boo
 -- a writer that shows a datagram has its lines after what it had
 abbrev pub TakesFrame : {W : Type 0} → (W → Option (List ℕ)) → FrameWriter W → Seen → FrameWriter W → Type 0
 TakesFrame contents before d after = (lines : List ℕ) × (faulty : Bool)
-    × IsShownAs before.form d lines faulty × (after.form ≡ before.form) × Appends (contents before.out) (contents after.out) lines
-    × (after.counts ≡ counted before.counts d.packet faulty) × (after.no_memory ≡ before.no_memory)
+    × IsShownAs before.form d lines faulty × (after.form ≡ before.form) × Appends (contents (inner_of before.out)) (contents (inner_of after.out)) lines
+    × (after.counts ≡ counted before.counts d.packet faulty) × NoneFailed before.out after.out
 
--- a writer that does not show one wants memory, and has written nothing more; or a write failed
+-- one of the counts is at its end
+abbrev pub IsFull : Counts → Type 0
+IsFull c = (c.gtp ≡ 2 ^ 64 - 1) ⊎ (c.faults ≡ 2 ^ 64 - 1) ⊎ (c.cut ≡ 2 ^ 64 - 1) ⊎ (c.fragments ≡ 2 ^ 64 - 1)
+
+-- why a writer does not show a datagram: it wants memory, or a count is at its end, and it has written nothing more; or a write failed, which counts up to 2^64 - 1
+abbrev pub IsUnshown : {W : Type 0} → Failure → FrameWriter W → FrameWriter W → Type 0
+IsUnshown Memory before after = after.out ≡ before.out
+IsUnshown TooLong before after = (after.out ≡ before.out) × IsFull before.counts
+IsUnshown Write before after = failures_of before.out < 2 ^ 64 - 1 → FailedOnce before.out after.out
+IsUnshown Closed before after = failures_of before.out < 2 ^ 64 - 1 → ClosedOnce before.out after.out
+IsUnshown other before after = ⊥
+
+-- a writer that does not show one notes why
 abbrev pub RefusesFrame : {W : Type 0} → FrameWriter W → Seen → FrameWriter W → Type 0
-RefusesFrame before d after = ((after.no_memory ≡ true) × (after.out ≡ before.out)) ⊎ (after.no_memory ≡ before.no_memory)
+RefusesFrame before d after = (why : Failure) × (after.unshown ≡ Some why) × IsUnshown why before after
+
+-- what a capture can stop at
+abbrev pub StopsCapture : Failure → Type 0
+StopsCapture BadWords = ⊥
+StopsCapture BadPort = ⊥
+StopsCapture BadHex = ⊥
+StopsCapture other = Unit {0}
 
 -- The writer has the lines of the datagrams that these frames carry, in their order, and no others.
 pub record AreWritten (form : CaptureForm) (ports : Ports) (frames : List Frame) (before now : Option (List ℕ)) (counts : Counts) : Type 0 where

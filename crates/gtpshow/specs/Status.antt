@@ -1,7 +1,7 @@
 -- What the program says where nothing could be shown or replayed, and how a replay ends.
 use Rattle.std.specs.Prelude.{ℕ, List, ◌++◌, codes, decimal}
 use Rattle.gtpshow.specs.declared.command.Failure.{Failure}
-use Rattle.gtpshow.specs.declared.command.Failure.TheVariants.{BadWords, BadPort, BadHex, BadCapture, BrokenCapture, Memory, Read, Write, Closed}
+use Rattle.gtpshow.specs.declared.command.Failure.TheVariants.{BadWords, BadPort, BadHex, BadCapture, BrokenCapture, Memory, Read, TooLong, Write, Closed}
 use Rattle.gtp_replay.specs.declared.verdict.Verdict.{Verdict}
 use Rattle.gtp_replay.specs.declared.verdict.Verdict.TheVariants.{Expected, Unexpected, Bad}
 use Rattle.gtp_replay.specs.declared.verdict.ReplayFault.{ReplayFault}
@@ -16,6 +16,7 @@ status_of BadCapture = 2
 status_of (BrokenCapture at) = 2
 status_of Memory = 3
 status_of Read = 3
+status_of TooLong = 3
 status_of Write = 3
 status_of Closed = 3
 
@@ -28,6 +29,7 @@ failure_text BadCapture = codes "bad capture"
 failure_text (BrokenCapture at) = codes "bad capture at " ++ decimal at
 failure_text Memory = codes "no memory"
 failure_text Read = codes "read failed"
+failure_text TooLong = codes "read failed"
 failure_text Write = codes "write failed"
 failure_text Closed = codes "closed"
 

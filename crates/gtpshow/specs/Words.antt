@@ -19,9 +19,13 @@ plain_word name = record (new_rule name) { value_names = 1 }
 abbrev pub needed_word : List ℕ → Rule
 needed_word name = record (plain_word name) { required = true }
 
+-- further forms of a datagram
+abbrev pub with_form_words : App → App
+with_form_words app = with_rule (with_rule app (flag_word (codes "all"))) (flag_word (codes "json"))
+
 -- to show datagrams
 abbrev pub decode_words : App
-decode_words = with_rule (with_rule (with_rule (with_rule (new_app (codes "decode")) (flag_word (codes "user"))) (flag_word (codes "all"))) (flag_word (codes "json"))) (needed_word (codes "octets"))
+decode_words = with_rule (with_form_words (with_rule (new_app (codes "decode")) (flag_word (codes "user")))) (needed_word (codes "octets"))
 
 -- further ports of each plane
 abbrev pub with_port_words : App → App
@@ -30,7 +34,7 @@ with_port_words app = with_rule (with_rule app (option_word (codes "control-port
 -- to show a capture
 abbrev pub capture_words : App
 capture_words =
-    with_rule (with_port_words (with_rule (with_rule (with_rule (new_app (codes "capture")) (flag_word (codes "brief"))) (flag_word (codes "all"))) (flag_word (codes "json")))) (plain_word (codes "file"))
+    with_rule (with_port_words (with_form_words (with_rule (new_app (codes "capture")) (flag_word (codes "brief"))))) (plain_word (codes "file"))
 
 -- to replay a scenario
 abbrev pub replay_words : App

@@ -1,33 +1,35 @@
 //! Showing a capture.
 
-ghost use Rattle.std.specs.Prelude.{◌≡◌, ◌≢◌, ◌≤◌, ◌⊎◌, ◌++◌, ℕ, false, decimal, Err, IfOk, IfErr, IfSome, OnOk};
-ghost use Rattle.std.specs.IoError.{error_kind};
+ghost use Rattle.std.specs.Prelude.{◌≡◌, ◌≢◌, ◌+◌, ◌-◌, ◌^◌, ◌<◌, ◌≤◌, ◌⊎◌, ◌++◌, ℕ, length, decimal, Err, IfOk, IfErr, IfSome, IfNone, OnOk};
 ghost use Rattle.std.specs.Io.KnownBytes.{Appends};
+ghost use Rattle.gtp_counted.specs.Counts.{inner_of, failures_of, NoneFailed, FailedOnce, ClosedOnce};
 ghost use Rattle.gtp_capture.specs.Seen.{Seen, seen_of};
 ghost use Rattle.gtp_capture.specs.reading.Packet.{packet_of};
-ghost use Rattle.gtpshow.specs.Captured.{nothing_shown, is_cut, counted, counts_line, counts_json, last_line, capture_status, IsShownAs, TakesFrame, RefusesFrame, AreFramesShown, IsCaptureShown, IsBrokenShown, IsFirstShown, IsNoCapture};
+ghost use Rattle.gtpshow.specs.Captured.{nothing_shown, is_cut, counted, counts_line, counts_json, last_line, capture_status, IsShownAs, IsFull, TakesFrame, RefusesFrame, StopsCapture, AreFramesShown, IsCaptureShown, IsBrokenShown, IsFirstShown, IsNoCapture};
 
 use crate::command::Failure;
 use crate::replaying::unopened;
 use gtp_capture::{CaptureFault, Captured, Packet, Ports, Refused, Sink, Stop, read_capture};
+use gtp_counted::{Counted, Failed};
+use gtp_frames::{Form, Shown, frame_lines};
 use gtp_json::frame_json;
 use gtp_lines::text::{put, put_number};
-use gtp_lines::{Form, Shown, frame_lines};
 use gtp_values::Memory;
 use std::alloc::{AllocError, Global};
-use std::io::{BufReader, BufWriter, ErrorKind, Read, Write};
+use std::fs;
+use std::io::{self, BufReader, BufWriter, ErrorKind, Read, Write};
 use std::rt::Files;
-use std::{fs, io};
 
 /// How many octets are read or written at once.
 const BUFFERED: usize = 65_536;
 
 /// Why a write failed: the output is closed, or else it is a failed write.
-pub fn unwritten(error: &io::Error) -> Failure
-    ensures closed { error_kind error.now ≡ ErrorKind.BrokenPipe → result ≡ Failure.Closed }
-    ensures write { error_kind error.now ≢ ErrorKind.BrokenPipe → result ≡ Failure.Write }
+pub fn unwritten(failed: Failed) -> Failure
+    ensures closed { result ≡ Failure.Closed → failed.kind ≡ ErrorKind.BrokenPipe }
+    ensures write { result ≡ Failure.Write → failed.kind ≢ ErrorKind.BrokenPipe }
+    ensures kind { (result ≡ Failure.Closed) ⊎ (result ≡ Failure.Write) }
 {
-    match error.kind() {
+    match failed.kind {
         ErrorKind::BrokenPipe => Failure::Closed,
         _ => Failure::Write,
     }
@@ -57,9 +59,11 @@ fn is_cut(packet: &Packet) -> bool
 }
 
 impl Counts {
-    /// The counts with one datagram more. None past 64 bits.
+    /// The counts with one datagram more. None where one of them is at its end.
     fn counted(self, packet: &Packet, faulty: bool) -> Option<Counts>
-        ensures { IfSome result (λ counts. counts ≡ counted self (packet_of packet.now) faulty) }
+        ensures more { IfSome result (λ counts.
+            counts ≡ counted self (packet_of packet.now) faulty) }
+        ensures full { IfNone result (IsFull self) }
     {
         Some(Counts {
             gtp: self.gtp.checked_add(1)?,
@@ -149,34 +153,31 @@ fn shown_as(alloc: Global, form: CaptureForm, captured: &Captured) -> Result<Sho
 pub struct FrameWriter<W> {
     alloc: Global,
     form: CaptureForm,
-    out: W,
+    out: Counted<W>,
     counts: Counts,
-    /// Whether an allocation was refused.
-    no_memory: bool,
-    /// Whether a write found the output closed.
-    closed: bool,
+    /// Why a datagram was not shown.
+    unshown: Option<Failure>,
 }
 
 impl<W: Write> FrameWriter<W> {
     /// A writer that has shown no datagram.
     fn new(alloc: Global, form: CaptureForm, out: W) -> FrameWriter<W>
         ensures form { result.form ≡ form }
-        ensures out { result.out ≡ out }
+        ensures out { inner_of result.out ≡ out }
+        ensures writes { failures_of result.out ≡ 0 }
         ensures counts { result.counts ≡ nothing_shown }
-        ensures memory { result.no_memory ≡ false }
     {
         FrameWriter {
             alloc,
             form,
-            out,
+            out: Counted::new(out),
             counts: Counts {
                 gtp: 0,
                 faults: 0,
                 cut: 0,
                 fragments: 0,
             },
-            no_memory: false,
-            closed: false,
+            unshown: None,
         }
     }
 }
@@ -188,14 +189,15 @@ impl<W: Write> Sink for FrameWriter<W> {
 
     fn take(&mut self, captured: &Captured) -> Result<(), Refused> {
         let Ok(shown) = shown_as(self.alloc, self.form, captured) else {
-            self.no_memory = true;
+            self.unshown = Some(Failure::Memory);
             return Err(Refused);
         };
         let Some(counts) = self.counts.counted(&captured.packet, shown.faulty) else {
+            self.unshown = Some(Failure::TooLong);
             return Err(Refused);
         };
-        if let Err(error) = self.out.write_all(&shown.text) {
-            self.closed = error.kind() == ErrorKind::BrokenPipe;
+        if let Err(failed) = self.out.write_all(&shown.text) {
+            self.unshown = Some(unwritten(failed));
             return Err(Refused);
         }
         self.counts = counts;
@@ -208,34 +210,49 @@ impl<W: Write> Sink for FrameWriter<W> {
 fn frames_from<I: Read, W: Write>(
     alloc: Global,
     ports: Ports,
-    reader: &mut I,
+    reader: &mut Counted<I>,
     writer: &mut FrameWriter<W>,
 ) -> Result<u64, Failure>
     requires counts { writer.old.counts ≡ nothing_shown }
-    requires memory { writer.old.no_memory ≡ false }
-    ensures shown { IfOk result (λ frames. IfSome (I.remaining reader.old) (λ file.
-        AreFramesShown writer.old.form ports file (W.contents writer.old.out) (W.contents writer.new.out)
+    requires reads { failures_of reader.old < 2 ^ 64 - 1 }
+    requires writes { failures_of writer.old.out < 2 ^ 64 - 1 }
+    ensures shown { IfOk result (λ frames. IfSome (I.remaining (inner_of reader.old)) (λ file.
+        AreFramesShown writer.old.form ports file
+        (W.contents (inner_of writer.old.out)) (W.contents (inner_of writer.new.out))
         frames writer.new.counts)) }
     ensures broken { (at : ℕ) → result ≡ Err (Failure.BrokenCapture at) →
-        IfSome (I.remaining reader.old) (λ file.
-        IsBrokenShown writer.old.form ports file (W.contents writer.old.out) (W.contents writer.new.out) at) }
-    ensures bad { result ≡ Err Failure.BadCapture → IfSome (I.remaining reader.old) (λ file.
-        IsNoCapture file (W.contents writer.old.out) (W.contents writer.new.out)) }
-    ensures first { (result ≡ Err Failure.Memory) ⊎ (result ≡ Err Failure.Read) →
-        IfSome (I.remaining reader.old) (λ file.
-        IsFirstShown writer.old.form ports file (W.contents writer.old.out) (W.contents writer.new.out)) }
-    ensures kind { (result ≢ Err Failure.BadHex) × (result ≢ Err Failure.BadWords) }
+        IfSome (I.remaining (inner_of reader.old)) (λ file.
+        IsBrokenShown writer.old.form ports file
+        (W.contents (inner_of writer.old.out)) (W.contents (inner_of writer.new.out)) at) }
+    ensures bad { result ≡ Err Failure.BadCapture →
+        IfSome (I.remaining (inner_of reader.old)) (λ file. IsNoCapture file
+        (W.contents (inner_of writer.old.out)) (W.contents (inner_of writer.new.out))) }
+    ensures first { (result ≡ Err Failure.Memory) ⊎ (result ≡ Err Failure.Read)
+        ⊎ (result ≡ Err Failure.TooLong) → IfSome (I.remaining (inner_of reader.old)) (λ file.
+        IsFirstShown writer.old.form ports file
+        (W.contents (inner_of writer.old.out)) (W.contents (inner_of writer.new.out))) }
+    ensures long { result ≡ Err Failure.TooLong →
+        IfSome (I.remaining (inner_of reader.old)) (λ file. 2 ^ 64 - 1 ≤ length file) }
+    ensures read { result ≡ Err Failure.Read
+        → failures_of reader.new ≡ failures_of reader.old + 1 }
+    ensures reads_on { result ≢ Err Failure.Read
+        → failures_of reader.new ≡ failures_of reader.old }
+    ensures write { result ≡ Err Failure.Write → FailedOnce writer.old.out writer.new.out }
+    ensures closed { result ≡ Err Failure.Closed → ClosedOnce writer.old.out writer.new.out }
+    ensures writes_on { result ≢ Err Failure.Write → result ≢ Err Failure.Closed
+        → NoneFailed writer.old.out writer.new.out }
+    ensures kind { IfErr result StopsCapture }
 {
     match read_capture(alloc, ports, reader, writer) {
         Ok(frames) => Ok(frames),
         Err(CaptureFault::NoCapture) => Err(Failure::BadCapture),
         Err(CaptureFault::Broken { at }) => Err(Failure::BrokenCapture { at }),
         Err(CaptureFault::Stopped(Stop::Memory)) => Err(Failure::Memory),
-        Err(CaptureFault::Stopped(Stop::Refused)) if writer.no_memory => Err(Failure::Memory),
-        Err(CaptureFault::Stopped(Stop::Refused)) if writer.closed => Err(Failure::Closed),
-        Err(CaptureFault::Stopped(Stop::Refused)) => Err(Failure::Write),
         Err(CaptureFault::Stopped(Stop::Read)) => Err(Failure::Read),
-        Err(CaptureFault::Stopped(Stop::TooLong)) => Err(Failure::Read),
+        Err(CaptureFault::Stopped(Stop::TooLong)) => Err(Failure::TooLong),
+        Err(CaptureFault::Stopped(Stop::Refused)) => {
+            Err(writer.unshown.unwrap_or(Failure::Memory))
+        }
     }
 }
 
@@ -246,12 +263,18 @@ fn count_from<W: Write>(
     frames: u64,
     writer: &mut FrameWriter<W>,
 ) -> Result<u8, Failure>
-    ensures counted { OnOk result (Appends (W.contents writer.old.out) (W.contents writer.new.out)
+    requires { failures_of writer.old.out < 2 ^ 64 - 1 }
+    ensures counted { OnOk result (Appends
+        (W.contents (inner_of writer.old.out)) (W.contents (inner_of writer.new.out))
         (last_line form frames writer.old.counts)) }
     ensures status { IfOk result (λ status. status ≡ capture_status writer.old.counts) }
     ensures memory { result ≡ Err Failure.Memory → writer.new ≡ writer.old }
-    ensures kind { IfErr result (λ failure. (failure ≡ Failure.Memory) ⊎ (failure ≡ Failure.Write)
-        ⊎ (failure ≡ Failure.Closed)) }
+    ensures write { result ≡ Err Failure.Write → FailedOnce writer.old.out writer.new.out }
+    ensures closed { result ≡ Err Failure.Closed → ClosedOnce writer.old.out writer.new.out }
+    ensures writes_on { result ≢ Err Failure.Write → result ≢ Err Failure.Closed
+        → NoneFailed writer.old.out writer.new.out }
+    ensures kind { IfErr result (λ failure. (failure ≡ Failure.Memory) ⊎ (failure ≡ Failure.Closed)
+        ⊎ (failure ≡ Failure.Write)) }
 {
     let Ok(text) = last_line(alloc, form, frames, writer.counts) else {
         return Err(Failure::Memory);
@@ -259,34 +282,50 @@ fn count_from<W: Write>(
     let faults = writer.counts.faults;
     match writer.out.write_all(&text) {
         Ok(()) => Ok(if faults == 0 { 0 } else { 1 }),
-        Err(error) => Err(unwritten(&error)),
+        Err(failed) => Err(unwritten(failed)),
     }
 }
 
 /// Writes the lines of the datagrams of a capture, by these ports, and then a line that counts, and returns the exit status: 0,
 /// or 1 if a datagram had a fault. `BadCapture` for no capture, `BrokenCapture` for one that is cut off or has a record of more
-/// than 262,144 octets; `Memory` if an allocation was refused, `Read` if a read failed, `Write` or `Closed` if a write did. What
-/// came before is written.
+/// than 262,144 octets; `Memory` if an allocation was refused, `Read` if a read failed, `Write` or `Closed` if a write did,
+/// `TooLong` if the capture has 2^64 - 1 octets or more. What came before is written.
 fn capture_from<I: Read, W: Write>(
     alloc: Global,
     ports: Ports,
-    reader: &mut I,
+    reader: &mut Counted<I>,
     writer: &mut FrameWriter<W>,
 ) -> Result<u8, Failure>
     requires counts { writer.old.counts ≡ nothing_shown }
-    requires memory { writer.old.no_memory ≡ false }
-    ensures shown { IfOk result (λ status. IfSome (I.remaining reader.old) (λ file.
-        IsCaptureShown writer.old.form ports file (W.contents writer.old.out) (W.contents writer.new.out) status)) }
+    requires reads { failures_of reader.old < 2 ^ 64 - 1 }
+    requires writes { failures_of writer.old.out < 2 ^ 64 - 1 }
+    ensures shown { IfOk result (λ status. IfSome (I.remaining (inner_of reader.old)) (λ file.
+        IsCaptureShown writer.old.form ports file
+        (W.contents (inner_of writer.old.out)) (W.contents (inner_of writer.new.out)) status)) }
     ensures small { IfOk result (λ status. status ≤ 1) }
     ensures broken { (at : ℕ) → result ≡ Err (Failure.BrokenCapture at) →
-        IfSome (I.remaining reader.old) (λ file.
-        IsBrokenShown writer.old.form ports file (W.contents writer.old.out) (W.contents writer.new.out) at) }
-    ensures bad { result ≡ Err Failure.BadCapture → IfSome (I.remaining reader.old) (λ file.
-        IsNoCapture file (W.contents writer.old.out) (W.contents writer.new.out)) }
-    ensures first { (result ≡ Err Failure.Memory) ⊎ (result ≡ Err Failure.Read) →
-        IfSome (I.remaining reader.old) (λ file.
-        IsFirstShown writer.old.form ports file (W.contents writer.old.out) (W.contents writer.new.out)) }
-    ensures kind { (result ≢ Err Failure.BadHex) × (result ≢ Err Failure.BadWords) }
+        IfSome (I.remaining (inner_of reader.old)) (λ file.
+        IsBrokenShown writer.old.form ports file
+        (W.contents (inner_of writer.old.out)) (W.contents (inner_of writer.new.out)) at) }
+    ensures bad { result ≡ Err Failure.BadCapture →
+        IfSome (I.remaining (inner_of reader.old)) (λ file. IsNoCapture file
+        (W.contents (inner_of writer.old.out)) (W.contents (inner_of writer.new.out))) }
+    ensures first { (result ≡ Err Failure.Memory) ⊎ (result ≡ Err Failure.Read)
+        ⊎ (result ≡ Err Failure.TooLong) → IfSome (I.remaining (inner_of reader.old)) (λ file.
+        IsFirstShown writer.old.form ports file
+        (W.contents (inner_of writer.old.out)) (W.contents (inner_of writer.new.out))) }
+    ensures long { result ≡ Err Failure.TooLong →
+        IfSome (I.remaining (inner_of reader.old)) (λ file. 2 ^ 64 - 1 ≤ length file) }
+    // The failure is `Read` exactly if a call of the reader failed, and `Write` or `Closed` exactly if a write did.
+    ensures read { result ≡ Err Failure.Read
+        → failures_of reader.new ≡ failures_of reader.old + 1 }
+    ensures reads_on { result ≢ Err Failure.Read
+        → failures_of reader.new ≡ failures_of reader.old }
+    ensures write { result ≡ Err Failure.Write → FailedOnce writer.old.out writer.new.out }
+    ensures closed { result ≡ Err Failure.Closed → ClosedOnce writer.old.out writer.new.out }
+    ensures writes_on { result ≢ Err Failure.Write → result ≢ Err Failure.Closed
+        → NoneFailed writer.old.out writer.new.out }
+    ensures kind { IfErr result StopsCapture }
 {
     let form = writer.form;
     match frames_from(alloc, ports, reader, writer) {
@@ -311,15 +350,13 @@ fn capture_printed<R: Print, I: Read + Drop>(
 ) -> Result<u8, Failure>
     ensures { IfOk result (λ status. status ≤ 2) }
 {
-    let mut reader = BufReader::with_capacity(alloc, BUFFERED, reader).map_err(
-        |_| Failure::Memory,
-    )?;
+    let reader = BufReader::with_capacity(alloc, BUFFERED, reader).map_err(|_| Failure::Memory)?;
     let out = BufWriter::with_capacity(alloc, BUFFERED, io::writer(rt)).map_err(
         |_| Failure::Memory,
     )?;
     let mut writer = FrameWriter::new(alloc, asked.form, out);
-    let shown = capture_from(alloc, asked.ports, &mut reader, &mut writer);
-    writer.out.flush().map_err(|error| unwritten(&error))?;
+    let shown = capture_from(alloc, asked.ports, &mut Counted::new(reader), &mut writer);
+    writer.out.flush().map_err(unwritten)?;
     shown
 }
 

@@ -4,7 +4,7 @@ ghost use Rattle.std.specs.Prelude.{◌≡◌, false, IfOk, Some};
 ghost use Rattle.clap.specs.Words.{app_of, rule_of, with_rule};
 ghost use Rattle.clap.specs.declared.builder.command.Command.TheViews.{out-Command as fields_of};
 ghost use Rattle.gtpshow.specs.Status.{status_of, failure_by, failure_text};
-ghost use Rattle.gtpshow.specs.Words.{flag_word, option_word, plain_word, with_port_words, decode_words, capture_words, replay_words, program_words};
+ghost use Rattle.gtpshow.specs.Words.{flag_word, option_word, plain_word, with_form_words, with_port_words, decode_words, capture_words, replay_words, program_words};
 
 use clap::{Arg, ArgAction, Command};
 use gtp_replay::ReplayFault;
@@ -78,6 +78,30 @@ fn taking<'a>(command: Command<'a>, arg: Arg<'a>) -> Result<Command<'a>, AllocEr
     command.arg(arg)
 }
 
+/// A command that takes the options for further forms of a datagram too.
+fn with_forms<'a>(alloc: Global, command: Command<'a>) -> Result<Command<'a>, AllocError>
+    requires command { (fields_of command).has_globals ≡ false }
+    ensures words { IfOk result (λ r. app_of r ≡ with_form_words (app_of command.entry)) }
+    ensures own { IfOk result (λ r. (fields_of r).has_globals ≡ false) }
+{
+    let command = taking(
+        command,
+        flag(
+            alloc,
+            "all",
+            "Shows each element that is whole also of a datagram at fault",
+        ),
+    )?;
+    taking(
+        command,
+        flag(
+            alloc,
+            "json",
+            "Shows a JSON object a line for each datagram",
+        ),
+    )
+}
+
 /// The arguments of `decode`.
 fn decode_command<'a>(alloc: Global) -> Result<Command<'a>, AllocError>
     ensures words { IfOk result (λ command. app_of command ≡ decode_words) }
@@ -95,22 +119,7 @@ fn decode_command<'a>(alloc: Global) -> Result<Command<'a>, AllocError>
         command,
         flag(alloc, "user", "The datagram is of the user plane (GTP-U)"),
     )?;
-    let command = taking(
-        command,
-        flag(
-            alloc,
-            "all",
-            "Shows each element that is whole also of a datagram at fault",
-        ),
-    )?;
-    let command = taking(
-        command,
-        flag(
-            alloc,
-            "json",
-            "Shows a JSON object a line for each datagram",
-        ),
-    )?;
+    let command = with_forms(alloc, command)?;
     taking(command, octets)
 }
 
@@ -149,22 +158,7 @@ fn capture_command<'a>(alloc: Global) -> Result<Command<'a>, AllocError>
         "Shows the GTP datagrams of a packet capture",
     );
     let command = taking(command, flag(alloc, "brief", "Shows one line a datagram"))?;
-    let command = taking(
-        command,
-        flag(
-            alloc,
-            "all",
-            "Shows each element that is whole also of a datagram at fault",
-        ),
-    )?;
-    let command = taking(
-        command,
-        flag(
-            alloc,
-            "json",
-            "Shows a JSON object a line for each datagram",
-        ),
-    )?;
+    let command = with_forms(alloc, command)?;
     let command = with_ports(alloc, command)?;
     taking(
         command,
@@ -243,6 +237,8 @@ pub enum Failure {
     Memory,
     /// A read failed, or a file could not be opened.
     Read,
+    /// A file has 2^64 - 1 octets or more. The words for it are those of a failed read.
+    TooLong,
     /// A write failed.
     Write,
     /// A write found the output closed by whoever read it.
@@ -260,7 +256,8 @@ impl Failure {
             | Failure::BadHex
             | Failure::BadCapture
             | Failure::BrokenCapture { .. } => 2,
-            Failure::Memory | Failure::Read | Failure::Write | Failure::Closed => 3,
+            Failure::Memory | Failure::Read | Failure::TooLong | Failure::Write | Failure::Closed =>
+                3,
         }
     }
 }
@@ -288,7 +285,7 @@ impl fmt::Display for Failure {
             Failure::BadCapture => write!(f, "bad capture"),
             Failure::BrokenCapture { at } => write!(f, "bad capture at {at}"),
             Failure::Memory => write!(f, "no memory"),
-            Failure::Read => write!(f, "read failed"),
+            Failure::Read | Failure::TooLong => write!(f, "read failed"),
             Failure::Write => write!(f, "write failed"),
             Failure::Closed => write!(f, "closed"),
         }

@@ -5,6 +5,7 @@ ghost use Rattle.std.specs.Prelude.{◌≤◌, IfOk};
 use crate::capturing::unwritten;
 use crate::command::Failure;
 use crate::showing::show_dump;
+use gtp_counted::Counted;
 use gtp_dump::Asked;
 use std::alloc::Global;
 use std::io::{self, BufReader, BufWriter, ErrorKind, Write};
@@ -43,13 +44,20 @@ pub fn dump_printed<R: Print + Eprint + Input>(
 ) -> Result<u8, Failure>
     ensures { IfOk result (λ status. status ≤ 2) }
 {
-    let mut reader = BufReader::with_capacity(alloc, BUFFERED, rt.reader()).map_err(
+    let reader = BufReader::with_capacity(alloc, BUFFERED, rt.reader()).map_err(
         |_| Failure::Memory,
     )?;
-    let mut out = BufWriter::with_capacity(alloc, BUFFERED, io::writer(rt)).map_err(
+    let out = BufWriter::with_capacity(alloc, BUFFERED, io::writer(rt)).map_err(
         |_| Failure::Memory,
     )?;
-    let shown = show_dump(alloc, asked, &mut reader, &mut out, &mut Errors { to: rt });
-    out.flush().map_err(|error| unwritten(&error))?;
+    let mut out = Counted::new(out);
+    let shown = show_dump(
+        alloc,
+        asked,
+        &mut Counted::new(reader),
+        &mut out,
+        &mut Counted::new(Errors { to: rt }),
+    );
+    out.flush().map_err(unwritten)?;
     shown
 }

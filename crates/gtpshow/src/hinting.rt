@@ -1,6 +1,8 @@
 //! What standard error says after the first line of a failure: the word or the file, and the reason.
 
 use crate::command::{Failure, command};
+use gtp_lines::{Plane, decode_lines};
+use gtp_scenario::reason_of;
 use hex::FromHexError;
 use std::alloc::Global;
 use std::rt::{Env, Files};
@@ -22,6 +24,58 @@ fn hint_of_hex<R: Eprint + Files>(rt: &R, alloc: Global, word: &str) -> io::Resu
         Err(FromHexError::OddLength) => {
             eprintln!(rt; "gtpshow: the word has an odd number of digits")
         }
+        _ => Ok(()),
+    }
+}
+
+/// Says what a control datagram is that is not of version 2, where it is of version 1.
+pub fn hint_of_version<R: Eprint>(rt: &R, alloc: Global, word: &str) -> io::Result<()> {
+    let Ok(octets) = hex::decode(alloc, word) else {
+        return Ok(());
+    };
+    match octets.first() {
+        Some(first) if *first >> 5 == 1 => {}
+        _ => return Ok(()),
+    }
+    match decode_lines(alloc, Plane::User, &octets) {
+        Ok(shown) if !shown.faulty => {
+            eprintln!(rt; "gtpshow: version 1 is GTP-U: with --user this is a datagram")
+        }
+        _ => {
+            eprintln!(rt;
+                "gtpshow: version 1 is GTP-U, which --user reads, or GTPv1-C, which is not read"
+            )
+        }
+    }
+}
+
+/// Whether octets begin as a capture does: with a magic number of pcap, in either order, or with a section of pcapng.
+fn begins_as_capture(octets: &[u8]) -> bool {
+    matches!(
+        octets,
+        [0xa1, 0xb2, 0xc3, 0xd4, ..]
+            | [0xd4, 0xc3, 0xb2, 0xa1, ..]
+            | [0xa1, 0xb2, 0x3c, 0x4d, ..]
+            | [0x4d, 0x3c, 0xb2, 0xa1, ..]
+            | [0x0a, 0x0d, 0x0d, 0x0a, ..]
+    )
+}
+
+/// Says why these octets, of a file or of standard input, are no scenario.
+pub fn hint_of_scenario<R: Eprint>(
+    rt: &R,
+    alloc: Global,
+    name: &str,
+    octets: Option<&[u8]>,
+) -> io::Result<()> {
+    let Some(octets) = octets else {
+        return Ok(());
+    };
+    if begins_as_capture(octets) {
+        return eprintln!(rt; "gtpshow: {name} is a capture: 'capture' shows it");
+    }
+    match reason_of(alloc, octets) {
+        Ok(Some(reason)) => eprintln!(rt; "gtpshow: {name}: {reason}"),
         _ => Ok(()),
     }
 }
@@ -52,7 +106,7 @@ pub fn hint<R: Eprint + Env + Files + AllocGlobal>(rt: &R, failure: Failure) -> 
     };
     match failure {
         Failure::BadHex => hint_of_hex(rt, alloc, word),
-        Failure::Read => hint_of_read(rt, word),
+        Failure::Read | Failure::TooLong => hint_of_read(rt, word),
         Failure::BadCapture if word == "-" => {
             eprintln!(rt; "gtpshow: standard input does not begin as a capture does (pcap, pcapng)")
         }

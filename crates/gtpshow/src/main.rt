@@ -5,6 +5,7 @@ mod capturing;
 mod command;
 mod dumping;
 mod hinting;
+mod kept;
 mod replaying;
 mod showing;
 mod watched;
@@ -14,15 +15,17 @@ ghost use Rattle.std.specs.Prelude.{◌≤◌, IfOk};
 use crate::capturing::{CaptureAsked, CaptureForm, capture_file};
 use crate::command::{Failure, command};
 use crate::dumping::dump_printed;
-use crate::hinting::hint;
+use crate::hinting::{hint, hint_of_version};
 use crate::replaying::replay_file;
 use crate::showing::{show, show_word};
 use crate::watched::Watched;
 use clap::ArgMatches;
 use clap::error::ErrorKind;
 use gtp_capture::Ports;
+use gtp_counted::Counted;
 use gtp_dump::Asked;
-use gtp_lines::{Form, Plane};
+use gtp_frames::Form;
+use gtp_lines::Plane;
 use std::alloc::Global;
 use std::process::ExitCode;
 use std::rt::{Env, Files};
@@ -53,14 +56,19 @@ fn decode<R: Print + Eprint + Input>(
         return dump_printed(rt, alloc, Asked { plane, form });
     }
     if form != gtp_dump::Form::Lines {
-        return show_word(alloc, &mut io::writer(rt), Asked { plane, form }, digits);
+        return show_word(
+            alloc,
+            &mut Counted::new(io::writer(rt)),
+            Asked { plane, form },
+            digits,
+        );
     }
-    show(
-        alloc,
-        &mut Watched::new(io::writer(rt)),
-        plane.unwrap_or(Plane::Control),
-        digits,
-    )
+    let plane = plane.unwrap_or(Plane::Control);
+    let status = show(alloc, &mut Watched::new(io::writer(rt)), plane, digits)?;
+    if status == 1 && plane == Plane::Control {
+        let _ = hint_of_version(rt, alloc, digits);
+    }
+    Ok(status)
 }
 
 /// The port of an option, where it has one.
@@ -104,7 +112,7 @@ fn capture_asked<R: Print + Input + Files>(
 }
 
 /// Replays the scenario of the arguments, and returns the exit status.
-fn replay_asked<R: Print + Input + Files>(
+fn replay_asked<R: Print + Eprint + Input + Files>(
     rt: &R,
     alloc: Global,
     asked: &ArgMatches,
@@ -129,6 +137,22 @@ fn unread_words(error: io::Error) -> Failure {
     }
 }
 
+/// Carries out the command of the arguments, and returns the exit status.
+fn carry_out<R: Print + Eprint + Input + Files>(
+    rt: &R,
+    alloc: Global,
+    matches: &ArgMatches,
+) -> Result<u8, Failure>
+    ensures { IfOk result (λ status. status ≤ 2) }
+{
+    match matches.subcommand() {
+        Some(("decode", asked)) => decode(rt, alloc, asked),
+        Some(("capture", asked)) => capture_asked(rt, alloc, asked),
+        Some(("replay", asked)) => replay_asked(rt, alloc, asked),
+        _ => Ok(2),
+    }
+}
+
 /// Carries out the command line, and returns the exit status.
 fn run<R: Print + Eprint + Input + Env + Files + AllocGlobal>(rt: &R) -> Result<u8, Failure>
     ensures { IfOk result (λ status. status ≤ 2) }
@@ -147,12 +171,7 @@ fn run<R: Print + Eprint + Input + Env + Files + AllocGlobal>(rt: &R) -> Result<
             return Ok(if error.use_stderr() { 2 } else { 0 });
         }
     };
-    match matches.subcommand() {
-        Some(("decode", asked)) => decode(rt, alloc, asked),
-        Some(("capture", asked)) => capture_asked(rt, alloc, asked),
-        Some(("replay", asked)) => replay_asked(rt, alloc, asked),
-        _ => Ok(2),
-    }
+    carry_out(rt, alloc, &matches)
 }
 
 fn main(rt: HostRuntime) -> ExitCode {

@@ -2,12 +2,15 @@
 
 ghost use Rattle.std.specs.Prelude.{◌≡◌, ◌≢◌, ◌+◌, ◌-◌, ◌^◌, ◌<◌, ◌≤◌, Err, IfOk, IfSome};
 ghost use Rattle.std.specs.IoError.{error_kind};
-ghost use Rattle.gtp_replay.specs.Counts.{inner_of, failures_of};
+ghost use Rattle.gtp_counted.specs.Counts.{inner_of, failures_of};
 ghost use Rattle.gtpshow.specs.Status.{verdict_status};
 ghost use Rattle.gtpshow.specs.Replayed.{IsReplayed};
 
 use crate::command::Failure;
-use gtp_replay::{Counted, Verdict, replay, replay_capture, replay_diagram};
+use crate::hinting::hint_of_scenario;
+use crate::kept::Kept;
+use gtp_counted::Counted;
+use gtp_replay::{Verdict, replay, replay_capture, replay_diagram};
 use std::alloc::Global;
 use std::io::{ErrorKind, Read, Write};
 use std::rt::Files;
@@ -77,8 +80,29 @@ pub fn unopened(error: io::Error) -> Failure
     }
 }
 
+/// Replays the scenario of a reader, says on standard error why it is none, if it is none, and returns the exit status.
+fn replay_told<R: Eprint, I: Read + Drop, W: Write>(
+    rt: &R,
+    alloc: Global,
+    form: Form,
+    name: &str,
+    reader: I,
+    writer: &mut Counted<W>,
+) -> Result<u8, Failure>
+    requires { failures_of writer.old < 2 ^ 64 - 1 }
+    ensures { IfOk result (λ status. status ≤ 2) }
+{
+    let mut reader = Counted::new(Kept::new(alloc, reader));
+    let status = replay_from(alloc, form, &mut reader, writer)?;
+    if status == 2 {
+        let kept = reader.into_inner();
+        let _ = hint_of_scenario(rt, alloc, name, kept.octets());
+    }
+    Ok(status)
+}
+
 /// Replays the scenario of this file, or of standard input for `-`, and returns the exit status.
-pub fn replay_file<R: Print + Input + Files>(
+pub fn replay_file<R: Print + Eprint + Input + Files>(
     rt: &R,
     alloc: Global,
     form: Form,
@@ -88,8 +112,8 @@ pub fn replay_file<R: Print + Input + Files>(
 {
     let mut writer = Counted::new(io::writer(rt));
     if name == "-" {
-        return replay_from(alloc, form, &mut Counted::new(rt.reader()), &mut writer);
+        return replay_told(rt, alloc, form, "standard input", rt.reader(), &mut writer);
     }
     let file = fs::open(rt, name).map_err(unopened)?;
-    replay_from(alloc, form, &mut Counted::new(file), &mut writer)
+    replay_told(rt, alloc, form, name, file, &mut writer)
 }

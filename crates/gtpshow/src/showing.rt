@@ -1,13 +1,16 @@
 //! Showing one datagram.
 
-ghost use Rattle.std.specs.Prelude.{◌≡◌, ◌↔◌, ◌≤◌, ◌⊎◌, false, IsTrue, IsErr, Err, IfOk, IfSome};
+ghost use Rattle.std.specs.Prelude.{◌≡◌, ◌≢◌, ◌↔◌, ◌+◌, ◌-◌, ◌^◌, ◌<◌, ◌≤◌, ◌⊎◌, length, false, IsTrue, IsErr, Err, IfOk, IfErr, IfSome};
 ghost use Rattle.hex.specs.Hex.{decode_of};
+ghost use Rattle.gtp_counted.specs.Counts.{inner_of, failures_of, NoneFailed, FailedOnce, ClosedOnce};
+ghost use Rattle.gtp_dump.specs.Decoded.{AreFirstTold, WriteFailed, WriteClosed};
 ghost use Rattle.gtp_dump.specs.Text.{IsBlank, IsBad};
-ghost use Rattle.gtpshow.specs.Shown.{IsShown, IsWordShown, IsDumpShown};
+ghost use Rattle.gtpshow.specs.Shown.{IsShown, IsWordShown, IsDumpShown, StopsDump};
 
 use crate::capturing::unwritten;
 use crate::command::Failure;
 use crate::watched::Watched;
+use gtp_counted::Counted;
 use gtp_dump::{Asked, DumpFault, LineFault, decode_dump, decode_line};
 use gtp_lines::{Plane, decode_lines};
 use hex::FromHexError;
@@ -46,18 +49,24 @@ pub fn show<W: Write>(
 }
 
 /// Writes in a form the datagram that a word spells, as a line of a dump does, and returns the exit status: 0, or 1
-/// for a datagram with a fault. `BadHex` if the word has no digits, an odd number of them, or what is none; `Memory` if an
-/// allocation was refused, `Write` or `Closed` if the write failed.
+/// for a datagram with a fault. `BadHex` if the word has no digits, an odd number of them, or what is none, or is too long;
+/// `Memory` if an allocation was refused, `Write` or `Closed` if the write failed.
 pub fn show_word<W: Write>(
     alloc: Global,
-    out: &mut W,
+    out: &mut Counted<W>,
     asked: Asked,
     word: &str,
 ) -> Result<u8, Failure>
-    ensures shown { IfOk result
-        (IsWordShown asked word.now (W.contents out.old) (W.contents out.new)) }
+    requires { failures_of out.old < 2 ^ 64 - 1 }
+    ensures shown { IfOk result (IsWordShown asked word.now
+        (W.contents (inner_of out.old)) (W.contents (inner_of out.new))) }
     ensures bad { result ≡ Err Failure.BadHex → (IsBlank word.now ⊎ IsBad word.now) × (out.new ≡ out.old) }
     ensures memory { result ≡ Err Failure.Memory → out.new ≡ out.old }
+    // The failure is `Write` or `Closed` exactly if a write failed.
+    ensures write { result ≡ Err Failure.Write → FailedOnce out.old out.new }
+    ensures closed { result ≡ Err Failure.Closed → ClosedOnce out.old out.new }
+    ensures writes_on { result ≢ Err Failure.Write → result ≢ Err Failure.Closed
+        → NoneFailed out.old out.new }
 {
     let shown = match decode_line(alloc, asked, word.as_bytes()) {
         Ok(Some(shown)) => shown,
@@ -67,30 +76,52 @@ pub fn show_word<W: Write>(
     };
     match out.write_all(&shown.text) {
         Ok(()) => Ok(if shown.faulty { 1 } else { 0 }),
-        Err(error) => Err(unwritten(&error)),
+        Err(failed) => Err(unwritten(failed)),
     }
 }
 
 /// Writes the lines of the datagrams of a dump, and of its bad lines as errors, and returns the exit status: 2 if a line was bad,
 /// else 1 if a datagram had a fault, else 0. `Memory` if an allocation was refused, `Read` if a read failed, `Write` or `Closed`
-/// if a write did.
+/// if a write did, `TooLong` if the dump has 2^64 - 1 octets or more.
 pub fn show_dump<R: BufRead, W: Write, E: Write>(
     alloc: Global,
     asked: Asked,
-    reader: &mut R,
-    out: &mut W,
-    err: &mut E,
+    reader: &mut Counted<R>,
+    out: &mut Counted<W>,
+    err: &mut Counted<E>,
 ) -> Result<u8, Failure>
-    ensures shown { IfOk result (λ status. IfSome (R.remaining reader.old) (λ octets.
-        IsDumpShown asked octets (W.contents out.old) (W.contents out.new)
-        (E.contents err.old) (E.contents err.new) status)) }
+    requires reads { failures_of reader.old < 2 ^ 64 - 1 }
+    requires writes { failures_of out.old < 2 ^ 64 - 1 }
+    requires errors { failures_of err.old < 2 ^ 64 - 1 }
+    ensures shown { IfOk result (λ status. IfSome (R.remaining (inner_of reader.old)) (λ octets.
+        IsDumpShown asked octets
+        (W.contents (inner_of out.old)) (W.contents (inner_of out.new))
+        (E.contents (inner_of err.old)) (E.contents (inner_of err.new)) status)) }
     ensures small { IfOk result (λ status. status ≤ 2) }
+    ensures first { IfErr result (λ failure. failure ≢ Failure.Write → failure ≢ Failure.Closed →
+        IfSome (R.remaining (inner_of reader.old)) (λ octets.
+        AreFirstTold asked octets
+        (W.contents (inner_of out.old)) (W.contents (inner_of out.new))
+        (E.contents (inner_of err.old)) (E.contents (inner_of err.new)))) }
+    ensures long { result ≡ Err Failure.TooLong →
+        IfSome (R.remaining (inner_of reader.old)) (λ octets. 2 ^ 64 - 1 ≤ length octets) }
+    // The failure is `Read` exactly if a call of the reader failed, and `Write` or `Closed` exactly if a write did.
+    ensures read { result ≡ Err Failure.Read
+        → failures_of reader.new ≡ failures_of reader.old + 1 }
+    ensures reads_on { result ≢ Err Failure.Read
+        → failures_of reader.new ≡ failures_of reader.old }
+    ensures write { result ≡ Err Failure.Write → WriteFailed out.old out.new err.old err.new }
+    ensures closed { result ≡ Err Failure.Closed → WriteClosed out.old out.new err.old err.new }
+    ensures writes_on { result ≢ Err Failure.Write → result ≢ Err Failure.Closed
+        → NoneFailed out.old out.new × NoneFailed err.old err.new }
+    ensures kind { IfErr result StopsDump }
 {
     match decode_dump(alloc, asked, reader, out, err) {
         Ok(tally) if tally.bad => Ok(2),
         Ok(tally) => Ok(if tally.faulty { 1 } else { 0 }),
         Err(DumpFault::Memory) => Err(Failure::Memory),
-        Err(DumpFault::Read | DumpFault::TooLong) => Err(Failure::Read),
+        Err(DumpFault::Read) => Err(Failure::Read),
+        Err(DumpFault::TooLong) => Err(Failure::TooLong),
         Err(DumpFault::Write) => Err(Failure::Write),
         Err(DumpFault::Closed) => Err(Failure::Closed),
     }

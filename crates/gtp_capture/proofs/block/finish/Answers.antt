@@ -12,4 +12,4 @@ returns-clause-ok g c =
     let tail = c.fill.new.room in
     let four : length tail ≡ 4 = search rules in
     let all : take n tail ≡ tail = take_all n tail (omega (arith, four, c.if-branch-lt4.false)) in
-    finish_says c.args.order c.args.left c.args.size c.four.result (left c.args.reader.now) (left c.pass.new.reader) (left c.fill.new.reader) tail (subst (λ v. Known (Passes c.args.left v) (left c.args.reader.now) (left c.pass.new.reader)) c.if-not-branch.false c.in_ok-pass.ensures.ok) (subst (Consumes (left c.pass.new.reader) (left c.fill.new.reader)) all c.in_ok-fill.ensures.octets) four c.four.ensures
+    finish_says c.args.order c.args.left c.args.size c.four.result (left c.args.reader.now.inner) (left c.pass.new.reader.inner) (left c.fill.new.reader.inner) tail (subst (λ v. Known (Passes c.args.left v) (left c.args.reader.now.inner) (left c.pass.new.reader.inner)) c.if-not-branch.false c.in_ok-pass.ensures.ok) (subst (Consumes (left c.pass.new.reader.inner) (left c.fill.new.reader.inner)) all c.in_ok-fill.ensures.octets) four c.four.ensures

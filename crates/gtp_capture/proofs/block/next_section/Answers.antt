@@ -11,6 +11,6 @@ returns-in-None-clause-ok g c = λ room.
     let front = c.fill.new.room in
     let sixteen : length front ≡ 16 = search rules in
     let all : take n front ≡ front = take_all n front (omega (arith, sixteen, c.if-branch-lt16.false)) in
-    section_unknown c.args.order c.args.interfaces.now (left c.args.reader.now) (left c.fill.new.reader) (left c.finish_section.new.reader) c.args.head.now front room c.requires.head c.requires.kind
-    (subst (Consumes (left c.args.reader.now) (left c.fill.new.reader)) all c.in_ok-fill.ensures.octets)
-    (subst (λ v. Known (IsSectionBehind (c.args.head.now ++ front) v) (left c.fill.new.reader) (left c.finish_section.new.reader)) c.in-None.is c.in_ok-order.ensures.ok)
+    section_unknown c.args.order c.args.interfaces.now (left c.args.reader.now.inner) (left c.fill.new.reader.inner) (left c.finish_section.new.reader.inner) c.args.head.now front room c.requires.head c.requires.kind
+    (subst (Consumes (left c.args.reader.now.inner) (left c.fill.new.reader.inner)) all c.in_ok-fill.ensures.octets)
+    (subst (λ v. Known (IsSectionBehind (c.args.head.now ++ front) v) (left c.fill.new.reader.inner) (left c.finish_section.new.reader.inner)) c.in-None.is c.in_ok-order.ensures.ok)

@@ -4,7 +4,8 @@ use Rattle.gtp_capture.proofs.block.pass.Given as goal
 
 abbrev pub invariant-loop-left : goal.invariant-loop-left
 invariant-loop-left g l = record {
-  passed : (front : List ℕ) × (length front + l.left ≡ l.size) × Known (λ x y. x ≡ front ++ y) (g.R.Read.remaining l.fn.reader) (g.R.Read.remaining l.reader);
+  passed : (front : List ℕ) × (length front + l.left ≡ l.size) × Known (λ x y. x ≡ front ++ y) (g.R.Read.remaining l.fn.reader.inner) (g.R.Read.remaining l.reader.inner);
+  count : l.reader.failures ≡ l.fn.reader.failures;
 }
 
 abbrev pub decreases-loop-left : goal.decreases-loop-left

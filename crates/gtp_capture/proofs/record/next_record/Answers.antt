@@ -10,7 +10,7 @@ returns-then-found-lt16-clause-ok g c =
     let sixteen : length c.fill.new.room ≡ 16 = search rules in
     let held = length-take-le n c.fill.new.room c.in_ok-found.ensures.bound in
     let some : 0 < n = search rules in
-    head_short c.args.kind (left c.args.reader.now) (left c.fill.new.reader) (take n c.fill.new.room) c.args.room.now.items c.in_ok-found.ensures.octets (c.in_ok-found.ensures.end (omega (arith, sixteen, c.if-found-lt16.true))) (omega (arith, held, some)) (omega (arith, held, c.if-found-lt16.true))
+    head_short c.args.kind (left c.args.reader.now.inner) (left c.fill.new.reader.inner) (take n c.fill.new.room) c.args.room.now.items c.in_ok-found.ensures.octets (c.in_ok-found.ensures.end (omega (arith, sixteen, c.if-found-lt16.true))) (omega (arith, held, some)) (omega (arith, held, c.if-found-lt16.true))
 
 pub returns-then-held-gt-LIMIT-clause-ok : goal.returns-then-held-gt-LIMIT-clause-ok
 returns-then-held-gt-LIMIT-clause-ok g c =
@@ -19,7 +19,7 @@ returns-then-held-gt-LIMIT-clause-ok g c =
     let head = c.fill.new.room in
     let sixteen : length head ≡ 16 = search rules in
     let all : take n head ≡ head = take_all n head (omega (arith, sixteen, c.if-found-lt16.false)) in
-    too_large c.args.kind (left c.args.reader.now) (left c.fill.new.reader) head c.args.room.now.items (subst (Consumes (left c.args.reader.now) (left c.fill.new.reader)) all c.in_ok-found.ensures.octets) sixteen (omega (arith, c.if-held-gt-LIMIT.true, c.four-held.ensures))
+    too_large c.args.kind (left c.args.reader.now.inner) (left c.fill.new.reader.inner) head c.args.room.now.items (subst (Consumes (left c.args.reader.now.inner) (left c.fill.new.reader.inner)) all c.in_ok-found.ensures.octets) sixteen (omega (arith, c.if-held-gt-LIMIT.true, c.four-held.ensures))
 
 pub returns-then-len-held-clause-ok : goal.returns-then-len-held-clause-ok
 returns-then-len-held-clause-ok g c =
@@ -30,7 +30,7 @@ returns-then-len-held-clause-ok g c =
     let sixteen : length head ≡ 16 = search rules in
     let all : take n head ≡ head = take_all n head (omega (arith, sixteen, c.if-found-lt16.false)) in
     let few : length room < c.four-held.result = search rules in
-    body_short c.args.kind (left c.args.reader.now) (left c.fill.new.reader) (left c.refill.new.reader) head room room (subst (Consumes (left c.args.reader.now) (left c.fill.new.reader)) all c.in_ok-found.ensures.octets) c.in_ok-refill.ensures.octets (c.in_ok-refill.ensures.end few) sixteen (omega (arith, few, c.four-held.ensures))
+    body_short c.args.kind (left c.args.reader.now.inner) (left c.fill.new.reader.inner) (left c.refill.new.reader.inner) head room room (subst (Consumes (left c.args.reader.now.inner) (left c.fill.new.reader.inner)) all c.in_ok-found.ensures.octets) c.in_ok-refill.ensures.octets (c.in_ok-refill.ensures.end few) sixteen (omega (arith, few, c.four-held.ensures))
 
 pub returns-clause-ok : goal.returns-clause-ok
 returns-clause-ok g c =
@@ -41,4 +41,4 @@ returns-clause-ok g c =
     let sixteen : length head ≡ 16 = search rules in
     let all : take n head ≡ head = take_all n head (omega (arith, sixteen, c.if-found-lt16.false)) in
     let whole : length room ≡ c.four-held.result = search rules in
-    record_whole c.args.kind (left c.args.reader.now) (left c.fill.new.reader) (left c.refill.new.reader) head room c.four.result c.four-2.result c.four-3.result c.four-held.result _ (subst (Consumes (left c.args.reader.now) (left c.fill.new.reader)) all c.in_ok-found.ensures.octets) c.in_ok-refill.ensures.octets sixteen whole c.four-held.ensures (omega (arith, c.if-held-gt-LIMIT.false)) c.four.ensures c.four-2.ensures c.four-3.ensures refl
+    record_whole c.args.kind (left c.args.reader.now.inner) (left c.fill.new.reader.inner) (left c.refill.new.reader.inner) head room c.four.result c.four-2.result c.four-3.result c.four-held.result _ (subst (Consumes (left c.args.reader.now.inner) (left c.fill.new.reader.inner)) all c.in_ok-found.ensures.octets) c.in_ok-refill.ensures.octets sixteen whole c.four-held.ensures (omega (arith, c.if-held-gt-LIMIT.false)) c.four.ensures c.four-2.ensures c.four-3.ensures refl

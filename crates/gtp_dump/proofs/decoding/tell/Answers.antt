@@ -9,7 +9,7 @@ returns-in_default-clause-told g c =
     let shown = c.in_ok-shown-in-Ok-Some.shown in
     let dumped = c.in-Ok-Some.dumped in
     let out = g.W.Write.contents in
-    let written : Appends (out c.args.out.now) (out c.write_all.new.self) c.deref.result.now = search rules in
+    let written : Appends (out c.args.out.now.inner) (out c.write_all.new.self.inner) c.deref.result.now = search rules in
     record {
       text = shown.text.items;
       errors = [];
@@ -22,19 +22,19 @@ returns-in_default-clause-told g c =
         tally = refl;
         error = refl;
       }));
-      output = subst (Appends (out c.args.out.now) (out c.write_all.new.self)) c.deref.ensures.value written;
-      error = none_yet (g.E.Write.contents c.args.err.now);
+      output = subst (Appends (out c.args.out.now.inner) (out c.write_all.new.self.inner)) c.deref.ensures.value written;
+      error = none_yet (g.E.Write.contents c.args.err.now.inner);
     }
 
 pub returns-in_default-write_all-clause-told : goal.returns-in_default-write_all-clause-told
 returns-in_default-write_all-clause-told g c =
     let text = c.in_ok-text-in-Err-BadHex.text in
     let err = g.E.Write.contents in
-    let written : Appends (err c.args.err.now) (err c.write_all-in-Err-BadHex.new.self) c.deref-in-Err-BadHex.result.now = search rules in
+    let written : Appends (err c.args.err.now.inner) (err c.write_all-in-Err-BadHex.new.self.inner) c.deref-in-Err-BadHex.result.now = search rules in
     record {
       text = [];
       errors = text.items;
       tells = inr (inl (record { is_bad = c.in-Err-BadHex.ensures.bad (ap Err c.in-Err-BadHex.field-0-is); tally = refl; output = refl; error = c.in_ok-text-in-Err-BadHex.ensures }));
-      output = none_yet (g.W.Write.contents c.args.out.now);
-      error = subst (Appends (err c.args.err.now) (err c.write_all-in-Err-BadHex.new.self)) c.deref-in-Err-BadHex.ensures.value written;
+      output = none_yet (g.W.Write.contents c.args.out.now.inner);
+      error = subst (Appends (err c.args.err.now.inner) (err c.write_all-in-Err-BadHex.new.self.inner)) c.deref-in-Err-BadHex.ensures.value written;
     }

@@ -1,7 +1,7 @@
 use Rattle.std.proofs.Common.{subst}
 use Rattle.std.specs.Io.KnownBytes.{Appends}
-use Rattle.gtp_replay.specs.Counts.{inner_of}
-use Rattle.gtp_replay.specs.Streams.{WritesFront}
+use Rattle.gtp_counted.specs.Counts.{inner_of}
+use Rattle.gtp_counted.specs.Streams.{WritesFront}
 use Rattle.gtp_replay.specs.Told.{Tells}
 use Rattle.gtp_replay.proofs.Limits.{told_for_all, front_for_all}
 use Rattle.gtp_replay.proofs.replaying.replay_as.Goals as goal

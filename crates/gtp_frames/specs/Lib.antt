@@ -1,0 +1,2 @@
+pub mod Brief
+pub mod Frames

@@ -1,0 +1,10 @@
+use Rattle.std.proofs.Common.{refl, sym, ◌∙◌}
+use Rattle.gtp_scenario.specs.Trees.{view}
+use Rattle.gtp_scenario.proofs.Objects.{bad_word, no_word}
+use Rattle.gtp_scenario.proofs.reason.event.wordless.Goals as goal
+
+pub returns-then-has : goal.returns-then-has
+returns-then-has c = (refl, bad_word (view c.args.value.now) c.requires (sym c.has.ensures ∙ c.if-has.true))
+
+pub returns-else-has : goal.returns-else-has
+returns-else-has c = (refl, no_word (view c.args.value.now) (sym c.has.ensures ∙ c.if-has.false))

@@ -1,0 +1,173 @@
+-- When what is said of refused octets is so.
+use Rattle.std.specs.Prelude.{◌≡◌, ℕ, zero, suc, ◌+◌, ◌<◌, List, length, Bool, true, false, ◌&&◌, find, map, codes, string_bytes, Some, None, is_some}
+use Rattle.std.specs.List.{list_all}
+use Rattle.std.specs.Option.{option_map_or}
+use Rattle.std.specs.Str.{IsUtf8, IsValidUpTo}
+use Rattle.serde_json.specs.Data.{Data, Items, no_items, item}
+use Rattle.serde_json.specs.Find.{get, get_item, as_array, as_object}
+use Rattle.serde_json.specs.Read.{read}
+use Rattle.gtp_scenario.specs.declared.fault.Refusal.{Refusal}
+use Rattle.gtp_scenario.specs.declared.fault.Refusal.TheVariants as refusals
+use Rattle.gtp_scenario.specs.declared.reason.key.Key.{Key}
+use Rattle.gtp_scenario.specs.declared.reason.key.Key.TheVariants as keys
+use Rattle.gtp_scenario.specs.declared.reason.flaw.ObjectFlaw.{ObjectFlaw}
+use Rattle.gtp_scenario.specs.declared.reason.flaw.ObjectFlaw.TheVariants as flaws
+use Rattle.gtp_scenario.specs.declared.reason.template.TemplateFlaw.{TemplateFlaw}
+use Rattle.gtp_scenario.specs.declared.reason.template.TemplateFlaw.TheVariants as templates
+use Rattle.gtp_scenario.specs.declared.reason.packet.PacketFlaw.{PacketFlaw}
+use Rattle.gtp_scenario.specs.declared.reason.packet.PacketFlaw.TheVariants as packet
+use Rattle.gtp_scenario.specs.declared.reason.head.HeadFlaw.{HeadFlaw}
+use Rattle.gtp_scenario.specs.declared.reason.head.HeadFlaw.TheVariants as head
+use Rattle.gtp_scenario.specs.declared.reason.event.EventFlaw.{EventFlaw}
+use Rattle.gtp_scenario.specs.declared.reason.event.EventFlaw.TheVariants as event
+use Rattle.gtp_scenario.specs.declared.reason.Reason.{Reason}
+use Rattle.gtp_scenario.specs.declared.reason.Reason.TheVariants as reasons
+use Rattle.gtp_scenario.specs.Steps.{◌>>=◌}
+use Rattle.gtp_scenario.specs.Json.{text_at, is_among, has_only}
+use Rattle.gtp_scenario.specs.Texts.{apn_of}
+use Rattle.gtp_scenario.specs.Events.{event_named}
+use Rattle.gtp_scenario.specs.Entries.{Entry, entry_of}
+use Rattle.gtp_scenario.specs.Heads.{access_points_at, pool_at, prefixes_at, events_at}
+use Rattle.gtp_scenario.specs.Keys.{key_text, wanted_of, is_good, may_be_absent, is_met, is_unmet, kind_of, event_keys, scenario_keys, serving_keys, packet_keys, template_keys}
+use Rattle.gtp_scenario.specs.Scenarios.{json_of, most_octets, most_events}
+
+-- ---- objects
+
+-- the object has this key, and it is none of its keys
+pub record IsUnknown (known : List Key) (d : Data) (text : List ℕ) : Type 0 where
+  pub there : is_some (get text d) ≡ true
+  pub unknown : is_among (map key_text known) text ≡ false
+
+-- the object needs this key and has none
+pub record IsMissing (d : Data) (key : Key) : Type 0 where
+  pub absent : get (key_text key) d ≡ None
+  pub needed : may_be_absent d key ≡ false
+
+-- the value of this key is not as it has to be
+pub record IsBad (d : Data) (key : Key) : Type 0 where
+  pub value : Data
+  pub there : get (key_text key) d ≡ Some value
+  pub bad : is_good (wanted_of key) value ≡ false
+
+-- of these keys it is the first at which something is wrong
+abbrev pub IsFirst : List Key → Data → Key → Type 0
+IsFirst known d key = find (is_unmet d) known ≡ Some key
+
+-- what is wrong with an object that is to have these keys
+abbrev pub IsFlaw : List Key → Data → ObjectFlaw → Type 0
+IsFlaw known d flaws.NoObject = as_object d ≡ None
+IsFlaw known d (flaws.Unknown text) = IsUnknown known d (string_bytes text)
+IsFlaw known d (flaws.Missing key) = IsFirst known d key × IsMissing d key
+IsFlaw known d (flaws.Bad key) = IsFirst known d key × IsBad d key
+
+-- an object with no keys but these, and nothing is wrong at one of them
+abbrev pub fits : List Key → Data → Bool
+fits known d = has_only (map key_text known) d && list_all (is_met d) known
+
+-- ---- gateways
+
+-- the access point that a template names is one of these
+abbrev pub names_one_of : List (List ℕ) → Data → Bool
+names_one_of names d = option_map_or (is_among names) (text_at (codes "apn") d >>= apn_of) false
+
+abbrev pub IsTemplateFlaw : List (List ℕ) → Data → TemplateFlaw → Type 0
+IsTemplateFlaw names d (templates.Keys flaw) = IsFlaw template_keys d flaw
+IsTemplateFlaw names d templates.NoAccessPoint = (name : List ℕ) × ((text_at (codes "apn") d >>= apn_of) ≡ Some name) × (is_among names name ≡ false)
+
+-- the template at this place of the list
+pub record IsTemplateAt (names : List (List ℕ)) (items : Items) (place : ℕ) (flaw : TemplateFlaw) : Type 0 where
+  pub template : Data
+  pub there : get_item place items ≡ Some template
+  pub flawed : IsTemplateFlaw names template flaw
+
+-- the template at this place of the packet gateway's
+pub record IsTemplateOf (d : Data) (place : ℕ) (flaw : TemplateFlaw) : Type 0 where
+  pub names : List (List ℕ)
+  pub of : access_points_at d ≡ Some names
+  pub items : Items
+  pub list : (get (codes "templates") d >>= as_array) ≡ Some items
+  pub at : IsTemplateAt names items place flaw
+
+-- what is wrong with the packet gateway; a pool is looked at where nothing is wrong with its keys
+abbrev pub IsPacketFlaw : Data → PacketFlaw → Type 0
+IsPacketFlaw d (packet.Keys flaw) = IsFlaw packet_keys d flaw
+IsPacketFlaw d packet.PastLastAddress = (fits packet_keys d ≡ true) × (pool_at d ≡ None)
+IsPacketFlaw d packet.PastLastPrefix = (fits packet_keys d ≡ true) × (prefixes_at d ≡ None)
+IsPacketFlaw d (packet.Template place flaw) = IsTemplateOf d place flaw
+
+-- what is wrong with the object that is the value of a key
+abbrev pub IsFlawAt : {F : Type 0} → (Data → F → Type 0) → List ℕ → Data → F → Type 0
+IsFlawAt IsFlawIn key d flaw = (e : Data) × (get key d ≡ Some e) × IsFlawIn e flaw
+
+abbrev pub IsHeadFlaw : Data → HeadFlaw → Type 0
+IsHeadFlaw d (head.Scenario flaw) = IsFlaw scenario_keys d flaw
+IsHeadFlaw d (head.Serving flaw) = IsFlawAt (IsFlaw serving_keys) (codes "serving") d flaw
+IsHeadFlaw d (head.Packet flaw) = IsFlawAt IsPacketFlaw (codes "packet") d flaw
+
+-- ---- events
+
+-- no event has this name, whatever else is said of it
+abbrev pub NamesNoEvent : List ℕ → Type 0
+NamesNoEvent word = (d : Data) → event_named word d ≡ None
+
+-- how often an entry happens
+abbrev pub times_of : Data → ℕ
+times_of d = option_map_or (λ (entry : Entry). entry.times) (entry_of d) 0
+
+-- how many events there are up to the entry at this place
+abbrev pub events_up_to : ℕ → Items → ℕ
+events_up_to place no_items = 0
+events_up_to zero (item d items) = times_of d
+events_up_to (suc place) (item d items) = times_of d + events_up_to place items
+
+-- what is wrong with an entry that has no word
+abbrev pub IsWordless : Data → ObjectFlaw → Type 0
+IsWordless d flaws.NoObject = as_object d ≡ None
+IsWordless d (flaws.Unknown text) = ⊥
+IsWordless d (flaws.Missing key) = (key ≡ keys.Do) × IsMissing d key
+IsWordless d (flaws.Bad key) = (key ≡ keys.Do) × IsBad d key
+
+-- what is wrong with an entry itself
+abbrev pub IsEntryFlaw : Data → EventFlaw → Type 0
+IsEntryFlaw d (event.Entry flaw) = IsWordless d flaw
+IsEntryFlaw d (event.NoEvent word) = (text_at (codes "do") d ≡ Some (string_bytes word)) × NamesNoEvent (string_bytes word)
+IsEntryFlaw d (event.Keys kind flaw) = ((text_at (codes "do") d >>= kind_of) ≡ Some kind) × IsFlaw (event_keys kind) d flaw
+IsEntryFlaw d event.TooMany = ⊥
+
+-- what is wrong with the entry at a place of the list
+abbrev pub IsEventFlaw : Items → ℕ → Data → EventFlaw → Type 0
+IsEventFlaw items place d event.TooMany = most_events < events_up_to place items
+IsEventFlaw items place d flaw = IsEntryFlaw d flaw
+
+pub record IsEventAt (d : Data) (place : ℕ) (flaw : EventFlaw) : Type 0 where
+  pub items : Items
+  pub list : events_at d ≡ Some items
+  pub entry : Data
+  pub there : get_item place items ≡ Some entry
+  pub flawed : IsEventFlaw items place entry flaw
+
+-- ---- octets
+
+-- what is said of data is so
+abbrev pub IsSaid : Data → Reason → Type 0
+IsSaid d reasons.TooLong = ⊥
+IsSaid d (reasons.NotText valid) = ⊥
+IsSaid d (reasons.NotJson line column) = ⊥
+IsSaid d (reasons.Head flaw) = IsHeadFlaw d flaw
+IsSaid d (reasons.Event place flaw) = IsEventAt d place flaw
+
+-- what is said of octets is so
+abbrev pub IsSo : List ℕ → Reason → Type 0
+IsSo octets reasons.TooLong = most_octets < length octets
+IsSo octets (reasons.NotText valid) = (¬ IsUtf8 octets) × IsValidUpTo octets valid
+IsSo octets (reasons.NotJson line column) = IsUtf8 octets × (read octets ≡ None)
+IsSo octets (reasons.Head flaw) = (d : Data) × (json_of octets ≡ Some d) × IsHeadFlaw d flaw
+IsSo octets (reasons.Event place flaw) = (d : Data) × (json_of octets ≡ Some d) × IsEventAt d place flaw
+
+-- the refusal that a reason explains
+abbrev pub refusal_of : Reason → Refusal
+refusal_of reasons.TooLong = refusals.Json
+refusal_of (reasons.NotText valid) = refusals.Json
+refusal_of (reasons.NotJson line column) = refusals.Json
+refusal_of (reasons.Head flaw) = refusals.Head
+refusal_of (reasons.Event place flaw) = refusals.Event place

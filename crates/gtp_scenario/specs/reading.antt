@@ -1,0 +1,3 @@
+-- For private contracts and proofs.
+pub mod Faultless
+pub mod Rest
