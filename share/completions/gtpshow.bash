@@ -3,16 +3,17 @@ _gtpshow() {
   local word=${COMP_WORDS[COMP_CWORD]} command= each
   for each in "${COMP_WORDS[@]:1:COMP_CWORD-1}"; do
     case $each in
-      decode | capture | replay | help) command=$each && break ;;
+      decode | capture | replay | gateway | explain | help) command=$each && break ;;
     esac
   done
   local words='--help'
   case $command in
     decode) words='--user --all --json --help' ;;
     capture) words='--brief --all --json --control-port --user-port --help' ;;
-    replay) words='--diagram --pcap --help' ;;
-    help) words='decode capture replay' ;;
-    '') words='decode capture replay help --help --version' ;;
+    replay) words='--diagram --svg --pcap --json --help' ;;
+    gateway | explain) words='--help' ;;
+    help) words='decode capture replay gateway explain' ;;
+    '') words='decode capture replay gateway explain help --help --version' ;;
   esac
   mapfile -t COMPREPLY < <(compgen -W "$words" -- "$word")
   case $command in

@@ -6,6 +6,8 @@ _gtpshow() {
     'decode:shows one datagram, or its first fault'
     'capture:shows the GTP datagrams of a packet capture'
     'replay:runs a scenario between two gateways, and reports what comes of it'
+    'gateway:runs one gateway behind lines of JSON'
+    'explain:says what a code or a cause means'
     'help:prints help'
   )
   if (( CURRENT == 2 )); then
@@ -16,7 +18,9 @@ _gtpshow() {
   case $words[2] in
     decode) _arguments '--user[the datagram is of the user plane]' '--all[show each element that is whole]' '--json[show a JSON object a line]' '--help[print help]' ':octets in hexadecimal:' ;;
     capture) _arguments '--brief[show one line a datagram]' '--all[show each element that is whole]' '--json[show a JSON object a line]' '--control-port[a port of control datagrams]:port:' '--user-port[a port of user datagrams]:port:' '--help[print help]' ':capture:_files' ;;
-    replay) _arguments '--diagram[draw the run as a sequence diagram]' '--pcap[write the run as a packet capture]' '--help[print help]' ':scenario:_files' ;;
+    replay) _arguments '--diagram[draw the run as a sequence diagram]' '--svg[draw the same diagram as a picture]' '--pcap[write the run as a packet capture]' '--json[show a JSON object a line]' '--help[print help]' ':scenario:_files' ;;
+    gateway) _arguments '--help[print help]' ;;
+    explain) _arguments '--help[print help]' ':code:' ;;
   esac
 }
 _gtpshow "$@"

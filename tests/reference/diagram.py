@@ -1,4 +1,4 @@
-"""The run of a scenario as a sequence diagram in plain text."""
+"""The run of a scenario as a sequence diagram, in plain text and as a picture (SVG)."""
 
 from gateways import PACKET, SERVING, has_two, last_message
 from world import other, outcome_text
@@ -67,42 +67,25 @@ def is_quiet(happened):
     return happened.event["do"] == "tick" and not (told.sent or told.gave_up or told.forgot)
 
 
-def brought_line(world, happened, came):
-    number = brought(happened)
-    sender, plane, octets = world.datagrams[number]
-    label = datagram_name(number, plane, octets)
+def label_of(world, number, ending=""):
+    return datagram_name(number, *world.datagrams[number][1:]) + ending
+
+
+def coming_of(happened, came):
+    """How a datagram comes by an event, where these came before: a word for it, and how its label ends."""
     if happened.event["do"] == "cut":
-        label += f" (cut to {happened.event['length']})"
-    elif number in came:
-        label += " (again)"
-    return line(happened.number, arrow(sender, label), outcome_text(happened.told))
+        return "cut", f" (cut to {happened.event['length']})"
+    return ("again", " (again)") if brought(happened) in came else ("", "")
 
 
-def tick_line(happened):
-    told = happened.told
-    counts = {"sends again": told.sent, "gives up": told.gave_up, "forgets": told.forgot}
-    label = ", ".join(["tick"] + [f"{word} {len(those)}" for word, those in counts.items() if those])
-    return line(happened.number, mark(happened.node, "~", label))
-
-
-def command_line(happened):
-    label = happened.event["do"]
-    if "datagram" in happened.event:
-        label += f" {happened.event['datagram']}"
-    sign = "#" if label == "restart" else "o"
-    return line(happened.number, mark(happened.node, sign, label), outcome_text(happened.told))
-
-
-def quiet_line(ticks):
-    label = "1 tick" if len(ticks) == 1 else f"{len(ticks)} ticks"
-    return line(ticks[0].number, mark(ticks[0].node, "~", label))
-
-
-def lost_lines(world, happened, comes):
-    for number in range(happened.before, happened.before + len(happened.told.sent)):
-        if number not in comes:
-            sender, plane, octets = world.datagrams[number]
-            yield line("", lost(sender, datagram_name(number, plane, octets)), "lost")
+def event_label(happened):
+    """What an event is, by which no datagram comes."""
+    if happened.event["do"] == "tick":
+        told = happened.told
+        counts = {"sends again": told.sent, "gives up": told.gave_up, "forgets": told.forgot}
+        return ", ".join(["tick"] + [f"{word} {len(those)}" for word, those in counts.items() if those])
+    number = happened.event.get("datagram")
+    return happened.event["do"] + ("" if number is None else f" {number}")
 
 
 def in_groups(story):
@@ -117,15 +100,96 @@ def in_groups(story):
         yield group
 
 
-def diagram_lines(world, story):
+def rows(world, story):
+    """The rows of a diagram: what each is, and what it is made from."""
     comes, came = {brought(happened) for happened in story}, set()
-    yield HEAD
     for first, *others in in_groups(story):
         if is_quiet(first):
-            yield quiet_line([first, *others])
+            yield "idles", first, len(others) + 1
         elif brought(first) is not None:
-            yield brought_line(world, first, came)
+            yield "comes", first, coming_of(first, came)
         else:
-            yield tick_line(first) if first.event["do"] == "tick" else command_line(first)
+            yield "happens", first, None
         came.add(brought(first))
-        yield from lost_lines(world, first, comes)
+        for number in range(first.before, first.before + len(first.told.sent)):
+            if number not in comes:
+                yield "lost", number, None
+
+
+def text_line(world, kind, what, more):
+    """A row as a line of text."""
+    if kind == "lost":
+        return line("", lost(world.datagrams[what][0], label_of(world, what)), "lost")
+    if kind == "comes":
+        number = brought(what)
+        label = label_of(world, number, more[1])
+        return line(what.number, arrow(world.datagrams[number][0], label), outcome_text(what.told))
+    if kind == "idles":
+        return line(what.number, mark(what.node, "~", "1 tick" if more == 1 else f"{more} ticks"))
+    do = what.event["do"]
+    middle = mark(what.node, {"restart": "#", "tick": "~"}.get(do, "o"), event_label(what))
+    return line(what.number, middle, "" if do == "tick" else outcome_text(what.told))
+
+
+def diagram_lines(world, story):
+    yield HEAD
+    yield from (text_line(world, *row) for row in rows(world, story))
+
+
+# ---- as a picture
+
+STYLE = ("<style>path{stroke:#333;fill:none}.user path{stroke:#06c;stroke-dasharray:6 3}.again path{stroke:#999}"
+         ".lost path,.cut path{stroke:#b00}.life{stroke:#bbb}.label{text-anchor:middle}.place,.end{text-anchor:end}"
+         ".place,.tick text{fill:#777}.tick rect{fill:#bbb}.restart rect,.refused{fill:#b00}</style>")
+ARROWS = ('<defs><marker id="arrow" viewBox="0 0 8 8" refX="8" refY="4" markerWidth="8" markerHeight="8" orient="auto">'
+          '<path d="M0 0L8 4L0 8"/></marker><marker id="cross" viewBox="0 0 8 8" refX="4" refY="4" markerWidth="8" '
+          'markerHeight="8"><path d="M0 0L8 8M8 0L0 8"/></marker></defs>')
+
+
+def arrow_svg(world, number, kind, label):
+    """The arrow of a datagram, whose octets are its tooltip."""
+    sender, plane, octets = world.datagrams[number]
+    start, end, short = (150, 650, 460) if sender == SERVING else (650, 150, 340)
+    way = f'M{start} 0H{short}" marker-end="url(#cross)' if kind == "lost" else f'M{start} 0H{end}" marker-end="url(#arrow)'
+    return (f'<g class="{" ".join([plane, kind]).strip()}"><title>{octets.hex() or "-"}</title><path d="{way}"/>'
+            f'<text class="label" x="400" y="-5">{label}</text></g>')
+
+
+def mark_svg(node, kind, label):
+    """What happens at one gateway."""
+    x, text = (145, '<text x="162" y="4">') if node == SERVING else (645, '<text class="end" x="638" y="4">')
+    return f'<g class="{kind}"><rect x="{x}" y="-5" width="10" height="10"/>{text}{label}</text></g>'
+
+
+def outcome_svg(told):
+    kind = "refused" if told.outcome[0] in "GXN" else "outcome"
+    return f'<text class="{kind}" x="680" y="4">{outcome_text(told)}</text>'
+
+
+def row_svg(world, kind, what, more):
+    """A row as a group of a picture, without its place in it."""
+    if kind == "lost":
+        return arrow_svg(world, what, "lost", label_of(world, what))
+    place = f'<text class="place" x="60" y="4">{what.number}</text>'
+    if kind == "comes":
+        number = brought(what)
+        return place + arrow_svg(world, number, more[0], label_of(world, number, more[1])) + outcome_svg(what.told)
+    if kind == "idles":
+        return place + mark_svg(what.node, "tick", "1 tick" if more == 1 else f"{more} ticks")
+    do = what.event["do"]
+    seen = mark_svg(what.node, do if do in ("tick", "restart") else "event", event_label(what))
+    return place + seen + ("" if do == "tick" else outcome_svg(what.told))
+
+
+def svg_lines(world, story):
+    groups = [row_svg(world, *row) for row in rows(world, story)]
+    height = 60 + 30 * len(groups)
+    yield f'<svg xmlns="http://www.w3.org/2000/svg" width="900" height="{height}" font-family="monospace" font-size="12">'
+    yield STYLE
+    yield ARROWS
+    yield '<rect width="100%" height="100%" fill="#fff"/>'
+    yield '<text class="label" x="150" y="25">serving</text><text class="label" x="650" y="25">packet</text>'
+    yield f'<path class="life" d="M150 35V{height}M650 35V{height}"/>'
+    for index, group in enumerate(groups):
+        yield f'<g transform="translate(0,{60 + 30 * index})">{group}</g>'
+    yield "</svg>"

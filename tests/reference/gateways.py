@@ -1,7 +1,8 @@
 """A second account of both gateways and of their world, in plain Python, written after the standard and the
 protocol profile and not after the program. Reports of the program are compared with those of this account.
 
-It takes what a world can show: scenarios that are well formed, and datagrams that a gateway sent, whole or cut.
+Here it takes what a world can show: scenarios that are well formed, and datagrams that a gateway sent, whole or cut. `served`
+takes any octets from anywhere.
 The clauses named are those of TS 29.274 and, of the user plane, TS 29.281."""
 
 from dataclasses import dataclass, field, replace
@@ -73,6 +74,16 @@ def end_of(instance, interface, teid, address):
     """An F-TEID of one address, of version 4 or 6 (clause 8.22)."""
     version = {4: 128, 16: 64}[len(address)]
     return element(FTEID, instance, bytes([version | interface]) + teid.to_bytes(4, "big") + address)
+
+
+def end_again(instance, body):
+    """An F-TEID that is sent back: its flags, its TEID and the addresses that they announce (clause 8.22)."""
+    return element(FTEID, instance, body[: 5 + (4 if body[0] & 128 else 0) + (16 if body[0] & 64 else 0)])
+
+
+def quality_again(body):
+    """A Bearer QoS that is sent back, without spare bits (clause 8.15)."""
+    return element(QOS, 0, bytes([body[0] & 0x7D]) + body[1:22])
 
 
 def teid_in(body):
@@ -563,7 +574,9 @@ class Gateway:
         header = teid_in(first(found, FTEID, 0))
         apn = text_of(first(found, APN, 0))
         pdn = first(found, PDN_TYPE, 0)[0] & 7
-        context = message.contexts[0]
+        context, *others = message.contexts
+        if others:
+            return header, 94, b""
         identity = first(context, EBI, 0)[0] & 15
         if identity < 5:
             return header, 69, b""
@@ -581,9 +594,10 @@ class Gateway:
         self.sessions[session] = Session(imsi, apn, identity, ACTIVE, header, address)
         self.bearers[bearer] = Bearer(session, True, ACTIVE, identity, teid_in(first(context, FTEID, 2)))
         made = number_of(EBI, identity) + cause_of(16) + end_of(2, 5, bearer, self.setup.user)
-        made += element(QOS, 0, first(context, QOS, 0)) + number_of(CHARGING_ID, bearer, 4)
+        made += quality_again(first(context, QOS, 0)) + number_of(CHARGING_ID, bearer, 4)
         rows = end_of(1, 7, session, self.setup.control) + allocation(address, PREFIX)
-        rows += element(AMBR, 0, first(found, AMBR, 0)) + element(CONTEXT, 0, made)
+        rates = first(found, AMBR, 0)
+        rows += (b"" if rates is None else element(AMBR, 0, rates[:8])) + element(CONTEXT, 0, made)
         return header, 16 if address.kind == pdn else 18, rows, *self.request_of_template(session)
 
     def request_of_template(self, session):
@@ -610,17 +624,19 @@ class Gateway:
             return 0, 64, b""
         if session.state != ACTIVE:
             raise Refused("X5")
+        if len(message.contexts) > 1:
+            return session.remote, 94, b""
         if first(message.found, EBI, 0)[0] & 15 != session.identity:
             return session.remote, 64, b""
         asked = first(message.contexts[0], FTEID, 1)
         identity = self.free_identity(message.teid)
         if identity is None or not self.has_draws(1):
-            refused = number_of(EBI, 0) + cause_of(73) + element(FTEID, 3, asked)
+            refused = number_of(EBI, 0) + cause_of(73) + end_again(3, asked)
             return session.remote, 73, element(CONTEXT, 0, refused)
         bearer = self.draw()
         self.bearers[bearer] = Bearer(message.teid, False, ACTIVE, identity, teid_in(asked))
         made = number_of(EBI, identity) + cause_of(16) + end_of(2, 4, bearer, self.setup.user)
-        made += element(FTEID, 3, asked)
+        made += end_again(3, asked)
         return session.remote, 16, element(CONTEXT, 0, made)
 
     def bearers_deleted(self, message):
@@ -636,6 +652,8 @@ class Gateway:
             self.remove_session(message.teid)
             return session.remote, 16, number_of(EBI, session.identity)
         causes, rows = [], b""
+        if len(every(message.found, EBI, 1)) > 11:
+            return session.remote, 94, b""
         for body in every(message.found, EBI, 1):
             bearer = self.with_identity(message.teid, body[0] & 15)
             causes.append(64 if bearer is None or self.bearers[bearer].default else 16)

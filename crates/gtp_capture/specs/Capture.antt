@@ -1,11 +1,12 @@
 -- The frames of a capture, of either format.
-use Rattle.std.specs.Prelude.{◌≡◌, ◌≢◌, ℕ, ◌⊎◌, false, List, [], ◌∷◌, ◌++◌}
+use Rattle.std.specs.Prelude.{◌≡◌, ◌≢◌, ◌≤◌, ℕ, ◌⊎◌, false, List, [], ◌∷◌, ◌++◌, length}
 use Rattle.gtp_capture.specs.Octets.{four_at}
-use Rattle.gtp_capture.specs.Frame.{Frame, IsRecord, IsHeaded}
+use Rattle.gtp_capture.specs.Frame.{Frame, IsRecord, IsHeaded, magic}
 use Rattle.gtp_capture.specs.Block.{IsBlock, IsSection, IsInterface, IsPacketBlock, section_type, is_read}
 use Rattle.gtp_capture.specs.declared.octets.Order.{Order}
 use Rattle.gtp_capture.specs.declared.octets.Order.TheVariants.{High}
 use Rattle.gtp_capture.specs.declared.head.Kind.{Kind}
+use Rattle.gtp_capture.specs.declared.head.Unit.{Unit as Fraction}
 use Rattle.gtp_capture.specs.declared.interface.Interface.{Interface}
 
 -- how the rest of a capture is read: as records of a kind; or as blocks in an order, after those that described these interfaces
@@ -86,3 +87,7 @@ pub record IsCapture (file : List ℕ) (state : State) (frames : List Frame) (re
   pub stand : ArePieces first body pieces rest
   pub held : frames ≡ frames_in pieces
   pub later : state ≡ after_all pieces first
+
+-- Octets that begin as a capture does: with the number of a file of records, in either order, or with the type of a section's header.
+abbrev pub BeginsAsCapture : List ℕ → Type 0
+BeginsAsCapture octets = (4 ≤ length octets) × (((order : Order) × (unit : Fraction) × (four_at order 0 octets ≡ magic unit)) ⊎ (four_at High 0 octets ≡ section_type))

@@ -1,8 +1,9 @@
 //! The head of a capture.
 
-ghost use Rattle.std.specs.Prelude.{◌≡◌, ◌≤◌, ◌++◌, length, IfSome, IfNone, IfOk, IfErr, ◌≢◌, ◌+◌, ◌-◌, ◌^◌, ◌<◌, Err};
+ghost use Rattle.std.specs.Prelude.{IsTrue, IsFalse, ◌≡◌, ◌≤◌, ◌++◌, length, IfSome, IfNone, IfOk, IfErr, ◌≢◌, ◌+◌, ◌-◌, ◌^◌, ◌<◌, Err};
 ghost use Rattle.gtp_counted.specs.Counts.{inner_of, failures_of};
 ghost use Rattle.gtp_capture.specs.Frame.{IsHead, magic};
+ghost use Rattle.gtp_capture.specs.Capture.{BeginsAsCapture};
 ghost use Rattle.gtp_capture.specs.Octets.{four_at};
 ghost use Rattle.gtp_capture.specs.Block.{section_type};
 ghost use Rattle.gtp_capture.specs.Outcome.{Known, HasBegun};
@@ -67,6 +68,19 @@ fn read_kind(head: &[u8]) -> Option<Kind>
         Some(kind) => Some(kind),
         None => kind_in(Order::Low, head),
     }
+}
+
+/// Whether octets begin as a capture does: with the number of a pcap file, in either order, or with the type of a section
+/// (pcapng).
+pub fn begins_as_capture(octets: &[u8]) -> bool
+    ensures yes { IsTrue result → BeginsAsCapture octets.now }
+    ensures no { IsFalse result → BeginsAsCapture octets.now → ⊥ }
+{
+    if octets.len() < 4 {
+        return false;
+    }
+    let number = four(Order::High, octets, 0);
+    number == SECTION || unit_of(number).is_some() || unit_of(four(Order::Low, octets, 0)).is_some()
 }
 
 /// The header of the first section of a capture, of which the first octets were read.

@@ -26,7 +26,7 @@ mod writing;
 
 pub use captured::{Captured, Refused, Sink, Time};
 pub use fault::{CaptureFault, Stop};
-pub use head::{Kind, Unit};
+pub use head::{Kind, Unit, begins_as_capture};
 pub use interface::Interface;
 pub use laws::{a_file_has_one_reading, what_is_read_is_carried};
 pub use octets::Order;

@@ -1,2 +1,3 @@
 mod Held
 mod Written
+pub mod Lines

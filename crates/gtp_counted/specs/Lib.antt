@@ -1,3 +1,4 @@
 pub mod Counts
 pub mod Streams
 pub mod Parts
+pub mod Lines

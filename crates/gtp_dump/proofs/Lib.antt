@@ -1,4 +1,3 @@
-pub mod Held
 pub mod Digits
 pub mod Texts
 pub mod Going

@@ -1,8 +1,8 @@
 -- What is told of the lines of a hex dump.
 use Rattle.std.specs.Prelude.{◌≡◌, ◌≢◌, ℕ, ◌+◌, ◌||◌, ◌⊎◌, Bool, true, false, List, [], ◌∷◌, ◌++◌, Option, codes, decimal}
-use Rattle.std.specs.Io.BufRead.{take_through, drop_through}
 use Rattle.std.specs.Io.KnownBytes.{Appends}
 use Rattle.gtp_counted.specs.Counts.{NoneFailed, FailedOnce, ClosedOnce}
+use Rattle.gtp_counted.specs.Lines.{BeginsWithLines}
 use Rattle.gtp_counted.specs.declared.counted.Counted.{Counted}
 use Rattle.gtp_values.specs.declared.plane.Plane.{Plane}
 use Rattle.gtp_lines.specs.Lines.{LinesOf}
@@ -79,11 +79,6 @@ abbrev pub TellAll : Asked → Tally → List (List ℕ) → Tally → List ℕ 
 TellAll asked before [] after out err = (after ≡ before) × (out ≡ []) × (err ≡ [])
 TellAll asked before (line ∷ lines) after out err = (next : Tally) × (o : List ℕ) × (os : List ℕ) × (e : List ℕ) × (es : List ℕ)
     × Tells asked before line next o e × TellAll asked next lines after os es × (out ≡ o ++ os) × (err ≡ e ++ es)
-
--- the octets begin with these lines, each up to its line feed or the end, and then have the rest
-abbrev pub BeginsWithLines : List ℕ → List (List ℕ) → List ℕ → Type 0
-BeginsWithLines octets [] rest = octets ≡ rest
-BeginsWithLines octets (line ∷ lines) rest = (octets ≢ []) × (line ≡ take_through 10 octets) × BeginsWithLines (drop_through 10 octets) lines rest
 
 -- the lines before the rest were told, and nothing else
 pub record AreTold (asked : Asked) (octets rest : List ℕ) (tally : Tally) (out out_after err err_after : Option (List ℕ)) : Type 0 where

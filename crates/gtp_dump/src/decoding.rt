@@ -225,6 +225,7 @@ fn tell<W: Write, E: Write>(
 /// `Read` if a read failed, `Write` if a write did, `Closed` if the reader of the output closed it, `Memory` if an allocation was
 /// refused, `TooLong` if there are 2^64 - 1 octets or more: except after `Write` and `Closed`, what was written is that of the
 /// first lines.
+#[tactic(auto, using(gtp_counted::proofs::Lines::lasts_long, gtp_counted::proofs::Lines::lasts_within))]
 pub fn decode_dump<R: BufRead, W: Write, E: Write>(
     alloc: Global,
     asked: Asked,

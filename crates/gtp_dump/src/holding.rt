@@ -7,7 +7,7 @@ ghost use Rattle.gtp_counted.specs.Counts.{inner_of, failures_of};
 
 use crate::decoding::DumpFault;
 use crate::text::MOST_OCTETS;
-use gtp_counted::{Counted, Unread};
+use gtp_counted::{Counted, UnreadLine};
 use std::io::BufRead;
 
 /// What is held of a line: an octet more than it may have.
@@ -31,14 +31,10 @@ pub fn next_line<R: BufRead>(reader: &mut Counted<R>, line: &mut Vec<u8>) -> Res
     ensures kind { IfErr result (λ fault. (fault ≡ DumpFault.TooLong) ⊎ (fault ≡ DumpFault.Memory)
         ⊎ (fault ≡ DumpFault.Read)) }
 {
-    line.clear();
-    for _ in 0..u64::MAX {
-        match reader.append_through(b'\n', MOST_HELD, line) {
-            Ok(true) => return Ok(()),
-            Ok(false) => {}
-            Err(Unread::Failed(_)) => return Err(DumpFault::Read),
-            Err(Unread::Memory) => return Err(DumpFault::Memory),
-        }
+    match reader.next_line(MOST_HELD, line) {
+        Ok(()) => Ok(()),
+        Err(UnreadLine::TooLong) => Err(DumpFault::TooLong),
+        Err(UnreadLine::Memory) => Err(DumpFault::Memory),
+        Err(UnreadLine::Read) => Err(DumpFault::Read),
     }
-    Err(DumpFault::TooLong)
 }

@@ -94,9 +94,9 @@ fn put_end_members(out: &mut Output, end: &Endpoint) -> Result<(), AllocError>
     out.number_member("port", u64::from(end.port))
 }
 
-/// Writes the member of an end.
+/// Writes the member of an end: an object with `address` and `port`.
 #[tactic(auto, using(crate::proofs::Tokens::nesting))]
-fn put_end(out: &mut Output, name: &str, end: &Endpoint) -> Result<(), AllocError>
+pub fn put_end(out: &mut Output, name: &str, end: &Endpoint) -> Result<(), AllocError>
     ensures ok { OnOk result
         (out.new ≡ out.old ++ written (member name.now (object_of (end_members end.now)))) }
 {
@@ -154,7 +154,7 @@ fn put_part(out: &mut Output, packet: &Packet) -> Result<(), AllocError>
     ensures ok { OnOk result (out.new ≡ out.old ++ written (part_members (packet_of packet.now))) }
 {
     if packet.fragment {
-        return out.true_member("fragment");
+        return out.bool_member("fragment", true);
     }
     put_cut(out, packet)
 }

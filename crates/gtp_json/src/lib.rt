@@ -10,7 +10,8 @@ mod user;
 mod values;
 
 pub use datagram::datagram_json;
-pub use frames::frame_json;
+pub use frames::{frame_json, put_end};
+pub use object::Output;
 
 /// What the signatures here name of the crates below.
 pub use gtp_capture::Captured;

@@ -1,6 +1,6 @@
 //! JSON written a token at a time.
 
-ghost use Rattle.std.specs.Prelude.{◌≡◌, ◌<◌, [], ◌++◌, All, OnOk, IfOk, IfSome, codes, true};
+ghost use Rattle.std.specs.Prelude.{◌≡◌, ◌<◌, [], ◌++◌, All, OnOk, IfOk, IfSome, codes};
 ghost use Rattle.json.specs.Json.{boolean, string as string_json};
 ghost use Rattle.json.specs.Tree.{json_tokens};
 ghost use Rattle.gtp_json.specs.Tree.{member, number_of};
@@ -177,12 +177,13 @@ impl Output {
         self.display(value)
     }
 
-    /// A member that is `true`.
+    /// A member that is `true` or `false`.
     #[tactic(auto, using(crate::proofs::Tokens::appending, crate::proofs::Tokens::member_tokens_are))]
-    pub fn true_member(&mut self, name: &str) -> Result<(), AllocError>
-        ensures ok { OnOk result (self.new ≡ self.old ++ written (member name.now (boolean true))) }
+    pub fn bool_member(&mut self, name: &str, value: bool) -> Result<(), AllocError>
+        ensures ok { OnOk result
+            (self.new ≡ self.old ++ written (member name.now (boolean value))) }
     {
         self.key(name)?;
-        self.writer.boolean(true)
+        self.writer.boolean(value)
     }
 }

@@ -11,7 +11,7 @@ use Rattle.gtp_machine.specs.Spelling.{Datagram}
 use Rattle.gtp_machine.specs.World.{By}
 use Rattle.gtp_world.specs.Kept.{Told}
 use Rattle.gtp_replay.specs.Captures.{sent_between, where_room, frame_in, frames_from}
-use Rattle.gtp_replay.proofs.Lines.{front_is, rest_is}
+use Rattle.gtp_outcomes.proofs.Numbered.{front_is, rest_is}
 
 -- an event more
 pub one_note : {D : Type 0} (f : D → By Datagram) (event next count : ℕ) (rest front back : List D) (told : Told) (notes_left notes : List Told) (before mid new : List Sent)

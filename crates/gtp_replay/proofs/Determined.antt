@@ -11,9 +11,11 @@ use Rattle.gtp_scenario.specs.Scenarios.{Scenario, scenario_of}
 use Rattle.gtp_replay.specs.Contexts.{node_text}
 use Rattle.gtp_replay.specs.Determined.{WorldsHaveOneReport, OctetsHaveOneText}
 use Rattle.gtp_replay.specs.Events.{events_text}
-use Rattle.gtp_replay.specs.Report.{IsOwed, late_line}
+use Rattle.gtp_outcomes.specs.Owed.{IsOwed}
+use Rattle.gtp_replay.specs.Report.{late_line}
 use Rattle.gtp_replay.specs.Told.{TellsScenario, TellsRefusal, Tells, events_of}
-use Rattle.gtp_replay.specs.Verdicts.{TellsEach, mutual_line, taken_line}
+use Rattle.gtp_outcomes.specs.Each.{TellsEach}
+use Rattle.gtp_replay.specs.Verdicts.{mutual_line, taken_line}
 use Rattle.gtp_replay.specs.declared.replaying.Form.TheVariants.{Report}
 use Rattle.gtp_replay.specs.declared.verdict.Verdict.{Verdict}
 use Rattle.gtp_replay.specs.declared.verdict.Verdict.TheVariants.{Expected, Unexpected}

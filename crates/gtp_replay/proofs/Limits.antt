@@ -3,7 +3,7 @@ use Rattle.std.proofs.Common.{◌≡◌, ℕ, List, take, Option, Some, None, Ma
 use Rattle.std.specs.Io.KnownBytes.{Appends}
 use Rattle.gtp_scenario.proofs.Front.{scenario_of_front}
 use Rattle.gtp_counted.specs.Streams.{WritesFront}
-use Rattle.gtp_replay.specs.Told.{ToldAs, ToldFrontAs, Tells, TellsScenario, TellsRefusal}
+use Rattle.gtp_replay.specs.Told.{Told, ToldFront, Tells, TellsScenario, TellsRefusal}
 use Rattle.gtp_replay.specs.declared.replaying.Form.{Form}
 use Rattle.gtp_replay.specs.declared.verdict.Verdict.{Verdict}
 
@@ -11,10 +11,10 @@ told_of_front : (form : Form) (octets text : List ℕ) (v : Verdict) → Tells f
 unfolding Tells
 told_of_front form octets text v t = subst (λ r. MatchResult r (λ s. TellsScenario form s text v) (λ r. TellsRefusal r text v)) (scenario_of_front 16777217 octets (lit< tt)) t
 
-pub told_for_all : (form : Form) (known : Option (List ℕ)) (octets text : List ℕ) (v : Verdict) (old new : Option (List ℕ)) → IfSome known (λ all. octets ≡ take 16777217 all) → Tells form octets text v → Appends old new text → IfSome known (λ all. ToldAs form all v old new)
+pub told_for_all : (form : Form) (known : Option (List ℕ)) (octets text : List ℕ) (v : Verdict) (old new : Option (List ℕ)) → IfSome known (λ all. octets ≡ take 16777217 all) → Tells form octets text v → Appends old new text → IfSome known (λ all. Told form all v old new)
 told_for_all form None octets text v old new h t a = tt
 told_for_all form (Some all) octets text v old new h t a = (text, told_of_front form all text v (subst (λ o. Tells form o text v) h t), a)
 
-pub front_for_all : (form : Form) (known : Option (List ℕ)) (octets text : List ℕ) (v : Verdict) (old new : Option (List ℕ)) → IfSome known (λ all. octets ≡ take 16777217 all) → Tells form octets text v → WritesFront old new text → IfSome known (λ all. ToldFrontAs form all old new)
+pub front_for_all : (form : Form) (known : Option (List ℕ)) (octets text : List ℕ) (v : Verdict) (old new : Option (List ℕ)) → IfSome known (λ all. octets ≡ take 16777217 all) → Tells form octets text v → WritesFront old new text → IfSome known (λ all. ToldFront form all old new)
 front_for_all form None octets text v old new h t w = tt
 front_for_all form (Some all) octets text v old new h t w = (text, v, told_of_front form all text v (subst (λ o. Tells form o text v) h t), w)

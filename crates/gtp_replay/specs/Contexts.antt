@@ -7,21 +7,16 @@ use Rattle.gtp_values.specs.Imsi.{digits_text}
 use Rattle.gtp_values.specs.PdnAddress.{address_text}
 use Rattle.gtp_values.specs.Teid.{teid_text}
 use Rattle.gtp_machine.specs.declared.role.Role.{Role}
-use Rattle.gtp_tables.specs.declared.context.State.{State}
 use Rattle.gtp_tables.specs.declared.context.Session.{Session}
 use Rattle.gtp_tables.specs.declared.context.Bearer.{Bearer}
-use Rattle.gtp_machine.specs.Node.{Pending, Active, Closing, Node}
+use Rattle.gtp_machine.specs.Node.{Node}
+use Rattle.gtp_outcomes.specs.States.{state_word}
 use Rattle.gtp_scenario.specs.Words.{role_text}
 
 -- a value, or a mark that there is none
 abbrev pub or_dash : {X : Type 0} → (X → List ℕ) → Option X → List ℕ
 or_dash text None = codes "-"
 or_dash text (Some x) = text x
-
-abbrev pub state_word : State → List ℕ
-state_word Pending = codes "pending"
-state_word Active = codes "active"
-state_word Closing = codes "closing"
 
 -- an End Marker was sent or came
 abbrev pub ended_text : Bool → List ℕ

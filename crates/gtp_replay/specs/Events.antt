@@ -1,8 +1,6 @@
 -- The lines of events.
 use Rattle.std.specs.Prelude.{ℕ, ◌+◌, List, [], ◌∷◌, ◌++◌, Option, Some, None, codes, decimal, take, drop}
 use Rattle.std.specs.List.{flat_map, enumerate_from}
-use Rattle.gtp_values.specs.declared.plane.Plane.{Plane}
-use Rattle.gtp_machine.specs.Message.{Control, User}
 use Rattle.gtp_machine.specs.Node.{Arrival}
 use Rattle.gtp_machine.specs.Spelling.{Datagram}
 use Rattle.gtp_machine.specs.World.{By, Event}
@@ -10,11 +8,7 @@ use Rattle.gtp_machine.specs.declared.outcome.Outcome.{Outcome}
 use Rattle.gtp_world.specs.Kept.{Told}
 use Rattle.gtp_lines.specs.Text.{octets_text}
 use Rattle.gtp_scenario.specs.Words.{word_of}
-use Rattle.gtp_replay.specs.Outcomes.{outcome_word, outcome_detail, first_word, detail}
-
-abbrev pub plane_word : Plane → List ℕ
-plane_word Control = codes "control"
-plane_word User = codes "user"
+use Rattle.gtp_outcomes.specs.Outcomes.{plane_word, outcome_word, outcome_detail, first_word, detail}
 
 -- the counter of a restart of the peer that was learned, if one was
 abbrev pub learned_text : Option ℕ → List ℕ
@@ -27,8 +21,11 @@ second_text None = []
 second_text (Some outcome) = codes " then " ++ outcome_word outcome ++ outcome_detail outcome
 
 -- what an event came to
+abbrev pub told_words : Told → List ℕ
+told_words told = first_word told.outcome ++ detail told.outcome ++ second_text told.second ++ learned_text told.learned
+
 abbrev pub told_text : Told → List ℕ
-told_text told = first_word told.outcome ++ detail told.outcome ++ second_text told.second ++ learned_text told.learned ++ codes "\n"
+told_text told = told_words told ++ codes "\n"
 
 -- what happened, and what it came to
 abbrev pub head_line : ℕ → Event → Told → List ℕ

@@ -5,7 +5,7 @@ use Rattle.gtp_machine.specs.World.{Came_to}
 use Rattle.gtp_machine.specs.declared.outcome.Outcome.{Outcome}
 use Rattle.gtp_world.specs.Kept.{Told}
 use Rattle.gtp_scenario.specs.Entries.{Entry}
-use Rattle.gtp_replay.specs.Outcomes.{first_word, is_refused}
+use Rattle.gtp_outcomes.specs.Outcomes.{first_word, is_refused}
 
 -- what the second of two messages came to is a refusal
 abbrev pub is_second_refused : Option Outcome → Bool

@@ -1,10 +1,14 @@
-pub mod Outcomes
 pub mod Events
 pub mod Contexts
 pub mod Verdicts
 pub mod Report
 pub mod Streams
 pub mod Expected
+pub mod Rows
+pub mod RowViews
+pub mod Labels
+pub mod Diagram
+pub mod Svg
 pub mod Captures
 pub mod Recaptured
 pub mod Told

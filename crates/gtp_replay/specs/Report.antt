@@ -1,18 +1,14 @@
 -- The report of a world.
 use Rattle.std.specs.Prelude.{◌≡◌, ℕ, List, ◌++◌, codes, decimal}
-use Rattle.gtp_machine.specs.Input.{Entry}
 use Rattle.gtp_machine.specs.declared.role.Role.TheVariants.{Serving, Packet}
-use Rattle.gtp_machine.specs.Safety.{IsOwed as IsOwedBy}
-use Rattle.gtp_machine.specs.World.{By, Event}
-use Rattle.gtp_world.specs.Kept.{Kept, Log}
+use Rattle.gtp_machine.specs.World.{Event}
+use Rattle.gtp_world.specs.Kept.{Kept}
 use Rattle.gtp_world.specs.Naming.{mutual_pairs, DoAgree}
+use Rattle.gtp_outcomes.specs.Each.{TellsEach}
+use Rattle.gtp_outcomes.specs.Owed.{IsOwed}
 use Rattle.gtp_replay.specs.Events.{events_text}
 use Rattle.gtp_replay.specs.Contexts.{node_text}
-use Rattle.gtp_replay.specs.Verdicts.{TellsEach, mutual_line, taken_line}
-
--- the packet was handed in at the other gateway, octet for octet, for the same TEID, subscriber, access point and bearer
-abbrev pub IsOwed : Log → By Entry → Type 0
-IsOwed log a = IsOwedBy log.handed a.role a.what
+use Rattle.gtp_replay.specs.Verdicts.{mutual_line, taken_line}
 
 -- how many deliveries were late
 abbrev pub late_line : ℕ → List ℕ

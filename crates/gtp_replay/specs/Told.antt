@@ -11,8 +11,12 @@ use Rattle.gtp_scenario.specs.Entries.{events_in}
 use Rattle.gtp_scenario.specs.Scenarios.{Scenario, scenario_of}
 use Rattle.gtp_replay.specs.Captures.{IsCaptureOf}
 use Rattle.gtp_replay.specs.Report.{IsReport}
+use Rattle.gtp_replay.specs.Rows.{Row, rows_of}
+use Rattle.gtp_replay.specs.Diagram.{IsDiagram}
+use Rattle.gtp_replay.specs.Svg.{IsSvg}
+use Rattle.gtp_run_json.specs.Run.{IsRunJson}
 use Rattle.gtp_replay.specs.declared.replaying.Form.{Form}
-use Rattle.gtp_replay.specs.declared.replaying.Form.TheVariants.{Report, Diagram, Capture}
+use Rattle.gtp_replay.specs.declared.replaying.Form.TheVariants.{Report, Diagram, Svg, Capture, Json}
 use Rattle.gtp_replay.specs.declared.verdict.Verdict.{Verdict}
 use Rattle.gtp_replay.specs.declared.verdict.Verdict.TheVariants.{Expected, Unexpected, Bad}
 use Rattle.gtp_replay.specs.Expected.{all_met}
@@ -26,13 +30,19 @@ events_of scenario = flat_map events_in scenario.entries
 abbrev pub verdict_on : Scenario → Kept → Verdict
 verdict_on scenario world = if all_met scenario.entries world.log.notes then Expected else Unexpected
 
--- a text of a world in which these events happened: its report, its capture, or a diagram, of which nothing is said
+-- the rows of a diagram of a world in which these events happened
+abbrev pub rows_in : List Event → Kept → List Row
+rows_in events world = rows_of events world.log.datagrams world.log.notes
+
+-- a text of a world in which these events happened, in a form
 abbrev pub IsText : Form → List Event → Kept → List ℕ → Type 0
 IsText Report events world text = IsReport events world text
-IsText Diagram events world text = Unit {0}
+IsText Diagram events world text = IsDiagram (rows_in events world) text
+IsText Svg events world text = IsSvg (rows_in events world) text
 IsText Capture events world text = IsCaptureOf world text
+IsText Json events world text = IsRunJson events world text
 
--- In a world that a run of the scenario's events leaves, the text is its report, its capture, or some diagram, and the verdict says whether each event came to what is expected.
+-- In a world that a run of the scenario's events leaves, the text is one of it in this form, and the verdict says whether each event came to what is expected.
 pub record TellsScenario (form : Form) (scenario : Scenario) (text : List ℕ) (verdict : Verdict) : Type 0 where
   pub world : Kept
   pub run : IsWhole scenario.setup (events_of scenario) world
@@ -55,30 +65,9 @@ unfoldable pub Tells : Form → List ℕ → List ℕ → Verdict → Type 0
 Tells form octets text verdict = MatchResult (scenario_of octets) (λ scenario. TellsScenario form scenario text verdict) (λ refusal. TellsRefusal refusal text verdict)
 
 -- a writer whose contents are known has such a text after what it had
-abbrev pub ToldAs : Form → List ℕ → Verdict → Option (List ℕ) → Option (List ℕ) → Type 0
-ToldAs form octets verdict before now = (text : List ℕ) × Tells form octets text verdict × Appends before now text
+abbrev pub Told : Form → List ℕ → Verdict → Option (List ℕ) → Option (List ℕ) → Type 0
+Told form octets verdict before now = (text : List ℕ) × Tells form octets text verdict × Appends before now text
 
 -- or a beginning of one
-abbrev pub ToldFrontAs : Form → List ℕ → Option (List ℕ) → Option (List ℕ) → Type 0
-ToldFrontAs form octets before now = (text : List ℕ) × (verdict : Verdict) × Tells form octets text verdict × WritesFront before now text
-
--- such a text with the report, or a beginning of one
-abbrev pub Told : List ℕ → Verdict → Option (List ℕ) → Option (List ℕ) → Type 0
-Told octets verdict before now = ToldAs Report octets verdict before now
-
-abbrev pub ToldFront : List ℕ → Option (List ℕ) → Option (List ℕ) → Type 0
-ToldFront octets before now = ToldFrontAs Report octets before now
-
--- such a text with a diagram, or a beginning of one
-abbrev pub Drawn : List ℕ → Verdict → Option (List ℕ) → Option (List ℕ) → Type 0
-Drawn octets verdict before now = ToldAs Diagram octets verdict before now
-
-abbrev pub DrawnFront : List ℕ → Option (List ℕ) → Option (List ℕ) → Type 0
-DrawnFront octets before now = ToldFrontAs Diagram octets before now
-
--- such a text with a capture, or a beginning of one
-abbrev pub Captured : List ℕ → Verdict → Option (List ℕ) → Option (List ℕ) → Type 0
-Captured octets verdict before now = ToldAs Capture octets verdict before now
-
-abbrev pub CapturedFront : List ℕ → Option (List ℕ) → Option (List ℕ) → Type 0
-CapturedFront octets before now = ToldFrontAs Capture octets before now
+abbrev pub ToldFront : Form → List ℕ → Option (List ℕ) → Option (List ℕ) → Type 0
+ToldFront form octets before now = (text : List ℕ) × (verdict : Verdict) × Tells form octets text verdict × WritesFront before now text

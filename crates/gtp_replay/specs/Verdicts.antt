@@ -1,20 +1,11 @@
 -- Lines that say of each of a list whether something holds.
-use Rattle.std.specs.Prelude.{◌≡◌, ◌↔◌, ℕ, List, [], ◌∷◌, ◌++◌, Bool, true, false, IsTrue, codes}
+use Rattle.std.specs.Prelude.{ℕ, List, ◌++◌, Bool, true, false, codes}
 use Rattle.gtp_values.specs.Teid.{teid_text}
 use Rattle.gtp_machine.specs.Input.{Entry}
 use Rattle.gtp_machine.specs.World.{By}
 use Rattle.gtp_world.specs.Naming.{Pair, Sessions, Bearers}
 use Rattle.gtp_lines.specs.Text.{octets_text}
 use Rattle.gtp_scenario.specs.Words.{role_text}
-
--- the text has a line for each, which says whether this holds of it
-abbrev pub TellsEach : {X : Type 0} → (X → Type 0) → (X → Bool → List ℕ) → List X → List ℕ → Type 0
-TellsEach Holds line [] text = text ≡ []
-TellsEach Holds line (x ∷ xs) text = (verdict : Bool) × (others : List ℕ) × (IsTrue verdict ↔ Holds x) × TellsEach Holds line xs others × (text ≡ line x verdict ++ others)
-
--- such lines come after what was there
-abbrev pub AddsEach : {X : Type 0} → (X → Type 0) → (X → Bool → List ℕ) → List X → List ℕ → List ℕ → Type 0
-AddsEach Holds line xs old new = (lines : List ℕ) × TellsEach Holds line xs lines × (new ≡ old ++ lines)
 
 abbrev pub agree_word : Bool → List ℕ
 agree_word true = codes "agree"

@@ -6,8 +6,8 @@ ghost use Rattle.gtp_world.specs.Kept.{told_by};
 ghost use Rattle.gtp_scenario.specs.Views.{entry as entry_view};
 ghost use Rattle.gtp_replay.specs.Expected.{is_second_refused, told_is_met, all_met};
 
-use crate::reporting::{first_word, is_refused};
 use gtp_gateway::Outcome;
+use gtp_outcomes::{first_word, is_refused};
 use gtp_scenario::Entry;
 use gtp_world::{EventOutcome, Note};
 

@@ -1,17 +1,24 @@
-//! Replays: a scenario is read and run, and its report, its diagram or a capture of it is written.
+//! Replays: a scenario is read and run, and its report, a diagram as text or as a picture, its JSON or a capture of it is written.
 #![tactic(auto)]
 
 mod capturing;
+mod drawing;
 mod expected;
+mod happened;
+mod labels;
 pub mod laws;
+mod picture;
 mod replaying;
 mod reporting;
+mod rows;
 mod streams;
 mod verdict;
 
 pub use capturing::capture;
-pub use replaying::{replay, replay_capture, replay_diagram};
-pub use reporting::{diagram, report};
+pub use drawing::diagram;
+pub use picture::svg;
+pub use replaying::{Form, replay};
+pub use reporting::report;
 pub use verdict::{ReplayFault, Verdict};
 
 /// What the signatures and contracts here name of the crates below.

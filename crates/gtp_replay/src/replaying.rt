@@ -1,4 +1,4 @@
-//! Replays: from the octets of a scenario to those of a report, a diagram or a capture.
+//! Replays: from the octets of a scenario to those of a text of its run.
 
 ghost use Rattle.std.specs.Prelude.{◌≡◌, ◌≢◌, ◌+◌, ◌-◌, ◌^◌, ◌<◌, map, IfOk, IfErr, IfSome};
 ghost use Rattle.gtp_world.specs.Events.{event_of};
@@ -7,15 +7,18 @@ ghost use Rattle.gtp_scenario.specs.Views.{scenario as scenario_view};
 ghost use Rattle.gtp_replay.specs.Ran.{IsRan};
 ghost use Rattle.gtp_counted.specs.Counts.{inner_of, failures_of};
 ghost use Rattle.gtp_replay.specs.Streams.{ConsumesUpTo};
-ghost use Rattle.gtp_replay.specs.Told.{refusal_line, verdict_on, IsText, TellsScenario, Tells, ToldAs, ToldFrontAs, Told, ToldFront, Drawn, DrawnFront, Captured, CapturedFront};
+ghost use Rattle.gtp_replay.specs.Told.{refusal_line, verdict_on, IsText, TellsScenario, Tells, Told, ToldFront};
 
 use crate::capturing::capture;
+use crate::drawing::diagram;
 use crate::expected::all_met;
-use crate::reporting::{diagram, report};
+use crate::picture::svg;
+use crate::reporting::report;
 use crate::streams::{read_octets, write_octets};
 use crate::verdict::{ReplayFault, Verdict};
 use gtp_counted::Counted;
 use gtp_lines::text::{put, put_number};
+use gtp_run_json::run_json;
 use gtp_scenario::{ReadFault, Refusal, Scenario, events_of, read_scenario};
 use gtp_values::Memory;
 use gtp_world::{Event, World, WorldConfig};
@@ -45,11 +48,18 @@ fn refusal_text(alloc: Global, refusal: Refusal) -> Result<Vec<u8>, ReplayFault>
 }
 
 /// What is written of a run.
-#[derive(Clone, Copy)]
-enum Form {
+#[derive(Clone, Copy, Debug, PartialEq, Eq)]
+pub enum Form {
+    /// The text of `report`.
     Report,
+    /// The text of `diagram`.
     Diagram,
+    /// The picture of `svg`.
+    Svg,
+    /// The packet capture of `capture`.
     Capture,
+    /// The JSON of `run_json`.
+    Json,
 }
 
 /// A run of a scenario: its events, and the world that they leave.
@@ -97,7 +107,9 @@ fn text_of(alloc: Global, form: Form, ran: &Ran) -> Result<Vec<u8>, Memory>
     match form {
         Form::Report => report(alloc, &ran.events, &ran.world),
         Form::Diagram => diagram(alloc, &ran.events, &ran.world),
+        Form::Svg => svg(alloc, &ran.events, &ran.world),
         Form::Capture => capture(alloc, &ran.world),
+        Form::Json => run_json(alloc, &ran.events, &ran.world),
     }
 }
 
@@ -141,8 +153,11 @@ fn answered(alloc: Global, form: Form, octets: &[u8]) -> Result<(Vec<u8>, Verdic
     }
 }
 
-/// Reads a scenario, runs it, and writes the run in this form.
-fn replay_as<R: Read, W: Write>(
+/// Reads a scenario, runs it, and writes the run in a form: of the world that its events leave, or, if the octets are not a
+/// scenario, one line with the first error in them. At most 16,777,217 octets are read, one past the limit of a
+/// scenario. The text is complete before its first octet is written. `Read` or `Write` if a call of the reader or the
+/// writer failed, and `Memory` if an allocation was refused.
+pub fn replay<R: Read, W: Write>(
     alloc: Global,
     form: Form,
     reader: &mut Counted<R>,
@@ -150,81 +165,9 @@ fn replay_as<R: Read, W: Write>(
 ) -> Result<Verdict, ReplayFault>
     requires reads { failures_of reader.old < 2 ^ 64 - 1 }
     requires writes { failures_of writer.old < 2 ^ 64 - 1 }
+    // The text is that of a world that the events leave, or the line of the refusal; the verdict is that of the same octets.
     ensures written { IfOk result (λ verdict. IfSome (R.remaining (inner_of reader.old)) (λ octets.
-        ToldAs form octets verdict
-        (W.contents (inner_of writer.old)) (W.contents (inner_of writer.new)))) }
-    ensures consumed { ConsumesUpTo 16777217
-        (R.remaining (inner_of reader.old)) (R.remaining (inner_of reader.new)) }
-    ensures read { result ≡ Err ReplayFault.Read
-        → failures_of reader.new ≡ failures_of reader.old + 1 }
-    ensures reads_on { result ≢ Err ReplayFault.Read
-        → failures_of reader.new ≡ failures_of reader.old }
-    ensures write { result ≡ Err ReplayFault.Write
-        → failures_of writer.new ≡ failures_of writer.old + 1 }
-    ensures writes_on { result ≢ Err ReplayFault.Write
-        → failures_of writer.new ≡ failures_of writer.old }
-    ensures front { result ≡ Err ReplayFault.Write
-        → IfSome (R.remaining (inner_of reader.old)) (λ octets. ToldFrontAs form octets
-        (W.contents (inner_of writer.old)) (W.contents (inner_of writer.new))) }
-    ensures unread { result ≡ Err ReplayFault.Read → writer.new ≡ writer.old }
-    ensures memory { result ≡ Err ReplayFault.Memory → writer.new ≡ writer.old }
-{
-    let octets = read_octets(alloc, reader, MOST_READ)?;
-    let (text, verdict) = answered(alloc, form, &octets)?;
-    write_octets(writer, &text)?;
-    Ok(verdict)
-}
-
-/// Reads a scenario, runs it, and writes the report of the world that its events leave; or, if the octets are not a
-/// scenario, one line with the first error in them. At most 16,777,217 octets are read, one past the limit of a
-/// scenario. The text is complete before its first octet is written. `Read` or `Write` if a call of the reader or the
-/// writer failed, and `Memory` if an allocation was refused.
-pub fn replay<R: Read, W: Write>(
-    alloc: Global,
-    reader: &mut Counted<R>,
-    writer: &mut Counted<W>,
-) -> Result<Verdict, ReplayFault>
-    requires reads { failures_of reader.old < 2 ^ 64 - 1 }
-    requires writes { failures_of writer.old < 2 ^ 64 - 1 }
-    // The text is the report of a world that the events leave, or the line of the refusal; the verdict is that of the
-    // same octets.
-    ensures written { IfOk result (λ verdict. IfSome (R.remaining (inner_of reader.old)) (λ octets.
-        Told octets verdict
-        (W.contents (inner_of writer.old)) (W.contents (inner_of writer.new)))) }
-    ensures consumed { ConsumesUpTo 16777217
-        (R.remaining (inner_of reader.old)) (R.remaining (inner_of reader.new)) }
-    // `Read` means one more failed call of the reader, and every other result none; likewise `Write`.
-    ensures read { result ≡ Err ReplayFault.Read
-        → failures_of reader.new ≡ failures_of reader.old + 1 }
-    ensures reads_on { result ≢ Err ReplayFault.Read
-        → failures_of reader.new ≡ failures_of reader.old }
-    ensures write { result ≡ Err ReplayFault.Write
-        → failures_of writer.new ≡ failures_of writer.old + 1 }
-    ensures writes_on { result ≢ Err ReplayFault.Write
-        → failures_of writer.new ≡ failures_of writer.old }
-    // A failed write leaves a beginning of the text, and any other fault leaves the writer alone.
-    ensures front { result ≡ Err ReplayFault.Write
-        → IfSome (R.remaining (inner_of reader.old)) (λ octets. ToldFront octets
-        (W.contents (inner_of writer.old)) (W.contents (inner_of writer.new))) }
-    ensures unread { result ≡ Err ReplayFault.Read → writer.new ≡ writer.old }
-    ensures memory { result ≡ Err ReplayFault.Memory → writer.new ≡ writer.old }
-{
-    replay_as(alloc, Form::Report, reader, writer)
-}
-
-/// Reads a scenario, runs it, and writes the run as a sequence diagram in plain text; or, if the octets are not a
-/// scenario, one line with the first error in them. It reads and writes as `replay` does, with the same errors.
-pub fn replay_diagram<R: Read, W: Write>(
-    alloc: Global,
-    reader: &mut Counted<R>,
-    writer: &mut Counted<W>,
-) -> Result<Verdict, ReplayFault>
-    requires reads { failures_of reader.old < 2 ^ 64 - 1 }
-    requires writes { failures_of writer.old < 2 ^ 64 - 1 }
-    // What is written is some text, or the line of a refusal, and the verdict is that on the octets
-    // that are read.
-    ensures drawn { IfOk result (λ verdict. IfSome (R.remaining (inner_of reader.old)) (λ octets.
-        Drawn octets verdict
+        Told form octets verdict
         (W.contents (inner_of writer.old)) (W.contents (inner_of writer.new)))) }
     ensures consumed { ConsumesUpTo 16777217
         (R.remaining (inner_of reader.old)) (R.remaining (inner_of reader.new)) }
@@ -239,46 +182,13 @@ pub fn replay_diagram<R: Read, W: Write>(
         → failures_of writer.new ≡ failures_of writer.old }
     // A failed write leaves a beginning of such a text, and any other fault leaves the writer alone.
     ensures front { result ≡ Err ReplayFault.Write
-        → IfSome (R.remaining (inner_of reader.old)) (λ octets. DrawnFront octets
+        → IfSome (R.remaining (inner_of reader.old)) (λ octets. ToldFront form octets
         (W.contents (inner_of writer.old)) (W.contents (inner_of writer.new))) }
     ensures unread { result ≡ Err ReplayFault.Read → writer.new ≡ writer.old }
     ensures memory { result ≡ Err ReplayFault.Memory → writer.new ≡ writer.old }
 {
-    replay_as(alloc, Form::Diagram, reader, writer)
-}
-
-/// Reads a scenario, runs it, and writes the datagrams of the run as a packet capture (pcap), in the form of `capture`;
-/// or, if the octets are not a scenario, one line with the first error in them. It reads and writes as `replay` does,
-/// with the same errors.
-pub fn replay_capture<R: Read, W: Write>(
-    alloc: Global,
-    reader: &mut Counted<R>,
-    writer: &mut Counted<W>,
-) -> Result<Verdict, ReplayFault>
-    requires reads { failures_of reader.old < 2 ^ 64 - 1 }
-    requires writes { failures_of writer.old < 2 ^ 64 - 1 }
-    // What is written is the capture of a world that the events leave, or the line of the refusal; the verdict is that
-    // of the same octets.
-    ensures captured { IfOk result (λ verdict. IfSome (R.remaining (inner_of reader.old)) (λ octets.
-        Captured octets verdict
-        (W.contents (inner_of writer.old)) (W.contents (inner_of writer.new)))) }
-    ensures consumed { ConsumesUpTo 16777217
-        (R.remaining (inner_of reader.old)) (R.remaining (inner_of reader.new)) }
-    // `Read` means one more failed call of the reader, and every other result none; likewise `Write`.
-    ensures read { result ≡ Err ReplayFault.Read
-        → failures_of reader.new ≡ failures_of reader.old + 1 }
-    ensures reads_on { result ≢ Err ReplayFault.Read
-        → failures_of reader.new ≡ failures_of reader.old }
-    ensures write { result ≡ Err ReplayFault.Write
-        → failures_of writer.new ≡ failures_of writer.old + 1 }
-    ensures writes_on { result ≢ Err ReplayFault.Write
-        → failures_of writer.new ≡ failures_of writer.old }
-    // A failed write leaves a beginning of the capture or line, and any other fault leaves the writer alone.
-    ensures front { result ≡ Err ReplayFault.Write
-        → IfSome (R.remaining (inner_of reader.old)) (λ octets. CapturedFront octets
-        (W.contents (inner_of writer.old)) (W.contents (inner_of writer.new))) }
-    ensures unread { result ≡ Err ReplayFault.Read → writer.new ≡ writer.old }
-    ensures memory { result ≡ Err ReplayFault.Memory → writer.new ≡ writer.old }
-{
-    replay_as(alloc, Form::Capture, reader, writer)
+    let octets = read_octets(alloc, reader, MOST_READ)?;
+    let (text, verdict) = answered(alloc, form, &octets)?;
+    write_octets(writer, &text)?;
+    Ok(verdict)
 }

@@ -1,10 +1,7 @@
-//! The report and the diagram of a world.
+//! The report of a world.
 
 mod contexts;
-mod drawing;
 mod events;
-mod outcome;
-mod sequence;
 mod verdicts;
 
 ghost use Rattle.std.specs.Prelude.{◌≡◌, ◌++◌, OnOk, IfOk, map};
@@ -14,12 +11,11 @@ ghost use Rattle.gtp_replay.specs.Report.{late_line, IsReport};
 use crate::reporting::contexts::put_contexts;
 use crate::reporting::events::put_events;
 use crate::reporting::verdicts::{put_all_mutual, put_all_taken};
+pub(crate) use events::{put_told, put_told_words};
 use gtp_gateway::Role;
 use gtp_lines::text::{put, put_number};
 use gtp_values::Memory;
 use gtp_world::{Event, World};
-pub use outcome::{first_word, is_refused};
-pub use sequence::diagram;
 use std::alloc::{AllocError, Global};
 
 /// Appends the number of late deliveries.

@@ -18,8 +18,8 @@ use gtp_values::Below;
 use gtp_world::Event;
 use std::alloc::Global;
 
-/// A gateway, by its name.
-pub(crate) fn role_of(text: &str) -> Option<Role>
+/// A gateway, by its name: `serving` or `packet`.
+pub fn role_of(text: &str) -> Option<Role>
     ensures { result ≡ role_of text.now }
 {
     match text {
@@ -36,14 +36,15 @@ fn node_at(value: &Tree<'_, '_>) -> Option<Role>
     role_of(text_at(value, "node")?)
 }
 
+/// The TEID under `teid`: eight hexadecimal digits.
 #[tactic(auto, unfolding(crate::specs::Events::teid_at))]
-fn teid_at(value: &Tree<'_, '_>) -> Option<Teid>
+pub fn teid_at(value: &Tree<'_, '_>) -> Option<Teid>
     ensures { option_map (λ teid. teid.0) result ≡ teid_at (view value.now) }
 {
     teid_of(text_at(value, "teid")?)
 }
 
-/// The identity of a bearer.
+/// The identity of a bearer under `ebi`: 5 to 15.
 #[tactic(auto, unfolding(crate::specs::Events::ebi_at))]
 fn ebi_at(value: &Tree<'_, '_>) -> Option<Ebi>
     ensures { result ≡ ebi_at (view value.now) }
@@ -52,6 +53,7 @@ fn ebi_at(value: &Tree<'_, '_>) -> Option<Ebi>
     Ebi::try_new(number as u8).ok()
 }
 
+/// The PDN type under `pdn`: 0 to 7, and 1 (IPv4) where there is none.
 #[tactic(auto, unfolding(crate::specs::Events::pdn_at))]
 fn pdn_at(value: &Tree<'_, '_>) -> Option<PdnType>
     ensures { option_map (λ pdn. pdn.0) result ≡ pdn_at (view value.now) }
@@ -60,6 +62,7 @@ fn pdn_at(value: &Tree<'_, '_>) -> Option<PdnType>
     Some(PdnType(Below::new(number as u8)))
 }
 
+/// The subscriber under `imsi`, `apn` and `ebi`.
 #[tactic(auto, unfolding(crate::specs::Events::subscriber_at))]
 fn subscriber_at(value: &Tree<'_, '_>) -> Option<Subscriber>
     ensures { result ≡ subscriber_at (view value.now) }
@@ -71,7 +74,7 @@ fn subscriber_at(value: &Tree<'_, '_>) -> Option<Subscriber>
     })
 }
 
-/// A traffic flow template.
+/// The traffic flow template under `tft`: at most 255 octets in hexadecimal.
 #[tactic(auto, unfolding(crate::specs::Events::tft_at))]
 pub(crate) fn tft_at(alloc: Global, value: &Tree<'_, '_>) -> Result<Tft, Fault>
     ensures { Gives (λ tft. tft) result (tft_at (view value.now)) }
@@ -81,8 +84,9 @@ pub(crate) fn tft_at(alloc: Global, value: &Tree<'_, '_>) -> Result<Tft, Fault>
     Tft::try_new(octets.as_slice()).map_err(|_| Fault::Wrong)
 }
 
+/// The packet under `payload`, in hexadecimal.
 #[tactic(auto, unfolding(crate::specs::Events::payload_at))]
-fn payload_at(alloc: Global, value: &Tree<'_, '_>) -> Result<Vec<u8>, Fault>
+pub fn payload_at(alloc: Global, value: &Tree<'_, '_>) -> Result<Vec<u8>, Fault>
     ensures { Gives (λ octets. octets.items) result (payload_at (view value.now)) }
 {
     let text = text_at(value, "payload").ok_or(Fault::Wrong)?;
@@ -235,9 +239,9 @@ fn cut_of(value: &Tree<'_, '_>) -> Option<Event>
     Some(Event::Cut { datagram, length })
 }
 
-/// The event that the word names.
+/// The event that the value of `do` names, and this object is.
 #[tactic(auto, unfolding(crate::specs::Events::event_named))]
-pub(crate) fn event_named(alloc: Global, word: &str, value: &Tree<'_, '_>) -> Result<Event, Fault>
+pub fn event_named(alloc: Global, word: &str, value: &Tree<'_, '_>) -> Result<Event, Fault>
     ensures { Gives event_of result (event_named word.now (view value.now)) }
 {
     match word {

@@ -10,7 +10,7 @@ use thiserror::Error;
 
 /// Why a part could not be read.
 #[derive(Clone, Copy)]
-pub(crate) enum Fault {
+pub enum Fault {
     Memory,
     /// It is not what a scenario has there.
     Wrong,

@@ -63,8 +63,9 @@ fn addresses_at(value: &Tree<'_, '_>) -> Option<Addresses>
     })
 }
 
+/// The restart counter under `counter`: 0 to 255.
 #[tactic(auto, unfolding(crate::specs::Heads::counter_at))]
-fn counter_at(value: &Tree<'_, '_>) -> Option<Counter>
+pub fn counter_at(value: &Tree<'_, '_>) -> Option<Counter>
     ensures { option_map (λ counter. counter.0) result ≡ counter_at (view value.now) }
 {
     let number = within(0, 255, number_at(value, "counter")?)?;
@@ -95,8 +96,9 @@ pub(crate) fn access_points_in(alloc: Global, mut values: Items<'_, '_>) -> Resu
     Ok(access_points)
 }
 
+/// The access point names under `apns`, at most 16.
 #[tactic(auto, unfolding(crate::specs::Heads::access_points_at))]
-pub(crate) fn access_points_at(alloc: Global, value: &Tree<'_, '_>) -> Result<Vec<Apn>, Fault>
+pub fn access_points_at(alloc: Global, value: &Tree<'_, '_>) -> Result<Vec<Apn>, Fault>
     ensures read { Gives (λ v. v.items) result (access_points_at (view value.now)) }
     ensures few { IfOk result (λ v. length v.items ≤ 16) }
 {
@@ -142,9 +144,9 @@ pub(crate) fn prefixes_at(value: &Tree<'_, '_>) -> Option<Prefixes>
     prefixes_from(start, count)
 }
 
-/// The addresses of each version.
+/// The addresses of each version: `pool` and `count`, and `pool6` and `count6` or neither.
 #[tactic(auto, unfolding(crate::specs::Heads::pools_at))]
-fn pools_at(value: &Tree<'_, '_>) -> Option<Pools>
+pub fn pools_at(value: &Tree<'_, '_>) -> Option<Pools>
     ensures { result ≡ pools_at (view value.now) }
 {
     Some(Pools {
@@ -161,8 +163,9 @@ fn time_at(value: &Tree<'_, '_>, key: &str, absent: u32, low: u32, high: u32) ->
     within(low, high, number_or(value, key, u64::from(absent))?)
 }
 
+/// The timers under `t3`, `n3` and `hold`, in ticks: 3, 3 and 60 where they are absent.
 #[tactic(auto, unfolding(crate::specs::Heads::timers_at))]
-fn timers_at(value: &Tree<'_, '_>) -> Option<Timers>
+pub fn timers_at(value: &Tree<'_, '_>) -> Option<Timers>
     ensures read { result ≡ timers_at (view value.now) }
     ensures range { IfSome result AreTimers }
 {
@@ -293,9 +296,13 @@ fn with_each(alloc: Global, mut config: Config, mut values: Items<'_, '_>) -> Re
     Ok(config)
 }
 
-/// The settings with the templates, which may be absent.
+/// The settings with the templates under `templates`, which may be absent.
 #[tactic(auto, unfolding(crate::specs::Heads::with_templates_at))]
-fn with_templates_at(alloc: Global, config: Config, value: &Tree<'_, '_>) -> Result<Config, Fault>
+pub fn with_templates_at(
+    alloc: Global,
+    config: Config,
+    value: &Tree<'_, '_>,
+) -> Result<Config, Fault>
     ensures { Gives (λ config. config) result (with_templates_at (view value.now) config) }
 {
     match value_at(value, "templates") {

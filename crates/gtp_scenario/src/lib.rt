@@ -30,6 +30,15 @@ pub use reason::{Reason, reason_of};
 pub use scenario::{Scenario, read_scenario};
 pub use word::{name_of, word_of};
 
+/// Readers of a scenario's values, for other texts that have them too.
+pub use event::{event_named, payload_at, role_of, teid_at};
+pub use fault::Fault;
+pub use head::{access_points_at, counter_at, pools_at, timers_at, with_templates_at};
+pub use members::{has, has_only, number_at, text_at, value_at, within};
+pub use scenario::json_of;
+pub use text::{address_of, ipv6_of, octets_of};
+pub use tree::Tree;
+
 /// What the signatures and contracts here name of the crates below.
 pub use gtp_gateway::Role;
 pub use gtp_values::Memory;

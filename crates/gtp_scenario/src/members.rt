@@ -14,7 +14,7 @@ use std::marker::Model;
 
 /// What is left of a list.
 #[derive(Drop)]
-pub(crate) struct Items<'t, 'a> {
+pub struct Items<'t, 'a> {
     items: json::Items<'t, 'a>,
 }
 
@@ -35,7 +35,7 @@ impl<'t, 'a> Model for Items<'t, 'a> {
 
 impl<'t, 'a> Items<'t, 'a> {
     /// The next item.
-    pub(crate) fn next(&mut self) -> Option<Tree<'t, 'a>>
+    pub fn next(&mut self) -> Option<Tree<'t, 'a>>
         ensures value { items_view self.old
             ≡ unless_empty (option_map view result) (items_view self.new) }
         ensures shorter { OnSome result (length self.new < length self.old) }
@@ -47,7 +47,7 @@ impl<'t, 'a> Items<'t, 'a> {
 }
 
 /// The value of a key.
-pub(crate) fn value_at<'t, 'a>(value: &Tree<'t, 'a>, key: &str) -> Option<Tree<'t, 'a>>
+pub fn value_at<'t, 'a>(value: &Tree<'t, 'a>, key: &str) -> Option<Tree<'t, 'a>>
     ensures { option_map view result ≡ get key.now (view value.now) }
 {
     Some(Tree {
@@ -56,7 +56,7 @@ pub(crate) fn value_at<'t, 'a>(value: &Tree<'t, 'a>, key: &str) -> Option<Tree<'
 }
 
 /// Whether there is a value of this key.
-pub(crate) fn has(value: &Tree<'_, '_>, key: &str) -> bool
+pub fn has(value: &Tree<'_, '_>, key: &str) -> bool
     ensures { result ≡ is_some (get key.now (view value.now)) }
 {
     value_at(value, key).is_some()
@@ -87,7 +87,7 @@ pub(crate) fn whole_number(value: &Tree<'_, '_>) -> Option<u64>
 }
 
 /// The items of a list.
-pub(crate) fn as_list<'t, 'a>(value: &Tree<'t, 'a>) -> Option<Items<'t, 'a>>
+pub fn as_list<'t, 'a>(value: &Tree<'t, 'a>) -> Option<Items<'t, 'a>>
     ensures { option_map items_view result ≡ as_array (view value.now) }
 {
     Some(Items {
@@ -96,14 +96,14 @@ pub(crate) fn as_list<'t, 'a>(value: &Tree<'t, 'a>) -> Option<Items<'t, 'a>>
 }
 
 /// The text of a key that must be there.
-pub(crate) fn text_at<'a>(value: &Tree<'_, 'a>, key: &str) -> Option<&'a str>
+pub fn text_at<'a>(value: &Tree<'_, 'a>, key: &str) -> Option<&'a str>
     ensures { option_map (λ s. s.now) result ≡ text_at key.now (view value.now) }
 {
     as_text(&value_at(value, key)?)
 }
 
 /// The number of a key that must be there.
-pub(crate) fn number_at(value: &Tree<'_, '_>, key: &str) -> Option<u64>
+pub fn number_at(value: &Tree<'_, '_>, key: &str) -> Option<u64>
     ensures { result ≡ number_at key.now (view value.now) }
 {
     whole_number(&value_at(value, key)?)
@@ -131,7 +131,7 @@ pub(crate) fn number_or(value: &Tree<'_, '_>, key: &str, absent: u64) -> Option<
 }
 
 /// The number, where it is from `low` to `high`.
-pub(crate) fn within(low: u32, high: u32, number: u64) -> Option<u32>
+pub fn within(low: u32, high: u32, number: u64) -> Option<u32>
     ensures value { result ≡ within low high number }
     ensures range { IfSome result (λ n. (low ≤ n) × (n ≤ high)) }
 {
@@ -178,7 +178,7 @@ pub(crate) fn is_object(value: &Tree<'_, '_>) -> bool
 }
 
 /// Whether the value is an object with no keys but these.
-pub(crate) fn has_only(value: &Tree<'_, '_>, keys: &[&str]) -> bool
+pub fn has_only(value: &Tree<'_, '_>, keys: &[&str]) -> bool
     ensures { result ≡ has_only (map (λ k. k.now) keys.now) (view value.now) }
 {
     match value.element.members() {

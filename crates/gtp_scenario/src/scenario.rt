@@ -32,8 +32,9 @@ pub struct Scenario {
     pub entries: Vec<Entry>,
 }
 
+/// The value of a text of JSON (RFC 8259) of at most 16,777,216 octets.
 #[tactic(auto, unfolding(crate::specs::Scenarios::json_of))]
-pub(crate) fn json_of<'a>(
+pub fn json_of<'a>(
     alloc: Global,
     octets: &'a [u8],
     scratch: &'a mut Scratch,

@@ -39,7 +39,7 @@ pub(crate) fn teid_of(text: &str) -> Option<Teid>
 }
 
 /// An IPv4 address.
-pub(crate) fn address_of(text: &str) -> Option<Ipv4Addr>
+pub fn address_of(text: &str) -> Option<Ipv4Addr>
     ensures { option_map (λ address. address.octets) result ≡ address_of text.now }
 {
     text.parse().ok()
@@ -47,7 +47,7 @@ pub(crate) fn address_of(text: &str) -> Option<Ipv4Addr>
 
 /// An IPv6 address, as hexadecimal digits.
 #[tactic(auto, unfolding(crate::specs::Texts::ipv6_of))]
-pub(crate) fn ipv6_of(text: &str) -> Option<[u8; 16]>
+pub fn ipv6_of(text: &str) -> Option<[u8; 16]>
     ensures { result ≡ ipv6_of text.now }
 {
     <[u8; 16] as FromHex>::from_hex(text).ok()
@@ -55,7 +55,7 @@ pub(crate) fn ipv6_of(text: &str) -> Option<[u8; 16]>
 
 /// Octets in hexadecimal digits.
 #[tactic(auto, unfolding(crate::specs::Texts::octets_of))]
-pub(crate) fn octets_of(alloc: Global, text: &str) -> Result<Vec<u8>, Fault>
+pub fn octets_of(alloc: Global, text: &str) -> Result<Vec<u8>, Fault>
     ensures { Gives (λ octets. octets.items) result (octets_of text.now) }
 {
     match hex::decode(alloc, text) {

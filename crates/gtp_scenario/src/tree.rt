@@ -21,7 +21,7 @@ const MOST_NESTED: usize = 127;
 
 /// A value, by its place among the tokens of a text.
 #[derive(Drop)]
-pub(crate) struct Tree<'t, 'a> {
+pub struct Tree<'t, 'a> {
     pub(crate) element: Element<'t, 'a>,
 }
 
@@ -42,7 +42,7 @@ impl<'t, 'a> Model for Tree<'t, 'a> {
 
 impl<'t, 'a> Tree<'t, 'a> {
     /// The value of a whole text.
-    pub(crate) fn root(tape: &'t Tape<'a>) -> Tree<'t, 'a>
+    pub fn root(tape: &'t Tape<'a>) -> Tree<'t, 'a>
         ensures { result ≡ tape.now }
     {
         Tree {

@@ -1,7 +1,7 @@
 //! Replays over readers and writers that do little in a call, or fail in one.
 
 use crate::scenarios::scenario_of;
-use gtp_replay::{Counted, ReplayFault, Verdict, replay, replay_diagram};
+use gtp_replay::{Counted, Form, ReplayFault, Verdict, replay};
 use std::alloc::Global;
 use std::io;
 use std::io::{Read, Write};
@@ -128,7 +128,7 @@ fn read_so(alloc: Global, text: &[u8], fails_at: u64) -> Done {
         fails_at,
     });
     let mut writer = Counted::new(Vec::new(alloc));
-    let result = replay(alloc, &mut reader, &mut writer);
+    let result = replay(alloc, Form::Report, &mut reader, &mut writer);
     (result, reader.failures(), writer.into_inner())
 }
 
@@ -141,7 +141,7 @@ fn written_so(alloc: Global, text: &[u8], width: usize, fails_at: u64) -> Done {
         calls: 0,
         fails_at,
     });
-    let result = replay(alloc, &mut reader, &mut writer);
+    let result = replay(alloc, Form::Report, &mut reader, &mut writer);
     (result, writer.failures(), writer.into_inner().taken)
 }
 
@@ -190,7 +190,7 @@ fn a_reader_that_fails(rt: HostRuntime) -> Result<(), Fail> {
 fn a_reader_that_never_ends(rt: HostRuntime) {
     let mut reader = Counted::new(io::repeat(b' '));
     let mut writer = Counted::new(Vec::new(rt.alloc()));
-    let result = replay(rt.alloc(), &mut reader, &mut writer);
+    let result = replay(rt.alloc(), Form::Report, &mut reader, &mut writer);
     let written = writer.into_inner();
     assert!(rt; result == Ok(Verdict::Bad), "{result:?}");
     assert!(rt;
@@ -218,7 +218,7 @@ fn calls_that_are_interrupted(rt: HostRuntime) -> Result<(), Fail> {
         inner: Vec::new(rt.alloc()),
         calls: 0,
     });
-    let result = replay(rt.alloc(), &mut reader, &mut writer);
+    let result = replay(rt.alloc(), Form::Report, &mut reader, &mut writer);
     let failures = reader.failures().max(writer.failures());
     is_whole(&rt, (result, failures, writer.into_inner().inner));
     Ok(())
@@ -269,7 +269,7 @@ fn drawn(alloc: Global, fails_at: u64) -> Result<(Result<Verdict, ReplayFault>, 
         calls: 0,
         fails_at,
     });
-    let result = replay_diagram(alloc, &mut reader, &mut writer);
+    let result = replay(alloc, Form::Diagram, &mut reader, &mut writer);
     Ok((result, writer.into_inner().taken))
 }
 

@@ -18,6 +18,7 @@ mod side;
 mod sides;
 mod world;
 
+pub use command::{outcome_of, tell};
 pub use config::WorldConfig;
 pub use event::{Event, EventOutcome};
 pub use gtp_gateway::{

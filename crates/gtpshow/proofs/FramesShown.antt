@@ -19,9 +19,10 @@ use Rattle.gtp_capture.specs.declared.ports.Ports.{Ports}
 use Rattle.gtpshow.specs.declared.capturing.CaptureForm.{CaptureForm}
 use Rattle.gtp_capture.specs.Outcome.{IsRead, HandsOnSome, StopsAt, TakesSome, TakesNoMore}
 use Rattle.gtp_capture.specs.declared.fault.CaptureFault.TheVariants.{Broken}
-use Rattle.gtpshow.specs.Captured.{nothing_shown, is_cut, counted, AreShown, TakesFrame, IsFull, IsUnshown, RefusesFrame, StopsCapture, AreWritten, IsBrokenShown, IsFirstShown}
+use Rattle.gtpshow.specs.Captured.{nothing_shown, is_cut, counted, AreShown, TakesFrame, IsFull, IsUnshown, RefusesFrame, AreWritten, IsBrokenShown, IsFirstShown}
+use Rattle.gtpshow.specs.Stops.{StopsCapture}
 use Rattle.gtpshow.specs.declared.command.Failure.{Failure}
-use Rattle.gtpshow.specs.declared.command.Failure.TheVariants.{BadWords, BadPort, BadHex, BadCapture, BrokenCapture, Memory, Read, TooLong, Write, Closed}
+use Rattle.gtpshow.specs.declared.command.Failure.TheVariants.{BadWords, BadPort, BadHex, BadCode, BadGateway, BadCapture, BrokenCapture, Memory, Read, TooLong, Write, Closed}
 use Rattle.gtpshow.specs.declared.capturing.Counts.{Counts}
 use Rattle.gtpshow.specs.declared.capturing.FrameWriter.{FrameWriter}
 
@@ -93,6 +94,8 @@ refusal_by before middle after Closed few kept is = let failed = is (omega (arit
 refusal_by before middle after BadWords few kept is = absurd is
 refusal_by before middle after BadPort few kept is = absurd is
 refusal_by before middle after BadHex few kept is = absurd is
+refusal_by before middle after BadCode few kept is = absurd is
+refusal_by before middle after BadGateway few kept is = absurd is
 refusal_by before middle after BadCapture few kept is = absurd is
 refusal_by before middle after (BrokenCapture at) few kept is = absurd is
 refusal_by before middle after Read few kept is = absurd is
@@ -119,6 +122,8 @@ refusal_else before after Closed is unwritten unclosed = absurd (unclosed refl)
 refusal_else before after BadWords is unwritten unclosed = absurd is
 refusal_else before after BadPort is unwritten unclosed = absurd is
 refusal_else before after BadHex is unwritten unclosed = absurd is
+refusal_else before after BadCode is unwritten unclosed = absurd is
+refusal_else before after BadGateway is unwritten unclosed = absurd is
 refusal_else before after BadCapture is unwritten unclosed = absurd is
 refusal_else before after (BrokenCapture at) is unwritten unclosed = absurd is
 refusal_else before after Read is unwritten unclosed = absurd is
@@ -131,6 +136,8 @@ refusal_stops before after Closed is = tt
 refusal_stops before after BadWords is = absurd is
 refusal_stops before after BadPort is = absurd is
 refusal_stops before after BadHex is = absurd is
+refusal_stops before after BadCode is = absurd is
+refusal_stops before after BadGateway is = absurd is
 refusal_stops before after BadCapture is = absurd is
 refusal_stops before after (BrokenCapture at) is = absurd is
 refusal_stops before after Read is = absurd is

@@ -11,7 +11,7 @@ use Rattle.gtp_capture.specs.declared.ports.Ports.{Ports}
 use Rattle.gtp_frames.specs.Frames.{FrameLines}
 use Rattle.gtp_json.specs.Frames.{FrameJson}
 use Rattle.gtpshow.specs.declared.command.Failure.{Failure}
-use Rattle.gtpshow.specs.declared.command.Failure.TheVariants.{BadWords, BadPort, BadHex, Memory, TooLong, Write, Closed}
+use Rattle.gtpshow.specs.declared.command.Failure.TheVariants.{Memory, TooLong, Write, Closed}
 use Rattle.gtpshow.specs.declared.capturing.CaptureForm.{CaptureForm}
 use Rattle.gtpshow.specs.declared.capturing.CaptureForm.TheVariants.{Text, Json}
 use Rattle.gtpshow.specs.declared.capturing.Counts.{Counts}
@@ -80,13 +80,6 @@ IsUnshown other before after = ⊥
 -- a writer that does not show one notes why
 abbrev pub RefusesFrame : {W : Type 0} → FrameWriter W → Seen → FrameWriter W → Type 0
 RefusesFrame before d after = (why : Failure) × (after.unshown ≡ Some why) × IsUnshown why before after
-
--- what a capture can stop at
-abbrev pub StopsCapture : Failure → Type 0
-StopsCapture BadWords = ⊥
-StopsCapture BadPort = ⊥
-StopsCapture BadHex = ⊥
-StopsCapture other = Unit {0}
 
 -- The writer has the lines of the datagrams that these frames carry, in their order, and no others.
 pub record AreWritten (form : CaptureForm) (ports : Ports) (frames : List Frame) (before now : Option (List ℕ)) (counts : Counts) : Type 0 where

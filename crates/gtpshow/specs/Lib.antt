@@ -1,6 +1,6 @@
 pub mod Status
+pub mod Stops
 pub mod Shown
 pub mod Replayed
-pub mod Watched
 pub mod Words
 pub mod Captured

@@ -7,8 +7,6 @@ use Rattle.gtp_lines.specs.Lines.{LinesOf}
 use Rattle.gtp_dump.specs.Decoded.{ShowsOne, AreTold}
 use Rattle.gtp_dump.specs.declared.decoding.Asked.{Asked}
 use Rattle.gtp_dump.specs.declared.decoding.Tally.{Tally}
-use Rattle.gtpshow.specs.declared.command.Failure.{Failure}
-use Rattle.gtpshow.specs.declared.command.Failure.TheVariants.{BadWords, BadPort, BadHex, BadCapture, BrokenCapture}
 
 -- the exit status where lines were shown: 1 for those of a fault
 abbrev pub status_shown : Bool → ℕ
@@ -33,12 +31,3 @@ dump_status tally = if tally.bad then 2 else status_shown tally.faulty
 -- all lines of a dump were told
 abbrev pub IsDumpShown : Asked → List ℕ → (out out_after err err_after : Option (List ℕ)) → ℕ → Type 0
 IsDumpShown asked octets out out_after err err_after status = (tally : Tally) × AreTold asked octets [] tally out out_after err err_after × (status ≡ dump_status tally)
-
--- what a dump can stop at
-abbrev pub StopsDump : Failure → Type 0
-StopsDump BadWords = ⊥
-StopsDump BadPort = ⊥
-StopsDump BadHex = ⊥
-StopsDump BadCapture = ⊥
-StopsDump (BrokenCapture at) = ⊥
-StopsDump other = Unit {0}

@@ -1,7 +1,7 @@
 -- What the program says where nothing could be shown or replayed, and how a replay ends.
 use Rattle.std.specs.Prelude.{ℕ, List, ◌++◌, codes, decimal}
 use Rattle.gtpshow.specs.declared.command.Failure.{Failure}
-use Rattle.gtpshow.specs.declared.command.Failure.TheVariants.{BadWords, BadPort, BadHex, BadCapture, BrokenCapture, Memory, Read, TooLong, Write, Closed}
+use Rattle.gtpshow.specs.declared.command.Failure.TheVariants.{BadWords, BadPort, BadHex, BadCode, BadGateway, BadCapture, BrokenCapture, Memory, Read, TooLong, Write, Closed}
 use Rattle.gtp_replay.specs.declared.verdict.Verdict.{Verdict}
 use Rattle.gtp_replay.specs.declared.verdict.Verdict.TheVariants.{Expected, Unexpected, Bad}
 use Rattle.gtp_replay.specs.declared.verdict.ReplayFault.{ReplayFault}
@@ -12,6 +12,8 @@ abbrev pub status_of : Failure → ℕ
 status_of BadWords = 2
 status_of BadPort = 2
 status_of BadHex = 2
+status_of BadCode = 2
+status_of BadGateway = 2
 status_of BadCapture = 2
 status_of (BrokenCapture at) = 2
 status_of Memory = 3
@@ -25,6 +27,8 @@ abbrev pub failure_text : Failure → List ℕ
 failure_text BadWords = codes "bad words: an argument is not UTF-8"
 failure_text BadPort = codes "bad port: a number from 0 to 65535 is wanted"
 failure_text BadHex = codes "bad hex"
+failure_text BadCode = codes "bad code"
+failure_text BadGateway = codes "bad gateway head"
 failure_text BadCapture = codes "bad capture"
 failure_text (BrokenCapture at) = codes "bad capture at " ++ decimal at
 failure_text Memory = codes "no memory"

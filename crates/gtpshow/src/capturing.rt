@@ -1,13 +1,15 @@
 //! Showing a capture.
 
-ghost use Rattle.std.specs.Prelude.{◌≡◌, ◌≢◌, ◌+◌, ◌-◌, ◌^◌, ◌<◌, ◌≤◌, ◌⊎◌, ◌++◌, ℕ, length, decimal, Err, IfOk, IfErr, IfSome, IfNone, OnOk};
+ghost use Rattle.std.specs.Prelude.{◌≡◌, ◌≢◌, ◌-◌, ◌^◌, ◌<◌, ◌≤◌, ◌⊎◌, ◌++◌, ℕ, length, decimal, Err, IfOk, IfErr, IfSome, IfNone, OnOk};
 ghost use Rattle.std.specs.Io.KnownBytes.{Appends};
-ghost use Rattle.gtp_counted.specs.Counts.{inner_of, failures_of, NoneFailed, FailedOnce, ClosedOnce};
+ghost use Rattle.gtp_counted.specs.Counts.{inner_of, failures_of};
 ghost use Rattle.gtp_capture.specs.Seen.{Seen, seen_of};
 ghost use Rattle.gtp_capture.specs.reading.Packet.{packet_of};
-ghost use Rattle.gtpshow.specs.Captured.{nothing_shown, is_cut, counted, counts_line, counts_json, last_line, capture_status, IsShownAs, IsFull, TakesFrame, RefusesFrame, StopsCapture, AreFramesShown, IsCaptureShown, IsBrokenShown, IsFirstShown, IsNoCapture};
+ghost use Rattle.gtpshow.specs.Captured.{nothing_shown, is_cut, counted, counts_line, counts_json, last_line, capture_status, IsShownAs, IsFull, TakesFrame, RefusesFrame, AreFramesShown, IsCaptureShown, IsBrokenShown, IsFirstShown, IsNoCapture};
+ghost use Rattle.gtpshow.specs.Stops.{TellsReads, TellsClosed, StopsCounts, StopsCapture};
 
 use crate::command::Failure;
+use crate::dumping::BUFFERED;
 use crate::replaying::unopened;
 use gtp_capture::{CaptureFault, Captured, Packet, Ports, Refused, Sink, Stop, read_capture};
 use gtp_counted::{Counted, Failed};
@@ -19,9 +21,6 @@ use std::alloc::{AllocError, Global};
 use std::fs;
 use std::io::{self, BufReader, BufWriter, ErrorKind, Read, Write};
 use std::rt::Files;
-
-/// How many octets are read or written at once.
-const BUFFERED: usize = 65_536;
 
 /// Why a write failed: the output is closed, or else it is a failed write.
 pub fn unwritten(failed: Failed) -> Failure
@@ -233,14 +232,8 @@ fn frames_from<I: Read, W: Write>(
         (W.contents (inner_of writer.old.out)) (W.contents (inner_of writer.new.out))) }
     ensures long { result ≡ Err Failure.TooLong →
         IfSome (I.remaining (inner_of reader.old)) (λ file. 2 ^ 64 - 1 ≤ length file) }
-    ensures read { result ≡ Err Failure.Read
-        → failures_of reader.new ≡ failures_of reader.old + 1 }
-    ensures reads_on { result ≢ Err Failure.Read
-        → failures_of reader.new ≡ failures_of reader.old }
-    ensures write { result ≡ Err Failure.Write → FailedOnce writer.old.out writer.new.out }
-    ensures closed { result ≡ Err Failure.Closed → ClosedOnce writer.old.out writer.new.out }
-    ensures writes_on { result ≢ Err Failure.Write → result ≢ Err Failure.Closed
-        → NoneFailed writer.old.out writer.new.out }
+    ensures reads { TellsReads result reader.old reader.new }
+    ensures writes { TellsClosed result writer.old.out writer.new.out }
     ensures kind { IfErr result StopsCapture }
 {
     match read_capture(alloc, ports, reader, writer) {
@@ -269,12 +262,8 @@ fn count_from<W: Write>(
         (last_line form frames writer.old.counts)) }
     ensures status { IfOk result (λ status. status ≡ capture_status writer.old.counts) }
     ensures memory { result ≡ Err Failure.Memory → writer.new ≡ writer.old }
-    ensures write { result ≡ Err Failure.Write → FailedOnce writer.old.out writer.new.out }
-    ensures closed { result ≡ Err Failure.Closed → ClosedOnce writer.old.out writer.new.out }
-    ensures writes_on { result ≢ Err Failure.Write → result ≢ Err Failure.Closed
-        → NoneFailed writer.old.out writer.new.out }
-    ensures kind { IfErr result (λ failure. (failure ≡ Failure.Memory) ⊎ (failure ≡ Failure.Closed)
-        ⊎ (failure ≡ Failure.Write)) }
+    ensures writes { TellsClosed result writer.old.out writer.new.out }
+    ensures kind { IfErr result StopsCounts }
 {
     let Ok(text) = last_line(alloc, form, frames, writer.counts) else {
         return Err(Failure::Memory);
@@ -316,15 +305,8 @@ fn capture_from<I: Read, W: Write>(
         (W.contents (inner_of writer.old.out)) (W.contents (inner_of writer.new.out))) }
     ensures long { result ≡ Err Failure.TooLong →
         IfSome (I.remaining (inner_of reader.old)) (λ file. 2 ^ 64 - 1 ≤ length file) }
-    // The failure is `Read` exactly if a call of the reader failed, and `Write` or `Closed` exactly if a write did.
-    ensures read { result ≡ Err Failure.Read
-        → failures_of reader.new ≡ failures_of reader.old + 1 }
-    ensures reads_on { result ≢ Err Failure.Read
-        → failures_of reader.new ≡ failures_of reader.old }
-    ensures write { result ≡ Err Failure.Write → FailedOnce writer.old.out writer.new.out }
-    ensures closed { result ≡ Err Failure.Closed → ClosedOnce writer.old.out writer.new.out }
-    ensures writes_on { result ≢ Err Failure.Write → result ≢ Err Failure.Closed
-        → NoneFailed writer.old.out writer.new.out }
+    ensures reads { TellsReads result reader.old reader.new }
+    ensures writes { TellsClosed result writer.old.out writer.new.out }
     ensures kind { IfErr result StopsCapture }
 {
     let form = writer.form;

@@ -4,7 +4,7 @@ ghost use Rattle.std.specs.Prelude.{◌≡◌, false, IfOk, Some};
 ghost use Rattle.clap.specs.Words.{app_of, rule_of, with_rule};
 ghost use Rattle.clap.specs.declared.builder.command.Command.TheViews.{out-Command as fields_of};
 ghost use Rattle.gtpshow.specs.Status.{status_of, failure_by, failure_text};
-ghost use Rattle.gtpshow.specs.Words.{flag_word, option_word, plain_word, with_form_words, with_port_words, decode_words, capture_words, replay_words, program_words};
+ghost use Rattle.gtpshow.specs.Words.{flag_word, option_word, plain_word, with_form_words, with_port_words, decode_words, capture_words, replay_words, gateway_words, explain_words, program_words};
 
 use clap::{Arg, ArgAction, Command};
 use gtp_replay::ReplayFault;
@@ -23,8 +23,7 @@ Examples:
 
 Exit status: 0 shown, or replayed as expected; 1 a fault was shown, or an event came to something
 else; 2 bad words, hexadecimal, capture or scenario; 3 no memory, or a failed read or write
-
-docs/PROTOCOL.md of the repository explains the codes (H1 .., U1 .., G1 .., X1 .., N1 ..)";
+gtpshow explain CODE says what a code or a cause means (H1 .., U1 .., G1 .., X1 .., N1 .., 16 ..)";
 
 const SCENARIO: &str = "\
 A scenario:
@@ -37,6 +36,16 @@ A scenario:
     {\"do\": \"deliver\", \"datagram\": 1, \"expect\": \"opened\"}]}
 
 docs/FORMATS.md of the repository lists all events, and explains the report";
+
+const GATEWAY: &str = "\
+Lines:
+  {\"role\":\"serving\",\"control\":\"127.0.0.2\",\"user\":\"127.0.0.2\",
+   \"peer\":{\"control\":\"127.0.0.3\",\"user\":\"127.0.0.3\"},\"counter\":1}     first, and on one line
+  {\"do\":\"create_session\",\"imsi\":\"001010123456789\",\"apn\":\"internet\",\"ebi\":5}
+  {\"do\":\"receive\",\"plane\":\"control\",\"from\":{\"address\":\"127.0.0.3\",\"port\":2123},\"octets\":\"..\"}
+  {\"do\":\"tick\"}
+
+docs/FORMATS.md of the repository lists all lines and answers; examples/bridge joins UDP sockets to it";
 
 /// An option without a value.
 fn flag<'a>(alloc: Global, name: &'a str, help: &'a str) -> Arg<'a>
@@ -189,10 +198,22 @@ fn replay_command<'a>(alloc: Global) -> Result<Command<'a>, AllocError>
     )?;
     let command = taking(
         command,
+        flag(alloc, "svg", "Draws the same diagram as a picture (SVG)"),
+    )?;
+    let command = taking(
+        command,
         flag(
             alloc,
             "pcap",
             "Writes the datagrams of the run as a packet capture, in place of the report",
+        ),
+    )?;
+    let command = taking(
+        command,
+        flag(
+            alloc,
+            "json",
+            "Writes a JSON object a line for each event, in place of the report",
         ),
     )?;
     taking(
@@ -206,18 +227,49 @@ fn replay_command<'a>(alloc: Global) -> Result<Command<'a>, AllocError>
     )
 }
 
+/// The arguments of `gateway`: none.
+fn gateway_command<'a>(alloc: Global) -> Command<'a>
+    ensures words { app_of result ≡ gateway_words }
+    ensures own { (fields_of result).has_globals ≡ false }
+{
+    Command::new(alloc, "gateway")
+        .about("Runs one gateway: answers each line of JSON on standard input with a line of JSON")
+        .after_help(GATEWAY)
+}
+
+/// The arguments of `explain`.
+fn explain_command<'a>(alloc: Global) -> Result<Command<'a>, AllocError>
+    ensures words { IfOk result (λ command. app_of command ≡ explain_words) }
+    ensures own { IfOk result (λ command. (fields_of command).has_globals ≡ false) }
+{
+    let command = Command::new(alloc, "explain").about("Says what a code or a cause means");
+    taking(
+        command,
+        word(
+            alloc,
+            "code",
+            "CODE",
+            "A code, as H6, X3 or S1, the number of a cause, or the word cause; all without a word",
+        ),
+    )
+}
+
 /// The arguments of the program.
 pub fn command<'a>(alloc: Global) -> Result<Command<'a>, AllocError>
     ensures { IfOk result (λ command. app_of command ≡ program_words) }
 {
     Command::new(alloc, "gtpshow")
-        .about("Shows GTP datagrams, and replays scenarios of two gateways")
+        .about(
+            "Shows GTP datagrams, replays scenarios of two gateways, runs one gateway, and explains codes",
+        )
         .version(VERSION)
         .after_help(NOTES)
         .subcommand_required(true)
         .subcommand(decode_command(alloc)?)?
         .subcommand(capture_command(alloc)?)?
-        .subcommand(replay_command(alloc)?)
+        .subcommand(replay_command(alloc)?)?
+        .subcommand(gateway_command(alloc))?
+        .subcommand(explain_command(alloc)?)
 }
 
 /// Why nothing was shown or replayed.
@@ -229,6 +281,10 @@ pub enum Failure {
     BadPort,
     /// The octets of a datagram are not hexadecimal digits, or their number is odd.
     BadHex,
+    /// No code is called so.
+    BadCode,
+    /// The first line says no gateway.
+    BadGateway,
     /// A file is no capture.
     BadCapture,
     /// From this octet of a capture on, counted from 0, no record stands.
@@ -254,6 +310,8 @@ impl Failure {
             Failure::BadWords
             | Failure::BadPort
             | Failure::BadHex
+            | Failure::BadCode
+            | Failure::BadGateway
             | Failure::BadCapture
             | Failure::BrokenCapture { .. } => 2,
             Failure::Memory | Failure::Read | Failure::TooLong | Failure::Write | Failure::Closed =>
@@ -282,6 +340,8 @@ impl fmt::Display for Failure {
             Failure::BadWords => write!(f, "bad words: an argument is not UTF-8"),
             Failure::BadPort => write!(f, "bad port: a number from 0 to 65535 is wanted"),
             Failure::BadHex => write!(f, "bad hex"),
+            Failure::BadCode => write!(f, "bad code"),
+            Failure::BadGateway => write!(f, "bad gateway head"),
             Failure::BadCapture => write!(f, "bad capture"),
             Failure::BrokenCapture { at } => write!(f, "bad capture at {at}"),
             Failure::Memory => write!(f, "no memory"),

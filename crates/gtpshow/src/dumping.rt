@@ -12,7 +12,7 @@ use std::io::{self, BufReader, BufWriter, ErrorKind, Write};
 use std::str;
 
 /// How many octets are read or written at once.
-const BUFFERED: usize = 65_536;
+pub const BUFFERED: usize = 65_536;
 
 /// Standard error, as a writer of text.
 #[derive(Drop)]

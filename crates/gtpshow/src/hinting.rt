@@ -1,6 +1,7 @@
 //! What standard error says after the first line of a failure: the word or the file, and the reason.
 
 use crate::command::{Failure, command};
+use gtp_capture::begins_as_capture;
 use gtp_lines::{Plane, decode_lines};
 use gtp_scenario::reason_of;
 use hex::FromHexError;
@@ -49,18 +50,6 @@ pub fn hint_of_version<R: Eprint>(rt: &R, alloc: Global, word: &str) -> io::Resu
     }
 }
 
-/// Whether octets begin as a capture does: with a magic number of pcap, in either order, or with a section of pcapng.
-fn begins_as_capture(octets: &[u8]) -> bool {
-    matches!(
-        octets,
-        [0xa1, 0xb2, 0xc3, 0xd4, ..]
-            | [0xd4, 0xc3, 0xb2, 0xa1, ..]
-            | [0xa1, 0xb2, 0x3c, 0x4d, ..]
-            | [0x4d, 0x3c, 0xb2, 0xa1, ..]
-            | [0x0a, 0x0d, 0x0d, 0x0a, ..]
-    )
-}
-
 /// Says why these octets, of a file or of standard input, are no scenario.
 pub fn hint_of_scenario<R: Eprint>(
     rt: &R,
@@ -78,6 +67,11 @@ pub fn hint_of_scenario<R: Eprint>(
         Ok(Some(reason)) => eprintln!(rt; "gtpshow: {name}: {reason}"),
         _ => Ok(()),
     }
+}
+
+/// Says that no code is called so.
+fn hint_of_code<R: Eprint>(rt: &R, word: &str) -> io::Result<()> {
+    eprintln!(rt; "gtpshow: no code is called {word}: 'explain' without a word shows all")
 }
 
 /// Says why a file cannot be read.
@@ -101,11 +95,18 @@ pub fn hint<R: Eprint + Env + Files + AllocGlobal>(rt: &R, failure: Failure) -> 
     };
     let word = match matches.subcommand() {
         Some(("decode", asked)) => asked.get_str("octets").unwrap_or(""),
+        Some(("explain", asked)) => asked.get_str("code").unwrap_or(""),
         Some((_, asked)) => asked.get_str("file").unwrap_or("-"),
         None => "-",
     };
     match failure {
         Failure::BadHex => hint_of_hex(rt, alloc, word),
+        Failure::BadCode => hint_of_code(rt, word),
+        Failure::BadGateway => {
+            eprintln!(rt;
+                "gtpshow: the first line of standard input has to say a gateway: 'gateway --help' shows one"
+            )
+        }
         Failure::Read | Failure::TooLong => hint_of_read(rt, word),
         Failure::BadCapture if word == "-" => {
             eprintln!(rt; "gtpshow: standard input does not begin as a capture does (pcap, pcapng)")

@@ -1,27 +1,30 @@
-//! The program gtpshow: it decodes GTP datagrams, also those of captures, and replays scenarios of two gateways.
+//! The program gtpshow: it decodes GTP datagrams, also those of captures, replays scenarios of two gateways, runs one gateway behind lines, and explains its codes.
 #![tactic(auto)]
 
 mod capturing;
 mod command;
 mod dumping;
+mod explaining;
 mod hinting;
 mod kept;
 mod replaying;
+mod serving;
 mod showing;
-mod watched;
 
 ghost use Rattle.std.specs.Prelude.{◌≤◌, IfOk};
 
 use crate::capturing::{CaptureAsked, CaptureForm, capture_file};
 use crate::command::{Failure, command};
 use crate::dumping::dump_printed;
+use crate::explaining::explain_code;
 use crate::hinting::{hint, hint_of_version};
 use crate::replaying::replay_file;
+use crate::serving::gateway_printed;
 use crate::showing::{show, show_word};
-use crate::watched::Watched;
 use clap::ArgMatches;
 use clap::error::ErrorKind;
 use gtp_capture::Ports;
+use gtp_codes::parts;
 use gtp_counted::Counted;
 use gtp_dump::Asked;
 use gtp_frames::Form;
@@ -64,7 +67,7 @@ fn decode<R: Print + Eprint + Input>(
         );
     }
     let plane = plane.unwrap_or(Plane::Control);
-    let status = show(alloc, &mut Watched::new(io::writer(rt)), plane, digits)?;
+    let status = show(alloc, &mut Counted::new(io::writer(rt)), plane, digits)?;
     if status == 1 && plane == Plane::Control {
         let _ = hint_of_version(rt, alloc, digits);
     }
@@ -119,12 +122,16 @@ fn replay_asked<R: Print + Eprint + Input + Files>(
 ) -> Result<u8, Failure>
     ensures { IfOk result (λ status. status ≤ 2) }
 {
-    let form = if asked.get_flag("pcap") {
-        replaying::Form::Capture
+    let form = if asked.get_flag("json") {
+        gtp_replay::Form::Json
+    } else if asked.get_flag("pcap") {
+        gtp_replay::Form::Capture
+    } else if asked.get_flag("svg") {
+        gtp_replay::Form::Svg
     } else if asked.get_flag("diagram") {
-        replaying::Form::Diagram
+        gtp_replay::Form::Diagram
     } else {
-        replaying::Form::Report
+        gtp_replay::Form::Report
     };
     replay_file(rt, alloc, form, asked.get_str("file").unwrap_or("-"))
 }
@@ -135,6 +142,14 @@ fn unread_words(error: io::Error) -> Failure {
         io::ErrorKind::InvalidData => Failure::BadWords,
         _ => Failure::Memory,
     }
+}
+
+/// Explains the code of the arguments, or all codes, and returns the exit status.
+fn explain_asked<R: Print>(rt: &R, alloc: Global, asked: &ArgMatches) -> Result<u8, Failure>
+    ensures { IfOk result (λ status. status ≤ 2) }
+{
+    let mut out = Counted::new(io::writer(rt));
+    explain_code(alloc, &parts(), asked.get_str("code"), &mut out)
 }
 
 /// Carries out the command of the arguments, and returns the exit status.
@@ -149,6 +164,8 @@ fn carry_out<R: Print + Eprint + Input + Files>(
         Some(("decode", asked)) => decode(rt, alloc, asked),
         Some(("capture", asked)) => capture_asked(rt, alloc, asked),
         Some(("replay", asked)) => replay_asked(rt, alloc, asked),
+        Some(("gateway", _)) => gateway_printed(rt, alloc),
+        Some(("explain", asked)) => explain_asked(rt, alloc, asked),
         _ => Ok(2),
     }
 }

@@ -1,16 +1,17 @@
 //! Replaying a scenario.
 
-ghost use Rattle.std.specs.Prelude.{◌≡◌, ◌≢◌, ◌+◌, ◌-◌, ◌^◌, ◌<◌, ◌≤◌, Err, IfOk, IfSome};
+ghost use Rattle.std.specs.Prelude.{◌≡◌, ◌≢◌, ◌-◌, ◌^◌, ◌<◌, ◌≤◌, Err, IfOk, IfErr, IfSome};
 ghost use Rattle.std.specs.IoError.{error_kind};
 ghost use Rattle.gtp_counted.specs.Counts.{inner_of, failures_of};
 ghost use Rattle.gtpshow.specs.Status.{verdict_status};
 ghost use Rattle.gtpshow.specs.Replayed.{IsReplayed};
+ghost use Rattle.gtpshow.specs.Stops.{TellsReads, TellsWrites, StopsReplay};
 
 use crate::command::Failure;
 use crate::hinting::hint_of_scenario;
 use crate::kept::Kept;
 use gtp_counted::Counted;
-use gtp_replay::{Verdict, replay, replay_capture, replay_diagram};
+use gtp_replay::{Form, Verdict, replay};
 use std::alloc::Global;
 use std::io::{ErrorKind, Read, Write};
 use std::rt::Files;
@@ -27,15 +28,6 @@ fn status(verdict: Verdict) -> u8
     }
 }
 
-/// What a replay writes.
-#[derive(Clone, Copy, Debug, PartialEq, Eq)]
-pub enum Form {
-    Report,
-    Diagram,
-    /// A packet capture.
-    Capture,
-}
-
 /// Replays the scenario of a reader, and returns the exit status.
 fn replay_from<I: Read, W: Write>(
     alloc: Global,
@@ -49,24 +41,13 @@ fn replay_from<I: Read, W: Write>(
         IsReplayed form octets (W.contents (inner_of writer.old))
         (W.contents (inner_of writer.new)) status)) }
     ensures small { IfOk result (λ status. status ≤ 2) }
-    // The failure is `Read` exactly if a call of the reader failed, and `Write` exactly if a call of the writer did.
-    ensures read { result ≡ Err Failure.Read
-        → failures_of reader.new ≡ failures_of reader.old + 1 }
-    ensures reads_on { result ≢ Err Failure.Read
-        → failures_of reader.new ≡ failures_of reader.old }
-    ensures write { result ≡ Err Failure.Write
-        → failures_of writer.new ≡ failures_of writer.old + 1 }
-    ensures writes_on { result ≢ Err Failure.Write
-        → failures_of writer.new ≡ failures_of writer.old }
+    ensures reads { TellsReads result reader.old reader.new }
+    ensures writes { TellsWrites result writer.old writer.new }
     ensures unread { result ≡ Err Failure.Read → writer.new ≡ writer.old }
     ensures memory { result ≡ Err Failure.Memory → writer.new ≡ writer.old }
-    ensures kind { (result ≢ Err Failure.BadHex) × (result ≢ Err Failure.BadWords) }
+    ensures kind { IfErr result StopsReplay }
 {
-    match form {
-        Form::Report => Ok(status(replay(alloc, reader, writer)?)),
-        Form::Diagram => Ok(status(replay_diagram(alloc, reader, writer)?)),
-        Form::Capture => Ok(status(replay_capture(alloc, reader, writer)?)),
-    }
+    Ok(status(replay(alloc, form, reader, writer)?))
 }
 
 /// The error for a file that cannot be opened: no memory if that is its kind, and else a failed read.

@@ -1,15 +1,15 @@
 //! Showing one datagram.
 
-ghost use Rattle.std.specs.Prelude.{◌≡◌, ◌≢◌, ◌↔◌, ◌+◌, ◌-◌, ◌^◌, ◌<◌, ◌≤◌, ◌⊎◌, length, false, IsTrue, IsErr, Err, IfOk, IfErr, IfSome};
+ghost use Rattle.std.specs.Prelude.{◌≡◌, ◌≢◌, ◌-◌, ◌^◌, ◌<◌, ◌≤◌, ◌⊎◌, length, IsErr, Err, IfOk, IfErr, IfSome};
 ghost use Rattle.hex.specs.Hex.{decode_of};
-ghost use Rattle.gtp_counted.specs.Counts.{inner_of, failures_of, NoneFailed, FailedOnce, ClosedOnce};
+ghost use Rattle.gtp_counted.specs.Counts.{inner_of, failures_of, NoneFailed};
 ghost use Rattle.gtp_dump.specs.Decoded.{AreFirstTold, WriteFailed, WriteClosed};
 ghost use Rattle.gtp_dump.specs.Text.{IsBlank, IsBad};
-ghost use Rattle.gtpshow.specs.Shown.{IsShown, IsWordShown, IsDumpShown, StopsDump};
+ghost use Rattle.gtpshow.specs.Shown.{IsShown, IsWordShown, IsDumpShown};
+ghost use Rattle.gtpshow.specs.Stops.{TellsReads, TellsWrites, TellsClosed, StopsShow, StopsWord, StopsDump};
 
 use crate::capturing::unwritten;
 use crate::command::Failure;
-use crate::watched::Watched;
 use gtp_counted::Counted;
 use gtp_dump::{Asked, DumpFault, LineFault, decode_dump, decode_line};
 use gtp_lines::{Plane, decode_lines};
@@ -21,22 +21,22 @@ use std::io::{BufRead, Write};
 /// with a fault. `BadHex` if the digits are bad, `Memory` if an allocation was refused, and `Write` if the write failed.
 pub fn show<W: Write>(
     alloc: Global,
-    out: &mut Watched<W>,
+    out: &mut Counted<W>,
     plane: Plane,
     digits: &str,
 ) -> Result<u8, Failure>
-    requires { out.old.failed ≡ false }
+    requires { failures_of out.old < 2 ^ 64 - 1 }
     // The lines are written, and nothing else.
     ensures shown { IfOk result
-        (IsShown plane digits.now (W.contents out.old.inner) (W.contents out.new.inner)) }
-    // A failed write was noted exactly where that is answered.
-    ensures write { (result ≡ Err Failure.Write) ↔ IsTrue out.new.failed }
+        (IsShown plane digits.now (W.contents (inner_of out.old)) (W.contents (inner_of out.new))) }
+    ensures writes { TellsWrites result out.old out.new }
     ensures only { result ≡ Err Failure.BadHex → IsErr (decode_of digits.now) }
     ensures bad { IsErr (decode_of digits.now) →
         (result ≡ Err Failure.BadHex) ⊎ (result ≡ Err Failure.Memory) }
     // Nothing was written.
     ensures bad_unwritten { result ≡ Err Failure.BadHex → out.new ≡ out.old }
     ensures memory_unwritten { result ≡ Err Failure.Memory → out.new ≡ out.old }
+    ensures kind { IfErr result StopsShow }
 {
     let octets = match hex::decode(alloc, digits) {
         Ok(octets) => octets,
@@ -44,8 +44,10 @@ pub fn show<W: Write>(
         Err(_) => return Err(Failure::BadHex),
     };
     let shown = decode_lines(alloc, plane, &octets).map_err(|_| Failure::Memory)?;
-    out.write_all(&shown.text)?;
-    Ok(if shown.faulty { 1 } else { 0 })
+    match out.write_all(&shown.text) {
+        Ok(()) => Ok(if shown.faulty { 1 } else { 0 }),
+        Err(_) => Err(Failure::Write),
+    }
 }
 
 /// Writes in a form the datagram that a word spells, as a line of a dump does, and returns the exit status: 0, or 1
@@ -62,11 +64,8 @@ pub fn show_word<W: Write>(
         (W.contents (inner_of out.old)) (W.contents (inner_of out.new))) }
     ensures bad { result ≡ Err Failure.BadHex → (IsBlank word.now ⊎ IsBad word.now) × (out.new ≡ out.old) }
     ensures memory { result ≡ Err Failure.Memory → out.new ≡ out.old }
-    // The failure is `Write` or `Closed` exactly if a write failed.
-    ensures write { result ≡ Err Failure.Write → FailedOnce out.old out.new }
-    ensures closed { result ≡ Err Failure.Closed → ClosedOnce out.old out.new }
-    ensures writes_on { result ≢ Err Failure.Write → result ≢ Err Failure.Closed
-        → NoneFailed out.old out.new }
+    ensures writes { TellsClosed result out.old out.new }
+    ensures kind { IfErr result StopsWord }
 {
     let shown = match decode_line(alloc, asked, word.as_bytes()) {
         Ok(Some(shown)) => shown,
@@ -105,11 +104,8 @@ pub fn show_dump<R: BufRead, W: Write, E: Write>(
         (E.contents (inner_of err.old)) (E.contents (inner_of err.new)))) }
     ensures long { result ≡ Err Failure.TooLong →
         IfSome (R.remaining (inner_of reader.old)) (λ octets. 2 ^ 64 - 1 ≤ length octets) }
-    // The failure is `Read` exactly if a call of the reader failed, and `Write` or `Closed` exactly if a write did.
-    ensures read { result ≡ Err Failure.Read
-        → failures_of reader.new ≡ failures_of reader.old + 1 }
-    ensures reads_on { result ≢ Err Failure.Read
-        → failures_of reader.new ≡ failures_of reader.old }
+    ensures reads { TellsReads result reader.old reader.new }
+    // The failure is `Write` or `Closed` exactly if a write failed, of lines or of what is told of bad ones.
     ensures write { result ≡ Err Failure.Write → WriteFailed out.old out.new err.old err.new }
     ensures closed { result ≡ Err Failure.Closed → WriteClosed out.old out.new err.old err.new }
     ensures writes_on { result ≢ Err Failure.Write → result ≢ Err Failure.Closed

@@ -5,24 +5,14 @@ ghost use Rattle.std.specs.FinMap.{entries};
 ghost use Rattle.std.specs.List.{flat_map};
 ghost use Rattle.gtp_values.specs.PdnAddress.{address_text};
 ghost use Rattle.gtp_values.specs.Teid.{teid_text};
-ghost use Rattle.gtp_replay.specs.Contexts.{or_dash, state_word, ended_text, ends_text, bearer_state, session_line, bearer_line, node_text};
+ghost use Rattle.gtp_replay.specs.Contexts.{or_dash, ended_text, ends_text, bearer_state, session_line, bearer_line, node_text};
 
-use gtp_gateway::{Addr, Bearer, Ebi, Gateway, Role, Session, State};
+use gtp_gateway::{Addr, Bearer, Ebi, Gateway, Role, Session};
 use gtp_lines::text::{put, put_display, put_number, put_teid};
+use gtp_outcomes::state_word;
 use gtp_scenario::name_of;
 use gtp_values::Teid;
 use std::alloc::AllocError;
-
-/// The word for a state.
-fn state_word(state: State) -> &'static str
-    ensures { result.now ≡ state_word state }
-{
-    match state {
-        State::Pending => "pending",
-        State::Active => "active",
-        State::Closing => "closing",
-    }
-}
 
 /// The mark of a bearer on which an End Marker was sent or came.
 fn ended_mark(ended: bool) -> &'static str

@@ -6,24 +6,14 @@ ghost use Rattle.gtp_reliable.specs.Forgotten.{question_of};
 ghost use Rattle.gtp_gateway.specs.Ticked.{asked_by, arrivals_of};
 ghost use Rattle.gtp_world.specs.Events.{event_of};
 ghost use Rattle.gtp_world.specs.Kept.{sent_by, told_by};
-ghost use Rattle.gtp_replay.specs.Events.{plane_word, second_text, learned_text, told_text, head_line, sent_line, gave_up_line, forgot_line, event_lines, events_text};
+ghost use Rattle.gtp_replay.specs.Events.{second_text, learned_text, told_words, told_text, head_line, sent_line, gave_up_line, forgot_line, event_lines, events_text};
 
-use crate::reporting::outcome::{first_word, outcome_word, put_detail, put_outcome_detail};
-use gtp_gateway::{Counter, Outcome, Plane, Request, Seq};
+use gtp_gateway::{Counter, Outcome, Request, Seq};
 use gtp_lines::text::{put, put_number, put_octets};
+use gtp_outcomes::{first_word, outcome_word, plane_word, put_detail, put_outcome_detail};
 use gtp_scenario::word_of;
 use gtp_world::{Datagram, Event, Note};
 use std::alloc::AllocError;
-
-/// The word for a plane.
-fn plane_word(plane: Plane) -> &'static str
-    ensures { result.now ≡ plane_word plane }
-{
-    match plane {
-        Plane::Control => "control",
-        Plane::User => "user",
-    }
-}
 
 /// Appends the counter of a restart of the peer that was learned, if one was.
 #[tactic(auto, using(crate::proofs::Appends::appending))]
@@ -51,15 +41,23 @@ fn put_second(out: &mut Vec<u8>, second: Option<Outcome>) -> Result<(), AllocErr
     put_outcome_detail(out, outcome)
 }
 
-/// Appends the outcome of an event.
+/// Appends the words of the outcome of an event.
 #[tactic(auto, using(crate::proofs::Appends::appending))]
-pub(crate) fn put_told(out: &mut Vec<u8>, note: &Note) -> Result<(), AllocError>
-    ensures ok { OnOk result (out.new.items ≡ out.old.items ++ told_text (told_by note.now)) }
+pub(crate) fn put_told_words(out: &mut Vec<u8>, note: &Note) -> Result<(), AllocError>
+    ensures ok { OnOk result (out.new.items ≡ out.old.items ++ told_words (told_by note.now)) }
 {
     put(out, first_word(note.outcome).as_bytes())?;
     put_detail(out, note.outcome)?;
     put_second(out, note.second)?;
-    put_learned(out, note.restart)?;
+    put_learned(out, note.restart)
+}
+
+/// Appends these words, and ends the line.
+#[tactic(auto, using(crate::proofs::Appends::appending))]
+pub(crate) fn put_told(out: &mut Vec<u8>, note: &Note) -> Result<(), AllocError>
+    ensures ok { OnOk result (out.new.items ≡ out.old.items ++ told_text (told_by note.now)) }
+{
+    put_told_words(out, note)?;
     put(out, b"\n")
 }
 

@@ -3,8 +3,9 @@
 ghost use Rattle.std.specs.Prelude.{◌≡◌, ◌++◌, OnOk};
 ghost use Rattle.gtp_world.specs.Kept.{entry_by};
 ghost use Rattle.gtp_world.specs.Naming.{pair_of, mutual_pairs, DoAgree};
-ghost use Rattle.gtp_replay.specs.Report.{IsOwed};
-ghost use Rattle.gtp_replay.specs.Verdicts.{agree_word, owed_word, pair_text, mutual_line, taken_line, AddsEach};
+ghost use Rattle.gtp_outcomes.specs.Owed.{IsOwed};
+ghost use Rattle.gtp_outcomes.specs.Each.{AddsEach};
+ghost use Rattle.gtp_replay.specs.Verdicts.{agree_word, owed_word, pair_text, mutual_line, taken_line};
 
 use gtp_lines::text::{put, put_octets, put_teid};
 use gtp_scenario::name_of;

@@ -1,7 +1,8 @@
 use Rattle.std.proofs.Common.{◌<◌, inl, inr, Err, length, ap, sym, subst, rules}
 use Rattle.gtp_counted.specs.Counts.{inner_of}
 use Rattle.gtp_dump.specs.Decoded.{IsTold}
-use Rattle.gtp_dump.proofs.Going.{Goes, begins, goes_on, still_told, lasts_none, lasts_more}
+use Rattle.gtp_counted.proofs.Lines.{lasts_none, lasts_more}
+use Rattle.gtp_dump.proofs.Going.{Goes, begins, goes_on, still_told}
 use Rattle.gtp_dump.proofs.decoding.decode_dump.Goals as goal
 
 pub loop-init : goal.loop-init
@@ -33,7 +34,7 @@ loop-preserved g c =
     record {
       goes = goes_on c.args.asked _ _ _ c.loop.tally c.in-Ok.after c.next_line.new.line.items _ _ _ _ _ _ c.loop.invariant.goes c.in_default.ensures.held c.in_default.ensures.rest some
           (subst (λ l. IsTold c.args.asked c.loop.tally l c.in-Ok.after (out c.loop.out.inner) (out c.tell.new.out.inner) (err c.loop.err.inner) (err c.tell.new.err.inner)) c.deref.ensures.value c.in-Ok.ensures.told);
-      lasts = lasts_more c.loop.counter (read c.args.reader.now.inner) (read c.loop.reader.inner) (read c.next_line.new.reader.inner) c.next_line.new.line.items c.loop.invariant.lasts c.in_default.ensures.held c.in_default.ensures.rest some;
+      lasts = lasts_more 1048577 c.loop.counter (read c.args.reader.now.inner) (read c.loop.reader.inner) (read c.next_line.new.reader.inner) c.next_line.new.line.items c.loop.invariant.lasts c.in_default.ensures.held c.in_default.ensures.rest some;
       reads = search rules;
       writes = search rules;
       errors = search rules;

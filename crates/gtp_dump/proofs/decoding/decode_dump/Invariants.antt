@@ -1,5 +1,6 @@
 use Rattle.std.proofs.Common.{◌≡◌, ◌≤◌}
-use Rattle.gtp_dump.proofs.Going.{Goes, Lasts}
+use Rattle.gtp_counted.proofs.Lines.{Lasts}
+use Rattle.gtp_dump.proofs.Going.{Goes}
 use Rattle.gtp_dump.proofs.decoding.decode_dump.Given as goal
 
 abbrev pub invariant-loop : goal.invariant-loop

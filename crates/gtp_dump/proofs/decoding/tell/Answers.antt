@@ -1,7 +1,7 @@
 use Rattle.std.proofs.Common.{rules, [], inl, inr, refl, ap, subst, Err, IfSome}
 use Rattle.gtp_dump.specs.Text.{Spells}
 use Rattle.std.specs.Io.KnownBytes.{Appends}
-use Rattle.gtp_dump.proofs.Going.{none_yet}
+use Rattle.gtp_counted.proofs.Lines.{none_yet}
 use Rattle.gtp_dump.proofs.decoding.tell.Goals as goal
 
 pub returns-in_default-clause-told : goal.returns-in_default-clause-told

@@ -2,7 +2,7 @@ use Rattle.std.proofs.Common.{rules, ◌≡◌, ◌+◌, min, map, take, drop, l
 use Rattle.gtp_capture.specs.Writing.{sent_of}
 use Rattle.gtp_world.specs.Kept.{sent_by, told_by}
 use Rattle.gtp_replay.proofs.Captured.{one_note}
-use Rattle.gtp_replay.proofs.Lines.{next_of, stands_at}
+use Rattle.gtp_outcomes.proofs.Numbered.{next_of, stands_at}
 use Rattle.gtp_replay.proofs.capturing.all_frames.Goals as goal
 
 pub loop-event-preserved : goal.loop-event-preserved

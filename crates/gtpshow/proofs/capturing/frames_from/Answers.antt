@@ -67,42 +67,43 @@ returns-in-Err-Stopped-Refused g c =
       long = λ e. IfSome_then (g.I.Read.remaining c.args.reader.now.inner) c.in-Err-Stopped-Refused.ensures.read (λ file read.
           long_refused g.W.Write.contents c.args.ports file before after c.requires.counts (noted ∙ ap (λ (f : Failure). Some f) (only failures.TooLong e))
           (subst (λ (f : CaptureFault). IsRead c.args.ports (TakesFrame g.W.Write.contents) RefusesFrame file before after (Err f)) fault read));
-      read = λ e. absurd (subst (λ (f : Failure). Refusal f before after) (only failures.Read e) is);
-      reads_on = search rules;
-      write = λ e. subst (λ (f : Failure). Refusal f before after) (only failures.Write e) is;
-      closed = λ e. subst (λ (f : Failure). Refusal f before after) (only failures.Closed e) is;
-      writes_on = λ unwritten unclosed. refusal_else before after why is (λ e. unwritten (ap (λ (f : Failure). Err f) e)) (λ e. unclosed (ap (λ (f : Failure). Err f) e));
+      reads = record { read = λ e. absurd (subst (λ (f : Failure). Refusal f before after) (only failures.Read e) is); otherwise = search rules };
+      writes = record {
+        write = λ e. subst (λ (f : Failure). Refusal f before after) (only failures.Write e) is;
+        closed = λ e. subst (λ (f : Failure). Refusal f before after) (only failures.Closed e) is;
+        otherwise = λ unwritten unclosed. refusal_else before after why is (λ e. unwritten (ap (λ (f : Failure). Err f) e)) (λ e. unclosed (ap (λ (f : Failure). Err f) e));
+      };
       kind = refusal_stops before after why is;
     }
 
-pub returns-in-Ok-clause-writes_on : goal.returns-in-Ok-clause-writes_on
-returns-in-Ok-clause-writes_on g c unwritten unclosed =
-    took_all g.W.Write.contents c.args.writer.now c.read_capture.new.sink (c.in-Ok.ensures.taken (λ e. cc))
+pub returns-in-Ok-clause-writes : goal.returns-in-Ok-clause-writes
+returns-in-Ok-clause-writes g c =
+    record { write = search rules; closed = search rules; otherwise = λ unwritten unclosed. took_all g.W.Write.contents c.args.writer.now c.read_capture.new.sink (c.in-Ok.ensures.taken (λ e. cc)) }
 
-pub returns-in-Err-NoCapture-clause-writes_on : goal.returns-in-Err-NoCapture-clause-writes_on
-returns-in-Err-NoCapture-clause-writes_on g c unwritten unclosed =
+pub returns-in-Err-NoCapture-clause-writes : goal.returns-in-Err-NoCapture-clause-writes
+returns-in-Err-NoCapture-clause-writes g c =
     let is = c.in-Err-NoCapture.field-0-is in
-    took_all g.W.Write.contents c.args.writer.now c.read_capture.new.sink (c.in-Err-NoCapture.ensures.taken (λ e. cc))
+    record { write = search rules; closed = search rules; otherwise = λ unwritten unclosed. took_all g.W.Write.contents c.args.writer.now c.read_capture.new.sink (c.in-Err-NoCapture.ensures.taken (λ e. cc)) }
 
-pub returns-in-Err-Broken-clause-writes_on : goal.returns-in-Err-Broken-clause-writes_on
-returns-in-Err-Broken-clause-writes_on g c unwritten unclosed =
+pub returns-in-Err-Broken-clause-writes : goal.returns-in-Err-Broken-clause-writes
+returns-in-Err-Broken-clause-writes g c =
     let is = c.in-Err-Broken.field-0-is in
-    took_all g.W.Write.contents c.args.writer.now c.read_capture.new.sink (c.in-Err-Broken.ensures.taken (λ e. cc))
+    record { write = search rules; closed = search rules; otherwise = λ unwritten unclosed. took_all g.W.Write.contents c.args.writer.now c.read_capture.new.sink (c.in-Err-Broken.ensures.taken (λ e. cc)) }
 
-pub returns-in-Err-Stopped-Memory-clause-writes_on : goal.returns-in-Err-Stopped-Memory-clause-writes_on
-returns-in-Err-Stopped-Memory-clause-writes_on g c unwritten unclosed =
+pub returns-in-Err-Stopped-Memory-clause-writes : goal.returns-in-Err-Stopped-Memory-clause-writes
+returns-in-Err-Stopped-Memory-clause-writes g c =
     let is = c.in-Err-Stopped-Memory.field-0-is in
     let stop = c.in-Err-Stopped-Memory.field-0-0-is in
-    took_all g.W.Write.contents c.args.writer.now c.read_capture.new.sink (c.in-Err-Stopped-Memory.ensures.taken (λ e. cc))
+    record { write = search rules; closed = search rules; otherwise = λ unwritten unclosed. took_all g.W.Write.contents c.args.writer.now c.read_capture.new.sink (c.in-Err-Stopped-Memory.ensures.taken (λ e. cc)) }
 
-pub returns-in-Err-Stopped-Read-clause-writes_on : goal.returns-in-Err-Stopped-Read-clause-writes_on
-returns-in-Err-Stopped-Read-clause-writes_on g c unwritten unclosed =
+pub returns-in-Err-Stopped-Read-clause-writes : goal.returns-in-Err-Stopped-Read-clause-writes
+returns-in-Err-Stopped-Read-clause-writes g c =
     let is = c.in-Err-Stopped-Read.field-0-is in
     let stop = c.in-Err-Stopped-Read.field-0-0-is in
-    took_all g.W.Write.contents c.args.writer.now c.read_capture.new.sink (c.in-Err-Stopped-Read.ensures.taken (λ e. cc))
+    record { write = search rules; closed = search rules; otherwise = λ unwritten unclosed. took_all g.W.Write.contents c.args.writer.now c.read_capture.new.sink (c.in-Err-Stopped-Read.ensures.taken (λ e. cc)) }
 
-pub returns-in-Err-Stopped-TooLong-clause-writes_on : goal.returns-in-Err-Stopped-TooLong-clause-writes_on
-returns-in-Err-Stopped-TooLong-clause-writes_on g c unwritten unclosed =
+pub returns-in-Err-Stopped-TooLong-clause-writes : goal.returns-in-Err-Stopped-TooLong-clause-writes
+returns-in-Err-Stopped-TooLong-clause-writes g c =
     let is = c.in-Err-Stopped-TooLong.field-0-is in
     let stop = c.in-Err-Stopped-TooLong.field-0-0-is in
-    took_all g.W.Write.contents c.args.writer.now c.read_capture.new.sink (c.in-Err-Stopped-TooLong.ensures.taken (λ e. cc))
+    record { write = search rules; closed = search rules; otherwise = λ unwritten unclosed. took_all g.W.Write.contents c.args.writer.now c.read_capture.new.sink (c.in-Err-Stopped-TooLong.ensures.taken (λ e. cc)) }

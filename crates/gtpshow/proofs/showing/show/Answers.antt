@@ -3,8 +3,8 @@ use Rattle.gtpshow.specs.Shown.{status_shown}
 use Rattle.gtpshow.proofs.showing.show.Goals as goal
 use Rattle.gtpshow.proofs.showing.show.Goals.{then-shown, else-shown}
 
-pub returns-clause-shown : goal.returns-clause-shown
-returns-clause-shown g c =
+pub returns-in-Ok-write_all-clause-shown : goal.returns-in-Ok-write_all-clause-shown
+returns-in-Ok-write_all-clause-shown g c =
     let shown = c.in_ok-shown.shown in
     let status : c.if-shown.result ≡ status_shown shown.faulty = elim c.if-shown.branch [ then-shown w ↦ search rules | else-shown w ↦ search rules ] in
     (c.in-Ok.octets.items, shown.text.items, shown.faulty, search rules, search rules, search rules, status)

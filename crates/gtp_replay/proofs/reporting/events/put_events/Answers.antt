@@ -1,7 +1,8 @@
 use Rattle.std.proofs.Common.{rules, ◌≡◌, ◌+◌, min, map, take, drop, length, arith}
 use Rattle.gtp_world.specs.Events.{event_of}
 use Rattle.gtp_world.specs.Kept.{sent_by, told_by}
-use Rattle.gtp_replay.proofs.Lines.{next_of, stands_at, one_event}
+use Rattle.gtp_outcomes.proofs.Numbered.{next_of, stands_at}
+use Rattle.gtp_replay.proofs.Lines.{one_event}
 use Rattle.gtp_replay.proofs.reporting.events.put_events.Goals as goal
 
 pub loop-place-preserved : goal.loop-place-preserved

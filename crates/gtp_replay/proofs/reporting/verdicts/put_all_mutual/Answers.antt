@@ -1,6 +1,6 @@
 use Rattle.gtp_world.specs.Naming.{pair_of, mutual_pairs, DoAgree}
 use Rattle.gtp_replay.specs.Verdicts.{mutual_line}
-use Rattle.gtp_replay.proofs.Each.{goes_on}
+use Rattle.gtp_outcomes.proofs.Each.{goes_on}
 use Rattle.gtp_replay.proofs.reporting.verdicts.put_all_mutual.Goals as goal
 
 pub loop-pair-preserved : goal.loop-pair-preserved

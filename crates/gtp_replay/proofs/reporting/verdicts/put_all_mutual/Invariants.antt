@@ -1,6 +1,7 @@
 use Rattle.std.proofs.Common.{◌≡◌, ◌++◌, List}
 use Rattle.gtp_world.specs.Naming.{Pair, mutual_pairs, DoAgree}
-use Rattle.gtp_replay.specs.Verdicts.{AddsEach, mutual_line}
+use Rattle.gtp_outcomes.specs.Each.{AddsEach}
+use Rattle.gtp_replay.specs.Verdicts.{mutual_line}
 use Rattle.gtp_replay.proofs.reporting.verdicts.put_all_mutual.Given as goal
 
 -- the pairs before those that are left have their lines

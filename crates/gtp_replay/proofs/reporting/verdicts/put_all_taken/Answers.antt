@@ -1,7 +1,7 @@
 use Rattle.gtp_world.specs.Kept.{entry_by}
-use Rattle.gtp_replay.specs.Report.{IsOwed}
+use Rattle.gtp_outcomes.specs.Owed.{IsOwed}
 use Rattle.gtp_replay.specs.Verdicts.{taken_line}
-use Rattle.gtp_replay.proofs.Each.{takes_item}
+use Rattle.gtp_outcomes.proofs.Each.{takes_item}
 use Rattle.gtp_replay.proofs.reporting.verdicts.put_all_taken.Goals as goal
 
 pub loop-index-preserved : goal.loop-index-preserved

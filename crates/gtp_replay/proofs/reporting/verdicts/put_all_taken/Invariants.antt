@@ -1,6 +1,7 @@
 use Rattle.std.proofs.Common.{take}
-use Rattle.gtp_replay.specs.Report.{IsOwed}
-use Rattle.gtp_replay.specs.Verdicts.{AddsEach, taken_line}
+use Rattle.gtp_outcomes.specs.Owed.{IsOwed}
+use Rattle.gtp_outcomes.specs.Each.{AddsEach}
+use Rattle.gtp_replay.specs.Verdicts.{taken_line}
 use Rattle.gtp_replay.proofs.reporting.verdicts.put_all_taken.Given as goal
 
 -- the packets before this one have their lines

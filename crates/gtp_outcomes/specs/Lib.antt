@@ -1,0 +1,4 @@
+pub mod Outcomes
+pub mod States
+pub mod Each
+pub mod Owed

@@ -1,0 +1,5 @@
+pub mod Arrays
+pub mod Objects
+pub mod Judged
+pub mod Lines
+pub mod Depths

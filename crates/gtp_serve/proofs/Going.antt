@@ -1,0 +1,156 @@
+-- Lines are answered one after the other.
+use Rattle.std.proofs.Common.{arith, ◌≡◌, ℕ, ◌+◌, ◌-◌, ◌^◌, ◌<◌, ◌≤◌, Bool, true, false, eqb, cond, List, [], ◌∷◌, ◌++◌, length, length-take, take, take_all, inl, inr, Option, Some, None, IfSome, codes, refl, sym, ap, ◌∙◌, subst, append-nil, append_assoc}
+use Rattle.std.proofs.lemmas.Bool.{cases_lt}
+use Rattle.std.proofs.KnownBytes.{Appends-trans}
+use Rattle.std.specs.Io.KnownBytes.{Appends, IsAtEnd}
+use Rattle.std.specs.Io.BufRead.{take_through, drop_through, DropsThrough}
+use Rattle.json.specs.Json.{Json}
+use Rattle.gtp_counted.specs.Lines.{BeginsWithLines}
+use Rattle.gtp_counted.proofs.Lines.{is_known, content, none_yet, one_more, held_some}
+use Rattle.gtp_gateway.specs.Station.{Station}
+use Rattle.gtp_json.specs.Tree.{line_of}
+use Rattle.gtp_machine.specs.declared.role.Role.{Role}
+use Rattle.gtp_serve.specs.Answers.{Answers}
+use Rattle.gtp_serve.specs.Heads.{Head, head_in}
+use Rattle.gtp_serve.specs.Replies.{word_json}
+use Rattle.gtp_serve.specs.Served.{AnswersAll, AreAnswered, AreFirstAnswered, IsAnswered, Known, IsStarted, HasNoHead, IsServed, IsFirstServed, started}
+
+-- what is answered to lines, and to one more
+answers_more : (a b c : Station) (lines : List (List ℕ)) (line text : List ℕ) (answer : Json) → AnswersAll a lines b text → Answers line b answer c → AnswersAll a (lines ++ line ∷ []) c (text ++ line_of answer)
+answers_more a b c [] line text answer (same, none) is =
+    (c, answer, [], subst (λ s. Answers line s answer c) same is, (refl, refl), ap (λ l. l ++ line_of answer) none ∙ sym (append-nil (line_of answer)))
+answers_more a b c (first ∷ lines) line text answer (next, one, rest, said, all, whole) is =
+    (next, one, rest ++ line_of answer, said, answers_more next b c lines line rest answer all is, ap (λ l. l ++ line_of answer) whole ∙ append_assoc (line_of one) rest (line_of answer))
+
+-- so far: where the octets were known, what is left is known, and the lines before it were answered
+abbrev pub Goes : Option (List ℕ) → Option (List ℕ) → Station → Station → Option (List ℕ) → Option (List ℕ) → Type 0
+Goes None left old new a b = Unit {0}
+Goes (Some octets) None old new a b = ⊥
+Goes (Some octets) (Some left) old new a b = AreAnswered octets left old new a b
+
+pub begins : (s : Station) (r w : Option (List ℕ)) → Goes r r s s w w
+begins s None w = tt
+begins s (Some xs) w = record { lines = []; text = []; begins = refl; answers = (refl, refl); written = none_yet w }
+
+-- what is answered to the octets that are held of a line is answered to the line
+answers_whole : (line : List ℕ) (old new : Station) (answer : Json) → Answers (take 1048577 line) old answer new → Answers line old answer new
+answers_whole line old new answer is = elim (cases_lt 1048576 (length line)) [
+  | inl long ↦ too_long long is
+  | inr fits ↦ subst (λ l. Answers l old answer new) (take_all 1048577 line (omega (arith, fits))) is
+]
+  where
+    full : 1048576 < length line → 1048576 < length (take 1048577 line)
+    full long = omega (arith, long, length-take 1048577 line)
+
+    too_long : 1048576 < length line → Answers (take 1048577 line) old answer new → Answers line old answer new
+    too_long long (inl (more, stays)) = inl (long, stays)
+    too_long long (inr (fits, other)) = absurd (omega (arith, full long, fits))
+
+-- one line more, of which so much is held
+pub goes_on : (first old new : Option (List ℕ)) (begun before now : Station) (held : List ℕ) (a b c : Option (List ℕ))
+    → Goes first old begun before a b → IfSome old (λ xs. held ≡ take 1048577 (take_through 10 xs)) → DropsThrough old new 10 → 0 < length held
+    → IsAnswered held before now b c → Goes first new begun now a c
+goes_on None old new begun before now held a b c so is drops some told = tt
+goes_on (Some xs) None new begun before now held a b c so is drops some told = absurd so
+goes_on (Some xs) (Some ys) None begun before now held a b c so is drops some told = absurd (subst is_known (sym drops) tt)
+goes_on (Some xs) (Some ys) (Some zs) begun before now held a b c so is drops some (answer, said, written) =
+    let rest : zs ≡ drop_through 10 ys = ap content drops in
+    let whole = answers_whole (take_through 10 ys) before now answer (subst (λ l. Answers l before answer now) is said) in
+    record {
+      lines = so.lines ++ take_through 10 ys ∷ [];
+      text = so.text ++ line_of answer;
+      begins = subst (BeginsWithLines xs (so.lines ++ take_through 10 ys ∷ [])) (sym rest) (one_more xs so.lines ys so.begins (held_some 1048577 ys held is some));
+      answers = answers_more begun before now so.lines (take_through 10 ys) so.text answer so.answers whole;
+      written = Appends-trans a b c so.text (line_of answer) so.written written;
+    }
+
+-- nothing is left
+pub ends : (first old : Option (List ℕ)) (begun now : Station) (a b : Option (List ℕ)) → Goes first old begun now a b → IsAtEnd old → IfSome first (λ octets. AreAnswered octets [] begun now a b)
+ends None old begun now a b so over = tt
+ends (Some xs) None begun now a b so over = absurd so
+ends (Some xs) (Some ys) begun now a b so over = subst (λ l. AreAnswered xs l begun now a b) over so
+
+-- the first lines were answered
+pub first_answered : (first old : Option (List ℕ)) (begun now : Station) (a b : Option (List ℕ)) → Goes first old begun now a b → IfSome first (λ octets. AreFirstAnswered octets begun a b)
+first_answered None old begun now a b so = tt
+first_answered (Some xs) None begun now a b so = absurd so
+first_answered (Some xs) (Some ys) begun now a b so = (ys, now, so)
+
+-- also where the last of them was not answered
+pub still_answered : (first old : Option (List ℕ)) (begun now : Station) (a b c : Option (List ℕ)) → Goes first old begun now a b → b ≡ c → IfSome first (λ octets. AreFirstAnswered octets begun a c)
+still_answered first old begun now a b c so same = first_answered first old begun now a c (subst (λ w. Goes first old begun now a w) same so)
+
+-- ---- the first line
+
+-- a line of which more is held than one may have
+pub long_head : (old : Option (List ℕ)) (held : List ℕ) → IfSome old (λ xs. held ≡ take 1048577 (take_through 10 xs)) → 1048576 < length held → IfSome old HasNoHead
+long_head None held is long = tt
+long_head (Some xs) held is long = inl (omega (arith, long, ap length is, length-take 1048577 (take_through 10 xs)))
+
+-- a line that is held whole
+whole_line : (xs held : List ℕ) → held ≡ take 1048577 (take_through 10 xs) → length held ≤ 1048576 → held ≡ take_through 10 xs
+whole_line xs held is fits = is ∙ take_all 1048577 (take_through 10 xs) (omega (arith, fits, ap length is, length-take 1048577 (take_through 10 xs)))
+
+pub no_head : (old : Option (List ℕ)) (held : List ℕ) → IfSome old (λ xs. held ≡ take 1048577 (take_through 10 xs)) → length held ≤ 1048576 → head_in held ≡ None → IfSome old HasNoHead
+no_head None held is fits none = tt
+no_head (Some xs) held is fits none = inr (ap head_in (sym (whole_line xs held is fits)) ∙ none)
+
+pub has_started : (old new : Option (List ℕ)) (held : List ℕ) (head : Head) (station : Station) → IfSome old (λ xs. held ≡ take 1048577 (take_through 10 xs)) → DropsThrough old new 10 → length held ≤ 1048576
+    → head_in held ≡ Some head → station ≡ started head → Known (λ octets left. IsStarted octets left head.role station) old new
+has_started None new held head station is drops fits says starts = tt
+has_started (Some xs) None held head station is drops fits says starts = absurd (subst is_known (sym drops) tt)
+has_started (Some xs) (Some ys) held head station is drops fits says starts =
+    let whole = whole_line xs held is fits in
+    record {
+      head = head;
+      fits = subst (λ l. length l ≤ 1048576) whole fits;
+      says = ap head_in (sym whole) ∙ says;
+      role_is = refl;
+      starts = starts;
+      rest = ap content drops;
+    }
+
+-- ---- all of it
+
+pub all_served : (a b c : Option (List ℕ)) (x y z : Option (List ℕ)) (role : Role) (new last : Station) → Known (λ octets left. IsStarted octets left role new) a b → Appends x y (line_of (word_json (codes "started")))
+    → IfSome b (λ octets. AreAnswered octets [] new last y z) → IfSome a (λ octets. IsServed octets x z)
+all_served None b c x y z role new last begun told others = tt
+all_served (Some xs) None c x y z role new last begun told others = absurd begun
+all_served (Some xs) (Some ys) c x y z role new last begun told others = record {
+  head = begun.head;
+  says = begun.says;
+  between = y;
+  starts = told;
+  last = last;
+  others = subst (λ left. AreAnswered left [] (started begun.head) last y z) begun.rest (subst (λ s. AreAnswered ys [] s last y z) begun.starts others);
+}
+
+pub first_served : (a b : Option (List ℕ)) (x y z : Option (List ℕ)) (role : Role) (new : Station) → Known (λ octets left. IsStarted octets left role new) a b → Appends x y (line_of (word_json (codes "started")))
+    → IfSome b (λ octets. AreFirstAnswered octets new y z) → IfSome a (λ octets. IsFirstServed octets x z)
+first_served None b x y z role new begun told others = tt
+first_served (Some xs) None x y z role new begun told others = absurd begun
+first_served (Some xs) (Some ys) x y z role new begun told others = inr (record {
+  head = begun.head;
+  says = begun.says;
+  between = y;
+  starts = told;
+  others = subst (λ left. AreFirstAnswered left (started begun.head) y z) begun.rest (subst (λ s. AreFirstAnswered ys s y z) begun.starts others);
+})
+
+pub none_served : (a : Option (List ℕ)) (x z : Option (List ℕ)) → x ≡ z → IfSome a (λ octets. IsFirstServed octets x z)
+none_served None x z same = tt
+none_served (Some xs) x z same = inl same
+
+parts_from : (x : ℕ) (xs : List ℕ) (b : Bool) → length (take_through 10 xs) + length (drop_through 10 xs) ≡ length xs → length (cond b (x ∷ []) (x ∷ take_through 10 xs)) + length (cond b xs (drop_through 10 xs)) ≡ length (x ∷ xs)
+parts_from x xs true e = omega arith
+parts_from x xs false e = omega (arith, e)
+
+parts : (xs : List ℕ) → length (take_through 10 xs) + length (drop_through 10 xs) ≡ length xs
+parts [] = refl
+parts (x ∷ xs) = parts_from x xs (eqb x 10) (parts xs)
+
+-- what is left behind the first line is no longer
+pub long_whole : (a b : Option (List ℕ)) (role : Role) (new : Station) → Known (λ octets left. IsStarted octets left role new) a b → IfSome b (λ octets. 2 ^ 64 - 1 ≤ length octets) → IfSome a (λ octets. 2 ^ 64 - 1 ≤ length octets)
+long_whole None b role new begun many = tt
+long_whole (Some xs) None role new begun many = absurd begun
+long_whole (Some xs) (Some ys) role new begun many = omega (arith, many, parts xs, ap length begun.rest)

@@ -1,0 +1,16 @@
+use Rattle.std.proofs.Common.{rules, ◌≡◌, codes, inl, inr, refl}
+use Rattle.std.proofs.lemmas.Result.{IfOk-weaker}
+use Rattle.gtp_world.specs.Commands.{command_of}
+use Rattle.gtp_serve.specs.Replies.{of_begun, reply_json, word_json}
+use Rattle.gtp_serve.proofs.answering.command_line.Goals as goal
+
+pub returns-in-Ok-clause-answered : goal.returns-in-Ok-clause-answered
+returns-in-Ok-clause-answered c =
+    let command = command_of c.args.event.now in
+    IfOk-weaker c.begun_line.result _ _
+    (λ text is. (reply_json (of_begun command c.in-Ok.begun), inl (inl (record { begun = c.in-Ok.begun; done = c.in-Ok.ensures.done; timed = c.in-Ok.ensures.timed; told = refl })), is)) c.begun_line.ensures
+
+pub returns-in-Err-Memory-clause-answered : goal.returns-in-Err-Memory-clause-answered
+returns-in-Err-Memory-clause-answered c =
+    let still : c.tell.new.gateway ≡ c.args.gateway.now = search rules in
+    IfOk-weaker c.word_line.result _ _ (λ text is. (word_json (codes "no memory"), inr (refl, still), is)) c.word_line.ensures

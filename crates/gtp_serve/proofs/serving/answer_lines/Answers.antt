@@ -1,0 +1,31 @@
+use Rattle.std.proofs.Common.{◌<◌, inl, inr, Err, length, ap, sym, subst, rules}
+use Rattle.gtp_counted.specs.Counts.{inner_of}
+use Rattle.gtp_counted.proofs.Lines.{lasts_more}
+use Rattle.gtp_serve.specs.Served.{IsAnswered}
+use Rattle.gtp_serve.proofs.Going.{goes_on, first_answered, still_answered}
+use Rattle.gtp_serve.proofs.serving.answer_lines.Goals as goal
+
+pub returns-in-Err-clause-first : goal.returns-in-Err-clause-first
+returns-in-Err-clause-first g c other unclosed = first_answered _ _ _ _ _ _ c.loop.invariant.goes
+
+pub returns-in-Err-answer_line-clause-first : goal.returns-in-Err-answer_line-clause-first
+returns-in-Err-answer_line-clause-first g c other unclosed =
+    let same = c.in-Err-answer_line.ensures.memory (elim c.in-Err-answer_line.ensures.kind [ inl is ↦ ap Err is | inr (inl is) ↦ absurd (other is) | inr (inr is) ↦ absurd (unclosed is) ]) in
+    still_answered _ _ _ _ _ _ _ c.loop.invariant.goes (ap (λ w. g.W.Write.contents (inner_of w)) (sym same))
+
+pub loop-preserved : goal.loop-preserved
+loop-preserved g c =
+    let some : 0 < length c.next_line.new.line.items = search rules in
+    let read = g.R.Read.remaining in
+    let write = g.W.Write.contents in
+    record {
+      goes = goes_on _ _ _ _ c.loop.gateway c.answer_line.new.gateway c.next_line.new.line.items _ _ _ c.loop.invariant.goes c.in_default.ensures.held c.in_default.ensures.rest some
+          (subst (λ l. IsAnswered l c.loop.gateway c.answer_line.new.gateway (write c.loop.writer.inner) (write c.answer_line.new.writer.inner)) c.deref.ensures.value c.in_default-answer_line.ensures.answered);
+      lasts = lasts_more 1048577 c.loop.counter (read c.args.reader.now.inner) (read c.loop.reader.inner) (read c.next_line.new.reader.inner) c.next_line.new.line.items c.loop.invariant.lasts c.in_default.ensures.held c.in_default.ensures.rest some;
+      reads = search rules;
+      writes = search rules;
+      role = search rules;
+    }
+
+pub returns-clause-first : goal.returns-clause-first
+returns-clause-first g c other unclosed = first_answered _ _ _ _ _ _ c.loop.invariant.goes

@@ -1,0 +1,9 @@
+pub mod Heads
+pub mod Views
+pub mod Asked
+pub mod Requests
+pub mod Replies
+pub mod Told
+pub mod Answers
+pub mod Served
+pub mod Stops

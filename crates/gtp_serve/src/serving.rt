@@ -1,0 +1,235 @@
+//! Lines in, lines out.
+
+ghost use Rattle.std.specs.Prelude.{◌≡◌, ◌≢◌, ◌⊎◌, ◌-◌, ◌^◌, ◌<◌, ◌≤◌, [], length, take, Err, IfOk, IfErr, IfSome, OnOk};
+ghost use Rattle.std.specs.Io.BufRead.{take_through, DropsThrough};
+ghost use Rattle.std.specs.Io.KnownBytes.{Appends, IsAtEnd};
+ghost use Rattle.gtp_counted.specs.Counts.{inner_of, failures_of};
+ghost use Rattle.gtp_serve.specs.Stops.{TellsReads, TellsWrites};
+ghost use Rattle.gtp_serve.specs.Served.{AreAnswered, AreFirstAnswered, IsAnswered, Known, IsStarted, IsServed, IsFirstServed, HasNoHead};
+
+use crate::answering::{MOST_OCTETS, answer};
+use crate::head::head_in;
+use crate::reply::word_line;
+use gtp_counted::{Counted, Failed, UnreadLine};
+use gtp_gateway::{Gateway, Role};
+use gtp_scenario::Fault;
+use std::alloc::Global;
+use std::io::{BufRead, ErrorKind, Write};
+use thiserror::Error;
+
+/// What is held of a line: an octet more than it may have.
+const MOST_HELD: usize = MOST_OCTETS + 1;
+
+/// Why not all lines were answered.
+#[derive(Clone, Copy, Debug, PartialEq, Eq, Error)]
+pub enum ServeFault {
+    /// The first line says no gateway.
+    #[error("bad gateway head")]
+    BadHead,
+    /// There are 2^64 - 1 octets or more, which are not counted.
+    #[error("too long")]
+    TooLong,
+    /// An allocation was refused for the first line, for holding a line, or for an answer.
+    #[error("no memory")]
+    Memory,
+    /// A read failed.
+    #[error("read failed")]
+    Read,
+    /// A write failed.
+    #[error("write failed")]
+    Write,
+    /// The output was closed by whoever reads it.
+    #[error("closed")]
+    Closed,
+}
+
+/// Why a write failed.
+fn unwritten(failed: Failed) -> ServeFault
+    ensures closed { result ≡ ServeFault.Closed → failed.kind ≡ ErrorKind.BrokenPipe }
+    ensures write { result ≡ ServeFault.Write → failed.kind ≢ ErrorKind.BrokenPipe }
+    ensures kind { (result ≡ ServeFault.Write) ⊎ (result ≡ ServeFault.Closed) }
+{
+    match failed.kind {
+        ErrorKind::BrokenPipe => ServeFault::Closed,
+        _ => ServeFault::Write,
+    }
+}
+
+/// Writes a line, and hands it on at once.
+fn write_line<W: Write>(writer: &mut Counted<W>, line: &[u8]) -> Result<(), ServeFault>
+    requires { failures_of writer.old < 2 ^ 64 - 1 }
+    ensures written { OnOk result (Appends
+        (W.contents (inner_of writer.old)) (W.contents (inner_of writer.new)) line.now) }
+    ensures writes { TellsWrites result writer.old writer.new }
+    ensures kind { IfErr result (λ fault. (fault ≡ ServeFault.Write) ⊎ (fault ≡ ServeFault.Closed)) }
+{
+    if let Err(failed) = writer.write_all(line) {
+        return Err(unwritten(failed));
+    }
+    match writer.flush() {
+        Ok(()) => Ok(()),
+        Err(failed) => Err(unwritten(failed)),
+    }
+}
+
+/// Reads a line, or its first octets where it is longer than a line may be. None are held only at the end.
+fn next_line<R: BufRead>(reader: &mut Counted<R>, line: &mut Vec<u8>) -> Result<(), ServeFault>
+    requires { failures_of reader.old < 2 ^ 64 - 1 }
+    ensures held { OnOk result (IfSome (R.remaining (inner_of reader.old))
+        (λ octets. line.new.items ≡ take 1048577 (take_through 10 octets))) }
+    ensures rest { OnOk result (DropsThrough
+        (R.remaining (inner_of reader.old)) (R.remaining (inner_of reader.new)) 10) }
+    ensures end { OnOk result
+        (length line.new.items ≡ 0 → IsAtEnd (R.remaining (inner_of reader.old))) }
+    ensures long { result ≡ Err ServeFault.TooLong →
+        IfSome (R.remaining (inner_of reader.old)) (λ octets. 2 ^ 64 - 1 ≤ length octets) }
+    ensures reads { TellsReads result reader.old reader.new }
+    ensures kind { IfErr result (λ fault. (fault ≡ ServeFault.TooLong) ⊎ (fault ≡ ServeFault.Memory)
+        ⊎ (fault ≡ ServeFault.Read)) }
+{
+    match reader.next_line(MOST_HELD, line) {
+        Ok(()) => Ok(()),
+        Err(UnreadLine::TooLong) => Err(ServeFault::TooLong),
+        Err(UnreadLine::Memory) => Err(ServeFault::Memory),
+        Err(UnreadLine::Read) => Err(ServeFault::Read),
+    }
+}
+
+/// Answers a line, of which so much is held.
+fn answer_line<W: Write>(
+    alloc: Global,
+    role: Role,
+    gateway: &mut Gateway,
+    line: &[u8],
+    writer: &mut Counted<W>,
+) -> Result<(), ServeFault>
+    requires role { role ≡ gateway.old.role }
+    requires writes { failures_of writer.old < 2 ^ 64 - 1 }
+    ensures answered { OnOk result (IsAnswered line.now gateway.old gateway.new
+        (W.contents (inner_of writer.old)) (W.contents (inner_of writer.new))) }
+    ensures role { gateway.new.role ≡ gateway.old.role }
+    ensures memory { result ≡ Err ServeFault.Memory → writer.new ≡ writer.old }
+    ensures writes { TellsWrites result writer.old writer.new }
+    ensures kind { IfErr result (λ fault. (fault ≡ ServeFault.Memory) ⊎ (fault ≡ ServeFault.Write)
+        ⊎ (fault ≡ ServeFault.Closed)) }
+{
+    let Ok(answer) = answer(alloc, role, gateway, line) else {
+        return Err(ServeFault::Memory);
+    };
+    write_line(writer, &answer)
+}
+
+/// Answers each line that is left.
+#[tactic(auto, using(gtp_counted::proofs::Lines::lasts_long, gtp_counted::proofs::Lines::lasts_within))]
+fn answer_lines<R: BufRead, W: Write>(
+    alloc: Global,
+    role: Role,
+    gateway: &mut Gateway,
+    reader: &mut Counted<R>,
+    writer: &mut Counted<W>,
+) -> Result<(), ServeFault>
+    requires role { role ≡ gateway.old.role }
+    requires reads { failures_of reader.old < 2 ^ 64 - 1 }
+    requires writes { failures_of writer.old < 2 ^ 64 - 1 }
+    ensures all { OnOk result (IfSome (R.remaining (inner_of reader.old)) (λ octets.
+        AreAnswered octets [] gateway.old gateway.new
+        (W.contents (inner_of writer.old)) (W.contents (inner_of writer.new)))) }
+    ensures first { IfErr result (λ fault. fault ≢ ServeFault.Write → fault ≢ ServeFault.Closed →
+        IfSome (R.remaining (inner_of reader.old)) (λ octets. AreFirstAnswered octets gateway.old
+        (W.contents (inner_of writer.old)) (W.contents (inner_of writer.new)))) }
+    ensures long { result ≡ Err ServeFault.TooLong →
+        IfSome (R.remaining (inner_of reader.old)) (λ octets. 2 ^ 64 - 1 ≤ length octets) }
+    ensures reads { TellsReads result reader.old reader.new }
+    ensures writes { TellsWrites result writer.old writer.new }
+    ensures kind { IfErr result (λ fault. fault ≢ ServeFault.BadHead) }
+{
+    let mut line = Vec::new(alloc);
+    for _ in 0..u64::MAX {
+        if let Err(fault) = next_line(reader, &mut line) {
+            return Err(fault);
+        }
+        if line.is_empty() {
+            return Ok(());
+        }
+        if let Err(fault) = answer_line(alloc, role, gateway, &line, writer) {
+            return Err(fault);
+        }
+    }
+    Err(ServeFault::TooLong)
+}
+
+/// Reads the first line, and starts the gateway that it says.
+fn start<R: BufRead>(alloc: Global, reader: &mut Counted<R>) -> Result<(Role, Gateway), ServeFault>
+    requires { failures_of reader.old < 2 ^ 64 - 1 }
+    ensures started { IfOk result (λ r. Known (λ octets left. IsStarted octets left r.0 r.1)
+        (R.remaining (inner_of reader.old)) (R.remaining (inner_of reader.new))) }
+    ensures role { IfOk result (λ r. r.0 ≡ r.1.role) }
+    ensures bad { result ≡ Err ServeFault.BadHead →
+        IfSome (R.remaining (inner_of reader.old)) HasNoHead }
+    ensures long { result ≡ Err ServeFault.TooLong →
+        IfSome (R.remaining (inner_of reader.old)) (λ octets. 2 ^ 64 - 1 ≤ length octets) }
+    ensures reads { TellsReads result reader.old reader.new }
+    ensures kind { IfErr result (λ fault. fault ≢ ServeFault.Write × fault ≢ ServeFault.Closed) }
+{
+    let mut line = Vec::new(alloc);
+    if let Err(fault) = next_line(reader, &mut line) {
+        return Err(fault);
+    }
+    if line.len() > MOST_OCTETS {
+        return Err(ServeFault::BadHead);
+    }
+    let head = match head_in(alloc, &line) {
+        Ok(head) => head,
+        Err(Fault::Wrong) => return Err(ServeFault::BadHead),
+        Err(Fault::Memory) => return Err(ServeFault::Memory),
+    };
+    match Gateway::start(alloc, head.role, &head.config, head.counter) {
+        Ok(gateway) => Ok((head.role, gateway)),
+        Err(_) => Err(ServeFault::Memory),
+    }
+}
+
+/// A gateway behind lines: starts the one that the first line says (`head_in`), and answers each other line (`request_in`) with
+/// one line of JSON, which is handed on at once. The first line is answered with `{"outcome":"started"}`. A line ends with a line
+/// feed, or with the text, and has at most 1,048,576 octets with that; no more than one octet more is held of one.
+///
+/// An answer is an object. Of a line that asks nothing it has the `outcome` `bad line` or `too long`, and where an allocation was
+/// refused `no memory`; nothing has changed then. `contexts` is answered with `sessions` and `bearers`, and all else with the
+/// outcome of the gateway, with what is `sent`, the packet that was `accepted`, the sequence numbers of the requests that it
+/// `gave_up`, and the octets of those of which it `forgot` the answers.
+///
+/// `BadHead` if the first line says no gateway: nothing was written. `Read` if a read failed, `Write` if a write did, `Closed` if
+/// the reader of the output closed it, `Memory` if an allocation was refused for the first line, for holding a line or for an
+/// answer, `TooLong` if there are 2^64 - 1 octets or more: except after `Write` and `Closed`, what was written is the answers to
+/// the first lines.
+pub fn serve<R: BufRead, W: Write>(
+    alloc: Global,
+    reader: &mut Counted<R>,
+    writer: &mut Counted<W>,
+) -> Result<(), ServeFault>
+    requires reads { failures_of reader.old < 2 ^ 64 - 1 }
+    requires writes { failures_of writer.old < 2 ^ 64 - 1 }
+    ensures served { OnOk result (IfSome (R.remaining (inner_of reader.old)) (λ octets.
+        IsServed octets (W.contents (inner_of writer.old)) (W.contents (inner_of writer.new)))) }
+    ensures bad { result ≡ Err ServeFault.BadHead → (writer.new ≡ writer.old)
+        × IfSome (R.remaining (inner_of reader.old)) HasNoHead }
+    ensures first { IfErr result (λ fault. fault ≢ ServeFault.Write → fault ≢ ServeFault.Closed →
+        IfSome (R.remaining (inner_of reader.old)) (λ octets. IsFirstServed octets
+        (W.contents (inner_of writer.old)) (W.contents (inner_of writer.new)))) }
+    ensures long { result ≡ Err ServeFault.TooLong →
+        IfSome (R.remaining (inner_of reader.old)) (λ octets. 2 ^ 64 - 1 ≤ length octets) }
+    ensures reads { TellsReads result reader.old reader.new }
+    ensures writes { TellsWrites result writer.old writer.new }
+{
+    let (role, mut gateway) = match start(alloc, reader) {
+        Ok(started) => started,
+        Err(fault) => return Err(fault),
+    };
+    let Ok(line) = word_line(alloc, "started") else {
+        return Err(ServeFault::Memory);
+    };
+    if let Err(fault) = write_line(writer, &line) {
+        return Err(fault);
+    }
+    answer_lines(alloc, role, &mut gateway, reader, writer)
+}

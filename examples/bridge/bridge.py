@@ -1,0 +1,166 @@
+#!/usr/bin/env python3
+"""Joins one gateway to UDP and to the clock. It runs `gtpshow gateway`, hands in each datagram that arrives and a tick each
+second, and sends what the gateway tells it to send. It moves octets and knows nothing of GTP.
+
+  examples/bridge/bridge.py HEAD [--counter FILE] [--tick SECONDS] [--lose SHARE] [--repeat SHARE] [--delay SECONDS]
+
+HEAD is a file with the first line of `gtpshow gateway`, without `counter`: the restart counter is kept in FILE (HEAD.counter),
+since it has to outlive the gateway, and is one higher at each start (TS 23.007 18). Standard input has further lines of
+`gtpshow gateway`: commands. Standard output has a line for each answer but those of ticks in which nothing happened. For tests,
+a share of the datagrams that arrive is lost or comes twice, and each is held back for a random time up to a delay.
+The environment may name the program in GTPSHOW; else it is scripts/gtpshow."""
+
+import argparse
+import asyncio
+import json
+import os
+import pathlib
+import random
+import sys
+
+TOP = pathlib.Path(__file__).resolve().parents[2]
+PROGRAM = os.environ.get("GTPSHOW", str(TOP / "scripts/gtpshow"))
+PORTS = {"control": 2123, "user": 2152}
+# The longest line that the gateway writes: each octet of a tick's datagrams and forgotten requests is two digits.
+LONGEST = 1 << 28
+
+
+def next_counter(path):
+    """The restart counter of this start, which the file keeps."""
+    try:
+        counter = (int(path.read_text()) + 1) % 256
+    except FileNotFoundError:
+        counter = 0
+    fresh = path.with_suffix(path.suffix + ".new")
+    fresh.write_text(f"{counter}\n")
+    fresh.replace(path)
+    return counter
+
+
+class Plane(asyncio.DatagramProtocol):
+    """The socket of one plane."""
+
+    def __init__(self, bridge, name):
+        self.bridge, self.name = bridge, name
+
+    def connection_made(self, transport):
+        self.transport = transport
+
+    def datagram_received(self, octets, source):
+        self.bridge.arrives(self.name, octets, source)
+
+
+class Bridge:
+    def __init__(self, head, tick=1.0, lose=0.0, repeat=0.0, delay=0.0, tell=None):
+        self.head, self.tick, self.lose, self.repeat, self.delay = head, tick, lose, repeat, delay
+        self.tell = tell or (lambda line, answer: None)
+        self.requests, self.planes = asyncio.Queue(), {}
+
+    def put(self, request, done=None):
+        """Asks the gateway for something, after all that was asked before."""
+        line = request if isinstance(request, str) else json.dumps(request)
+        self.requests.put_nowait((line, done))
+
+    async def ask(self, request):
+        """The answer of the gateway."""
+        done = asyncio.get_running_loop().create_future()
+        self.put(request, done)
+        return await done
+
+    def arrives(self, plane, octets, source):
+        """A datagram arrives, as often and as late as the network of a test lets it."""
+        request = {"do": "receive", "plane": plane, "from": {"address": source[0], "port": source[1]}, "octets": octets.hex()}
+        if random.random() < self.lose:
+            return
+        for _ in range(2 if random.random() < self.repeat else 1):
+            if self.delay > 0:
+                asyncio.get_running_loop().call_later(random.uniform(0, self.delay), self.put, request)
+            else:
+                self.put(request)
+
+    def send(self, datagram):
+        to = datagram["to"]
+        self.planes[datagram["plane"]].transport.sendto(bytes.fromhex(datagram["octets"]), (to["address"], to["port"]))
+
+    async def answer_to(self, line):
+        self.process.stdin.write(line.encode() + b"\n")
+        await self.process.stdin.drain()
+        answer = await self.process.stdout.readline()
+        if not answer:
+            raise EOFError("the gateway has ended")
+        return json.loads(answer)
+
+    async def open(self):
+        """Binds the sockets and starts the gateway."""
+        loop = asyncio.get_running_loop()
+        for name, port in PORTS.items():
+            _, self.planes[name] = await loop.create_datagram_endpoint(
+                lambda name=name: Plane(self, name), local_addr=(self.head[name], port))
+        pipe = asyncio.subprocess.PIPE
+        self.process = await asyncio.create_subprocess_exec(PROGRAM, "gateway", stdin=pipe, stdout=pipe, limit=LONGEST)
+        return await self.answer_to(json.dumps(self.head))
+
+    async def ticks(self):
+        while True:
+            await asyncio.sleep(self.tick)
+            self.put({"do": "tick"})
+
+    async def serve(self):
+        """Answers until it is cancelled, or the gateway ends."""
+        ticking = asyncio.create_task(self.ticks())
+        try:
+            while True:
+                line, done = await self.requests.get()
+                answer = await self.answer_to(line)
+                for datagram in answer.get("sent", []):
+                    self.send(datagram)
+                self.tell(line, answer)
+                if done is not None and not done.done():
+                    done.set_result(answer)
+        finally:
+            ticking.cancel()
+            self.close()
+
+    def close(self):
+        for plane in self.planes.values():
+            plane.transport.close()
+        if self.process.returncode is None:
+            self.process.kill()
+
+
+def is_quiet(answer):
+    """Whether nothing happened in a tick."""
+    return answer["outcome"] == "ticked" and not (answer["sent"] or answer["gave_up"] or answer["forgot"])
+
+
+def show(line, answer):
+    if not is_quiet(answer):
+        print(json.dumps(answer), flush=True)
+
+
+async def main():
+    parser = argparse.ArgumentParser(description="Joins one gateway to UDP and to the clock.")
+    parser.add_argument("head", type=pathlib.Path)
+    parser.add_argument("--counter", type=pathlib.Path)
+    for name, default in ("tick", 1.0), ("lose", 0.0), ("repeat", 0.0), ("delay", 0.0):
+        parser.add_argument(f"--{name}", type=float, default=default)
+    asked = parser.parse_args()
+    counter = next_counter(asked.counter or asked.head.with_suffix(".counter"))
+    head = json.loads(asked.head.read_text()) | {"counter": counter}
+    bridge = Bridge(head, asked.tick, asked.lose, asked.repeat, asked.delay, show)
+    print(json.dumps(await bridge.open()), flush=True)
+    serving = asyncio.create_task(bridge.serve())
+    loop = asyncio.get_running_loop()
+    commands = asyncio.StreamReader()
+    await loop.connect_read_pipe(lambda: asyncio.StreamReaderProtocol(commands), sys.stdin)
+    while line := await commands.readline():
+        if line.strip():
+            bridge.put(line.decode().strip())
+    await serving
+
+
+if __name__ == "__main__":
+    try:
+        asyncio.run(main())
+    except KeyboardInterrupt:
+        pass
