@@ -27,6 +27,8 @@ uint64_t gtp_bench_fault(const uint8_t *octets, size_t len);
 uint64_t gtp_bench_encode(const uint8_t *octets, size_t len, uint32_t times);
 uint64_t gtp_bench_packet(const uint8_t *octets, size_t len);
 bool gtp_bench_packet_parts(const uint8_t *octets, size_t len, struct packet_parts *parts);
+uint64_t gtp_bench_packet_view(const uint8_t *octets, size_t len);
+bool gtp_bench_packet_view_parts(const uint8_t *octets, size_t len, struct packet_parts *parts);
 uint64_t gtp_bench_packet_encode(const uint8_t *octets, size_t len, uint32_t times);
 uint64_t gtp_bench_find_session(uint32_t sessions, uint32_t times);
 uint64_t gtp_bench_change_newest(uint32_t sessions, uint32_t times);
@@ -50,7 +52,13 @@ uint64_t baseline_fault(const uint8_t *octets, size_t len);
 uint64_t baseline_encode(const uint8_t *octets, size_t len, uint32_t times);
 uint64_t baseline_packet(const uint8_t *octets, size_t len);
 bool baseline_packet_parts(const uint8_t *octets, size_t len, struct packet_parts *parts);
+uint64_t baseline_packet_view(const uint8_t *octets, size_t len);
+bool baseline_packet_view_parts(const uint8_t *octets, size_t len, struct packet_parts *parts);
 uint64_t baseline_packet_encode(const uint8_t *octets, size_t len, uint32_t times);
+
+/* bench/hand.c */
+uint64_t hand_packet(const uint8_t *octets, size_t len);
+bool hand_packet_parts(const uint8_t *octets, size_t len, struct packet_parts *parts);
 
 enum datagram { SESSION_REQUEST, SESSION_RESPONSE, BEARER_REQUEST, BEARER_RESPONSE, ECHO_REQUEST, PACKET, PACKET_EXTENDED, DATAGRAMS };
 enum { SLOTS = 1024, STRIDE = 192, LONGEST = 65536 + 64, TYPE_AT = 1 };
@@ -108,14 +116,20 @@ ONCE(gtp_bench_decode)
 ONCE(gtp_bench_view_message)
 ONCE(gtp_bench_packet)
 PARTS(gtp_bench_packet_parts)
+ONCE(gtp_bench_packet_view)
+PARTS(gtp_bench_packet_view_parts)
 OFTEN(gtp_bench_encode)
 OFTEN(gtp_bench_packet_encode)
 ONCE(baseline_view)
 ONCE(baseline_decode)
 ONCE(baseline_packet)
 PARTS(baseline_packet_parts)
+ONCE(baseline_packet_view)
+PARTS(baseline_packet_view_parts)
 OFTEN(baseline_encode)
 OFTEN(baseline_packet_encode)
+ONCE(hand_packet)
+PARTS(hand_packet_parts)
 
 typedef void pass(enum datagram d);
 
@@ -126,6 +140,12 @@ typedef void pass(enum datagram d);
 #define OWN gtp_bench_decode_pass, baseline_decode_pass
 #define MADE gtp_bench_view_message_pass, baseline_decode_pass
 #define WRITE gtp_bench_encode_pass, baseline_encode_pass
+/* The view of a G-PDU, called and inlined, and what stands beside it, called and inlined. */
+#define SEEN(name, called, inlined)                                                                            \
+    { "view called, G-PDU" name, PACKET, gtp_bench_packet_view_pass, called##_pass },                          \
+    { "view called, G-PDU with extensions" name, PACKET_EXTENDED, gtp_bench_packet_view_pass, called##_pass }, \
+    { "view inlined, G-PDU" name, PACKET, gtp_bench_packet_view_parts_pass, inlined##_pass },                  \
+    { "view inlined, G-PDU with extensions" name, PACKET_EXTENDED, gtp_bench_packet_view_parts_pass, inlined##_pass }
 static const struct {
     const char *name;
     enum datagram datagram;
@@ -159,6 +179,9 @@ static const struct {
     { "decode called, G-PDU with extensions", PACKET_EXTENDED, gtp_bench_packet_pass, baseline_packet_pass },
     { "decode inlined, G-PDU", PACKET, gtp_bench_packet_parts_pass, baseline_packet_parts_pass },
     { "decode inlined, G-PDU with extensions", PACKET_EXTENDED, gtp_bench_packet_parts_pass, baseline_packet_parts_pass },
+    SEEN("", baseline_packet, baseline_packet_parts),
+    SEEN(", Rust view", baseline_packet_view, baseline_packet_view_parts),
+    SEEN(", C by hand", hand_packet, hand_packet_parts),
     { "encode, G-PDU", PACKET, gtp_bench_packet_encode_pass, baseline_packet_encode_pass },
     { "encode, G-PDU with extensions", PACKET_EXTENDED, gtp_bench_packet_encode_pass, baseline_packet_encode_pass },
 };
@@ -189,6 +212,16 @@ static void copy(enum datagram d, const char *digits)
     }
 }
 
+/* Whether these read a packet as the library decodes it. */
+static void compare_view(const uint8_t *octets, size_t len, uint64_t (*called)(const uint8_t *, size_t),
+                         bool (*inlined)(const uint8_t *, size_t, struct packet_parts *))
+{
+    struct packet_parts decoded = { 0 }, seen = { 0 };
+    if (gtp_bench_packet_parts(octets, len, &decoded) != inlined(octets, len, &seen)) stop("views of packets are not alike");
+    if (memcmp(&decoded, &seen, sizeof decoded) != 0) stop("parts of a view are not alike");
+    if (gtp_bench_packet(octets, len) != called(octets, len)) stop("payloads of views are not alike");
+}
+
 /* Whether both answer alike: the same message, or the same fault with its place. */
 static void compare(enum datagram d, const uint8_t *octets, size_t len)
 {
@@ -203,6 +236,9 @@ static void compare(enum datagram d, const uint8_t *octets, size_t len)
     if (gtp_bench_packet_parts(octets, len, &ours) != baseline_packet_parts(octets, len, &theirs)) stop("packets are not alike");
     if (memcmp(&ours, &theirs, sizeof ours) != 0) stop("parts are not alike");
     if (gtp_bench_packet(octets, len) != baseline_packet(octets, len)) stop("payloads are not alike");
+    compare_view(octets, len, gtp_bench_packet_view, gtp_bench_packet_view_parts);
+    compare_view(octets, len, baseline_packet_view, baseline_packet_view_parts);
+    compare_view(octets, len, hand_packet, hand_packet_parts);
 }
 
 /* Compares the answers for a datagram, each cut of it, and each change of one octet but the type. */

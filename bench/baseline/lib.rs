@@ -6,11 +6,13 @@ mod elements;
 mod fault;
 mod messages;
 mod packets;
+mod seen;
 mod values;
 
 use fault::Fault;
 use messages::{Datagram, InPlace, Message, Owned};
 use packets::Packet;
+use seen::View;
 use std::hint::black_box;
 
 /// Not inlined, so that all of the answer is written to memory.
@@ -34,6 +36,11 @@ fn encoded(message: &Message<Owned>) -> Option<Vec<u8>> {
 #[inline(never)]
 fn packet_decoded(octets: &[u8]) -> Result<Packet<'_>, packets::Fault> {
     packets::read(octets)
+}
+
+#[inline(never)]
+fn packet_viewed(octets: &[u8]) -> Result<View<'_>, packets::Fault> {
+    View::read(octets)
 }
 
 #[inline(never)]
@@ -148,6 +155,44 @@ pub unsafe extern "C" fn baseline_packet_parts(
                 first: u32::from(packet.first),
                 chain: packet.chain.len(),
                 payload: packet.payload.len(),
+            };
+            true
+        }
+        _ => false,
+    }
+}
+
+/// Views a user datagram by a call that is not inlined: one more than the octets of its packet, or 0.
+///
+/// # Safety
+/// `octets` can be read for `len` octets.
+#[unsafe(no_mangle)]
+pub unsafe extern "C" fn baseline_packet_view(octets: *const u8, len: usize) -> u64 {
+    match black_box(&packet_viewed(unsafe { slice_of(octets, len) })) {
+        Ok(view) if view.is_user_packet() => 1 + view.payload().len() as u64,
+        _ => 0,
+    }
+}
+
+/// Views a G-PDU, inlined, and writes out its parts: whether it is one.
+///
+/// # Safety
+/// `octets` can be read for `len` octets.
+#[unsafe(no_mangle)]
+pub unsafe extern "C" fn baseline_packet_view_parts(
+    octets: *const u8,
+    len: usize,
+    parts: &mut PacketParts,
+) -> bool {
+    match View::read(unsafe { slice_of(octets, len) }) {
+        Ok(view) if view.is_user_packet() => {
+            *parts = PacketParts {
+                teid: view.teid(),
+                seq: view.seq().map_or(65_536, u32::from),
+                npdu: view.npdu().map_or(256, u32::from),
+                first: u32::from(view.first()),
+                chain: view.chain().len(),
+                payload: view.payload().len(),
             };
             true
         }

@@ -21,11 +21,11 @@ pub struct Packet<'a> {
     pub payload: &'a [u8],
 }
 
-const G_PDU: u8 = 255;
+pub const G_PDU: u8 = 255;
 
 /// How many octets a chain of extension headers has, from `start` on.
 #[inline]
-fn chain_length(octets: &[u8], start: usize, first: u8) -> Result<usize, Fault> {
+pub fn chain_length(octets: &[u8], start: usize, first: u8) -> Result<usize, Fault> {
     let mut at = start;
     let mut kind = first;
     while kind != 0 {

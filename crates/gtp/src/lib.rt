@@ -18,11 +18,11 @@ pub mod control {
     };
 }
 
-/// GTP-U, the user plane (3GPP TS 29.281): decode and encode datagrams.
+/// GTP-U, the user plane (3GPP TS 29.281): view, decode and encode datagrams.
 pub mod user {
     pub use gtp_user::{
         ExtensionHeader, ExtensionHeaders, Extensions, Ip, Teid, UserBody, UserFault, UserMessage,
-        decode, encode, kinds,
+        UserView, decode, encode, kinds, view,
     };
 }
 

@@ -103,7 +103,7 @@ both_parts_from : (x : ℕ) (xs : List ℕ) (b : Bool) → length (take_through 
 both_parts_from x xs true e = omega arith
 both_parts_from x xs false e = omega (arith, e)
 
-both_parts : (xs : List ℕ) → length (take_through 10 xs) + length (drop_through 10 xs) ≡ length xs
+pub both_parts : (xs : List ℕ) → length (take_through 10 xs) + length (drop_through 10 xs) ≡ length xs
 both_parts [] = refl
 both_parts (x ∷ xs) = both_parts_from x xs (eqb x 10) (both_parts xs)
 

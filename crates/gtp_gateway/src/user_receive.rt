@@ -2,7 +2,7 @@
 
 ghost use Rattle.std.specs.Prelude.{◌≡◌, ◌↔◌, IsTrue, IfSome, IfNone};
 ghost use Rattle.gtp_machine.specs.Input.{User_fault, Extension_needed};
-ghost use Rattle.gtp_machine.specs.Reading.{user_fault, user_body_message};
+ghost use Rattle.gtp_machine.specs.Reading.{user_fault, user_body_message, user_message_of};
 ghost use Rattle.gtp_machine.specs.User.{MayCome, PacketCame, EndCame, ErrorCame, UserTaken};
 ghost use Rattle.gtp_gateway.specs.Station.{IsWhole, station_of};
 ghost use Rattle.gtp_gateway.specs.UserTaken.{plain_step, IsTakenBy, IsJudgedBy, IsFaultJudged};
@@ -14,7 +14,7 @@ use crate::user::is_active;
 use crate::user_reply::Reply;
 use gtp_machine::{DropReason, FaultName, Outcome, Plane, Role};
 use gtp_tables::Bearer;
-use gtp_user::{UserBody, UserFault, decode};
+use gtp_user::{UserBody, UserFault, UserView, view};
 use gtp_values::{Endpoint, Teid};
 
 /// What a datagram of the user plane comes to, before anything is sent for it. To judge takes no
@@ -143,6 +143,30 @@ impl Parts {
         }
     }
 
+    /// A message that is no user's packet. Out of line, so that a packet needs no room for it.
+    #[cold]
+    #[inline(never)]
+    fn judge_other<'a>(&mut self, source: &Endpoint, seen: &UserView<'a>) -> Judged<'a>
+        requires whole { IsWhole (station_of self.old) }
+        ensures { IsJudgedBy (UserTaken self.old.role source.now (user_message_of seen.now))
+            (station_of self.old) result (station_of self.new) }
+    {
+        let message = seen.to_message();
+        self.judge_message(source, message.seq, message.body)
+    }
+
+    /// A message of the user plane from the peer, where it lies: a user's packet is read in place.
+    fn judge_seen<'a>(&mut self, source: &Endpoint, seen: &UserView<'a>) -> Judged<'a>
+        requires whole { IsWhole (station_of self.old) }
+        ensures { IsJudgedBy (UserTaken self.old.role source.now (user_message_of seen.now))
+            (station_of self.old) result (station_of self.new) }
+    {
+        match seen.packet() {
+            Some((teid, payload)) => self.judge_packet(teid, payload),
+            None => self.judge_other(source, seen),
+        }
+    }
+
     /// Takes a datagram of the user plane, but for what is sent for it. Allocates nothing.
     pub fn judge_user<'a>(&mut self, source: &Endpoint, octets: &'a [u8]) -> Judged<'a>
         requires whole { IsWhole (station_of self.old) }
@@ -152,8 +176,8 @@ impl Parts {
         if !self.config.is_user_peer(&source.ip) {
             return Judged::dropped(DropReason::NotPeer);
         }
-        match decode(octets) {
-            Ok(message) => self.judge_message(source, message.seq, message.body),
+        match view(octets) {
+            Ok(seen) => self.judge_seen(source, &seen),
             Err(fault) => judge_fault(&fault),
         }
     }

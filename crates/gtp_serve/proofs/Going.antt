@@ -6,7 +6,7 @@ use Rattle.std.specs.Io.KnownBytes.{Appends, IsAtEnd}
 use Rattle.std.specs.Io.BufRead.{take_through, drop_through, DropsThrough}
 use Rattle.json.specs.Json.{Json}
 use Rattle.gtp_counted.specs.Lines.{BeginsWithLines}
-use Rattle.gtp_counted.proofs.Lines.{is_known, content, none_yet, one_more, held_some}
+use Rattle.gtp_counted.proofs.Lines.{is_known, content, none_yet, one_more, held_some, both_parts}
 use Rattle.gtp_gateway.specs.Station.{Station}
 use Rattle.gtp_json.specs.Tree.{line_of}
 use Rattle.gtp_machine.specs.declared.role.Role.{Role}
@@ -118,6 +118,7 @@ all_served None b c x y z role new last begun told others = tt
 all_served (Some xs) None c x y z role new last begun told others = absurd begun
 all_served (Some xs) (Some ys) c x y z role new last begun told others = record {
   head = begun.head;
+  fits = begun.fits;
   says = begun.says;
   between = y;
   starts = told;
@@ -131,6 +132,7 @@ first_served None b x y z role new begun told others = tt
 first_served (Some xs) None x y z role new begun told others = absurd begun
 first_served (Some xs) (Some ys) x y z role new begun told others = inr (record {
   head = begun.head;
+  fits = begun.fits;
   says = begun.says;
   between = y;
   starts = told;
@@ -141,16 +143,8 @@ pub none_served : (a : Option (List ℕ)) (x z : Option (List ℕ)) → x ≡ z 
 none_served None x z same = tt
 none_served (Some xs) x z same = inl same
 
-parts_from : (x : ℕ) (xs : List ℕ) (b : Bool) → length (take_through 10 xs) + length (drop_through 10 xs) ≡ length xs → length (cond b (x ∷ []) (x ∷ take_through 10 xs)) + length (cond b xs (drop_through 10 xs)) ≡ length (x ∷ xs)
-parts_from x xs true e = omega arith
-parts_from x xs false e = omega (arith, e)
-
-parts : (xs : List ℕ) → length (take_through 10 xs) + length (drop_through 10 xs) ≡ length xs
-parts [] = refl
-parts (x ∷ xs) = parts_from x xs (eqb x 10) (parts xs)
-
 -- what is left behind the first line is no longer
 pub long_whole : (a b : Option (List ℕ)) (role : Role) (new : Station) → Known (λ octets left. IsStarted octets left role new) a b → IfSome b (λ octets. 2 ^ 64 - 1 ≤ length octets) → IfSome a (λ octets. 2 ^ 64 - 1 ≤ length octets)
 long_whole None b role new begun many = tt
 long_whole (Some xs) None role new begun many = absurd begun
-long_whole (Some xs) (Some ys) role new begun many = omega (arith, many, parts xs, ap length begun.rest)
+long_whole (Some xs) (Some ys) role new begun many = omega (arith, many, both_parts xs, ap length begun.rest)

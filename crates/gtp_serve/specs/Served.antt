@@ -58,19 +58,22 @@ HasNoHead octets = (most_octets < length (take_through 10 octets)) ⊎ (head_in 
 -- The gateway of the first line starts, which is told, and each other line is answered.
 pub record IsServed (octets : List ℕ) (before after : Option (List ℕ)) : Type 0 where
   pub head : Head
+  pub fits : length (take_through 10 octets) ≤ most_octets
   pub says : head_in (take_through 10 octets) ≡ Some head
   pub between : Option (List ℕ)
   pub starts : Appends before between (line_of (word_json (codes "started")))
   pub last : Station
   pub others : AreAnswered (drop_through 10 octets) [] (started head) last between after
 
--- Nothing was written; or the gateway of the first line has started, which was told, and the first of the other lines were answered.
+-- The gateway of the first line has started, which was told, and the first of the other lines were answered.
 pub record IsFirstAnswered (octets : List ℕ) (before after : Option (List ℕ)) : Type 0 where
   pub head : Head
+  pub fits : length (take_through 10 octets) ≤ most_octets
   pub says : head_in (take_through 10 octets) ≡ Some head
   pub between : Option (List ℕ)
   pub starts : Appends before between (line_of (word_json (codes "started")))
   pub others : AreFirstAnswered (drop_through 10 octets) (started head) between after
 
+-- nothing was written, or the first lines were answered
 abbrev pub IsFirstServed : List ℕ → Option (List ℕ) → Option (List ℕ) → Type 0
 IsFirstServed octets before after = (before ≡ after) ⊎ IsFirstAnswered octets before after

@@ -34,11 +34,23 @@ fn is_written_and_read(alloc: Global, message: &UserMessage) -> bool {
     }
 }
 
-/// Whether the message that octets spell, if they spell one, is written, and read again as the same one.
+/// Whether a view says what the message does.
+fn is_view_of(view: &UserView, message: &UserMessage) -> bool {
+    view.to_message() == *message
+        && view.kind() == message.body.kind()
+        && view.seq() == message.seq
+        && view.npdu() == message.npdu
+        && view.extensions() == message.ext
+}
+
+/// Whether octets are viewed as they are decoded; the message that they spell, if they spell one, is written, and
+/// read again as the same one.
 pub(crate) fn is_read_again(alloc: Global, octets: &[u8]) -> bool {
-    match decode(octets) {
-        Ok(message) => is_written_and_read(alloc, &message),
-        Err(_) => true,
+    match (decode(octets), view(octets)) {
+        (Ok(message), Ok(view)) => is_view_of(&view, &message)
+            && is_written_and_read(alloc, &message),
+        (Err(fault), Err(viewed)) => fault == viewed,
+        _ => false,
     }
 }
 

@@ -26,15 +26,15 @@ bit_is (suc zero) h = refl
 bit_is (suc (suc n)) h = absurd (omega arith)
 
 -- what the flags of a first octet are
-record AreFlags (first : ℕ) (flags : Flags) : Type 0 where
+pub record AreFlags (first : ℕ) (flags : Flags) : Type 0 where
   version : first / 32 ≡ 1
   protocol : (first / 16) % 2 ≡ 1
-  all : first % 8 ≡ bits flags
-  chain : ((first / 4) % 2 == 1) ≡ flags.chain
-  seq : ((first / 2) % 2 == 1) ≡ flags.seq
-  npdu : (first % 2 == 1) ≡ flags.npdu
+  pub all : first % 8 ≡ bits flags
+  pub chain : ((first / 4) % 2 == 1) ≡ flags.chain
+  pub seq : ((first / 2) % 2 == 1) ≡ flags.seq
+  pub npdu : (first % 2 == 1) ≡ flags.npdu
 
-flags_are : (spare : ℕ) (flags : Flags) → spare < 2 → AreFlags (48 + 8 * spare + bits flags) flags
+pub flags_are : (spare : ℕ) (flags : Flags) → spare < 2 → AreFlags (48 + 8 * spare + bits flags) flags
 flags_are spare flags lt =
     let x = at_most_one flags.chain in
     let y = at_most_one flags.seq in
@@ -64,7 +64,7 @@ first_is flags lt =
 test_is : (m n : ℕ) → m ≡ n → (m == n) ≡ true
 test_is m n h = grind (arith, nat_tests)
 
-test_not : (m n : ℕ) → m ≢ n → (m == n) ≡ false
+pub test_not : (m n : ℕ) → m ≢ n → (m == n) ≡ false
 test_not m n h = grind (arith, nat_tests)
 
 abbrev begins : ℕ → ℕ → ℕ → ℕ → ℕ → ℕ → ℕ → ℕ → List ℕ → List ℕ
@@ -80,7 +80,7 @@ abbrev header_read : Headed → Result Headed UserFault
 header_read h = Ok h
 
 -- no flag is set
-at_plain : (first kind high low a b c d : ℕ) (tail : List ℕ) → first / 32 ≡ 1 → (first / 16) % 2 ≡ 1 → first % 8 ≡ 0 → 256 * high + low ≡ length tail
+pub at_plain : (first kind high low a b c d : ℕ) (tail : List ℕ) → first / 32 ≡ 1 → (first / 16) % 2 ≡ 1 → first % 8 ≡ 0 → 256 * high + low ≡ length tail
     → header_at (begins first kind high low a b c d tail) ≡ Ok (plain kind (from_be_bytes w32 (a ∷ b ∷ c ∷ d ∷ [])) tail)
 at_plain first kind high low a b c d tail v p f l =
     let version : (first / 32 == 1) ≡ true = test_is _ _ v in
@@ -90,7 +90,7 @@ at_plain first kind high low a b c d tail v p f l =
     rw (version, protocol, same, none) refl
 
 -- a flag is set
-at_flags : (first kind high low a b c d : ℕ) (tail : List ℕ) → first / 32 ≡ 1 → (first / 16) % 2 ≡ 1 → 0 < first % 8 → 256 * high + low ≡ length tail
+pub at_flags : (first kind high low a b c d : ℕ) (tail : List ℕ) → first / 32 ≡ 1 → (first / 16) % 2 ≡ 1 → 0 < first % 8 → 256 * high + low ≡ length tail
     → header_at (begins first kind high low a b c d tail) ≡ after_flags first kind (from_be_bytes w32 (a ∷ b ∷ c ∷ d ∷ [])) tail
 at_flags first kind high low a b c d tail v p f l =
     let version : (first / 32 == 1) ≡ true = test_is _ _ v in

@@ -9,3 +9,5 @@ pub mod Messages
 pub mod Again
 pub mod Prefixes
 pub mod Same
+pub mod Packets
+pub mod Viewed

@@ -1,5 +1,5 @@
 -- What a message of the user plane says, without how it is kept.
-use Rattle.std.specs.Prelude.{ℕ, List, Option, Some, unwrap_or}
+use Rattle.std.specs.Prelude.{ℕ, List, Option, Some, None, unwrap_or}
 use Rattle.gtp_values.specs.declared.address.Ip.{Ip}
 use Rattle.gtp_user.specs.declared.message.UserBody.{UserBody}
 use Rattle.gtp_user.specs.declared.message.UserBody.TheVariants as bodies
@@ -48,3 +48,15 @@ numbered (Notification types) seq = Some (unwrap_or seq 0)
 numbered (EndMarker teid) seq = seq
 numbered (Packet teid payload) seq = seq
 numbered (Other kind teid octets) seq = seq
+
+-- the receiver's TEID, which the messages that always have a sequence number do not have (TS 29.281 5.1)
+abbrev pub receiver_in : Content → Option ℕ
+receiver_in (EndMarker teid) = Some teid
+receiver_in (Packet teid payload) = Some teid
+receiver_in (Other kind teid octets) = Some teid
+receiver_in content = None
+
+-- the TEID and the octets of a user's packet
+abbrev pub packet_in : Content → Option (ℕ × List ℕ)
+packet_in (Packet teid payload) = Some (teid, payload)
+packet_in content = None

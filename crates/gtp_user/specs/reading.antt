@@ -5,3 +5,4 @@ pub mod Chained
 pub mod Elements
 pub mod Gathered
 pub mod Message
+pub mod Viewed

@@ -69,7 +69,7 @@ fn read_message(octets: &[u8]) -> Result<UserMessage<'_>, UserFault>
 /// The message that a datagram spells. A G-PDU is read first; other messages and faults are read out of
 /// line, so that a G-PDU needs no room for them.
 #[inline(always)]
-fn read_first(octets: &[u8]) -> Result<UserMessage<'_>, UserFault>
+pub fn read_first(octets: &[u8]) -> Result<UserMessage<'_>, UserFault>
     ensures { Gives message_value result (message_at octets.now) }
 {
     if let Some(message) = read_packet(octets) {

@@ -5,47 +5,12 @@ ghost use Rattle.std.specs.Iterator.{YieldsFirstBy, item_count};
 ghost use Rattle.gtp_user.specs.declared.fault.UserFault.{UserFault as AnyFault};
 ghost use Rattle.gtp_values.specs.Steps.{Gives};
 ghost use Rattle.gtp_user.specs.Chain.{Extension, IsChain, WholeChainFails, AreExtensions, first_kind, chain_encoding, extension_of};
-ghost use Rattle.gtp_user.specs.reading.Walk.{front_at, chain_at, whole_at};
-ghost use Rattle.gtp_user.specs.reading.Chained.{front_of, chained_of};
+ghost use Rattle.gtp_user.specs.reading.Walk.{chain_at, whole_at, headers_in, HasNoRest};
+ghost use Rattle.gtp_user.specs.reading.Chained.{chained_of};
 
 use crate::fault::UserFault;
+use crate::front::read_front;
 use std::marker::Model;
-
-/// A header at the start of octets, after the octet that has its type.
-#[derive(Clone, Copy)]
-pub struct Front<'a> {
-    pub content: &'a [u8],
-    /// The type of the header after it, 0 where there is none.
-    pub next: u8,
-    pub rest: &'a [u8],
-}
-
-/// The header of this type at the start of the last octets of a datagram of `end` octets.
-#[inline(always)]
-fn read_front(kind: u8, octets: &[u8], end: usize) -> Result<Front<'_>, UserFault>
-    requires { length octets.now ≤ end }
-    ensures { Gives front_of result (front_at end kind octets.now) }
-{
-    let at = end - octets.len();
-    let [units, tail @ ..] = octets else {
-        return Err(UserFault::ExtensionPast { at });
-    };
-    if *units == 0 {
-        return Err(UserFault::ExtensionZero { at });
-    }
-    let size = 4 * usize::from(*units) - 2;
-    if tail.len() <= size {
-        return Err(UserFault::ExtensionPast { at });
-    }
-    if kind >= 128 {
-        return Err(UserFault::ExtensionNeeded { kind });
-    }
-    Ok(Front {
-        content: &tail[..size],
-        next: tail[size],
-        rest: &tail[size + 1..],
-    })
-}
 
 /// An extension header, as it lies in the datagram.
 #[derive(Clone, Copy, Debug, PartialEq, Eq)]
@@ -118,7 +83,17 @@ fn read_whole(first: u8, octets: &[u8]) -> Result<Extensions<'_>, UserFault>
 }
 
 impl<'a> Extensions<'a> {
+    /// The headers of octets that are a whole chain, the first one of this type.
+    #[inline(always)]
+    pub(crate) fn of(first: u8, octets: &'a [u8]) -> Extensions<'a>
+        requires { HasNoRest first octets.now }
+        ensures { result ≡ headers_in first octets.now }
+    {
+        Extensions { first, octets }
+    }
+
     /// No headers.
+    #[inline(always)]
     pub fn none() -> Extensions<'a>
         ensures { result ≡ [] }
     {

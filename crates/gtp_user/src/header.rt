@@ -24,7 +24,7 @@ pub struct Header<'a> {
 }
 
 /// The flags E, S and PN of the first octet: four octets follow the first eight where one is set.
-fn field_flags(first: u8) -> u8
+pub fn field_flags(first: u8) -> u8
     ensures { result ≡ first % 8 }
 {
     first & 7

@@ -1,5 +1,5 @@
-//! GTP-U, the user plane of TS 29.281: a datagram is decoded in place, without memory, and a message
-//! is written in its canonical encoding.
+//! GTP-U, the user plane of TS 29.281: a datagram is decoded or viewed in place, without memory, and a
+//! message is written in its canonical encoding.
 #![tactic(auto)]
 
 mod body;
@@ -8,17 +8,20 @@ mod element;
 mod encoding;
 mod extension;
 mod fault;
+mod front;
 mod header;
 pub mod kinds;
 pub mod laws;
 mod message;
 mod numbers;
+mod viewing;
 
 pub use decoding::decode;
 pub use encoding::encode;
 pub use extension::{ExtensionHeader, ExtensionHeaders, Extensions};
 pub use fault::UserFault;
 pub use message::{UserBody, UserMessage};
+pub use viewing::{UserView, view};
 
 /// What the signatures and contracts here name of the crate below.
 pub use gtp_values::{Ip, Teid};

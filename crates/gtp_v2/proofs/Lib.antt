@@ -29,3 +29,4 @@ pub mod Places
 pub mod Answered
 pub mod Lies
 pub mod Joined
+pub mod Passing

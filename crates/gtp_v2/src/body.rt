@@ -1,6 +1,8 @@
 //! What messages say, and the list of their kinds.
 
-ghost use Rattle.std.specs.Prelude.{◌≡◌, ◌↔◌, ◌++◌, length, IsTrue, None, option_map, OnOk, IfOk, IsOk};
+ghost use Rattle.std.specs.Prelude.{◌≡◌, ◌↔◌, ◌++◌, length, IsTrue, None, option_map, OnOk, IfOk, IsOk, IsSomeAnd, is_some};
+ghost use Rattle.gtp_v2.specs.Table.{start};
+ghost use Rattle.gtp_v2.specs.reading.Rows.{lines_at};
 ghost use Rattle.gtp_v2.specs.Tables.{table_of};
 ghost use Rattle.gtp_v2.specs.Message.{MessageGives, ContentAllocates, raw_of};
 ghost use Rattle.gtp_v2.specs.reading.Message.{content_at, content_among};
@@ -112,6 +114,26 @@ macro_rules! build_among {
     };
 }
 
+/// Whether a type of message has a table.
+macro_rules! table_among {
+    (($kind_of:expr), $($kind:ident),+) => {
+        match $kind_of {
+            $($kind::KIND => true,)+
+            _ => false,
+        }
+    };
+}
+
+/// Whether elements pass, where the header has the form that the type has.
+macro_rules! passes_among {
+    (($kind_of:expr, $has_teid:expr, $elements:expr), $($kind:ident),+) => {
+        match $kind_of {
+            $($kind::KIND => $has_teid == $kind::HAS_TEID && $kind::passes($elements),)+
+            _ => false,
+        }
+    };
+}
+
 /// What is left of a room after what a body carries.
 macro_rules! room_among {
     (($body:expr, $room:expr), $($kind:ident),+) => {
@@ -213,6 +235,24 @@ pub fn build_datagram(
     ensures alone { IfOk result (λ d. d.second ≡ None) }
 {
     with_kinds!(build_among, alloc, header, elements)
+}
+
+/// Whether a type of message has a table.
+#[inline(always)]
+pub fn has_table(kind: u8) -> bool
+    ensures { result ≡ is_some (table_of kind) }
+{
+    with_kinds!(table_among, kind)
+}
+
+/// Whether a header has the form that its type asks, and the elements after it have what the table asks. Answers no
+/// fault, so that all is in registers.
+#[inline(always)]
+pub fn passes(kind: u8, has_teid: bool, elements: &Indexed) -> bool
+    ensures { IsTrue result → IsSomeAnd (table_of kind) (λ table. (has_teid ≡ table.has_teid)
+        × IsOk (lines_at start table.lines elements.now)) }
+{
+    with_kinds!(passes_among, kind, has_teid, elements)
 }
 
 /// What is left of a room after what a message carries, `None` where it doesn't fit.

@@ -1,12 +1,13 @@
 //! Rows of groups.
 
 ghost use Rattle.gtp_ie.specs.Form.{bearer_context};
-ghost use Rattle.std.specs.Prelude.{◌≡◌, ◌↔◌, ◌*◌, ◌++◌, IsTrue, IsOk, Ok, List, map, length, OnOk};
+ghost use Rattle.std.specs.Prelude.{◌≡◌, ◌↔◌, ◌*◌, ◌++◌, IsTrue, IsOk, Ok, IfSome, List, map, length, OnOk};
 ghost use Rattle.gtp_ie.specs.Element.{all_of};
 ghost use Rattle.gtp_ie.specs.View.{element_of};
 ghost use Rattle.gtp_ie.specs.Value.{Value};
 ghost use Rattle.gtp_v2.specs.Table.{Row};
-ghost use Rattle.gtp_v2.specs.reading.Rows.{rows_at, group_at, groups_at};
+ghost use Rattle.gtp_v2.specs.reading.Rows.{rows_at, group_at, groups_at, some_groups};
+ghost use Rattle.gtp_v2.specs.reading.Checked.{groups_silent};
 ghost use Rattle.gtp_v2.specs.Text.{rows_encoding};
 ghost use Rattle.gtp_values.specs.Room.{Leaves};
 ghost use Rattle.gtp_v2.specs.Room.{TakesAtMost};
@@ -14,6 +15,7 @@ ghost use Rattle.gtp_v2.specs.Kinds.{RowsHaveKinds};
 ghost use Rattle.gtp_v2.specs.Marks.{RowsMarked};
 ghost use Rattle.gtp_v2.specs.reading.Outcome.{GivesOrMemory, HasGroup, IsAppended};
 
+use crate::fault::Need;
 use crate::listed::Listed;
 use gtp_ie::kinds::BEARER_CONTEXT;
 use gtp_ie::{ElementView, Indexed};
@@ -33,6 +35,10 @@ pub trait Context: Copy {
     fn build(accepting: bool, elements: &Indexed) -> Self
         requires { IsOk (rows_at accepting rows elements.now) }
         ensures { rows_at accepting rows elements.now ≡ Ok (values result) };
+
+    /// The same of any elements; `None` where they don't have what the rows ask.
+    fn read(accepting: bool, elements: &Indexed) -> Option<Self>
+        ensures { IfSome result (λ c. rows_at accepting rows elements.now ≡ Ok (values c)) };
 
     /// Appends the elements of the rows.
     fn write(&self, out: &mut Vec<u8>) -> Result<(), AllocError>
@@ -84,4 +90,47 @@ pub fn contexts<C: Context>(
         append_context::<C>(&mut contexts, accepting, &view)?;
     }
     Ok(Listed::of(contexts))
+}
+
+/// The context that an element holds; `None` where it doesn't have what the rows ask.
+#[inline(always)]
+#[tactic(auto, unfolding(crate::specs::reading::Rows::group_at))]
+fn read_context<C: Context>(accepting: bool, view: &ElementView) -> Option<C>
+    ensures { IfSome result (λ c. group_at accepting C.rows (element_of view.now) ≡ Ok (C.values c)) }
+{
+    let Ok(elements) = view.indexed() else {
+        return None;
+    };
+    C::read(accepting, &elements)
+}
+
+/// Whether there is no bearer context, where each that there is has what its rows ask; `None` where one doesn't.
+#[inline(always)]
+fn contexts_silent<C: Context>(accepting: bool, elements: &Indexed) -> Option<bool>
+    ensures { IfSome result (λ silent. groups_silent accepting C.rows
+        (all_of bearer_context 0 elements.now) ≡ Ok silent) }
+{
+    let mut silent = true;
+    for view in elements.all(BEARER_CONTEXT, 0) {
+        let Some(_) = read_context::<C>(accepting, &view) else {
+            return None;
+        };
+        silent = false;
+    }
+    Some(silent)
+}
+
+/// Whether the bearer contexts have what their rows ask, and there is one where that is needed.
+#[inline(always)]
+pub fn contexts_pass<C: Context>(need: Need, accepting: bool, elements: &Indexed) -> bool
+    ensures { IsTrue result → IsOk (some_groups need bearer_context 0 accepting C.rows
+        (all_of bearer_context 0 elements.now)) }
+{
+    let Some(silent) = contexts_silent::<C>(accepting, elements) else {
+        return false;
+    };
+    match need {
+        Need::Optional => true,
+        Need::Mandatory | Need::Conditional => !silent,
+    }
 }

@@ -1,12 +1,14 @@
 //! Rows of which a message may have several values, of elements that have what the table asks.
 
-ghost use Rattle.std.specs.Prelude.{IsOk, map};
+ghost use Rattle.std.specs.Prelude.{◌≡◌, IfSome, IsOk, IsTrue, Ok, ℕ, map};
 ghost use Rattle.gtp_ie.specs.Element.{all_of};
-ghost use Rattle.gtp_v2.specs.reading.Rows.{values_at};
+ghost use Rattle.gtp_ie.specs.View.{element_of};
+ghost use Rattle.gtp_v2.specs.reading.Rows.{one_at, values_at, several_at};
+ghost use Rattle.gtp_v2.specs.reading.Checked.{values_silent};
 ghost use Rattle.gtp_v2.specs.reading.Outcome.{GivesOrMemory, HasValue};
 
 use crate::listed::Listed;
-use gtp_ie::{IeValue, Indexed};
+use gtp_ie::{ElementView, IeValue, Indexed};
 use gtp_values::Memory;
 use std::alloc::Global;
 
@@ -26,4 +28,43 @@ pub fn several<T: IeValue>(
         values.push(T::build(view.body))?;
     }
     Ok(Listed::of(values))
+}
+
+/// The value of an element of the value's type; `None` where it doesn't read.
+#[inline(always)]
+#[tactic(auto, using(crate::proofs::Checks::seen_read))]
+fn read_value<T: IeValue>(instance: u8, view: &ElementView) -> Option<T>
+    ensures { IfSome result (λ x. one_at T.KIND instance (element_of view.now) ≡ Ok (T.value x)) }
+{
+    match T::check(view.body) {
+        Ok(()) => Some(T::build(view.body)),
+        Err(_) => None,
+    }
+}
+
+/// Whether there is no value, where each that there is reads; `None` where one doesn't.
+#[inline(always)]
+fn values_silent<T: IeValue>(elements: &Indexed, instance: u8) -> Option<bool>
+    ensures { IfSome result (λ silent. values_silent T.KIND instance
+        (all_of T.KIND instance elements.now) ≡ Ok silent) }
+{
+    let mut silent = true;
+    for view in elements.all(T::KIND, instance) {
+        let Some(_) = read_value::<T>(instance, &view) else {
+            return None;
+        };
+        silent = false;
+    }
+    Some(silent)
+}
+
+/// Whether the values of a row of several read, and there is one where that is needed.
+#[inline(always)]
+pub fn several_pass<T: IeValue>(is_needed: bool, elements: &Indexed, instance: u8) -> bool
+    ensures { IsTrue result → (missed : ℕ) → IsOk (several_at is_needed T.KIND instance missed elements.now) }
+{
+    let Some(silent) = values_silent::<T>(elements, instance) else {
+        return false;
+    };
+    !(is_needed & silent)
 }

@@ -1,6 +1,6 @@
 //! Rows of a message's table, one at a time, of elements that have what the table asks.
 
-ghost use Rattle.std.specs.Prelude.{◌≡◌, Ok, IsOk, true, false, option_map};
+ghost use Rattle.std.specs.Prelude.{◌≡◌, Ok, IsOk, IfSome, true, false, option_map};
 ghost use Rattle.gtp_v2.specs.reading.Rows.{needed_at, needed_if_at};
 ghost use Rattle.gtp_v2.specs.Viewed.{optional_at};
 
@@ -48,5 +48,47 @@ pub fn needed_if<T: IeValue>(is_needed: bool, elements: &Indexed, instance: u8) 
         Some(conditional(elements, instance))
     } else {
         optional(elements, instance)
+    }
+}
+
+/// The value of the first element of the value's type and an instance, of a mandatory row, of any elements; `None`
+/// where there is none that reads. In line, so that a value that is not used is not built.
+#[inline(always)]
+#[tactic(auto, using(crate::proofs::Checks::seen_read), unfolding(crate::specs::reading::Rows::needed_at))]
+pub fn read<T: IeValue>(elements: &Indexed, instance: u8) -> Option<T>
+    ensures { IfSome result (λ x. needed_at false T.KIND instance elements.now ≡ Ok (T.value x)) }
+{
+    let Some(view) = elements.first(T::KIND, instance) else {
+        return None;
+    };
+    match T::check(view.body) {
+        Ok(()) => Some(T::build(view.body)),
+        Err(_) => None,
+    }
+}
+
+/// The same of a conditional row.
+#[inline(always)]
+#[tactic(auto, using(crate::proofs::Checks::needed_is))]
+pub fn read_conditional<T: IeValue>(elements: &Indexed, instance: u8) -> Option<T>
+    ensures { IfSome result (λ x. needed_at true T.KIND instance elements.now ≡ Ok (T.value x)) }
+{
+    read(elements, instance)
+}
+
+/// The same of a row that some messages need; `None` where it is needed and there is none that reads.
+#[inline(always)]
+#[tactic(auto, unfolding(crate::specs::reading::Rows::needed_if_at))]
+pub fn read_if<T: IeValue>(is_needed: bool, elements: &Indexed, instance: u8) -> Option<Option<T>>
+    ensures { IfSome result (λ o. needed_if_at is_needed T.KIND instance elements.now
+        ≡ Ok (option_map T.value o)) }
+{
+    if is_needed {
+        match read_conditional::<T>(elements, instance) {
+            Some(value) => Some(Some(value)),
+            None => None,
+        }
+    } else {
+        Some(optional(elements, instance))
     }
 }

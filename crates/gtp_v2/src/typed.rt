@@ -59,6 +59,10 @@ pub trait Typed: Drop {
         ensures octets_only { IfOk result (λ d. OctetsOnlyWithoutTable d.message.body) }
         ensures alone { IfOk result (λ d. d.second ≡ None) };
 
+    /// That the elements have what the lines ask.
+    fn passes(elements: &Indexed) -> bool
+        ensures { IsTrue result → IsOk (lines_at start lines elements.now) };
+
     /// Appends the elements of the lines.
     fn write(&self, out: &mut Vec<u8>) -> Result<(), AllocError>
         ensures ok { OnOk result (out.new.items

@@ -41,6 +41,10 @@ use gtp_values::{Below, Seq, Teid};
 use std::alloc::Global;
 use std::marker::Model;
 
+mod plain;
+
+use plain::view_alone;
+
 /// A message where it lies. Contracts see the message, the octets after its header, and their elements. The
 /// places of these count from the message's first octet.
 #[derive(Debug, Drop)]
@@ -238,8 +242,10 @@ fn view_pair<'a>(
 }
 
 /// A view of the message or of the two that a datagram spells, by one reading.
+#[cold]
+#[inline(never)]
 #[tactic(auto, unfolding(crate::specs::reading::Pair::datagram_at, crate::specs::reading::Pair::alone_at, crate::specs::reading::Message::message_at))]
-pub fn view_datagram(octets: &[u8]) -> Result<DatagramView<'_>, V2Fault>
+fn view_any(octets: &[u8]) -> Result<DatagramView<'_>, V2Fault>
     ensures messages { Gives datagram_seen result (datagram_at octets.now) }
     ensures header { IfOk result (λ v.
         OfEach (λ s. PriorityNeedsTeid s.message.teid s.message.priority) v.message v.second) }
@@ -256,6 +262,24 @@ pub fn view_datagram(octets: &[u8]) -> Result<DatagramView<'_>, V2Fault>
         Err(fault) => return Err(fault),
     };
     Ok(DatagramView { message, back: &[] })
+}
+
+/// The same, a message alone first, of a type with a table and without a fault: faults and what is rare are read out
+/// of line.
+#[inline(always)]
+pub fn view_datagram(octets: &[u8]) -> Result<DatagramView<'_>, V2Fault>
+    ensures messages { Gives datagram_seen result (datagram_at octets.now) }
+    ensures header { IfOk result (λ v.
+        OfEach (λ s. PriorityNeedsTeid s.message.teid s.message.priority) v.message v.second) }
+    ensures lie { IfOk result (λ v. LieIn octets.now v.message v.second v.back) }
+{
+    if let Some(view) = view_alone(octets) {
+        return Ok(view);
+    }
+    match view_any(octets) {
+        Ok(view) => Ok(view),
+        Err(fault) => Err(fault),
+    }
 }
 
 /// A view of the message or of the two that a datagram spells, or its first fault. Takes no memory.

@@ -1,8 +1,9 @@
 //! Elements with an index of those that messages have rows of.
 
-ghost use Rattle.std.specs.Prelude.{◌≡◌, ◌+◌, ◌<◌, ◌^◌, length, option_map};
+ghost use Rattle.std.specs.Prelude.{◌≡◌, ◌+◌, ◌<◌, ◌^◌, None, ℕ, get_or, length, option_map};
 ghost use Rattle.gtp_ie.specs.Element.{elements_of, first_of, all_of};
-ghost use Rattle.gtp_ie.specs.reading.Index.{slot};
+ghost use Rattle.gtp_ie.specs.reading.Index.{slot, IsIndexed};
+ghost use Rattle.gtp_ie.specs.reading.View.{stop_of};
 ghost use Rattle.gtp_ie.specs.View.{element_of};
 ghost use Rattle.gtp_ie.specs.Walked.{IsWalked, FindsElements};
 
@@ -86,6 +87,7 @@ impl<'a> Model for Indexed<'a> {
 
 /// The elements of the octets, whose first octet has this place in the datagram, by one walk:
 /// `Truncated` where they are not whole elements, at the first octet of the first one that isn't.
+#[inline(always)]
 pub fn indexed_at(octets: &[u8], base: usize) -> Result<Indexed<'_>, IeFault>
     requires place { base + length octets.now < 2 ^ 64 }
     requires stated { length octets.now < 2 ^ 16 }
@@ -96,17 +98,38 @@ pub fn indexed_at(octets: &[u8], base: usize) -> Result<Indexed<'_>, IeFault>
 }
 
 /// The same, by one reading.
+#[inline(always)]
 fn index_from(octets: &[u8], base: usize) -> Result<Indexed<'_>, IeFault>
     requires place { base + length octets.now < 2 ^ 64 }
     requires stated { length octets.now < 2 ^ 16 }
     ensures { IsWalked result (elements_of base octets.now) }
 {
     let mut lefts = [0u16; SLOTS];
+    match fill(&mut lefts, octets, base) {
+        None => Ok(Indexed {
+            octets,
+            at: base,
+            lefts,
+        }),
+        Some(at) => Err(IeFault::Truncated { at }),
+    }
+}
+
+/// Fills the slots by one walk over the octets; the place of the first element that isn't whole. The slots are where
+/// the caller has them, and the answer in registers, so that no index is moved.
+#[inline(never)]
+fn fill(lefts: &mut [u16; SLOTS], octets: &[u8], base: usize) -> Option<usize>
+    requires place { base + length octets.now < 2 ^ 64 }
+    requires stated { length octets.now < 2 ^ 16 }
+    requires none { (s : ℕ) → get_or lefts.old s 0 ≡ 0 }
+    ensures stop { result ≡ stop_of (elements_of base octets.now) }
+    ensures index { result ≡ None → IsIndexed base octets.now lefts.new }
+{
     let mut rest = octets;
     let mut at = base;
     while !rest.is_empty() {
         let Some((view, after)) = front(rest, at) else {
-            return Err(IeFault::Truncated { at });
+            return Some(at);
         };
         let slot = slot_in_walk(view.kind, view.instance);
         if lefts[slot] == 0 {
@@ -115,11 +138,7 @@ fn index_from(octets: &[u8], base: usize) -> Result<Indexed<'_>, IeFault>
         at += 4 + view.body.len();
         rest = after;
     }
-    Ok(Indexed {
-        octets,
-        at: base,
-        lefts,
-    })
+    None
 }
 
 impl<'a> Indexed<'a> {

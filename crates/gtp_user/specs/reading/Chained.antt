@@ -1,7 +1,7 @@
 -- Reading, for private contracts and proofs: what the code's readings of extension headers stand for.
 use Rattle.std.specs.Prelude.{ℕ, List}
 use Rattle.std.specs.Borrow.{Bor}
-use Rattle.gtp_user.specs.declared.extension.Front.{Front as FrontView}
+use Rattle.gtp_user.specs.declared.front.Front.{Front as FrontView}
 use Rattle.gtp_user.specs.declared.extension.Extensions.{Extensions}
 use Rattle.gtp_user.specs.reading.Walk.{Front, Chained}
 

@@ -58,6 +58,10 @@ group_passes accepting rows e = forgotten (group_at accepting rows e)
 unfoldable pub groups_silent : Bool → List Row → List Element → Result Bool RowFault
 groups_silent accepting rows es = groups_at accepting rows es >>= λ groups. Ok (is_silent (Groups groups))
 
+-- whether there is no value; each that there is has to read
+unfoldable pub values_silent : ℕ → ℕ → List Element → Result Bool RowFault
+values_silent kind instance es = values_at kind instance es >>= λ values. Ok (is_silent (Plain values))
+
 -- what is said of groups that read, where there are none or some
 abbrev pub after_groups : Need → ℕ → ℕ → Bool → Result State RowFault
 after_groups need kind instance false = Ok (record { accepting = true; silent = false })

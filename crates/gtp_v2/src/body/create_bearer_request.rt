@@ -7,14 +7,14 @@ ghost use Rattle.gtp_v2.specs.CreateBearerRequest.{create_bearer_request, create
 
 use crate::body::Body;
 use crate::fault::{Need, V2Fault};
-use crate::groups::{Context, contexts};
+use crate::groups::{Context, contexts, contexts_pass};
 use crate::header::Header;
 use crate::kinds::CREATE_BEARER_REQUEST;
 use crate::listed::Listed;
 use crate::marks::contexts_meet;
 use crate::message::Datagram;
 use crate::room::{after_contexts, after_option, after_row};
-use crate::rows::{conditional, mandatory, optional};
+use crate::rows::{conditional, mandatory, optional, read, read_conditional};
 use crate::typed::Typed;
 use crate::writing::{put_contexts, put_option, put_row};
 use gtp_ie::{ChargingId, EbiValue, Indexed, Pti};
@@ -63,6 +63,16 @@ impl Typed for CreateBearerRequest {
             contexts,
         });
         Ok(Datagram::of(header, body))
+    }
+
+    #[inline(never)]
+    #[tactic(auto, unfolding(crate::specs::reading::Rows::lines_at))]
+    fn passes(elements: &Indexed) -> bool {
+        let _pti = optional::<Pti>(elements, 0);
+        let Some(_) = read::<EbiValue>(elements, 0) else {
+            return false;
+        };
+        contexts_pass::<BearerRequestContext>(Need::Mandatory, true, elements)
     }
 
     #[tactic(auto, using(crate::proofs::Appends::appending))]
@@ -120,6 +130,23 @@ impl Context for BearerRequestContext {
             qos,
             charging_id,
         }
+    }
+
+    #[inline(always)]
+    #[tactic(auto, unfolding(crate::specs::reading::Rows::rows_at))]
+    fn read(_accepting: bool, elements: &Indexed) -> Option<BearerRequestContext> {
+        let ebi = read::<EbiValue>(elements, 0)?;
+        let tft = read::<Tft>(elements, 0)?;
+        let user = read_conditional::<FTeid>(elements, 1)?;
+        let qos = read::<Qos>(elements, 0)?;
+        let charging_id = optional::<ChargingId>(elements, 0);
+        Some(BearerRequestContext {
+            ebi,
+            tft,
+            user,
+            qos,
+            charging_id,
+        })
     }
 
     #[tactic(auto, using(crate::proofs::Appends::appending))]

@@ -7,14 +7,14 @@ ghost use Rattle.gtp_v2.specs.CreateBearerResponse.{create_bearer_response, crea
 
 use crate::body::Body;
 use crate::fault::{Need, V2Fault};
-use crate::groups::{Context, contexts};
+use crate::groups::{Context, contexts, contexts_pass};
 use crate::header::Header;
 use crate::kinds::CREATE_BEARER_RESPONSE;
 use crate::listed::Listed;
 use crate::marks::contexts_meet;
 use crate::message::Datagram;
 use crate::room::{after_contexts, after_option, after_row};
-use crate::rows::{mandatory, needed_if, optional};
+use crate::rows::{mandatory, needed_if, optional, read, read_if};
 use crate::typed::Typed;
 use crate::writing::{put_contexts, put_option, put_row};
 use gtp_ie::{EbiValue, Indexed, Recovery};
@@ -64,6 +64,17 @@ impl Typed for CreateBearerResponse {
             recovery,
         });
         Ok(Datagram::of(header, body))
+    }
+
+    #[inline(never)]
+    #[tactic(auto, unfolding(crate::specs::reading::Rows::lines_at))]
+    fn passes(elements: &Indexed) -> bool {
+        let Some(cause) = read::<Cause>(elements, 0) else {
+            return false;
+        };
+        let accepting = cause.is_accepting();
+        let need = Need::where_accepting(accepting);
+        contexts_pass::<BearerResponseContext>(need, accepting, elements)
     }
 
     #[tactic(auto, using(crate::proofs::Appends::appending))]
@@ -121,6 +132,22 @@ impl Context for BearerResponseContext {
             serving_user,
             packet_user,
         }
+    }
+
+    #[inline(always)]
+    #[tactic(auto, unfolding(crate::specs::reading::Rows::rows_at))]
+    fn read(accepting: bool, elements: &Indexed) -> Option<BearerResponseContext> {
+        let ebi = read::<EbiValue>(elements, 0)?;
+        let cause = read::<Cause>(elements, 0)?;
+        let accepting = accepting && cause.is_accepting();
+        let serving_user = read_if::<FTeid>(accepting, elements, 2)?;
+        let packet_user = read_if::<FTeid>(accepting, elements, 3)?;
+        Some(BearerResponseContext {
+            ebi,
+            cause,
+            serving_user,
+            packet_user,
+        })
     }
 
     #[tactic(auto, using(crate::proofs::Appends::appending))]

@@ -7,14 +7,14 @@ ghost use Rattle.gtp_v2.specs.CreateSessionRequest.{create_session_request, crea
 
 use crate::body::Body;
 use crate::fault::{Need, V2Fault};
-use crate::groups::{Context, contexts};
+use crate::groups::{Context, contexts, contexts_pass};
 use crate::header::Header;
 use crate::kinds::CREATE_SESSION_REQUEST;
 use crate::listed::Listed;
 use crate::marks::contexts_meet;
 use crate::message::Datagram;
 use crate::room::{after_contexts, after_option, after_row};
-use crate::rows::{conditional, mandatory, optional};
+use crate::rows::{conditional, mandatory, optional, read, read_conditional};
 use crate::typed::Typed;
 use crate::writing::{put_contexts, put_option, put_row};
 use gtp_ie::{EbiValue, Indexed, PdnType, Rat, Recovery, Selection};
@@ -98,6 +98,31 @@ impl Typed for CreateSessionRequest {
         Ok(Datagram::of(header, body))
     }
 
+    #[inline(never)]
+    #[tactic(auto, unfolding(crate::specs::reading::Rows::lines_at))]
+    fn passes(elements: &Indexed) -> bool {
+        let Some(_) = read_conditional::<Imsi>(elements, 0) else {
+            return false;
+        };
+        let Some(_) = read::<Rat>(elements, 0) else {
+            return false;
+        };
+        let _serving_network = optional::<Plmn>(elements, 0);
+        let Some(_) = read::<FTeid>(elements, 0) else {
+            return false;
+        };
+        let Some(_) = read::<Apn>(elements, 0) else {
+            return false;
+        };
+        let _selection = optional::<Selection>(elements, 0);
+        let Some(_) = read_conditional::<PdnType>(elements, 0) else {
+            return false;
+        };
+        let _paa = optional::<Paa>(elements, 0);
+        let _ambr = optional::<Ambr>(elements, 0);
+        contexts_pass::<SessionRequestContext>(Need::Mandatory, true, elements)
+    }
+
     #[tactic(auto, using(crate::proofs::Appends::appending))]
     fn write(&self, out: &mut Vec<u8>) -> Result<(), AllocError> {
         put_row(out, 0, &self.imsi)?;
@@ -157,6 +182,15 @@ impl Context for SessionRequestContext {
         let qos = mandatory::<Qos>(elements, 0);
         let user = conditional::<FTeid>(elements, 2);
         SessionRequestContext { ebi, qos, user }
+    }
+
+    #[inline(always)]
+    #[tactic(auto, unfolding(crate::specs::reading::Rows::rows_at))]
+    fn read(_accepting: bool, elements: &Indexed) -> Option<SessionRequestContext> {
+        let ebi = read::<EbiValue>(elements, 0)?;
+        let qos = read::<Qos>(elements, 0)?;
+        let user = read_conditional::<FTeid>(elements, 2)?;
+        Some(SessionRequestContext { ebi, qos, user })
     }
 
     #[tactic(auto, using(crate::proofs::Appends::appending))]

@@ -7,14 +7,14 @@ ghost use Rattle.gtp_v2.specs.CreateSessionResponse.{create_session_response, cr
 
 use crate::body::Body;
 use crate::fault::{Need, V2Fault};
-use crate::groups::{Context, contexts};
+use crate::groups::{Context, contexts, contexts_pass};
 use crate::header::Header;
 use crate::kinds::CREATE_SESSION_RESPONSE;
 use crate::listed::Listed;
 use crate::marks::contexts_meet;
 use crate::message::Datagram;
 use crate::room::{after_contexts, after_option, after_row};
-use crate::rows::{mandatory, needed_if, optional};
+use crate::rows::{mandatory, needed_if, optional, read, read_if};
 use crate::typed::Typed;
 use crate::writing::{put_contexts, put_option, put_row};
 use gtp_ie::{ChargingId, EbiValue, Indexed, Recovery};
@@ -77,6 +77,24 @@ impl Typed for CreateSessionResponse {
             recovery,
         });
         Ok(Datagram::of(header, body))
+    }
+
+    #[inline(never)]
+    #[tactic(auto, unfolding(crate::specs::reading::Rows::lines_at))]
+    fn passes(elements: &Indexed) -> bool {
+        let Some(cause) = read::<Cause>(elements, 0) else {
+            return false;
+        };
+        let accepting = cause.is_accepting();
+        let Some(_) = read_if::<FTeid>(accepting, elements, 1) else {
+            return false;
+        };
+        let Some(_) = read_if::<Paa>(accepting, elements, 0) else {
+            return false;
+        };
+        let _ambr = optional::<Ambr>(elements, 0);
+        let need = Need::where_accepting(accepting);
+        contexts_pass::<SessionResponseContext>(need, accepting, elements)
     }
 
     #[tactic(auto, using(crate::proofs::Appends::appending))]
@@ -144,6 +162,24 @@ impl Context for SessionResponseContext {
             qos,
             charging_id,
         }
+    }
+
+    #[inline(always)]
+    #[tactic(auto, unfolding(crate::specs::reading::Rows::rows_at))]
+    fn read(accepting: bool, elements: &Indexed) -> Option<SessionResponseContext> {
+        let ebi = read::<EbiValue>(elements, 0)?;
+        let cause = read::<Cause>(elements, 0)?;
+        let accepting = accepting && cause.is_accepting();
+        let user = read_if::<FTeid>(accepting, elements, 2)?;
+        let qos = optional::<Qos>(elements, 0);
+        let charging_id = optional::<ChargingId>(elements, 0);
+        Some(SessionResponseContext {
+            ebi,
+            cause,
+            user,
+            qos,
+            charging_id,
+        })
     }
 
     #[tactic(auto, using(crate::proofs::Appends::appending))]

@@ -11,7 +11,7 @@ use crate::header::Header;
 use crate::kinds::DELETE_BEARER_REQUEST;
 use crate::listed::Listed;
 use crate::message::Datagram;
-use crate::repeated::several;
+use crate::repeated::{several, several_pass};
 use crate::room::{after_option, after_several};
 use crate::rows::optional;
 use crate::typed::Typed;
@@ -54,6 +54,13 @@ impl Typed for DeleteBearerRequest {
         let ebis = several::<EbiValue>(alloc, elements, 1)?;
         let body = Body::DeleteBearerRequest(DeleteBearerRequest { linked_ebi, ebis });
         Ok(Datagram::of(header, body))
+    }
+
+    #[inline(never)]
+    #[tactic(auto, unfolding(crate::specs::reading::Rows::lines_at, crate::specs::reading::Rows::several_at))]
+    fn passes(elements: &Indexed) -> bool {
+        let linked_ebi = optional::<EbiValue>(elements, 0);
+        several_pass::<EbiValue>(linked_ebi.is_none(), elements, 1)
     }
 
     #[tactic(auto, using(crate::proofs::Appends::appending))]

@@ -7,14 +7,14 @@ ghost use Rattle.gtp_v2.specs.DeleteBearerResponse.{delete_bearer_response, dele
 
 use crate::body::Body;
 use crate::fault::{Need, V2Fault};
-use crate::groups::{Context, contexts};
+use crate::groups::{Context, contexts, contexts_pass};
 use crate::header::Header;
 use crate::kinds::DELETE_BEARER_RESPONSE;
 use crate::listed::Listed;
 use crate::marks::contexts_meet;
 use crate::message::Datagram;
 use crate::room::{after_contexts, after_option, after_row};
-use crate::rows::{mandatory, optional};
+use crate::rows::{mandatory, optional, read};
 use crate::typed::Typed;
 use crate::writing::{put_contexts, put_option, put_row};
 use gtp_ie::{EbiValue, Indexed, Recovery};
@@ -70,6 +70,17 @@ impl Typed for DeleteBearerResponse {
         Ok(Datagram::of(header, body))
     }
 
+    #[inline(never)]
+    #[tactic(auto, unfolding(crate::specs::reading::Rows::lines_at))]
+    fn passes(elements: &Indexed) -> bool {
+        let Some(cause) = read::<Cause>(elements, 0) else {
+            return false;
+        };
+        let accepting = cause.is_accepting();
+        let _linked_ebi = optional::<EbiValue>(elements, 0);
+        contexts_pass::<RemovalResponseContext>(Need::Optional, accepting, elements)
+    }
+
     #[tactic(auto, using(crate::proofs::Appends::appending))]
     fn write(&self, out: &mut Vec<u8>) -> Result<(), AllocError> {
         put_row(out, 0, &self.cause)?;
@@ -113,6 +124,14 @@ impl Context for RemovalResponseContext {
         let ebi = mandatory::<EbiValue>(elements, 0);
         let cause = mandatory::<Cause>(elements, 0);
         RemovalResponseContext { ebi, cause }
+    }
+
+    #[inline(always)]
+    #[tactic(auto, unfolding(crate::specs::reading::Rows::rows_at))]
+    fn read(_accepting: bool, elements: &Indexed) -> Option<RemovalResponseContext> {
+        let ebi = read::<EbiValue>(elements, 0)?;
+        let cause = read::<Cause>(elements, 0)?;
+        Some(RemovalResponseContext { ebi, cause })
     }
 
     #[tactic(auto, using(crate::proofs::Appends::appending))]

@@ -51,6 +51,12 @@ impl Typed for DeleteSessionRequest {
         Ok(Datagram::of(header, body))
     }
 
+    #[inline(never)]
+    #[tactic(auto, unfolding(crate::specs::reading::Rows::lines_at))]
+    fn passes(_elements: &Indexed) -> bool {
+        true
+    }
+
     #[tactic(auto, using(crate::proofs::Appends::appending))]
     fn write(&self, out: &mut Vec<u8>) -> Result<(), AllocError> {
         put_option(out, 0, &self.linked_ebi)?;

@@ -11,7 +11,7 @@ use crate::header::Header;
 use crate::kinds::DELETE_SESSION_RESPONSE;
 use crate::message::Datagram;
 use crate::room::{after_option, after_row};
-use crate::rows::{mandatory, optional};
+use crate::rows::{mandatory, optional, read};
 use crate::typed::Typed;
 use crate::writing::{put_option, put_row};
 use gtp_ie::{Indexed, Recovery};
@@ -53,6 +53,15 @@ impl Typed for DeleteSessionResponse {
         let recovery = optional::<Recovery>(elements, 0);
         let body = Body::DeleteSessionResponse(DeleteSessionResponse { cause, recovery });
         Ok(Datagram::of(header, body))
+    }
+
+    #[inline(never)]
+    #[tactic(auto, unfolding(crate::specs::reading::Rows::lines_at))]
+    fn passes(elements: &Indexed) -> bool {
+        let Some(_) = read::<Cause>(elements, 0) else {
+            return false;
+        };
+        true
     }
 
     #[tactic(auto, using(crate::proofs::Appends::appending))]

@@ -11,7 +11,7 @@ use crate::header::Header;
 use crate::kinds::ECHO_RESPONSE;
 use crate::message::Datagram;
 use crate::room::after_row;
-use crate::rows::mandatory;
+use crate::rows::{mandatory, read};
 use crate::typed::Typed;
 use crate::writing::put_row;
 use gtp_ie::{Indexed, Recovery};
@@ -49,6 +49,15 @@ impl Typed for EchoResponse {
         let recovery = mandatory::<Recovery>(elements, 0);
         let body = Body::EchoResponse(EchoResponse { recovery });
         Ok(Datagram::of(header, body))
+    }
+
+    #[inline(never)]
+    #[tactic(auto, unfolding(crate::specs::reading::Rows::lines_at))]
+    fn passes(elements: &Indexed) -> bool {
+        let Some(_) = read::<Recovery>(elements, 0) else {
+            return false;
+        };
+        true
     }
 
     #[tactic(auto, using(crate::proofs::Appends::appending))]

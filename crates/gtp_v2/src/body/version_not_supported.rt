@@ -44,6 +44,12 @@ impl Typed for VersionNotSupported {
         Ok(Datagram::of(header, body))
     }
 
+    #[inline(never)]
+    #[tactic(auto, unfolding(crate::specs::reading::Rows::lines_at))]
+    fn passes(_elements: &Indexed) -> bool {
+        true
+    }
+
     #[tactic(auto, using(crate::proofs::Appends::appending))]
     fn write(&self, _out: &mut Vec<u8>) -> Result<(), AllocError> {
         Ok(())

@@ -1,9 +1,9 @@
 use Rattle.std.proofs.Common.{◌≡◌, inl, inr, refl, sym, subst}
 use Rattle.gtp_machine.specs.Input.{UserReading, User_message}
-use Rattle.gtp_machine.specs.Reading.{user_fault, user_message, user_reading}
+use Rattle.gtp_machine.specs.Reading.{user_fault, user_message_of, user_reading}
 use Rattle.gtp_machine.specs.User.{UserTaken, UserRead}
 use Rattle.gtp_machine.specs.declared.outcome.DropReason.TheVariants.{NotPeer}
-use Rattle.gtp_machine.proofs.Octets.ByGrammar.{user_by_grammar, user_decoded_reads}
+use Rattle.gtp_machine.proofs.Octets.ByGrammar.{user_by_grammar}
 use Rattle.gtp_gateway.specs.declared.user_receive.Judged.{Judged}
 use Rattle.gtp_gateway.specs.Station.{station_of}
 use Rattle.gtp_gateway.specs.UserTaken.{UserComes, IsJudgedBy}
@@ -22,11 +22,11 @@ pub returns-in-Ok : goal.returns-in-Ok
 returns-in-Ok c =
     let old = station_of c.args.self.now in
     let octets = c.args.octets.now in
-    let m = c.in-Ok.message in
-    let reads : User_message (user_message m) ≡ user_reading octets = user_decoded_reads octets m c.in-Ok.ensures.found in
-    judged_wider (UserTaken old.role c.args.source.now (user_message m)) (UserComes c.args.source.now octets old) old (station_of c.judge_message.new.self) c.judge_message.result
+    let m = c.in-Ok.seen in
+    let reads : User_message (user_message_of m) ≡ user_reading octets = (user_by_grammar octets (User_message (user_message_of m))).1 (inl (m, c.in-Ok.ensures.found, refl)) in
+    judged_wider (UserTaken old.role c.args.source.now (user_message_of m)) (UserComes c.args.source.now octets old) old (station_of c.judge_seen.new.self) c.judge_seen.result
     (λ e takes. inr (yes c.is_user_peer.ensures c.if-not-is_user_peer.false, subst (λ (r : UserReading). UserRead old.role c.args.source.now r old.node e) reads takes))
-    c.judge_message.ensures
+    c.judge_seen.ensures
 
 pub returns-in-Err : goal.returns-in-Err
 returns-in-Err c =

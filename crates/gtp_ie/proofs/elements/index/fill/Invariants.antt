@@ -1,6 +1,6 @@
 use Rattle.std.proofs.Common.{length}
 use Rattle.gtp_ie.proofs.Indexing.{Indexes}
-use Rattle.gtp_ie.proofs.elements.index.index_from.Given as goal
+use Rattle.gtp_ie.proofs.elements.index.fill.Given as goal
 
 abbrev pub invariant-loop-rest : goal.invariant-loop-rest
 invariant-loop-rest l = Indexes l.base l.octets l.lefts l.rest l.at
