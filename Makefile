@@ -1,6 +1,7 @@
-# Installs gtpshow: the program, its manual page, completions for three shells, the pages and the examples.
+# Installs gtpshow: the program, its manual page, completions for three shells, the pages and the examples; and for C programs
+# the library, the toolchain's functions for memory that it calls, the header and gtp.pc (pkg-config).
 #
-#   make                          proves and builds the program (scripts/prove), if it is not built
+#   make                          proves and builds the program (scripts/prove) and the library (scripts/library), if they are not built
 #   make install PREFIX=/usr      installs it below PREFIX, by default /usr/local; DESTDIR goes in front
 #   make uninstall PREFIX=/usr    removes what was installed
 PREFIX ?= /usr/local
@@ -8,30 +9,41 @@ DESTDIR ?=
 INSTALL ?= install
 
 program = crates/gtpshow/out/gtpshow
+library = crates/gtp_c/out/libgtp_c.a
+heap = $(dir $(shell rt doc))c/liblibc_c.a
 root = $(DESTDIR)$(PREFIX)
 pages = $(root)/share/doc/gtpshow
 shell_files = \
 	$(root)/share/bash-completion/completions/gtpshow \
 	$(root)/share/zsh/site-functions/_gtpshow \
 	$(root)/share/fish/vendor_completions.d/gtpshow.fish
+c_files = $(addprefix $(root)/lib/,libgtp_c.a liblibc_c.a pkgconfig/gtp.pc) $(root)/include/gtp.h
 
 .PHONY: all install uninstall
 
-all: $(program)
+all: $(program) $(library)
 
 $(program):
 	scripts/prove
 
-install: $(program)
+$(library):
+	scripts/library > /dev/null
+
+install: $(program) $(library)
 	$(INSTALL) -D -m 755 $(program) $(root)/bin/gtpshow
 	$(INSTALL) -D -m 644 share/gtpshow.1 $(root)/share/man/man1/gtpshow.1
 	$(INSTALL) -D -m 644 share/completions/gtpshow.bash $(word 1,$(shell_files))
 	$(INSTALL) -D -m 644 share/completions/gtpshow.zsh $(word 2,$(shell_files))
 	$(INSTALL) -D -m 644 share/completions/gtpshow.fish $(word 3,$(shell_files))
+	$(INSTALL) -D -m 644 $(library) $(root)/lib/libgtp_c.a
+	$(INSTALL) -D -m 644 $(heap) $(root)/lib/liblibc_c.a
+	$(INSTALL) -D -m 644 include/gtp.h $(root)/include/gtp.h
+	$(INSTALL) -d $(root)/lib/pkgconfig
+	sed 's|@PREFIX@|$(PREFIX)|' share/gtp.pc > $(root)/lib/pkgconfig/gtp.pc
 	$(INSTALL) -d $(pages)/examples
-	$(INSTALL) -m 644 docs/PROTOCOL.md docs/FORMATS.md docs/JSON.md docs/PROVED.md docs/BELIEVE.md docs/CHANGELOG.md $(pages)
-	cp -R examples/scenarios examples/captures examples/datagrams $(pages)/examples
+	$(INSTALL) -m 644 docs/PROTOCOL.md docs/FORMATS.md docs/JSON.md docs/C.md docs/PROVED.md docs/BELIEVE.md docs/CHANGELOG.md $(pages)
+	cp -R examples/scenarios examples/captures examples/datagrams examples/c $(pages)/examples
 
 uninstall:
-	rm -f $(root)/bin/gtpshow $(root)/share/man/man1/gtpshow.1 $(shell_files)
+	rm -f $(root)/bin/gtpshow $(root)/share/man/man1/gtpshow.1 $(shell_files) $(c_files)
 	rm -rf $(pages)

@@ -1,0 +1,45 @@
+-- Commands that were carried out or refused, from what the gateway says and from what is told.
+use Rattle.std.proofs.Common.{◌≡◌, [], ◌∷◌, ◌++◌, List, sym, ap, ◌∙◌, subst}
+use Rattle.std.specs.Prelude.{Result, Ok, Err, IfOk, IsOkAnd}
+use Rattle.std.specs.VecDeque.{deque_len}
+use Rattle.gtp_machine.specs.Input.{Command, Commanded, refused}
+use Rattle.gtp_machine.specs.Step.{Step as MachineStep}
+use Rattle.gtp_machine.specs.declared.outcome.Refusal.{Refusal}
+use Rattle.gtp_gateway.specs.Begun.{IsDone, IsRefusedWhere}
+use Rattle.gtp_gateway.specs.Station.{Station}
+use Rattle.gtp_gateway.specs.declared.fault.CommandFault.{CommandFault}
+use Rattle.gtp_gateway.specs.declared.fault.CommandFault.TheVariants.{Refused}
+use Rattle.gtp_gateway.specs.declared.sent.Begun.{Begun}
+use Rattle.gtp_gateway.specs.declared.sent.Sent.{Sent}
+use Rattle.gtp_c.specs.Steps.{Keeps, HasBegun, IsRefused, IsTimed, begun_number}
+use Rattle.gtp_c.specs.Told.{begun_told, refused_told}
+use Rattle.gtp_c.specs.declared.desk.Desk.{Desk}
+use Rattle.gtp_c.specs.declared.told.Told.{Told}
+
+-- from before the room was made on
+module _ (command : Command) (old mid new : Desk) (told : Told) (kept : Keeps old mid) where
+  pub has_begun : (after : Station) (r : Result Begun CommandFault) → IfOk r (λ b. IsDone command mid.gateway b after) → IfOk r (λ b. IsTimed command mid.gateway b after) → new.gateway ≡ after
+      → IsOkAnd r (λ b. new.waiting.items ≡ mid.waiting.items ++ b.out ∷ []) → IsOkAnd r (λ b. told ≡ begun_told (begun_number command) b (deque_len new.waiting)) → HasBegun command told old new
+  has_begun after (Ok b) done timed same waits tells =
+      record {
+        begun = b;
+        done = subst (λ (g : Station). IsDone command g b new.gateway) kept.0 (subst (λ (g : Station). IsDone command mid.gateway b g) (sym same) done);
+        timed = subst (λ (g : Station). IsTimed command g b new.gateway) kept.0 (subst (λ (g : Station). IsTimed command mid.gateway b g) (sym same) timed);
+        waiting = waits ∙ ap (λ (xs : List Sent). xs ++ b.out ∷ []) kept.1;
+        tells = tells;
+      }
+  has_begun after (Err f) done timed same waits tells = absurd waits
+
+  pub is_refused : (r : Result Begun CommandFault) → IsRefusedWhere command mid.gateway r
+      → (why : Refusal) × (r ≡ Err (Refused why)) × (told ≡ refused_told why (deque_len new.waiting)) → IsRefused command told old new
+  is_refused r refuses w =
+      record {
+        why = w.0;
+        refuses = subst (λ (g : Station). MachineStep g.role g.node (Commanded command) (refused g.node w.0)) kept.0 ((refuses w.0).0 w.1);
+        tells = w.2;
+      }
+
+-- what holds in any case
+pub always : {P : Type 0} (r : Result Begun CommandFault) → P → IfOk r (λ b. P)
+always (Ok b) p = p
+always (Err f) p = tt

@@ -1,0 +1,4 @@
+pub mod Carried
+pub mod Dropping
+pub mod Naming
+pub mod Shapes

@@ -1,0 +1,114 @@
+-- What C is told of sessions and bearers.
+use Rattle.std.specs.Prelude.{◌≡◌, ℕ, List, [], ◌∷◌, drop, Option, Some, None, unwrap_or, is_some, IsSomeAnd}
+use Rattle.std.specs.FinMap as map
+use Rattle.gtp_tables.specs.declared.context.Bearer.{Bearer}
+use Rattle.gtp_tables.specs.declared.context.Kind.{Kind}
+use Rattle.gtp_tables.specs.declared.context.Kind.TheVariants.{Default, Dedicated}
+use Rattle.gtp_tables.specs.declared.context.Session.{Session}
+use Rattle.gtp_tables.specs.declared.context.State.{State}
+use Rattle.gtp_tables.specs.declared.context.State.TheVariants.{Pending, Active, Closing}
+use Rattle.gtp_values.specs.PdnAddress.{PdnAddress}
+use Rattle.gtp_values.specs.declared.identifiers.Teid.{Teid}
+use Rattle.gtp_c.specs.Told.{flag}
+use Rattle.gtp_c.specs.Values.{AddressIs, IdentityIs, NameIs}
+use Rattle.gtp_c.specs.declared.desk.Desk.{Desk}
+use Rattle.gtp_c.specs.declared.rows.BearerRow.{BearerRow}
+use Rattle.gtp_c.specs.declared.rows.SessionRow.{SessionRow}
+
+abbrev pub state_number : State → ℕ
+state_number Pending = 0
+state_number Active = 1
+state_number Closing = 2
+
+abbrev pub v4_in : Option PdnAddress → Option (List ℕ)
+v4_in None = None
+v4_in (Some a) = a.v4
+
+abbrev pub v6_in : Option PdnAddress → Option (List ℕ)
+v6_in None = None
+v6_in (Some a) = a.v6
+
+-- the row says what the session is, under its TEID
+pub record IsSession (teid : ℕ) (s : Session) (row : SessionRow) : Type 0 where
+  pub teid_is : row.teid ≡ teid
+  pub remote : row.remote ≡ unwrap_or s.remote 0
+  pub has_remote : row.has_remote ≡ flag (is_some s.remote)
+  pub state : row.state ≡ state_number s.state
+  pub identity : row.identity ≡ s.subscriber.identity
+  pub v4 : AddressIs (v4_in s.address) row.has_v4 row.v4
+  pub v6 : AddressIs (v6_in s.address) row.has_v6 row.v6
+  pub imsi : IdentityIs s.subscriber.imsi row.imsi
+  pub access_point : NameIs s.subscriber.access_point row.access_point
+
+abbrev pub kind_number : Kind → ℕ
+kind_number Default = 0
+kind_number Dedicated = 1
+
+-- the row says what the bearer is, under its TEID
+pub record IsBearer (teid : ℕ) (b : Bearer) (row : BearerRow) : Type 0 where
+  pub teid_is : row.teid ≡ teid
+  pub remote : row.remote ≡ unwrap_or b.remote 0
+  pub has_remote : row.has_remote ≡ flag (is_some b.remote)
+  pub session : row.session ≡ b.session
+  pub state : row.state ≡ state_number b.state
+  pub identity : row.identity ≡ unwrap_or b.identity 0
+  pub dedicated : row.dedicated ≡ kind_number b.kind
+  pub ended : row.ended ≡ flag b.ended
+
+-- ---- of the gateway behind a handle
+
+-- the session under this TEID is what the row says
+pub record IsSessionOf (teid : ℕ) (row : SessionRow) (d : Desk) : Type 0 where
+  pub session : Session
+  pub found : map.get d.gateway.node.sessions teid ≡ Some session
+  pub is : IsSession teid session row
+
+pub record IsBearerOf (teid : ℕ) (row : BearerRow) (d : Desk) : Type 0 where
+  pub bearer : Bearer
+  pub found : map.get d.gateway.node.bearers teid ≡ Some bearer
+  pub is : IsBearer teid bearer row
+
+abbrev pub HasSession : ℕ → SessionRow → Option Desk → Type 0
+HasSession teid row v = IsSomeAnd v (IsSessionOf teid row)
+
+abbrev pub HasBearer : ℕ → BearerRow → Option Desk → Type 0
+HasBearer teid row v = IsSomeAnd v (IsBearerOf teid row)
+
+abbrev pub NoSession : ℕ → Option Desk → Type 0
+NoSession teid v = IsSomeAnd v (λ d. map.get d.gateway.node.sessions teid ≡ None)
+
+abbrev pub NoBearer : ℕ → Option Desk → Type 0
+NoBearer teid v = IsSomeAnd v (λ d. map.get d.gateway.node.bearers teid ≡ None)
+
+-- the first of these entries, or none is left
+abbrev pub EntryIs : Option (Teid × Session) → List (ℕ × Session) → Type 0
+EntryIs None left = left ≡ []
+EntryIs (Some e) left = (more : List (ℕ × Session)) × (left ≡ (e.0.0, e.1) ∷ more)
+
+abbrev pub BearerEntryIs : Option (Teid × Bearer) → List (ℕ × Bearer) → Type 0
+BearerEntryIs None left = left ≡ []
+BearerEntryIs (Some e) left = (more : List (ℕ × Bearer)) × (left ≡ (e.0.0, e.1) ∷ more)
+
+-- the session at a place, in the order of TEIDs, is what the row says
+pub record IsSessionAt (place : ℕ) (row : SessionRow) (d : Desk) : Type 0 where
+  pub entry : Teid × Session
+  pub found : EntryIs (Some entry) (drop place (map.entries d.gateway.node.sessions))
+  pub is : IsSession entry.0.0 entry.1 row
+
+pub record IsBearerAt (place : ℕ) (row : BearerRow) (d : Desk) : Type 0 where
+  pub entry : Teid × Bearer
+  pub found : BearerEntryIs (Some entry) (drop place (map.entries d.gateway.node.bearers))
+  pub is : IsBearer entry.0.0 entry.1 row
+
+abbrev pub SessionAt : ℕ → SessionRow → Option Desk → Type 0
+SessionAt place row v = IsSomeAnd v (IsSessionAt place row)
+
+abbrev pub BearerAt : ℕ → BearerRow → Option Desk → Type 0
+BearerAt place row v = IsSomeAnd v (IsBearerAt place row)
+
+-- no session has this place
+abbrev pub SessionsEnd : ℕ → Option Desk → Type 0
+SessionsEnd place v = IsSomeAnd v (λ d. drop place (map.entries d.gateway.node.sessions) ≡ [])
+
+abbrev pub BearersEnd : ℕ → Option Desk → Type 0
+BearersEnd place v = IsSomeAnd v (λ d. drop place (map.entries d.gateway.node.bearers) ≡ [])

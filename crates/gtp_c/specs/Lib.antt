@@ -1,0 +1,14 @@
+pub mod Behind
+pub mod Contexts
+pub mod Ends
+pub mod Faults
+pub mod Handles
+pub mod Held
+pub mod Names
+pub mod Reading
+pub mod Sessions
+pub mod Setups
+pub mod Steps
+pub mod Told
+pub mod Values
+pub mod Writing

@@ -1,0 +1,59 @@
+-- Which session or bearer C's values ask for.
+use Rattle.std.specs.Prelude.{◌≡◌, ℕ, ◌==◌, List, if◌then◌else◌, drop, get_or, map, take}
+use Rattle.gtp_values.specs.Apn.{apn_text}
+use Rattle.gtp_values.specs.Imsi.{value_of_digit}
+use Rattle.gtp_values.specs.Plmn.{Network}
+use Rattle.gtp_values.specs.declared.qos.Qos.{Qos}
+use Rattle.gtp_values.specs.declared.qos.Rates.{Rates}
+use Rattle.gtp_tables.specs.declared.context.Subscriber.{Subscriber}
+use Rattle.gtp_gateway.specs.declared.session.SessionSpec.{SessionSpec}
+use Rattle.gtp_machine.specs.Input.{Create_session}
+use Rattle.gtp_gateway.specs.Specified.{specification}
+use Rattle.gtp_c.specs.Steps.{HasBegun, IsRefused}
+use Rattle.gtp_c.specs.declared.desk.Desk.{Desk}
+use Rattle.gtp_c.specs.declared.told.Told.{Told}
+use Rattle.gtp_c.specs.declared.session.Quality.{Quality}
+use Rattle.gtp_c.specs.declared.session.Session.{Session}
+
+abbrev pub rates_at : ℕ → ℕ → Rates
+rates_at up down = record { up = up; down = down }
+
+abbrev pub quality_at : Quality → Qos
+quality_at q = record { pci = q.pci; pl = q.pl; pvi = q.pvi; qci = q.qci; mbr = rates_at q.mbr_up q.mbr_down; gbr = rates_at q.gbr_up q.gbr_down }
+
+-- the second code has two digits where the last of the six is 15
+abbrev pub code_length : ℕ → ℕ
+code_length last = if last == 15 then 2 else 3
+
+-- the network with these six digits
+abbrev pub network_in : List ℕ → Network
+network_in digits = record { mcc = take 3 digits; mnc = take (code_length (get_or digits 5 0)) (drop 3 digits) }
+
+-- the identity is this number, and the texts write the IMSI and the access point
+pub record IsSubscriber (identity : ℕ) (imsi access_point : List ℕ) (s : Subscriber) : Type 0 where
+  pub identity_is : s.identity ≡ identity
+  pub imsi_reads : s.imsi ≡ map value_of_digit imsi
+  pub access_point_reads : apn_text s.access_point ≡ access_point
+
+-- the session is asked for with C's values
+pub record IsSpecified (c : Session) (imsi access_point : List ℕ) (s : SessionSpec) : Type 0 where
+  pub subscriber : IsSubscriber c.identity imsi access_point s.subscriber
+  pub network : s.plmn ≡ network_in c.network
+  pub rat : s.rat.0 ≡ c.rat
+  pub selection : s.selection.0 ≡ c.selection
+  pub pdn : s.pdn.0 ≡ c.pdn
+  pub ambr_up : s.ambr.up ≡ c.ambr_up
+  pub ambr_down : s.ambr.down ≡ c.ambr_down
+  pub quality : s.qos ≡ quality_at c.quality
+
+-- a session was begun, as C's values ask
+pub record Creates (c : Session) (imsi access_point : List ℕ) (told : Told) (old new : Desk) : Type 0 where
+  pub spec : SessionSpec
+  pub is : IsSpecified c imsi access_point spec
+  pub begun : HasBegun (Create_session (specification spec)) told old new
+
+-- a session that C's values ask for was refused
+pub record IsCreationRefused (c : Session) (imsi access_point : List ℕ) (told : Told) (old new : Desk) : Type 0 where
+  pub spec : SessionSpec
+  pub is : IsSpecified c imsi access_point spec
+  pub refused : IsRefused (Create_session (specification spec)) told old new

@@ -1,0 +1,58 @@
+-- Which gateway C's setup is.
+use Rattle.std.specs.Prelude.{◌≡◌, ◌⊎◌, ℕ, List, [], Some}
+use Rattle.gtp_machine.specs.declared.role.Role.{Role}
+use Rattle.gtp_machine.specs.declared.role.Role.TheVariants.{Serving, Packet}
+use Rattle.gtp_gateway.specs.Settings.{Settings, settings_of}
+use Rattle.gtp_gateway.specs.Station.{Station, starting}
+use Rattle.gtp_gateway.specs.declared.config.Addresses.{Addresses}
+use Rattle.gtp_gateway.specs.declared.config.Timers.{Timers}
+use Rattle.gtp_tables.specs.declared.pool.Pools.{Pools}
+use Rattle.gtp_c.specs.Ends.{ip_at}
+use Rattle.gtp_c.specs.Names.{AreNames}
+use Rattle.gtp_c.specs.declared.desk.Desk.{Desk}
+use Rattle.gtp_c.specs.declared.ends.Address.{Address}
+use Rattle.gtp_c.specs.declared.setup.Setup.{Setup}
+
+-- a role's number
+abbrev pub role_at : Role → ℕ
+role_at Serving = 0
+role_at Packet = 1
+
+-- C's addresses of both planes are these
+pub record AreAddresses (control user : Address) (a : Addresses) : Type 0 where
+  pub control_is : ip_at control ≡ Some a.control
+  pub user_is : ip_at user ≡ Some a.user
+
+abbrev pub timers_at : Setup → Timers
+timers_at s = record { t3 = s.t3; n3 = s.n3; hold = s.hold }
+
+-- the addresses that sessions are given
+abbrev pub pools_at : Setup → Pools
+pools_at s = record { v4 = record { start = s.pool; count = s.pool_count }; v6 = record { start = s.pool6; count = s.pool6_count } }
+
+-- the settings are C's, with these access points
+pub record IsConfigured (s : Setup) (names : List (List ℕ)) (settings : Settings) : Type 0 where
+  pub own : Addresses
+  pub is_own : AreAddresses s.own_control s.own_user own
+  pub peer : Addresses
+  pub is_peer : AreAddresses s.peer_control s.peer_user peer
+  pub all : settings ≡ settings_of own peer names (pools_at s) (timers_at s)
+
+-- a gateway that has just started, of C's role, settings and restart counter, with the access points of the text
+pub record IsStarted (s : Setup) (text : List ℕ) (g : Station) : Type 0 where
+  pub role : Role
+  pub is_role : role_at role ≡ s.role
+  pub names : List (List ℕ)
+  pub are_names : AreNames text names
+  pub settings : Settings
+  pub configured : IsConfigured s names settings
+  pub started : g ≡ starting role settings s.counter
+
+-- such a gateway, and no datagram waits
+pub record Starts (s : Setup) (text : List ℕ) (d : Desk) : Type 0 where
+  pub gateway : IsStarted s text d.gateway
+  pub waiting : d.waiting.items ≡ []
+
+-- why there is no gateway: a bad value, or no memory
+abbrev pub IsRefusal : ℕ → Type 0
+IsRefusal status = (status ≡ 1) ⊎ (status ≡ 2)

@@ -1,0 +1,108 @@
+-- What happens to a gateway and to the datagrams that wait to be taken.
+use Rattle.std.specs.Prelude.{◌≡◌, ℕ, List, [], ◌∷◌, ◌++◌, ◌<◌, drop, take, length, Some, slice_index_or, option_to_list}
+use Rattle.std.specs.VecDeque.{deque_len}
+use Rattle.gtp_values.specs.declared.address.Endpoint.{Endpoint}
+use Rattle.gtp_machine.specs.Input.{Command, Mark_end, Send_user, Commanded, refused}
+use Rattle.gtp_machine.specs.Message.{Plane}
+use Rattle.gtp_machine.specs.Step.{Step as MachineStep}
+use Rattle.gtp_machine.specs.declared.outcome.Refusal.{Refusal}
+use Rattle.gtp_gateway.specs.Begun.{IsDone, AsksNext}
+use Rattle.gtp_gateway.specs.Choosing.{ChoosesLowest}
+use Rattle.gtp_gateway.specs.Received.{IsReceived, KeepsTiming}
+use Rattle.gtp_gateway.specs.Station.{Station}
+use Rattle.gtp_gateway.specs.Ticked.{IsTicked, CountsOn}
+use Rattle.gtp_gateway.specs.declared.sent.Begun.{Begun}
+use Rattle.gtp_gateway.specs.declared.sent.Sent.{Sent}
+use Rattle.gtp_gateway.specs.declared.step.Step.{Step}
+use Rattle.gtp_gateway.specs.declared.tick.Ticked.{Ticked}
+use Rattle.gtp_c.specs.Ends.{endpoint_at, plane_at}
+use Rattle.gtp_c.specs.Told.{step_told, begun_told, refused_told, tick_told}
+use Rattle.gtp_c.specs.declared.desk.Desk.{Desk}
+use Rattle.gtp_c.specs.declared.ends.End.{End}
+use Rattle.gtp_c.specs.declared.taken.Datagram.{Datagram}
+use Rattle.gtp_c.specs.declared.told.Told.{Told}
+
+-- nothing happened to the gateway, nor to what waits
+abbrev pub Keeps : Desk → Desk → Type 0
+Keeps old new = (new.gateway ≡ old.gateway) × (new.waiting.items ≡ old.waiting.items)
+
+-- a datagram was received: that is a step of the machine, what it sends waits behind all that waited, and what it came to is told
+pub record HasReceived (plane : Plane) (source : Endpoint) (octets : List ℕ) (told : Told) (old new : Desk) : Type 0 where
+  pub step : Step
+  pub received : IsReceived plane source octets old.gateway step new.gateway
+  pub timing : KeepsTiming plane source octets step old.gateway new.gateway
+  pub choices : ChoosesLowest step.report.made old.gateway.role old.gateway.node new.gateway.node
+  pub waiting : new.waiting.items ≡ old.waiting.items ++ option_to_list step.out
+  pub tells : told ≡ step_told step (deque_len new.waiting)
+
+-- the same, from C's number of the plane and C's end
+pub record Comes (number : ℕ) (source : End) (octets : List ℕ) (told : Told) (old new : Desk) : Type 0 where
+  pub plane : Plane
+  pub is_plane : plane_at plane ≡ number
+  pub from : Endpoint
+  pub is_from : endpoint_at source ≡ Some from
+  pub received : HasReceived plane from octets told old new
+
+-- the number of what a command comes to: a request is sent, or a packet or an End Marker
+abbrev pub begun_number : Command → ℕ
+begun_number (Mark_end bearer) = 2
+begun_number (Send_user bearer payload) = 2
+begun_number command = 1
+
+-- what ticks go by, after a command: its request waits from now on, and a packet or an End Marker changes nothing
+abbrev pub IsTimed : Command → Station → Begun → Station → Type 0
+IsTimed (Mark_end bearer) old begun new = new.timing ≡ old.timing
+IsTimed (Send_user bearer payload) old begun new = new.timing ≡ old.timing
+IsTimed command old begun new = AsksNext old begun new
+
+-- a command was carried out: that is a step of the machine, what it sends waits behind all that waited, and what it came to is told
+pub record HasBegun (command : Command) (told : Told) (old new : Desk) : Type 0 where
+  pub begun : Begun
+  pub done : IsDone command old.gateway begun new.gateway
+  pub timed : IsTimed command old.gateway begun new.gateway
+  pub waiting : new.waiting.items ≡ old.waiting.items ++ begun.out ∷ []
+  pub tells : told ≡ begun_told (begun_number command) begun (deque_len new.waiting)
+
+-- a command was refused, as the machine refuses it, and why is told
+pub record IsRefused (command : Command) (told : Told) (old new : Desk) : Type 0 where
+  pub why : Refusal
+  pub refuses : MachineStep old.gateway.role old.gateway.node (Commanded command) (refused old.gateway.node why)
+  pub tells : told ≡ refused_told why (deque_len new.waiting)
+
+-- a tick passed: that is a step of the machine, what is sent again waits behind all that waited, and what it came to is told
+pub record HasTicked (told : Told) (old new : Desk) : Type 0 where
+  pub ticked : Ticked
+  pub is_ticked : IsTicked old.gateway ticked new.gateway
+  pub counts : CountsOn old.gateway new.gateway
+  pub waiting : new.waiting.items ≡ old.waiting.items ++ ticked.resent.items
+  pub tells : told ≡ tick_told (length ticked.gave_up.items) (length ticked.forgotten.items) (deque_len new.waiting)
+
+-- the datagram that waited longest waits no more
+abbrev pub HasTaken : Desk → Desk → Type 0
+HasTaken old new = (new.gateway ≡ old.gateway) × (new.waiting.items ≡ drop 1 old.waiting.items)
+
+-- C's datagram says what this one is: its plane, its ends and its length
+pub record Says (datagram : Datagram) (sent : Sent) : Type 0 where
+  pub plane : datagram.plane ≡ plane_at sent.plane
+  pub from : endpoint_at datagram.from ≡ Some sent.from
+  pub to : endpoint_at datagram.to ≡ Some sent.to
+  pub len : datagram.len ≡ length sent.octets.items
+
+-- the datagram that waited longest is told
+pub record Shows (old : Desk) (datagram : Datagram) (sent : Sent) : Type 0 where
+  pub waited : 0 < deque_len old.waiting
+  pub first : sent ≡ slice_index_or old.waiting.items 0 sent
+  pub says : Says datagram sent
+
+-- these octets begin with the datagram that waited longest
+pub record Hands (octets : List ℕ) (datagram : Datagram) (old new : Desk) : Type 0 where
+  pub sent : Sent
+  pub shows : Shows old datagram sent
+  pub written : take (length sent.octets.items) octets ≡ sent.octets.items
+  pub taken : HasTaken old new
+
+-- the datagram that waited longest has more octets than there is room for
+pub record IsTooSmall (room : ℕ) (datagram : Datagram) (old new : Desk) : Type 0 where
+  pub sent : Sent
+  pub shows : Shows old datagram sent
+  pub small : room < length sent.octets.items

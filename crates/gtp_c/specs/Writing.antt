@@ -1,0 +1,39 @@
+-- What is written to a caller's buffer.
+use Rattle.std.specs.Prelude.{◌≡◌, ◌≢◌, ◌⊎◌, ℕ, ◌+◌, ◌<◌, ◌≤◌, ◌==◌, List, [], ◌∷◌, ◌++◌, if◌then◌else◌, length, take, Option, Some, None}
+use Rattle.gtp_v2.specs.Encoding.{headed_encoding}
+use Rattle.gtp_values.specs.Numbers.{two, three, four}
+use Rattle.gtp_c.specs.declared.control.Head.{Head}
+
+-- the text stands at a place of the buffer, with all before it as it was, and has so many octets
+pub record IsWritten (place : ℕ) (text old new : List ℕ) (size : ℕ) : Type 0 where
+  pub octets : take (place + length text) new ≡ take place old ++ text
+  pub size_is : size ≡ length text
+
+-- the text has so many octets, and there is not so much room behind the place
+pub record Needs (place : ℕ) (text : List ℕ) (room size : ℕ) : Type 0 where
+  pub short : room < place + length text
+  pub size_is : size ≡ length text
+
+-- a G-PDU with this TEID and packet, without options (TS 29.281 5.1): version 1, protocol type GTP, type 255, the length of what follows the first eight octets
+abbrev pub packet_encoding : ℕ → List ℕ → List ℕ
+packet_encoding teid packet = 48 ∷ 255 ∷ two (length packet) (four teid packet)
+
+-- a value where C says that there is one
+abbrev pub some_where : ℕ → ℕ → Option ℕ
+some_where has value = if has == 0 then None else Some value
+
+-- the message of C's head that carries these octets
+abbrev pub message_encoding : Head → List ℕ → List ℕ
+message_encoding head list = headed_encoding head.kind (some_where head.has_teid head.teid) head.seq (some_where head.has_priority head.priority) list
+
+-- the header of a message without a TEID, with so many octets after it
+abbrev pub headed_plain : ℕ → ℕ → ℕ → List ℕ
+headed_plain kind seq len = 64 ∷ kind ∷ two (4 + len) (three seq (0 ∷ []))
+
+-- the header of a message with these flags, a TEID and a last octet, with so many octets after it
+abbrev pub headed_by_teid : ℕ → ℕ → ℕ → ℕ → ℕ → ℕ → List ℕ
+headed_by_teid flags kind teid seq last len = flags ∷ kind ∷ two (8 + len) (four teid (three seq (last ∷ [])))
+
+-- a sequence number, a priority or a length that is out of its range, or a priority without a TEID
+abbrev pub IsBadMessage : Head → List ℕ → Type 0
+IsBadMessage head list = (16777216 ≤ head.seq) ⊎ ((15 < head.priority) ⊎ (((head.has_priority ≢ 0) × (head.has_teid ≡ 0)) ⊎ (65527 < length list)))

@@ -1,0 +1,131 @@
+//! A gateway with the datagrams that it has to send and that nobody took yet.
+
+ghost use Rattle.std.specs.Prelude.{◌≡◌, ◌≢◌, ◌+◌, ◌≤◌, ◌++◌, [], length, option_to_list};
+ghost use Rattle.std.specs.VecDeque.{deque_len, deque_capacity};
+ghost use Rattle.gtp_c.specs.Steps.{Keeps, HasReceived, HasTicked};
+
+use crate::status::{DONE, FULL, NO_MEMORY};
+use crate::told::Told;
+use gtp_gateway::{Endpoint, Gateway, Plane, Sent};
+use std::alloc::Global;
+use std::collections::VecDeque;
+
+/// So many datagrams may wait before a step is refused.
+const MOST_WAITING: usize = 4_096;
+
+/// The most that a tick sends again.
+const MOST_RESENT: usize = 256;
+
+/// A gateway, and what it has to send, oldest first.
+#[derive(Drop)]
+pub struct Desk {
+    pub(crate) gateway: Gateway,
+    pub(crate) waiting: VecDeque<Sent>,
+}
+
+impl Desk {
+    /// A gateway with nothing to send.
+    pub(crate) fn new(alloc: Global, gateway: Gateway) -> Desk
+        ensures gateway { result.gateway ≡ gateway }
+        ensures waiting { result.waiting.items ≡ [] }
+    {
+        Desk {
+            gateway,
+            waiting: VecDeque::new(alloc),
+        }
+    }
+
+    /// Room for so many datagrams more: 0, or why a step has to wait.
+    pub(crate) fn room_for(&mut self, count: usize) -> u8
+        ensures kept { Keeps self.old self.new }
+        ensures room { result ≡ 0
+            → deque_len self.new.waiting + count ≤ deque_capacity self.new.waiting }
+        ensures known { result ≤ 3 }
+    {
+        if self.waiting.len() > MOST_WAITING {
+            return FULL;
+        }
+        match self.waiting.reserve(count) {
+            Ok(()) => DONE,
+            Err(_) => NO_MEMORY,
+        }
+    }
+
+    /// A datagram waits, where there is one, for which room was made.
+    fn put(&mut self, sent: Option<Sent>)
+        requires { deque_len self.old.waiting + 1 ≤ deque_capacity self.old.waiting }
+        ensures gateway { self.new.gateway ≡ self.old.gateway }
+        ensures waiting { self.new.waiting.items
+            ≡ self.old.waiting.items ++ option_to_list sent }
+    {
+        if let Some(sent) = sent {
+            self.waiting.push_back_reserved(sent);
+        }
+    }
+
+    /// Datagrams wait, for which room was made.
+    fn put_all(&mut self, sent: Vec<Sent>)
+        requires few { length sent.items ≤ 256 }
+        requires room { deque_len self.old.waiting + 256 ≤ deque_capacity self.old.waiting }
+        ensures gateway { self.new.gateway ≡ self.old.gateway }
+        ensures waiting { self.new.waiting.items ≡ self.old.waiting.items ++ sent.items }
+    {
+        let mut sent = VecDeque::from_vec(sent);
+        if self.waiting.append(&mut sent).is_err() {
+            unreachable!()
+        }
+    }
+
+    /// A datagram came.
+    pub(crate) fn receive(
+        &mut self,
+        alloc: Global,
+        source: Endpoint,
+        plane: Plane,
+        octets: &[u8],
+        told: &mut Told,
+    ) -> u8
+        ensures done { result ≡ 0
+            → HasReceived plane source octets.now told.new self.old self.new }
+        ensures kept { result ≢ 0 → Keeps self.old self.new }
+        ensures known { result ≤ 3 }
+    {
+        let status = self.room_for(1);
+        if status != DONE {
+            return status;
+        }
+        match self.gateway.receive(alloc, source, plane, octets) {
+            Ok(step) => {
+                let report = Told::of_step(&step, 0);
+                self.put(step.out);
+                *told = report.with_waiting(self.waiting.len());
+                DONE
+            }
+            Err(_) => NO_MEMORY,
+        }
+    }
+
+    /// A tick passes.
+    pub(crate) fn tick(&mut self, alloc: Global, told: &mut Told) -> u8
+        ensures done { result ≡ 0 → HasTicked told.new self.old self.new }
+        ensures kept { result ≢ 0 → Keeps self.old self.new }
+        ensures known { result ≤ 3 }
+    {
+        let status = self.room_for(MOST_RESENT);
+        if status != DONE {
+            return status;
+        }
+        match self.gateway.tick(alloc) {
+            Ok(ticked) => {
+                self.put_all(ticked.resent);
+                *told = Told::of_tick(
+                    ticked.gave_up.len(),
+                    ticked.forgotten.len(),
+                    self.waiting.len(),
+                );
+                DONE
+            }
+            Err(_) => NO_MEMORY,
+        }
+    }
+}

@@ -1,0 +1,30 @@
+//! A proved gateway for C: behind a pointer that C holds and never looks through. `include/gtp.h` says what C gets and what
+//! it has to keep.
+#![tactic(auto)]
+
+mod behind;
+mod coming;
+mod commanding;
+mod commands;
+mod contexts;
+mod control;
+mod desk;
+mod elements;
+mod ends;
+mod fault;
+mod gateway;
+mod handle;
+mod loose;
+mod names;
+mod numbers;
+mod place;
+mod rows;
+mod saying;
+mod session;
+mod setup;
+mod status;
+mod taken;
+mod told;
+mod user;
+mod values;
+mod writing;

@@ -1,0 +1,99 @@
+//! How a gateway is set up, as C says it.
+
+ghost use Rattle.std.specs.Prelude.{◌≡◌, IfOk, IfErr, IfSome, Some, None};
+ghost use Rattle.gtp_c.specs.Setups.{role_at, AreAddresses, IsConfigured, IsRefusal, IsStarted, timers_at};
+
+use crate::ends::Address;
+use crate::names::access_points_of;
+use crate::status::{BAD_VALUE, NO_MEMORY};
+use gtp_gateway::{Addresses, Apn, Config, Counter, Gateway, Pool, Role, Timers};
+use std::alloc::Global;
+
+/// How a gateway is set up.
+#[repr(C)]
+pub struct Setup {
+    pub own_control: Address,
+    pub own_user: Address,
+    pub peer_control: Address,
+    pub peer_user: Address,
+    /// The first IPv6 address that is given to sessions, and how many are.
+    pub pool6: [u8; 16],
+    pub pool6_count: u32,
+    /// The first IPv4 address that is given to sessions, as a number, and how many are.
+    pub pool: u32,
+    pub pool_count: u32,
+    pub t3: u32,
+    pub n3: u32,
+    pub hold: u32,
+    /// 0 serving, 1 packet.
+    pub role: u8,
+    pub counter: u8,
+}
+
+/// The role of this number.
+fn role_of(number: u8) -> Option<Role>
+    ensures { IfSome result (λ role. role_at role ≡ number) }
+{
+    match number {
+        0 => Some(Role::Serving),
+        1 => Some(Role::Packet),
+        _ => None,
+    }
+}
+
+/// The addresses of a gateway on each plane.
+fn addresses_of(control: &Address, user: &Address) -> Option<Addresses>
+    ensures { IfSome result (AreAddresses control.now user.now) }
+{
+    let control = control.ip()?;
+    let user = user.ip()?;
+    Some(Addresses { control, user })
+}
+
+impl Setup {
+    fn timers(&self) -> Timers
+        ensures { result ≡ timers_at self.now }
+    {
+        Timers {
+            t3: self.t3,
+            n3: self.n3,
+            hold: self.hold,
+        }
+    }
+
+    /// The settings that are asked for.
+    fn config(&self, names: Vec<Apn>) -> Option<Config>
+        ensures { IfSome result (IsConfigured self.now names.items) }
+    {
+        let own = addresses_of(&self.own_control, &self.own_user)?;
+        let peer = addresses_of(&self.peer_control, &self.peer_user)?;
+        let Ok(pool) = Pool::try_new(self.pool, self.pool_count) else {
+            return None;
+        };
+        let Ok(config) = Config::try_new(own, peer, names, pool, self.timers()) else {
+            return None;
+        };
+        match config.with_pool6(self.pool6, self.pool6_count) {
+            Ok(config) => Some(config),
+            Err(_) => None,
+        }
+    }
+
+    /// A gateway as it is asked for, or the status that says why there is none.
+    pub(crate) fn start(&self, alloc: Global, octets: &[u8]) -> Result<Gateway, u8>
+        ensures ok { IfOk result (IsStarted self.now octets.now) }
+        ensures err { IfErr result IsRefusal }
+    {
+        let Some(role) = role_of(self.role) else {
+            return Err(BAD_VALUE);
+        };
+        let names = access_points_of(alloc, octets)?;
+        let Some(config) = self.config(names) else {
+            return Err(BAD_VALUE);
+        };
+        match Gateway::start(alloc, role, &config, Counter(self.counter)) {
+            Ok(gateway) => Ok(gateway),
+            Err(_) => Err(NO_MEMORY),
+        }
+    }
+}

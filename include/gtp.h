@@ -1,0 +1,247 @@
+/* libgtp_c: GTPv2-C (TS 29.274) and GTP-U (TS 29.281) of the S5/S8 interface, proved: datagrams read in place, written to a
+ * buffer, and a serving or packet gateway. docs/C.md says what is proved.
+ *
+ * What a caller keeps (nothing checks it):
+ *  1. A gtp_gateway is zeroed, or as the last call left it. It is not changed, and not used beside a copy of itself; a copy that
+ *     takes its place, as by a move, is fine. A gateway that was opened is freed, or its memory is lost.
+ *  2. One call at a time for a gateway. Calls from several threads are ordered, by a lock, by the start or join of a thread, or
+ *     by an atomic with sequential consistency. A gateway may go to another thread; there is no global state.
+ *  3. Pointers are not NULL, not even with a length of 0; each is to as much memory as its length says, aligned for its type, and
+ *     initialised (zeroes do). What a call writes overlaps nothing else that the same call is handed. A bool is 0 or 1.
+ *  4. malloc, realloc and free are one allocator, the C library's or as good. No call from a signal handler, nor in the child of
+ *     a fork of a process with threads.
+ * No call keeps a pointer, reads past a length, writes past one, or waits. Every call ends. Nothing here needs a clock or a
+ * socket: the caller hands in what came, sends what is taken, and calls gtp_gateway_tick at even intervals.
+ *
+ * Every call answers an enum gtp_status. Any status but GTP_DONE leaves the gateway as it was, with all that waits to be sent.
+ * Only GTP_DONE fills what a call writes, with these exceptions: GTP_REFUSED fills `told`, GTP_TOO_SMALL fills `datagram` or
+ * `size`, GTP_FAULTY fills `fault`. Places and lengths count octets. An identifier (TEID) is a number in the machine's order. */
+#ifndef GTP_H
+#define GTP_H
+#include <stdbool.h>
+#include <stddef.h>
+#include <stdint.h>
+#ifdef __cplusplus
+extern "C" {
+#endif
+
+enum gtp_status {
+    GTP_DONE = 0,
+    GTP_BAD_VALUE = 1,      /* a value is out of its range */
+    GTP_NO_MEMORY = 2,      /* an allocation was refused; the same call may be made again */
+    GTP_FULL = 3,           /* more than 4,096 datagrams wait to be taken */
+    GTP_NONE = 4,           /* there is none: no datagram waits, no element, session or bearer is there */
+    GTP_TOO_SMALL = 5,      /* the buffer has too little room */
+    GTP_REFUSED = 6,        /* the gateway refuses the command: told->outcome.cause says by which rule */
+    GTP_EMPTY = 7,          /* no gateway is open here */
+    GTP_NOT_EMPTY = 8,      /* gtp_gateway_new: a gateway is open here */
+    GTP_FAULTY = 9,         /* the octets are no message, or no whole element */
+    GTP_SHORT_VALUE = 10,   /* the body is below the least length of its form */
+    GTP_NO_VALUE = 11       /* the body is long enough, and says nothing */
+};
+enum gtp_role { GTP_SERVING = 0, GTP_PACKET = 1 };
+enum gtp_plane { GTP_CONTROL = 0, GTP_USER = 1 };           /* UDP ports 2123 and 2152 */
+
+/* An address: of IP version 4 its four octets stand first, of version 6 it has sixteen, in the order in which they are sent. */
+struct gtp_address { uint8_t version, octets[16]; };        /* version: 4 or 6 */
+struct gtp_end { struct gtp_address address; uint16_t port; };
+
+/* ---- Reading a datagram in place. No memory is taken. ---- */
+
+struct gtp_fault {              /* the first fault; what does not belong to it is 0. docs/PROTOCOL.md has the numbers */
+    uint64_t at;                /* the place, from the start of the datagram */
+    uint64_t stated, held;      /* the stated length, and how many octets there are */
+    uint8_t number;             /* H1 to H7 on the control plane, U1 to U9 on the user plane */
+    uint8_t detail;             /* of H7: I1 to I3 */
+    uint8_t version;
+    uint8_t message;            /* the type of the message */
+    uint8_t element, instance;  /* the type of the element or of the extension header, and its instance */
+    uint8_t conditional;        /* 1: the element that is missing is conditional */
+};
+
+struct gtp_head {               /* of a message of the control plane (TS 29.274 5.1) */
+    uint64_t list_at, list_len; /* the octets after the header: where they begin, and how many they are */
+    uint64_t second_len;        /* so many octets at the end of the datagram are a second message (5.5.1); 0: none */
+    uint32_t teid, seq;         /* the receiver's TEID; seq is below 2^24 */
+    uint8_t kind;               /* the type of the message (table 6.1-1) */
+    uint8_t has_teid, has_priority, priority;
+    uint8_t has_elements;       /* 1: the octets after the header are elements; 0: the type is not known here */
+};
+uint8_t gtp_control_read(const uint8_t *octets, size_t len, struct gtp_head *head, struct gtp_fault *fault);
+
+struct gtp_element {
+    uint64_t at, body_at, len;  /* the place of its first octet and of its body, and how many octets its body has */
+    uint8_t kind, instance, spare;
+};
+/* The element at `place`; the next one begins at body_at + len. The elements of a message are those of
+ * octets[0 .. list_at + list_len] from list_at on, those of a group those of octets[0 .. body_at + len] from body_at on.
+ * GTP_NONE: place == len. GTP_FAULTY: no whole element stands there. GTP_BAD_VALUE: place > len. */
+uint8_t gtp_element_next(const uint8_t *octets, size_t len, uint64_t place, struct gtp_element *element);
+/* The first element of a type and instance from `place` on. GTP_FAULTY: the octets from there on are not whole elements. */
+uint8_t gtp_element_first(const uint8_t *octets, size_t len, uint64_t place, uint8_t kind, uint8_t instance,
+                          struct gtp_element *element);
+
+struct gtp_user_head {          /* of a message of the user plane (TS 29.281 5.1) */
+    uint64_t payload_len;       /* of a G-PDU, and of a type that is not known here: what it carries, the last octets of the
+                                   datagram. Of a notification: its types, 2 octets behind header and chain */
+    uint64_t extensions_len;    /* the chain of extension headers, which begins at 12 */
+    uint32_t teid;
+    uint16_t seq;
+    uint8_t has_seq, has_npdu, npdu;
+    uint8_t kind;               /* 1, 2 echo, 26 Error Indication, 31 notification, 254 End Marker, 255 G-PDU */
+    uint8_t extension;          /* the type of the first extension header; 0: none */
+    struct gtp_address peer;    /* of an Error Indication; version 0: none */
+};
+uint8_t gtp_user_read(const uint8_t *octets, size_t len, struct gtp_user_head *head, struct gtp_fault *fault);
+
+/* What the body of an element says (TS 29.274 clause 8). GTP_SHORT_VALUE, GTP_NO_VALUE: it says nothing. */
+struct gtp_imsi { uint8_t count, digits[15]; };             /* count: 6 to 15; digits: 0 to 9 */
+struct gtp_cause { uint8_t value, pce, bce, cs, has_offending, offending, instance; };
+struct gtp_apn { uint8_t len, octets[100]; };               /* labels, each after an octet with its length */
+struct gtp_ambr { uint32_t up, down; };                     /* kilobits a second */
+struct gtp_paa { uint8_t pdn, prefix, v4[4], v6[16]; };     /* pdn: 1 IPv4, 2 IPv6, 3 both; prefix in bits */
+struct gtp_quality {                                        /* 8.15 */
+    uint64_t mbr_up, mbr_down, gbr_up, gbr_down;            /* kilobits a second, below 2^40 */
+    bool pci;
+    uint8_t pl;                                             /* priority level, below 16 */
+    bool pvi;
+    uint8_t qci;
+};
+struct gtp_network { uint8_t digits[6]; };                  /* 001 01 is 0, 0, 1, 0, 1, 15 */
+struct gtp_fteid { uint32_t teid; uint8_t interface, has_v4, has_v6, v4[4], v6[16]; };
+uint8_t gtp_imsi_read(const uint8_t *body, size_t len, struct gtp_imsi *value);             /* type 1 */
+uint8_t gtp_cause_read(const uint8_t *body, size_t len, struct gtp_cause *value);           /* 2 */
+uint8_t gtp_recovery_read(const uint8_t *body, size_t len, uint32_t *number);               /* 3 */
+uint8_t gtp_apn_read(const uint8_t *body, size_t len, struct gtp_apn *value);               /* 71 */
+uint8_t gtp_ambr_read(const uint8_t *body, size_t len, struct gtp_ambr *value);             /* 72 */
+uint8_t gtp_ebi_read(const uint8_t *body, size_t len, uint32_t *number);                    /* 73 */
+uint8_t gtp_paa_read(const uint8_t *body, size_t len, struct gtp_paa *value);               /* 79 */
+uint8_t gtp_qos_read(const uint8_t *body, size_t len, struct gtp_quality *value);           /* 80 */
+uint8_t gtp_rat_read(const uint8_t *body, size_t len, uint32_t *number);                    /* 82 */
+uint8_t gtp_network_read(const uint8_t *body, size_t len, struct gtp_network *value);       /* 83 */
+uint8_t gtp_fteid_read(const uint8_t *body, size_t len, struct gtp_fteid *value);           /* 87 */
+uint8_t gtp_charging_id_read(const uint8_t *body, size_t len, uint32_t *number);            /* 94 */
+uint8_t gtp_pdn_type_read(const uint8_t *body, size_t len, uint32_t *number);               /* 99 */
+uint8_t gtp_pti_read(const uint8_t *body, size_t len, uint32_t *number);                    /* 100 */
+uint8_t gtp_selection_read(const uint8_t *body, size_t len, uint32_t *number);              /* 128 */
+/* A traffic flow template (84) is its body, of at most 255 octets. */
+
+/* ---- Writing to a buffer of `room` octets. GTP_TOO_SMALL: nothing is written, and *size says how many octets it is. ---- */
+
+/* An element, at `place` of the buffer: *size octets. GTP_BAD_VALUE: instance > 15, body_len > 65,535 or place > room. */
+uint8_t gtp_element_write(uint8_t *buffer, size_t room, uint64_t place, uint8_t kind, uint8_t instance,
+                          const uint8_t *body, size_t body_len, uint64_t *size);
+/* A message of the control plane that carries `list`, which may be elements; of `head` the type, TEID, seq and priority count.
+ * It is written as it is asked for: gtp_control_read says whether it is one. GTP_BAD_VALUE: seq >= 2^24, priority > 15, a
+ * priority without a TEID, or list_len > 65,527. */
+uint8_t gtp_control_write(uint8_t *buffer, size_t room, const struct gtp_head *head, const uint8_t *list, size_t list_len,
+                          uint64_t *size);
+/* A G-PDU. GTP_BAD_VALUE: packet_len > 65,535. */
+uint8_t gtp_packet_write(uint8_t *buffer, size_t room, uint32_t teid, const uint8_t *packet, size_t packet_len,
+                         uint64_t *size);
+
+/* ---- A gateway. ---- */
+
+/* Opaque. Begin with all zeroes: gtp_gateway gateway = {0}; */
+typedef struct gtp_gateway { void *hidden; uint64_t count; } gtp_gateway;
+
+struct gtp_setup {
+    struct gtp_address own_control, own_user, peer_control, peer_user;
+    uint8_t pool6[16];                  /* the first IPv6 address for sessions: each has a prefix of 64 bits of its own */
+    uint32_t pool6_count;               /* at most 65,536; 0: none */
+    uint32_t pool, pool_count;          /* IPv4 addresses for sessions: 10.1.0.1 is 0x0a010001; at most 65,536 */
+    uint32_t t3, n3, hold;              /* TS 29.274 7.6: ticks until a request goes out again, 1 to 1,000; how often, 0 to 100;
+                                           ticks for which an answer is held, 1 to 100,000 */
+    uint8_t role;                       /* enum gtp_role; a serving gateway uses no pool and no access points */
+    uint8_t counter;                    /* the restart counter, one more at each start (TS 23.007 18) */
+};
+/* Opens a gateway in `gateway`, which is empty. access_points: names with commas between them, as "internet,ims", at most 16. */
+uint8_t gtp_gateway_new(gtp_gateway *gateway, const struct gtp_setup *setup, const uint8_t *access_points, size_t len);
+/* Closes it, with its sessions and all that waits, without a word to the peer. It is empty then, and may be opened again. */
+uint8_t gtp_gateway_free(gtp_gateway *gateway);
+
+enum gtp_outcome_kind {
+    GTP_BEGUN = 1,          /* a request was sent for a command */
+    GTP_GONE_OUT,           /* a packet or an End Marker was sent */
+    GTP_NOT_BEGUN,          /* a command was refused; cause: 1 to 8 are G1, G2, G3, G4 S1, G4 S4, G4 B1, G5, G7 */
+    GTP_ANSWERED,           /* a request was answered with this cause */
+    GTP_ECHOED,             /* an Echo Request was answered */
+    GTP_REPEATED,           /* a request that came again was answered as before */
+    GTP_OPENED,             /* a session or bearer is active now */
+    GTP_CLOSED,             /* a session or bearer is gone */
+    GTP_CLASH,              /* an answer could not be used, and its bearer is gone */
+    GTP_REJECTED,           /* the peer refused a request with this cause */
+    GTP_ALIVE,              /* an Echo Response came */
+    GTP_ACCEPTED,           /* a packet came on the bearer told->teid */
+    GTP_ENDED,              /* an End Marker came */
+    GTP_BROKEN,             /* an Error Indication came, and its session or bearer is gone */
+    GTP_DROPPED,            /* a datagram was dropped; cause: X1 to X11; of X1, fault is its number after H or U */
+    GTP_TICKED              /* a tick passed */
+};
+struct gtp_outcome { uint8_t kind, cause, fault; };
+
+struct gtp_told {                       /* what a call came to */
+    uint64_t waiting;                   /* so many datagrams wait to be taken */
+    uint64_t payload_len;               /* of GTP_ACCEPTED: the packet, the last octets that were handed in */
+    uint64_t gave_up, forgot;           /* of a tick: requests that were given up, and answers that are held no more */
+    uint32_t teid;                      /* the session or bearer that a command is about, or the bearer of a packet; 0: none */
+    struct gtp_outcome outcome, second; /* second: of a datagram's second message; kind 0: none */
+    uint8_t made;                       /* 1: a session or bearer was made for a request */
+    uint8_t counted, counter;           /* 1: the peer told its restart counter, and it */
+    uint8_t restarted;                  /* 1: it is later than the one before, so the peer's earlier sessions are gone */
+};
+/* A datagram came from `source`. */
+uint8_t gtp_gateway_receive(gtp_gateway *gateway, const struct gtp_end *source, uint8_t plane,
+                            const uint8_t *octets, size_t len, struct gtp_told *told);
+/* A tick passes, the unit of t3 and hold. */
+uint8_t gtp_gateway_tick(gtp_gateway *gateway, struct gtp_told *told);
+
+struct gtp_datagram { uint64_t len; struct gtp_end from, to; uint8_t plane; };
+/* The datagram that waits longest: it is handed out once. GTP_NONE: none waits. GTP_TOO_SMALL: datagram->len says how many octets
+ * it has, nothing is written, and it waits still. */
+uint8_t gtp_gateway_take(gtp_gateway *gateway, uint8_t *buffer, size_t room, struct gtp_datagram *datagram);
+
+struct gtp_session {                    /* with what a session is asked for (TS 29.274 table 7.2.1-1) */
+    struct gtp_quality quality;         /* of the default bearer */
+    uint32_t ambr_up, ambr_down;        /* kilobits a second */
+    uint8_t network[6];                 /* the digits of the serving network: 001 01 is 0, 0, 1, 0, 1, 15 */
+    uint8_t identity;                   /* EPS bearer identity of the default bearer, 5 to 15 */
+    uint8_t rat, selection, pdn;        /* 8.17; 8.58, below 4; 8.34: 1 IPv4, 2 IPv6, 3 both */
+};
+/* Commands of the serving gateway. imsi: 6 to 15 digits; access_point: a name, as "internet". */
+uint8_t gtp_gateway_create_session(gtp_gateway *gateway, const struct gtp_session *session, const uint8_t *imsi, size_t imsi_len,
+                                   const uint8_t *access_point, size_t access_point_len, struct gtp_told *told);
+uint8_t gtp_gateway_delete_session(gtp_gateway *gateway, uint32_t session, struct gtp_told *told);
+/* Commands of the packet gateway. tft: a traffic flow template of at most 255 octets. */
+uint8_t gtp_gateway_create_bearer(gtp_gateway *gateway, uint32_t session, const struct gtp_quality *quality,
+                                  const uint8_t *tft, size_t len, struct gtp_told *told);
+uint8_t gtp_gateway_delete_bearer(gtp_gateway *gateway, uint32_t session, uint8_t identity, struct gtp_told *told);
+uint8_t gtp_gateway_release_session(gtp_gateway *gateway, uint32_t session, struct gtp_told *told);
+uint8_t gtp_gateway_end_marker(gtp_gateway *gateway, uint32_t bearer, struct gtp_told *told);
+/* Commands of both. payload: at most 65,000 octets. */
+uint8_t gtp_gateway_send_user(gtp_gateway *gateway, uint32_t bearer, const uint8_t *payload, size_t len, struct gtp_told *told);
+uint8_t gtp_gateway_echo(gtp_gateway *gateway, struct gtp_told *told);
+
+struct gtp_session_row {
+    uint32_t teid, remote;              /* the gateway's own control plane TEID, and the peer's */
+    uint8_t has_remote, state, identity;/* state: 0 pending, 1 active, 2 closing; identity: of the default bearer */
+    uint8_t has_v4, has_v6, v4[4], v6[16];
+    struct gtp_imsi imsi;
+    struct gtp_apn access_point;
+};
+struct gtp_bearer_row {
+    uint32_t teid, remote, session;     /* the gateway's own user plane TEID, the peer's, and the session's own */
+    uint8_t has_remote, state, identity;/* identity: 0 while none is known */
+    uint8_t dedicated, ended;           /* ended: an End Marker was sent or came */
+};
+/* By the gateway's own TEID. */
+uint8_t gtp_gateway_session(gtp_gateway *gateway, uint32_t teid, struct gtp_session_row *row);
+uint8_t gtp_gateway_bearer(gtp_gateway *gateway, uint32_t teid, struct gtp_bearer_row *row);
+/* By place, from 0, in the order of the gateway's own TEIDs. GTP_NONE: behind the last. */
+uint8_t gtp_gateway_session_at(gtp_gateway *gateway, uint64_t place, struct gtp_session_row *row);
+uint8_t gtp_gateway_bearer_at(gtp_gateway *gateway, uint64_t place, struct gtp_bearer_row *row);
+
+#ifdef __cplusplus
+}
+#endif
+#endif

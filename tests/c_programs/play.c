@@ -1,0 +1,199 @@
+/* Two gateways in one process, with addresses of both IP versions: sessions and bearers open, packets go both ways, bearers and
+ * sessions end, ticks pass, buffers are too small, and handles are empty, filled, emptied and filled again. */
+#include "check.h"
+
+/* Each datagram that waits at `from` goes to `to`, in a block of its own length; every smaller room is too small. */
+static unsigned carry(gtp_gateway *from, gtp_gateway *to, struct gtp_told *told) {
+    for (unsigned count = 0;; count++) {
+        struct gtp_datagram d = {0}, again = {0};
+        uint8_t none[1] = {0};
+        uint8_t status = gtp_gateway_take(from, none, 0, &d);
+        if (status == GTP_NONE) return count;
+        CHECK(status == GTP_TOO_SMALL && d.len > 0);
+        uint8_t *octets = malloc(d.len);
+        for (uint64_t room = 1; room < d.len; room++) {
+            uint8_t *small = malloc(room);
+            memset(small, 0xa5, room);
+            CHECK(gtp_gateway_take(from, small, room, &again) == GTP_TOO_SMALL && again.len == d.len);
+            for (uint64_t i = 0; i < room; i++) CHECK(small[i] == 0xa5);
+            free(small);
+        }
+        CHECK(gtp_gateway_take(from, octets, d.len, &again) == GTP_DONE && !memcmp(&d.to, &again.to, sizeof d.to));
+        CHECK(d.to.port == (d.plane == GTP_CONTROL ? 2123 : 2152) && d.from.port == d.to.port);
+        CHECK(gtp_gateway_receive(to, &d.from, d.plane, octets, d.len, told) == GTP_DONE);
+        if (told->outcome.kind == GTP_ACCEPTED) CHECK(told->payload_len <= d.len && octets[d.len - told->payload_len] == 'p');
+        free(octets);
+    }
+}
+
+static unsigned sessions(gtp_gateway *g, struct gtp_session_row *last) {
+    unsigned n = 0;
+    uint32_t before = 0;
+    struct gtp_session_row row, same;
+    memset(&row, 0, sizeof row); memset(&same, 0, sizeof same);
+    while (gtp_gateway_session_at(g, n, &row) == GTP_DONE) {
+        CHECK(row.teid > before && gtp_gateway_session(g, row.teid, &same) == GTP_DONE && same.imsi.count == row.imsi.count);
+        before = row.teid; *last = row; n++;
+    }
+    CHECK(gtp_gateway_session_at(g, UINT64_MAX, &row) == GTP_NONE);
+    return n;
+}
+
+static unsigned bearers(gtp_gateway *g, struct gtp_bearer_row *last) {
+    unsigned n = 0;
+    struct gtp_bearer_row row, same;
+    memset(&row, 0, sizeof row); memset(&same, 0, sizeof same);
+    while (gtp_gateway_bearer_at(g, n, &row) == GTP_DONE) {
+        CHECK(gtp_gateway_bearer(g, row.teid, &same) == GTP_DONE && same.session == row.session);
+        *last = row; n++;
+    }
+    return n;
+}
+
+static void exchange(bool six) {
+    gtp_gateway serving = {0}, packet = {0};
+    struct gtp_setup s = setup_of(GTP_SERVING, six), p = setup_of(GTP_PACKET, six);
+    struct gtp_told told;
+    struct gtp_session_row session; struct gtp_bearer_row bearer;
+    memset(&told, 0, sizeof told); memset(&session, 0, sizeof session); memset(&bearer, 0, sizeof bearer);
+    CHECK(gtp_gateway_new(&serving, &s, text(""), 0) == GTP_DONE);
+    CHECK(gtp_gateway_new(&packet, &p, text("internet,ims"), 12) == GTP_DONE);
+
+    CHECK(create(&serving, "001010123456789", six ? 2 : 1, &told) == GTP_DONE);
+    CHECK(told.outcome.kind == GTP_BEGUN && told.waiting == 1 && sessions(&serving, &session) == 1 && session.teid == told.teid);
+    CHECK(session.state == 0 && !session.has_remote && session.imsi.digits[14] == 9 && session.access_point.len == 9);
+    CHECK(carry(&serving, &packet, &told) == 1 && told.outcome.kind == GTP_ANSWERED && told.outcome.cause == 16 && told.made);
+    CHECK(told.counted && told.counter == 1 && told.restarted == 0);
+    CHECK(carry(&packet, &serving, &told) == 1 && told.outcome.kind == GTP_OPENED);
+    CHECK(sessions(&serving, &session) == 1 && session.state == 1 && session.has_remote);
+    CHECK(six ? session.has_v6 && !session.has_v4 : session.has_v4 && !session.has_v6 && session.v4[0] == 10);
+    uint32_t serving_session = session.teid, packet_session = session.remote;
+
+    CHECK(bearers(&serving, &bearer) == 1 && bearer.state == 1 && bearer.identity == 5 && !bearer.dedicated);
+    uint32_t up = bearer.teid, down = bearer.remote;
+    CHECK(gtp_gateway_send_user(&serving, up, text("p1"), 2, &told) == GTP_DONE && told.outcome.kind == GTP_GONE_OUT);
+    CHECK(carry(&serving, &packet, &told) == 1 && told.outcome.kind == GTP_ACCEPTED && told.teid == down && told.payload_len == 2);
+    CHECK(gtp_gateway_send_user(&packet, down, text("p"), 1, &told) == GTP_DONE);
+    CHECK(carry(&packet, &serving, &told) == 1 && told.outcome.kind == GTP_ACCEPTED && told.teid == up);
+
+    struct gtp_quality quality = wish(1).quality;
+    quality.qci = 1;
+    CHECK(gtp_gateway_create_bearer(&packet, packet_session, &quality, text("\x21\x10\x00"), 3, &told) == GTP_DONE);
+    CHECK(carry(&packet, &serving, &told) == 1 && told.outcome.kind == GTP_ANSWERED && told.made);
+    CHECK(carry(&serving, &packet, &told) == 1 && told.outcome.kind == GTP_OPENED);
+    CHECK(bearers(&packet, &bearer) == 2 && bearer.dedicated && bearer.session == packet_session && bearer.identity >= 5);
+    CHECK(gtp_gateway_end_marker(&packet, bearer.teid, &told) == GTP_DONE && told.outcome.kind == GTP_GONE_OUT);
+    CHECK(carry(&packet, &serving, &told) == 1 && told.outcome.kind == GTP_ENDED);
+    CHECK(gtp_gateway_end_marker(&packet, bearer.teid, &told) == GTP_REFUSED && told.outcome.cause == 7 && told.waiting == 0);
+    CHECK(gtp_gateway_delete_bearer(&packet, packet_session, bearer.identity, &told) == GTP_DONE);
+    CHECK(carry(&packet, &serving, &told) == 1 && told.outcome.kind == GTP_ANSWERED);
+    CHECK(carry(&serving, &packet, &told) == 1 && told.outcome.kind == GTP_CLOSED && bearers(&packet, &bearer) == 1);
+
+    CHECK(gtp_gateway_echo(&serving, &told) == GTP_DONE && told.teid == 0);
+    CHECK(carry(&serving, &packet, &told) == 1 && told.outcome.kind == GTP_ECHOED);
+    CHECK(carry(&packet, &serving, &told) == 1 && told.outcome.kind == GTP_ALIVE);
+
+    /* A request that is lost comes again after three ticks. */
+    CHECK(create(&serving, "001010123456780", 1, &told) == GTP_DONE);
+    { uint8_t lost[2048] = {0}; struct gtp_datagram d = {0}; CHECK(gtp_gateway_take(&serving, lost, sizeof lost, &d) == GTP_DONE); }
+    for (int tick = 1; tick <= 3; tick++)
+        CHECK(gtp_gateway_tick(&serving, &told) == GTP_DONE && told.outcome.kind == GTP_TICKED && told.waiting == (tick == 3));
+    CHECK(carry(&serving, &packet, &told) == 1 && carry(&packet, &serving, &told) == 1 && told.outcome.kind == GTP_OPENED);
+    CHECK(sessions(&packet, &session) == 2);
+
+    CHECK(gtp_gateway_delete_session(&serving, serving_session, &told) == GTP_DONE);
+    CHECK(carry(&serving, &packet, &told) == 1 && carry(&packet, &serving, &told) == 1 && told.outcome.kind == GTP_CLOSED);
+    CHECK(sessions(&packet, &session) == 1);
+    CHECK(gtp_gateway_release_session(&packet, session.teid, &told) == GTP_DONE);
+    CHECK(carry(&packet, &serving, &told) == 1 && carry(&serving, &packet, &told) == 1 && sessions(&packet, &session) == 0);
+    CHECK(gtp_gateway_session(&packet, 1, &session) == GTP_NONE && gtp_gateway_bearer(&packet, 1, &bearer) == GTP_NONE);
+
+    CHECK(gtp_gateway_free(&serving) == GTP_DONE && gtp_gateway_free(&packet) == GTP_DONE);
+}
+
+/* Every call on a handle that is empty says so and changes nothing. */
+static void empty(gtp_gateway *g) {
+    struct gtp_told told; struct gtp_datagram d; struct gtp_session_row sr; struct gtp_bearer_row br;
+    struct gtp_end end = { v4(1), 2123 };
+    struct gtp_quality q = wish(1).quality;
+    uint8_t octets[4] = {0};
+    memset(&told, 0, sizeof told); memset(&d, 0, sizeof d); memset(&sr, 0, sizeof sr); memset(&br, 0, sizeof br);
+    CHECK(gtp_gateway_free(g) == GTP_EMPTY && gtp_gateway_tick(g, &told) == GTP_EMPTY && gtp_gateway_echo(g, &told) == GTP_EMPTY);
+    CHECK(gtp_gateway_receive(g, &end, 0, octets, 4, &told) == GTP_EMPTY && gtp_gateway_take(g, octets, 4, &d) == GTP_EMPTY);
+    CHECK(create(g, "001010123456789", 1, &told) == GTP_EMPTY && gtp_gateway_delete_session(g, 1, &told) == GTP_EMPTY);
+    CHECK(gtp_gateway_create_bearer(g, 1, &q, octets, 1, &told) == GTP_EMPTY);
+    CHECK(gtp_gateway_delete_bearer(g, 1, 6, &told) == GTP_EMPTY && gtp_gateway_release_session(g, 1, &told) == GTP_EMPTY);
+    CHECK(gtp_gateway_end_marker(g, 1, &told) == GTP_EMPTY && gtp_gateway_send_user(g, 1, octets, 1, &told) == GTP_EMPTY);
+    CHECK(gtp_gateway_session(g, 1, &sr) == GTP_EMPTY && gtp_gateway_session_at(g, 0, &sr) == GTP_EMPTY);
+    CHECK(gtp_gateway_bearer(g, 1, &br) == GTP_EMPTY && gtp_gateway_bearer_at(g, 0, &br) == GTP_EMPTY);
+    CHECK(!g->hidden && !g->count);
+}
+
+static void handles(void) {
+    gtp_gateway g = {0}, moved;
+    struct gtp_setup s = setup_of(GTP_PACKET, false), bad;
+    struct gtp_told told;
+    memset(&told, 0, sizeof told);
+    empty(&g);
+    bad = s; bad.t3 = 0; CHECK(gtp_gateway_new(&g, &bad, text("internet"), 8) == GTP_BAD_VALUE);
+    bad = s; bad.role = 2; CHECK(gtp_gateway_new(&g, &bad, text("internet"), 8) == GTP_BAD_VALUE);
+    bad = s; bad.own_user.version = 5; CHECK(gtp_gateway_new(&g, &bad, text("internet"), 8) == GTP_BAD_VALUE);
+    bad = s; bad.pool_count = 65537; CHECK(gtp_gateway_new(&g, &bad, text("internet"), 8) == GTP_BAD_VALUE);
+    bad = s; bad.pool6_count = 65537; CHECK(gtp_gateway_new(&g, &bad, text("internet"), 8) == GTP_BAD_VALUE);
+    CHECK(gtp_gateway_new(&g, &s, text("inter..net"), 10) == GTP_BAD_VALUE);
+    CHECK(gtp_gateway_new(&g, &s, text("a\xff"), 2) == GTP_BAD_VALUE);
+    empty(&g);
+    CHECK(gtp_gateway_new(&g, &s, text("internet"), 8) == GTP_DONE && gtp_gateway_new(&g, &s, text("internet"), 8) == GTP_NOT_EMPTY);
+    moved = g; memset(&g, 0, sizeof g);
+    empty(&g);
+    CHECK(gtp_gateway_tick(&moved, &told) == GTP_DONE && gtp_gateway_free(&moved) == GTP_DONE);
+    empty(&moved);
+    CHECK(gtp_gateway_new(&moved, &s, text("ims"), 3) == GTP_DONE && gtp_gateway_free(&moved) == GTP_DONE);
+    empty(&moved);
+}
+
+static void refusals(void) {
+    gtp_gateway packet = {0};
+    struct gtp_setup s = setup_of(GTP_PACKET, false);
+    struct gtp_told told;
+    struct gtp_end peer = { v4(1), 2123 }, stranger = { v4(9), 2123 }, nowhere = { { 7, {0} }, 2123 };
+    struct gtp_quality q = wish(1).quality;
+    uint8_t echo[13] = { 0x40, 1, 0, 9, 0, 0, 1, 0, 3, 0, 1, 0, 1 };
+    memset(&told, 0, sizeof told);
+    CHECK(gtp_gateway_new(&packet, &s, text("internet"), 8) == GTP_DONE);
+    CHECK(create(&packet, "001010123456789", 1, &told) == GTP_REFUSED && told.outcome.kind == GTP_NOT_BEGUN && told.outcome.cause == 3);
+    CHECK(create(&packet, "00101x", 1, &told) == GTP_BAD_VALUE && create(&packet, "001010123456789", 8, &told) == GTP_BAD_VALUE);
+    CHECK(gtp_gateway_release_session(&packet, 1, &told) == GTP_REFUSED && told.outcome.cause == 1);
+    CHECK(gtp_gateway_delete_bearer(&packet, 1, 4, &told) == GTP_BAD_VALUE && gtp_gateway_delete_bearer(&packet, 1, 6, &told) == GTP_REFUSED);
+    q.pl = 16; CHECK(gtp_gateway_create_bearer(&packet, 1, &q, echo, 1, &told) == GTP_BAD_VALUE);
+    q.pl = 1; q.gbr_up = 1ull << 40; CHECK(gtp_gateway_create_bearer(&packet, 1, &q, echo, 1, &told) == GTP_BAD_VALUE);
+    CHECK(gtp_gateway_receive(&packet, &stranger, GTP_CONTROL, echo, 13, &told) == GTP_DONE && told.outcome.kind == GTP_DROPPED && told.outcome.cause == 11);
+    CHECK(gtp_gateway_receive(&packet, &nowhere, GTP_CONTROL, echo, 13, &told) == GTP_BAD_VALUE);
+    CHECK(gtp_gateway_receive(&packet, &peer, 7, echo, 13, &told) == GTP_BAD_VALUE);
+    for (size_t n = 0; n < 13; n++) {
+        uint8_t *cut = malloc(n ? n : 1);
+        memcpy(cut, echo, n);
+        CHECK(gtp_gateway_receive(&packet, &peer, GTP_CONTROL, cut, n, &told) == GTP_DONE && told.outcome.cause == 1 && told.outcome.fault);
+        free(cut);
+    }
+    /* Nobody takes: it fills, says so, and goes on once one is taken. */
+    uint8_t status;
+    unsigned long steps = 0;
+    while ((status = gtp_gateway_receive(&packet, &peer, GTP_CONTROL, echo, 13, &told)) == GTP_DONE) {
+        steps++;
+        unsigned long number = steps > 4000 ? 1 : steps;
+        echo[5] = (uint8_t)(number >> 8); echo[6] = (uint8_t)number;
+    }
+    CHECK(status == GTP_FULL && told.waiting == 4097);
+    { uint8_t one[64] = {0}; struct gtp_datagram d; memset(&d, 0, sizeof d); CHECK(gtp_gateway_take(&packet, one, sizeof one, &d) == GTP_DONE); }
+    CHECK(gtp_gateway_receive(&packet, &peer, GTP_CONTROL, echo, 13, &told) == GTP_DONE);
+    CHECK(gtp_gateway_free(&packet) == GTP_DONE);
+}
+
+int main(void) {
+    exchange(false);
+    exchange(true);
+    handles();
+    refusals();
+    return 0;
+}
