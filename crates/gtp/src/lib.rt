@@ -7,7 +7,7 @@ pub mod control {
     pub use gtp_ie::{Elements, IeValue};
     pub use gtp_v2::{
         Ambr, Apn, BAD_ELEMENT, BEARER_CONTEXT, BearerRequestContext, BearerResponseContext, Below,
-        Body, Cause, ChargingId, ContextView, Contexts, Counter, CreateBearerRequest,
+        Body, Boxed, Cause, ChargingId, ContextView, Contexts, Counter, CreateBearerRequest,
         CreateBearerResponse, CreateSessionRequest, CreateSessionResponse, Datagram, DatagramView,
         DeleteBearerRequest, DeleteBearerResponse, DeleteSessionRequest, DeleteSessionResponse,
         EbiValue, EchoRequest, EchoResponse, FTeid, Head, IeFault, Imsi, Listed, MISSING_ELEMENT,

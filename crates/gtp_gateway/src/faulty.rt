@@ -259,7 +259,7 @@ impl Parts {
         let cause = fault_cause(faulty.defect.cause(), faulty.element, faulty.instance);
         let header = self.faulty_header(faulty);
         let counter = self.draws.counter();
-        let message = refusal(alloc, faulty.kind, header, faulty.seq, cause, counter);
+        let message = refusal(alloc, faulty.kind, header, faulty.seq, cause, counter)?;
         let out = self.reply(alloc, source, &message)?;
         Ok(ControlStep::sent(out, Outcome::Answered(faulty.defect.cause())))
     }

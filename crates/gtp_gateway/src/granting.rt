@@ -233,7 +233,7 @@ impl Parts {
         match verdict.answer {
             BearerAnswer::Refused { cause } => {
                 let cause = plain_cause(cause);
-                Ok(refusal(alloc, Request::CreateBearer, header, seq, cause, counter))
+                refusal(alloc, Request::CreateBearer, header, seq, cause, counter)
             }
             BearerAnswer::NoResources => {
                 no_resources_response(alloc, header, seq, request.user, counter)

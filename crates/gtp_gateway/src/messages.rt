@@ -18,7 +18,7 @@ use crate::faulty::Request;
 use crate::session::SessionSpec;
 use crate::session_request::SessionRequest;
 use gtp_v2::{
-    BearerRequestContext, Body, ChargingId, CreateBearerRequest, CreateBearerResponse,
+    BearerRequestContext, Body, Boxed, ChargingId, CreateBearerRequest, CreateBearerResponse,
     CreateSessionRequest, CreateSessionResponse, DeleteBearerRequest, DeleteBearerResponse,
     DeleteSessionRequest, DeleteSessionResponse, EbiValue, EchoRequest, EchoResponse, Listed,
     Message, Paa, PdnType, Recovery, SessionRequestContext, SessionResponseContext,
@@ -118,41 +118,51 @@ pub fn refusal(
     seq: Seq,
     cause: Cause,
     counter: Counter,
-) -> Message
+) -> Result<Message, Memory>
     requires { is_accepting_value cause.value ≡ false }
-    ensures says { control_message result
-        ≡ refusing (kind_of request) header.0 seq cause counter.0 }
-    ensures own { IsOwn result }
+    ensures says { IfOk result (λ message. control_message message
+        ≡ refusing (kind_of request) header.0 seq cause counter.0) }
+    ensures own { IfOk result (λ message. IsOwn message) }
 {
     match request {
         Request::CreateSession => session_refusal(alloc, header, seq, cause, counter),
-        Request::DeleteSession => deletion_refusal(header, seq, cause, counter),
-        Request::CreateBearer => bearer_refusal(alloc, header, seq, cause, counter),
-        Request::DeleteBearer => removal_refusal(alloc, header, seq, cause, counter),
+        Request::DeleteSession => Ok(deletion_refusal(header, seq, cause, counter)),
+        Request::CreateBearer => Ok(bearer_refusal(alloc, header, seq, cause, counter)),
+        Request::DeleteBearer => Ok(removal_refusal(alloc, header, seq, cause, counter)),
     }
 }
 
 /// A Create Session Response that refuses.
 #[tactic(auto, unfolding(gtp_machine::specs::Decoded::row_in, gtp_machine::specs::Decoded::list_in, gtp_machine::specs::Decoded::contexts_in))]
-fn session_refusal(alloc: Global, header: Teid, seq: Seq, cause: Cause, counter: Counter) -> Message
+fn session_refusal(
+    alloc: Global,
+    header: Teid,
+    seq: Seq,
+    cause: Cause,
+    counter: Counter,
+) -> Result<Message, Memory>
     requires { is_accepting_value cause.value ≡ false }
-    ensures says { control_message result
-        ≡ refusing Of_create_session header.0 seq cause counter.0 }
-    ensures own { IsOwn result }
+    ensures says { IfOk result (λ message. control_message message
+        ≡ refusing Of_create_session header.0 seq cause counter.0) }
+    ensures own { IfOk result (λ message. IsOwn message) }
 {
-    Message {
-        teid: Some(header),
-        seq,
-        priority: None,
-        body: Body::CreateSessionResponse(CreateSessionResponse {
+    let response = Boxed::new(
+        alloc,
+        CreateSessionResponse {
             cause,
             control: None,
             paa: None,
             ambr: None,
             contexts: Listed::of(Vec::new(alloc)),
             recovery: Some(Recovery(counter)),
-        }),
-    }
+        },
+    )?;
+    Ok(Message {
+        teid: Some(header),
+        seq,
+        priority: None,
+        body: Body::CreateSessionResponse(response),
+    })
 }
 
 /// A Delete Session Response that refuses.
@@ -381,11 +391,9 @@ pub fn session_request(
         user,
     };
     let contexts = Vec::from_slice(alloc, &[context])?;
-    Ok(Message {
-        teid: Some(Teid(0)),
-        seq,
-        priority: None,
-        body: Body::CreateSessionRequest(CreateSessionRequest {
+    let request = Boxed::new(
+        alloc,
+        CreateSessionRequest {
             imsi: spec.subscriber.imsi,
             rat: spec.rat,
             serving_network: Some(spec.plmn),
@@ -397,7 +405,13 @@ pub fn session_request(
             ambr: Some(spec.ambr),
             contexts: Listed::of(contexts),
             recovery: Some(Recovery(counter)),
-        }),
+        },
+    )?;
+    Ok(Message {
+        teid: Some(Teid(0)),
+        seq,
+        priority: None,
+        body: Body::CreateSessionRequest(request),
     })
 }
 
@@ -437,17 +451,21 @@ pub fn session_response(
         charging_id: Some(ChargingId(user.teid().0)),
     };
     let contexts = Vec::from_slice(alloc, &[context])?;
-    Ok(Message {
-        teid: Some(request.control.teid()),
-        seq: request.seq,
-        priority: None,
-        body: Body::CreateSessionResponse(CreateSessionResponse {
+    let response = Boxed::new(
+        alloc,
+        CreateSessionResponse {
             cause: plain_cause(session_cause(request.pdn, address)),
             control: Some(control),
             paa: Some(address.allocated(PREFIX)),
             ambr: request.ambr,
             contexts: Listed::of(contexts),
             recovery: Some(Recovery(counter)),
-        }),
+        },
+    )?;
+    Ok(Message {
+        teid: Some(request.control.teid()),
+        seq: request.seq,
+        priority: None,
+        body: Body::CreateSessionResponse(response),
     })
 }

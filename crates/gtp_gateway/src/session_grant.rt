@@ -321,7 +321,7 @@ impl Parts {
             request.seq,
             cause,
             counter,
-        );
+        )?;
         let ready = self.ready_answer(alloc, octets, &message)?;
         self.hear(heard);
         let out = self.give(source, ready);

@@ -312,7 +312,7 @@ fn session_request(alloc: Global) -> Result<Body, Fail> {
         qos: plain_qos(),
         user: end(4, 0x01000002, 1)?,
     };
-    Ok(Body::CreateSessionRequest(CreateSessionRequest {
+    let request = CreateSessionRequest {
         imsi: Imsi::from_text("001010123456789")?,
         rat: Rat(6),
         serving_network: Some(Plmn::try_new(&[0, 0, 1], &[0, 1])?),
@@ -324,7 +324,8 @@ fn session_request(alloc: Global) -> Result<Body, Fail> {
         ambr: thousand(),
         contexts: Listed::of(vec![in alloc; context]?),
         recovery: recovery(1),
-    }))
+    };
+    Ok(Body::CreateSessionRequest(Boxed::new(alloc, request)?))
 }
 
 fn session_response(alloc: Global) -> Result<Body, Fail> {
@@ -335,26 +336,28 @@ fn session_response(alloc: Global) -> Result<Body, Fail> {
         qos: Some(plain_qos()),
         charging_id: Some(ChargingId(0x01000002)),
     };
-    Ok(Body::CreateSessionResponse(CreateSessionResponse {
+    let response = CreateSessionResponse {
         cause: cause(16),
         control: Some(end(7, 0x01000001, 2)?),
         paa: Some(Paa::V4([10, 1, 0, 1])),
         ambr: thousand(),
         contexts: Listed::of(vec![in alloc; context]?),
         recovery: recovery(1),
-    }))
+    };
+    Ok(Body::CreateSessionResponse(Boxed::new(alloc, response)?))
 }
 
 /// Cause 73, with nothing but the counter.
-fn session_refusal(alloc: Global) -> Body {
-    Body::CreateSessionResponse(CreateSessionResponse {
+fn session_refusal(alloc: Global) -> Result<Body, Fail> {
+    let response = CreateSessionResponse {
         cause: cause(73),
         control: None,
         paa: None,
         ambr: None,
         contexts: Listed::of(Vec::new(alloc)),
         recovery: recovery(1),
-    })
+    };
+    Ok(Body::CreateSessionResponse(Boxed::new(alloc, response)?))
 }
 
 #[test]
@@ -376,7 +379,7 @@ fn sessions_made_by_hand(rt: HostRuntime) -> Result<(), Fail> {
         plain(Some(0x01000001), Seq::new(0)),
         response,
     )?;
-    let refusal = session_refusal(alloc);
+    let refusal = session_refusal(alloc)?;
     spell(
         &rt,
         alloc,

@@ -12,7 +12,10 @@ use Rattle.gtp_v2.specs.Instances.{ElementInstanceIsSmall, InstanceIsSmall, IsOf
 use Rattle.gtp_v2.specs.Marks.{MeetsMarks}
 use Rattle.gtp_v2.specs.Datagram.{IsFault}
 use Rattle.gtp_v2.specs.Viewed.{Viewed}
-use Rattle.gtp_v2.specs.Pair.{DatagramValue, IsDatagram, IsDatagramFault, SecondFails, moved, element_moved, OfEach, DatagramAllocates, MayAllocate}
+use Rattle.gtp_v2.specs.Body.{message_value}
+use Rattle.gtp_v2.specs.declared.message.Datagram.{Datagram}
+use Rattle.gtp_v2.specs.declared.message.Message.{Message}
+use Rattle.gtp_v2.specs.Pair.{DatagramValue, IsDatagram, IsDatagramFault, SecondFails, moved, element_moved, OfEach, DatagramAllocates, MayAllocate, datagram_value, second_of}
 use Rattle.gtp_v2.specs.reading.Pair.{datagram_at}
 use Rattle.gtp_v2.proofs.Instances.{fault_small, fault_of_octets}
 use Rattle.gtp_v2.proofs.MarksOf.{message_marked}
@@ -73,6 +76,13 @@ datagram_marked octets d (inr (front, back, announces, (a, is, (b, second, same)
 pub seen_marked : (a : Viewed) (second : Option Viewed) → OfEach MeetsMarks a.message (option_map (λ (s : Viewed). s.message) second) → OfEach (λ (s : Viewed). MeetsMarks s.message) a second
 seen_marked a None marks = marks
 seen_marked a (Some b) marks = marks
+
+-- and so does what is built
+pub built_so_marked : (octets : List ℕ) (d : Datagram) → datagram_at octets ≡ Ok (datagram_value d) → OfEach (λ (m : Message). MeetsMarks (message_value m)) d.message (second_of d)
+built_so_marked octets d h = each d.message (second_of d) (datagram_marked octets (datagram_value d) ((datagram_decided octets).ok (datagram_value d) h)) where
+  each : (a : Message) (second : Option Message) → OfEach MeetsMarks (message_value a) (option_map message_value second) → OfEach (λ (m : Message). MeetsMarks (message_value m)) a second
+  each a None marks = marks
+  each a (Some b) marks = marks
 
 -- ---- a view
 

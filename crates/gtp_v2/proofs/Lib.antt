@@ -12,6 +12,7 @@ pub mod Instances
 pub mod Prefixes
 pub mod Encoded
 pub mod Few
+pub mod Given
 pub mod Marked
 pub mod MarksOf
 pub mod Headers

@@ -83,11 +83,11 @@ gathers_some {X = X} Has has read items e es left total split all so_far =
 pub appended : {C X E : Type 0} (view : C → X) (before : List C) (one : C) (outcome : Result X E) (after : List C) → after ≡ before ++ one ∷ [] → outcome ≡ Ok (view one) → IsAppended view before outcome after
 appended view before one outcome after items gives = rw (items, gives) (map_push (λ c. Ok (view c)) before one)
 
--- an element whose reading was appended
-pub gathers_appended : {C X : Type 0} (view : C → X) (read : Element → Result X RowFault) (before after : List C) (e : Element) (es left : List Element) (total : Result (List X) RowFault)
-    → left ≡ e ∷ es → IsOk total → IsAppended view before (read e) after → Gathers read (map view before) left total → Gathers read (map view after) es total
-gathers_appended {C = C} {X = X} view read before after e es left total split all appended so_far =
-    by_reading (read e) refl (gathers_one read (map view before) e es left total split all so_far) appended
+-- an element that reads, whose reading was appended
+pub gathers_given : {C X : Type 0} (view : C → X) (read : Element → Result X RowFault) (before after : List C) (e : Element) (es left : List Element) (total : Result (List X) RowFault)
+    → left ≡ e ∷ es → IsOk (read e) → IsAppended view before (read e) after → Gathers read (map view before) left total → Gathers read (map view after) es total
+gathers_given {C = C} {X = X} view read before after e es left total split ok appended so_far =
+    by_reading (read e) refl ok appended
   where
     -- the values, of the readings
     values_of : (x : X) (cs : List C) → map (λ r. result_unwrap_or r x) (map {B = Result X RowFault} (λ c. Ok (view c)) cs) ≡ map view cs
@@ -101,3 +101,9 @@ gathers_appended {C = C} {X = X} view read before after e es left total split al
         sym (values_of x after) ∙ ap (map or) one ∙ map_push or (map (λ c. Ok (view c)) before) (Ok x) ∙ ap (λ (xs : List X). xs ++ x ∷ []) (values_of x before) in
         rw values (goes_on read (map view before) e es left x total split reads so_far)
     by_reading (Err f) reads ok one = absurd cc
+
+-- the same, where all elements read
+pub gathers_appended : {C X : Type 0} (view : C → X) (read : Element → Result X RowFault) (before after : List C) (e : Element) (es left : List Element) (total : Result (List X) RowFault)
+    → left ≡ e ∷ es → IsOk total → IsAppended view before (read e) after → Gathers read (map view before) left total → Gathers read (map view after) es total
+gathers_appended view read before after e es left total split all appended so_far =
+    gathers_given view read before after e es left total split (gathers_one read (map view before) e es left total split all so_far) appended so_far

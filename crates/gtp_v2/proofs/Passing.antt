@@ -86,7 +86,7 @@ values_seen kind instance silent left all none so_far =
     let r = passed (one_at kind instance) no_values silent left (values_at kind instance all) none so_far in
     bind_at (values_at kind instance all) (λ values. Ok (no_values values)) r.0 r.2 ∙ ap (λ b. Ok b) r.1
 
-same_form : (b : Bool) → beq b b ≡ true
+pub same_form : (b : Bool) → beq b b ≡ true
 same_form true = refl
 same_form false = refl
 

@@ -1,5 +1,5 @@
 -- What a message says, what a fault in it tells of it, and for which messages memory is allocated.
-use Rattle.std.specs.Prelude.{◌≡◌, ◌<◌, length, IsOkAnd, ℕ, List, Option, Some, None, option_map, Result, Ok, Err, true}
+use Rattle.std.specs.Prelude.{◌≡◌, ◌<◌, ◌||◌, length, IsOkAnd, ℕ, List, Option, Some, None, option_map, Result, Ok, Err, true}
 use Rattle.gtp_values.specs.TunnelEnd.{TunnelEnd}
 use Rattle.gtp_v2.specs.declared.fault.Head.{Head}
 use Rattle.gtp_v2.specs.declared.fault.RowFault.{RowFault}
@@ -8,7 +8,7 @@ use Rattle.gtp_v2.specs.declared.fault.V2Fault.{V2Fault}
 use Rattle.gtp_v2.specs.declared.fault.V2Fault.TheVariants as faults
 use Rattle.gtp_v2.specs.Table.{Line, Field, Table, allocates}
 use Rattle.gtp_v2.specs.Headed.{Headed}
-use Rattle.gtp_v2.specs.Tables.{table_of}
+use Rattle.gtp_v2.specs.Tables.{table_of, is_boxed}
 
 -- what a fault in an element tells of the message
 abbrev pub head_of : Headed → Option TunnelEnd → Head
@@ -47,13 +47,13 @@ abbrev pub MessageGives : {X Y : Type 0} → (Y → Type 0) → (X → Y) → Re
 MessageGives Allocates view (Ok x) outcome = outcome ≡ Ok (view x)
 MessageGives Allocates view (Err fault) outcome = FaultIs Allocates fault outcome
 
--- memory is allocated for a list that has a member, and for octets that are kept
-abbrev pub FieldsAllocate : List Line → Content → Type 0
-FieldsAllocate lines (Fields fields) = allocates lines fields ≡ true
-FieldsAllocate lines (Raw octets) = ⊥
+-- memory is allocated for fields that are kept in a box, for a list that has a member, and for octets that are kept
+abbrev pub FieldsAllocate : ℕ → List Line → Content → Type 0
+FieldsAllocate kind lines (Fields fields) = (is_boxed kind || allocates lines fields) ≡ true
+FieldsAllocate kind lines (Raw octets) = ⊥
 
 abbrev pub ContentAllocates : Option Table → Content → Type 0
-ContentAllocates (Some table) content = FieldsAllocate table.lines content
+ContentAllocates (Some table) content = FieldsAllocate table.kind table.lines content
 ContentAllocates None (Raw octets) = 0 < length octets
 ContentAllocates table content = ⊥
 

@@ -1,5 +1,5 @@
 -- The tables of all kinds of messages that have one.
-use Rattle.std.specs.Prelude.{ℕ, List, [], ◌∷◌, Option, Some, None, ◌==◌, if◌then◌else◌}
+use Rattle.std.specs.Prelude.{ℕ, Bool, List, [], ◌∷◌, Option, Some, None, is_some, ◌==◌, if◌then◌else◌}
 use Rattle.gtp_v2.specs.Table.{Table}
 use Rattle.gtp_v2.specs.EchoRequest.{echo_request}
 use Rattle.gtp_v2.specs.EchoResponse.{echo_response}
@@ -29,6 +29,13 @@ tables =
     ∷ delete_bearer_response
     ∷ []
 
+-- those of large messages, whose fields are kept in a box: memory is allocated for each such message
+abbrev pub boxed : List Table
+boxed =
+    create_session_request
+    ∷ create_session_response
+    ∷ []
+
 -- the table of a type among these
 abbrev pub table_among : ℕ → List Table → Option Table
 table_among kind [] = None
@@ -37,3 +44,7 @@ table_among kind (table ∷ others) = if kind == table.kind then Some table else
 -- the table of a type that has one
 abbrev pub table_of : ℕ → Option Table
 table_of kind = table_among kind tables
+
+-- the fields of a message of this type are kept in a box
+abbrev pub is_boxed : ℕ → Bool
+is_boxed kind = is_some (table_among kind boxed)

@@ -1,11 +1,11 @@
 //! What messages say, and the list of their kinds.
 
-ghost use Rattle.std.specs.Prelude.{◌≡◌, ◌↔◌, ◌++◌, length, IsTrue, None, option_map, OnOk, IfOk, IsOk, IsSomeAnd, is_some};
+ghost use Rattle.std.specs.Prelude.{◌≡◌, ◌↔◌, ◌++◌, length, IsTrue, None, option_map, Ok, OnOk, IfOk, IfSome, IsOk, IsSomeAnd, is_some};
 ghost use Rattle.gtp_v2.specs.Table.{start};
 ghost use Rattle.gtp_v2.specs.reading.Rows.{lines_at};
 ghost use Rattle.gtp_v2.specs.Tables.{table_of};
 ghost use Rattle.gtp_v2.specs.Message.{MessageGives, ContentAllocates, raw_of};
-ghost use Rattle.gtp_v2.specs.reading.Message.{content_at, content_among};
+ghost use Rattle.gtp_v2.specs.reading.Message.{carried_at, content_at, content_among};
 ghost use Rattle.gtp_v2.specs.Body.{content_of, kind_of, OctetsOnlyWithoutTable};
 ghost use Rattle.gtp_v2.specs.Encoding.{carried_by};
 ghost use Rattle.gtp_values.specs.Room.{Leaves};
@@ -14,6 +14,7 @@ ghost use Rattle.gtp_v2.specs.Marks.{ContentMarked};
 ghost use Rattle.gtp_v2.specs.Kinds.{ContentHasKinds};
 ghost use Rattle.gtp_v2.specs.reading.Headed.{headed_of, HasHeader};
 
+use crate::boxed::Boxed;
 use crate::fault::V2Fault;
 use crate::header::Header;
 use crate::listed::Listed;
@@ -52,8 +53,8 @@ pub enum Body {
     EchoRequest(EchoRequest),
     EchoResponse(EchoResponse),
     VersionNotSupported(VersionNotSupported),
-    CreateSessionRequest(CreateSessionRequest),
-    CreateSessionResponse(CreateSessionResponse),
+    CreateSessionRequest(Boxed<CreateSessionRequest>),
+    CreateSessionResponse(Boxed<CreateSessionResponse>),
     DeleteSessionRequest(DeleteSessionRequest),
     DeleteSessionResponse(DeleteSessionResponse),
     CreateBearerRequest(CreateBearerRequest),
@@ -110,6 +111,16 @@ macro_rules! build_among {
         match $header.kind {
             $($kind::KIND => $kind::build($alloc, $header, $elements),)+
             _ => build_other($alloc, $header),
+        }
+    };
+}
+
+/// What elements say, where the header has the form that the type has.
+macro_rules! read_among {
+    (($alloc:expr, $kind_of:expr, $has_teid:expr, $elements:expr), $($kind:ident),+) => {
+        match $kind_of {
+            $($kind::KIND if $has_teid == $kind::HAS_TEID => $kind::read($alloc, $elements),)+
+            _ => None,
         }
     };
 }
@@ -253,6 +264,18 @@ pub fn passes(kind: u8, has_teid: bool, elements: &Indexed) -> bool
         × IsOk (lines_at start table.lines elements.now)) }
 {
     with_kinds!(passes_among, kind, has_teid, elements)
+}
+
+/// What the elements after a header say, where it has the form that its type has; `None` where they don't have what the
+/// table asks, and where memory ran out. Answers no fault.
+#[inline(always)]
+pub fn read_body(alloc: Global, kind: u8, has_teid: bool, elements: &Indexed) -> Option<Body>
+    ensures content { IfSome result (λ body. IsSomeAnd (table_of kind) (λ table. (has_teid ≡ table.has_teid)
+        × (carried_at table.lines elements.now ≡ Ok (content_of body)))) }
+    ensures kind { IfSome result (λ body. kind_of body ≡ kind) }
+    ensures octets_only { IfSome result OctetsOnlyWithoutTable }
+{
+    with_kinds!(read_among, alloc, kind, has_teid, elements)
 }
 
 /// What is left of a room after what a message carries, `None` where it doesn't fit.

@@ -12,8 +12,12 @@ ghost use Rattle.gtp_v2.specs.declared.fault.V2Fault.{V2Fault as AnyFault};
 
 use crate::fault::V2Fault;
 use crate::message::Datagram;
-use crate::viewing::view_datagram;
+use crate::viewing::view_any;
 use std::alloc::Global;
+
+mod plain;
+
+use plain::read_alone;
 
 /// A fault. Not inlined, so that what is built on the other way is written where the caller wants it, and
 /// not moved there.
@@ -25,7 +29,27 @@ fn refused(fault: V2Fault) -> Result<Datagram, V2Fault>
     Err(fault)
 }
 
-/// The messages that a datagram spells, by a view of it.
+/// The messages that a datagram spells, by a view of it. A call of its own, so that its answer is moved only where it is
+/// needed.
+#[cold]
+#[inline(never)]
+fn read_viewed(alloc: Global, octets: &[u8]) -> Result<Datagram, V2Fault>
+    ensures messages { MessageGives DatagramAllocates datagram_value result (datagram_at octets.now) }
+    ensures kind { IfOk result
+        (λ d. OfEach (λ m. OctetsOnlyWithoutTable m.body) d.message (second_of d)) }
+    ensures header { IfOk result
+        (λ d. OfEach (λ m. PriorityNeedsTeid m.teid m.priority) d.message (second_of d)) }
+    ensures marks { IfOk result
+        (λ d. OfEach (λ m. MeetsMarks (message_value m)) d.message (second_of d)) }
+{
+    match view_any(octets) {
+        Ok(seen) => seen.to_datagram(alloc),
+        Err(fault) => refused(fault),
+    }
+}
+
+/// The same, a message alone first, of a type with a table and without a fault, by one reading: faults, what is rare and
+/// memory that ran out are for a view, out of line.
 fn read_datagram(alloc: Global, octets: &[u8]) -> Result<Datagram, V2Fault>
     ensures messages { MessageGives DatagramAllocates datagram_value result (datagram_at octets.now) }
     ensures kind { IfOk result
@@ -35,14 +59,17 @@ fn read_datagram(alloc: Global, octets: &[u8]) -> Result<Datagram, V2Fault>
     ensures marks { IfOk result
         (λ d. OfEach (λ m. MeetsMarks (message_value m)) d.message (second_of d)) }
 {
-    match view_datagram(octets) {
-        Ok(seen) => seen.to_datagram(alloc),
-        Err(fault) => refused(fault),
+    if let Some(datagram) = read_alone(alloc, octets) {
+        return Ok(datagram);
+    }
+    match read_viewed(alloc, octets) {
+        Ok(datagram) => Ok(datagram),
+        Err(fault) => Err(fault),
     }
 }
 
 /// The message that a datagram spells, or the two, or its first fault; `Memory` where an allocation was
-/// refused, and then the datagram has no fault.
+/// refused, once more after a first refusal, and then the datagram has no fault.
 pub fn decode(alloc: Global, octets: &[u8]) -> Result<Datagram, V2Fault>
     // What is answered is spelled so.
     ensures found { IfOk result (λ d. IsDatagram octets.now (datagram_value d)) }
@@ -56,8 +83,8 @@ pub fn decode(alloc: Global, octets: &[u8]) -> Result<Datagram, V2Fault>
     ensures fault { IfErr result (λ f. (f ≡ V2Fault.Memory) ⊎ IsDatagramFault octets.now f) }
     // An instance that a fault names is below 16.
     ensures instance { IfErr result InstanceIsSmall }
-    // Memory runs out only where some is allocated: for a message in which a list has a member, or of which octets
-    // are kept, or for a second one.
+    // Memory runs out only where some is allocated: for a Create Session Request or Response, for a message in which
+    // a list has a member, or of which octets are kept, or for a second one.
     ensures memory { result ≡ Err V2Fault.Memory → MayAllocate octets.now }
 
     // What was decoded meets the conditions of `encode` and the marks of its table.

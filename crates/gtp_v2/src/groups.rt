@@ -13,7 +13,7 @@ ghost use Rattle.gtp_values.specs.Room.{Leaves};
 ghost use Rattle.gtp_v2.specs.Room.{TakesAtMost};
 ghost use Rattle.gtp_v2.specs.Kinds.{RowsHaveKinds};
 ghost use Rattle.gtp_v2.specs.Marks.{RowsMarked};
-ghost use Rattle.gtp_v2.specs.reading.Outcome.{GivesOrMemory, HasGroup, IsAppended};
+ghost use Rattle.gtp_v2.specs.reading.Outcome.{GivesAppended, GivesOrMemory, HasGroup, IsAppended};
 
 use crate::fault::Need;
 use crate::listed::Listed;
@@ -132,5 +132,66 @@ pub fn contexts_pass<C: Context>(need: Need, accepting: bool, elements: &Indexed
     match need {
         Need::Optional => true,
         Need::Mandatory | Need::Conditional => !silent,
+    }
+}
+
+/// Appends the context that an element holds; false where it doesn't have what the rows ask, and where memory ran out.
+#[inline(always)]
+#[tactic(auto, unfolding(crate::specs::reading::Rows::group_at))]
+fn append_read<C: Context>(contexts: &mut Vec<C>, accepting: bool, view: &ElementView) -> bool
+    ensures { IsTrue result → GivesAppended C.values contexts.old.items
+        (group_at accepting C.rows (element_of view.now)) contexts.new.items }
+{
+    let Ok(elements) = view.indexed() else {
+        return false;
+    };
+    let Some(_) = C::read(accepting, &elements) else {
+        return false;
+    };
+    contexts.push(C::build(accepting, &elements)).is_ok()
+}
+
+/// The bearer contexts among any elements; `None` where one doesn't have what the rows ask, and where memory ran out.
+#[inline(always)]
+fn gather_contexts<C: Context>(
+    alloc: Global,
+    accepting: bool,
+    elements: &Indexed,
+) -> Option<Listed<C>>
+    ensures { IfSome result (λ list. groups_at accepting C.rows (all_of bearer_context 0 elements.now)
+        ≡ Ok (map C.values list)) }
+{
+    let mut contexts = Vec::new(alloc);
+    for view in elements.all(BEARER_CONTEXT, 0) {
+        if !append_read::<C>(&mut contexts, accepting, &view) {
+            return None;
+        }
+    }
+    Some(Listed::of(contexts))
+}
+
+/// The same; `None` also where there is none and one is needed.
+#[inline(always)]
+pub fn read_contexts<C: Context>(
+    alloc: Global,
+    need: Need,
+    accepting: bool,
+    elements: &Indexed,
+) -> Option<Listed<C>>
+    ensures { IfSome result (λ list. some_groups need bearer_context 0 accepting C.rows
+        (all_of bearer_context 0 elements.now) ≡ Ok (map C.values list)) }
+{
+    let Some(contexts) = gather_contexts::<C>(alloc, accepting, elements) else {
+        return None;
+    };
+    match need {
+        Need::Optional => Some(contexts),
+        Need::Mandatory | Need::Conditional => {
+            if contexts.is_empty() {
+                None
+            } else {
+                Some(contexts)
+            }
+        }
     }
 }

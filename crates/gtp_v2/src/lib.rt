@@ -2,6 +2,7 @@
 #![tactic(auto)]
 
 mod body;
+mod boxed;
 mod check;
 mod contexts;
 mod decoding;
@@ -30,6 +31,7 @@ pub use body::{
     DeleteSessionRequest, DeleteSessionResponse, EchoRequest, EchoResponse, RemovalResponseContext,
     SessionRequestContext, SessionResponseContext, VersionNotSupported, type_name,
 };
+pub use boxed::Boxed;
 pub use contexts::{ContextView, Contexts};
 pub use decoding::decode;
 pub use encoding::{encode, encode_pair, pair};

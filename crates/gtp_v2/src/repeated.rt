@@ -68,3 +68,42 @@ pub fn several_pass<T: IeValue>(is_needed: bool, elements: &Indexed, instance: u
     };
     !(is_needed & silent)
 }
+
+/// The values of the elements of the value's type and an instance, of any elements; `None` where one doesn't read, and
+/// where memory ran out.
+#[inline(always)]
+fn gather_values<T: IeValue>(alloc: Global, elements: &Indexed, instance: u8) -> Option<Listed<T>>
+    ensures { IfSome result (λ list. values_at T.KIND instance (all_of T.KIND instance elements.now)
+        ≡ Ok (map T.value list)) }
+{
+    let mut values = Vec::new(alloc);
+    for view in elements.all(T::KIND, instance) {
+        let Some(value) = read_value::<T>(instance, &view) else {
+            return None;
+        };
+        let Ok(()) = values.push(value) else {
+            return None;
+        };
+    }
+    Some(Listed::of(values))
+}
+
+/// The same; `None` also where there is none and one is needed.
+#[inline(always)]
+pub fn read_several<T: IeValue>(
+    alloc: Global,
+    is_needed: bool,
+    elements: &Indexed,
+    instance: u8,
+) -> Option<Listed<T>>
+    ensures { IfSome result (λ list. (missed : ℕ) → several_at is_needed T.KIND instance missed elements.now
+        ≡ Ok (map T.value list)) }
+{
+    let Some(values) = gather_values::<T>(alloc, elements, instance) else {
+        return None;
+    };
+    if is_needed & values.is_empty() {
+        return None;
+    }
+    Some(values)
+}

@@ -1,10 +1,22 @@
 //! Rows of a message's table, one at a time, of elements that have what the table asks.
 
 ghost use Rattle.std.specs.Prelude.{◌≡◌, Ok, IsOk, IfSome, true, false, option_map};
+ghost use Rattle.gtp_ie.specs.Element.{first_of};
+ghost use Rattle.gtp_ie.specs.View.{element_of};
 ghost use Rattle.gtp_v2.specs.reading.Rows.{needed_at, needed_if_at};
 ghost use Rattle.gtp_v2.specs.Viewed.{optional_at};
 
-use gtp_ie::{IeValue, Indexed};
+use gtp_ie::{ElementView, IeValue, Indexed};
+
+/// The first element of the value's type and an instance. In line, so that elements stay in registers.
+#[inline(always)]
+fn first<'a, T: IeValue>(elements: &Indexed<'a>, instance: u8) -> Option<ElementView<'a>>
+    ensures { option_map element_of result ≡ first_of T.KIND instance elements.now }
+{
+    elements
+        .from_first(T::KIND, instance)
+        .first(T::KIND, instance)
+}
 
 /// The value of the first element of the value's type and an instance, of a mandatory row.
 #[tactic(auto, using(crate::proofs::Checks::one_reads, crate::proofs::Checks::seen_read), unfolding(crate::specs::reading::Rows::needed_at))]
@@ -12,7 +24,7 @@ pub fn mandatory<T: IeValue>(elements: &Indexed, instance: u8) -> T
     requires { IsOk (needed_at false T.KIND instance elements.now) }
     ensures { needed_at false T.KIND instance elements.now ≡ Ok (T.value result) }
 {
-    let Some(view) = elements.first(T::KIND, instance) else {
+    let Some(view) = first::<T>(elements, instance) else {
         unreachable!()
     };
     T::build(view.body)
@@ -33,7 +45,7 @@ pub fn conditional<T: IeValue>(elements: &Indexed, instance: u8) -> T
 pub fn optional<T: IeValue>(elements: &Indexed, instance: u8) -> Option<T>
     ensures { option_map T.value result ≡ optional_at T.KIND instance elements.now }
 {
-    let view = elements.first(T::KIND, instance)?;
+    let view = first::<T>(elements, instance)?;
     T::parse(view.body).ok()
 }
 
@@ -58,7 +70,7 @@ pub fn needed_if<T: IeValue>(is_needed: bool, elements: &Indexed, instance: u8) 
 pub fn read<T: IeValue>(elements: &Indexed, instance: u8) -> Option<T>
     ensures { IfSome result (λ x. needed_at false T.KIND instance elements.now ≡ Ok (T.value x)) }
 {
-    let Some(view) = elements.first(T::KIND, instance) else {
+    let Some(view) = first::<T>(elements, instance) else {
         return None;
     };
     match T::check(view.body) {

@@ -1,6 +1,6 @@
 //! Messages with a table.
 
-ghost use Rattle.std.specs.Prelude.{◌≡◌, ◌↔◌, ◌++◌, OnOk, IfOk, IsOk, Bool, ℕ, List, IsTrue, length, None};
+ghost use Rattle.std.specs.Prelude.{◌≡◌, ◌↔◌, ◌++◌, Ok, OnOk, IfOk, IfSome, IsOk, Bool, ℕ, List, IsTrue, length, None};
 ghost use Rattle.gtp_v2.specs.Table.{Line, Field, start};
 ghost use Rattle.gtp_v2.specs.reading.Rows.{lines_at};
 ghost use Rattle.gtp_v2.specs.reading.Headed.{headed_of, HasHeader};
@@ -10,11 +10,11 @@ ghost use Rattle.gtp_v2.specs.Room.{TakesAtMost, most_of_lines};
 ghost use Rattle.gtp_v2.specs.Kinds.{LinesHaveKinds};
 ghost use Rattle.gtp_v2.specs.Marks.{LinesMarked};
 ghost use Rattle.gtp_v2.specs.Message.{head_of, with_head as headed_fault, FieldsAllocate, MessageGives};
-ghost use Rattle.gtp_v2.specs.reading.Message.{sender_of, as_fields, fields_at};
+ghost use Rattle.gtp_v2.specs.reading.Message.{sender_of, as_fields, carried_at, fields_at};
 ghost use Rattle.gtp_v2.specs.Body.{content_of, kind_of, OctetsOnlyWithoutTable};
 ghost use Rattle.gtp_v2.specs.declared.fault.V2Fault.TheVariants.{Element};
 
-use crate::body::CreateSessionRequest;
+use crate::body::{Body, CreateSessionRequest};
 use crate::fault::{Head, RowFault, V2Fault};
 use crate::header::Header;
 use crate::message::Datagram;
@@ -52,7 +52,7 @@ pub trait Typed: Drop {
     /// that it sets up no room for messages of the other kinds.
     fn build(alloc: Global, header: &Header, elements: &Indexed) -> Result<Datagram, V2Fault>
         requires { IsOk (lines_at start lines elements.now) }
-        ensures content { MessageGives (FieldsAllocate lines) (λ d. content_of d.message.body) result
+        ensures content { MessageGives (FieldsAllocate KIND lines) (λ d. content_of d.message.body) result
             (as_fields (fields_at lines (headed_of header.now) elements.now)) }
         ensures kind { IfOk result (λ d. kind_of d.message.body ≡ KIND) }
         ensures header { IfOk result (λ d. HasHeader header.now d.message) }
@@ -62,6 +62,13 @@ pub trait Typed: Drop {
     /// That the elements have what the lines ask.
     fn passes(elements: &Indexed) -> bool
         ensures { IsTrue result → IsOk (lines_at start lines elements.now) };
+
+    /// What the message of these elements says; `None` where they don't have what the lines ask, and where memory ran
+    /// out. Answers no fault and checks and builds by one reading; a call of its own for the same reason as `build`.
+    fn read(alloc: Global, elements: &Indexed) -> Option<Body>
+        ensures content { IfSome result (λ body. carried_at lines elements.now ≡ Ok (content_of body)) }
+        ensures kind { IfSome result (λ body. kind_of body ≡ KIND) }
+        ensures octets_only { IfSome result OctetsOnlyWithoutTable };
 
     /// Appends the elements of the lines.
     fn write(&self, out: &mut Vec<u8>) -> Result<(), AllocError>

@@ -245,7 +245,7 @@ fn view_pair<'a>(
 #[cold]
 #[inline(never)]
 #[tactic(auto, unfolding(crate::specs::reading::Pair::datagram_at, crate::specs::reading::Pair::alone_at, crate::specs::reading::Message::message_at))]
-fn view_any(octets: &[u8]) -> Result<DatagramView<'_>, V2Fault>
+pub fn view_any(octets: &[u8]) -> Result<DatagramView<'_>, V2Fault>
     ensures messages { Gives datagram_seen result (datagram_at octets.now) }
     ensures header { IfOk result (λ v.
         OfEach (λ s. PriorityNeedsTeid s.message.teid s.message.priority) v.message v.second) }
@@ -444,8 +444,9 @@ impl<'a> MessageView<'a> {
         build_viewed(alloc, &self.header, &self.elements)
     }
 
-    /// The message, owned. `Memory` is the only fault, and only of a message for which some is allocated: a
-    /// list in it has a member, or it is kept as octets and has some. In line: else it is moved once more.
+    /// The message, owned. `Memory` is the only fault, and only of a message for which some is allocated: it is a
+    /// Create Session Request or Response, or a list in it has a member, or it is kept as octets and has some. In
+    /// line: else it is moved once more.
     #[inline(always)]
     pub fn to_message(&self, alloc: Global) -> Result<Message, V2Fault>
         ensures message { MessageGives MessageAllocates message_value result (Ok self.now.message) }

@@ -51,6 +51,10 @@ typed_at has_teid lines h = list_at has_teid h >>= λ es. fields_at lines h es
 abbrev pub as_fields : Result (List Field) V2Fault → Result Content V2Fault
 as_fields r = r >>= λ fields. Ok (Fields fields)
 
+-- what elements give lines, as what a message carries
+abbrev pub carried_at : List Line → List Element → Result Content RowFault
+carried_at lines es = lines_at start lines es >>= λ fields. Ok (Fields fields)
+
 -- what a message carries, by its kind's table
 abbrev pub by_table : Option Table → Headed → Result Content V2Fault
 by_table None h = Ok (Raw h.rest)

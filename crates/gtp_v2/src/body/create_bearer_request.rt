@@ -7,7 +7,7 @@ ghost use Rattle.gtp_v2.specs.CreateBearerRequest.{create_bearer_request, create
 
 use crate::body::Body;
 use crate::fault::{Need, V2Fault};
-use crate::groups::{Context, contexts, contexts_pass};
+use crate::groups::{Context, contexts, contexts_pass, read_contexts};
 use crate::header::Header;
 use crate::kinds::CREATE_BEARER_REQUEST;
 use crate::listed::Listed;
@@ -73,6 +73,24 @@ impl Typed for CreateBearerRequest {
             return false;
         };
         contexts_pass::<BearerRequestContext>(Need::Mandatory, true, elements)
+    }
+
+    #[inline(never)]
+    #[tactic(auto, unfolding(crate::specs::reading::Rows::lines_at))]
+    fn read(alloc: Global, elements: &Indexed) -> Option<Body> {
+        let pti = optional::<Pti>(elements, 0);
+        let linked_ebi = read::<EbiValue>(elements, 0)?;
+        let contexts = read_contexts::<BearerRequestContext>(
+            alloc,
+            Need::Mandatory,
+            true,
+            elements,
+        )?;
+        Some(Body::CreateBearerRequest(CreateBearerRequest {
+            pti,
+            linked_ebi,
+            contexts,
+        }))
     }
 
     #[tactic(auto, using(crate::proofs::Appends::appending))]

@@ -7,7 +7,7 @@ ghost use Rattle.gtp_v2.specs.CreateBearerResponse.{create_bearer_response, crea
 
 use crate::body::Body;
 use crate::fault::{Need, V2Fault};
-use crate::groups::{Context, contexts, contexts_pass};
+use crate::groups::{Context, contexts, contexts_pass, read_contexts};
 use crate::header::Header;
 use crate::kinds::CREATE_BEARER_RESPONSE;
 use crate::listed::Listed;
@@ -75,6 +75,21 @@ impl Typed for CreateBearerResponse {
         let accepting = cause.is_accepting();
         let need = Need::where_accepting(accepting);
         contexts_pass::<BearerResponseContext>(need, accepting, elements)
+    }
+
+    #[inline(never)]
+    #[tactic(auto, unfolding(crate::specs::reading::Rows::lines_at))]
+    fn read(alloc: Global, elements: &Indexed) -> Option<Body> {
+        let cause = read::<Cause>(elements, 0)?;
+        let accepting = cause.is_accepting();
+        let need = Need::where_accepting(accepting);
+        let contexts = read_contexts::<BearerResponseContext>(alloc, need, accepting, elements)?;
+        let recovery = optional::<Recovery>(elements, 0);
+        Some(Body::CreateBearerResponse(CreateBearerResponse {
+            cause,
+            contexts,
+            recovery,
+        }))
     }
 
     #[tactic(auto, using(crate::proofs::Appends::appending))]

@@ -6,8 +6,9 @@ ghost use Rattle.std.specs.Prelude.{true};
 ghost use Rattle.gtp_v2.specs.CreateSessionRequest.{create_session_request, create_session_request_fields, session_request_context_rows, session_request_context_values};
 
 use crate::body::Body;
+use crate::boxed::Boxed;
 use crate::fault::{Need, V2Fault};
-use crate::groups::{Context, contexts, contexts_pass};
+use crate::groups::{Context, contexts, contexts_pass, read_contexts};
 use crate::header::Header;
 use crate::kinds::CREATE_SESSION_REQUEST;
 use crate::listed::Listed;
@@ -82,19 +83,22 @@ impl Typed for CreateSessionRequest {
         let ambr = optional::<Ambr>(elements, 0);
         let contexts = contexts::<SessionRequestContext>(alloc, true, elements)?;
         let recovery = optional::<Recovery>(elements, 0);
-        let body = Body::CreateSessionRequest(CreateSessionRequest {
-            imsi,
-            rat,
-            serving_network,
-            control,
-            apn,
-            selection,
-            pdn_type,
-            paa,
-            ambr,
-            contexts,
-            recovery,
-        });
+        let body = Body::CreateSessionRequest(Boxed::new(
+            alloc,
+            CreateSessionRequest {
+                imsi,
+                rat,
+                serving_network,
+                control,
+                apn,
+                selection,
+                pdn_type,
+                paa,
+                ambr,
+                contexts,
+                recovery,
+            },
+        )?);
         Ok(Datagram::of(header, body))
     }
 
@@ -121,6 +125,50 @@ impl Typed for CreateSessionRequest {
         let _paa = optional::<Paa>(elements, 0);
         let _ambr = optional::<Ambr>(elements, 0);
         contexts_pass::<SessionRequestContext>(Need::Mandatory, true, elements)
+    }
+
+    #[inline(never)]
+    #[tactic(auto, unfolding(crate::specs::reading::Rows::lines_at))]
+    fn read(alloc: Global, elements: &Indexed) -> Option<Body> {
+        let imsi = read_conditional::<Imsi>(elements, 0)?;
+        let rat = read::<Rat>(elements, 0)?;
+        let serving_network = optional::<Plmn>(elements, 0);
+        let Some(_) = read::<FTeid>(elements, 0) else {
+            return None;
+        };
+        let control = mandatory::<FTeid>(elements, 0);
+        let Some(_) = read::<Apn>(elements, 0) else {
+            return None;
+        };
+        let apn = mandatory::<Apn>(elements, 0);
+        let selection = optional::<Selection>(elements, 0);
+        let pdn_type = read_conditional::<PdnType>(elements, 0)?;
+        let paa = optional::<Paa>(elements, 0);
+        let ambr = optional::<Ambr>(elements, 0);
+        let contexts = read_contexts::<SessionRequestContext>(
+            alloc,
+            Need::Mandatory,
+            true,
+            elements,
+        )?;
+        let recovery = optional::<Recovery>(elements, 0);
+        Some(Body::CreateSessionRequest(Boxed::new(
+            alloc,
+            CreateSessionRequest {
+                imsi,
+                rat,
+                serving_network,
+                control,
+                apn,
+                selection,
+                pdn_type,
+                paa,
+                ambr,
+                contexts,
+                recovery,
+            },
+        )
+        .ok()?))
     }
 
     #[tactic(auto, using(crate::proofs::Appends::appending))]

@@ -6,8 +6,9 @@ ghost use Rattle.std.specs.Prelude.{true};
 ghost use Rattle.gtp_v2.specs.CreateSessionResponse.{create_session_response, create_session_response_fields, session_response_context_rows, session_response_context_values};
 
 use crate::body::Body;
+use crate::boxed::Boxed;
 use crate::fault::{Need, V2Fault};
-use crate::groups::{Context, contexts, contexts_pass};
+use crate::groups::{Context, contexts, contexts_pass, read_contexts};
 use crate::header::Header;
 use crate::kinds::CREATE_SESSION_RESPONSE;
 use crate::listed::Listed;
@@ -68,14 +69,17 @@ impl Typed for CreateSessionResponse {
         let ambr = optional::<Ambr>(elements, 0);
         let contexts = contexts::<SessionResponseContext>(alloc, accepting, elements)?;
         let recovery = optional::<Recovery>(elements, 0);
-        let body = Body::CreateSessionResponse(CreateSessionResponse {
-            cause,
-            control,
-            paa,
-            ambr,
-            contexts,
-            recovery,
-        });
+        let body = Body::CreateSessionResponse(Boxed::new(
+            alloc,
+            CreateSessionResponse {
+                cause,
+                control,
+                paa,
+                ambr,
+                contexts,
+                recovery,
+            },
+        )?);
         Ok(Datagram::of(header, body))
     }
 
@@ -95,6 +99,37 @@ impl Typed for CreateSessionResponse {
         let _ambr = optional::<Ambr>(elements, 0);
         let need = Need::where_accepting(accepting);
         contexts_pass::<SessionResponseContext>(need, accepting, elements)
+    }
+
+    #[inline(never)]
+    #[tactic(auto, unfolding(crate::specs::reading::Rows::lines_at))]
+    fn read(alloc: Global, elements: &Indexed) -> Option<Body> {
+        let cause = read::<Cause>(elements, 0)?;
+        let accepting = cause.is_accepting();
+        let Some(_) = read_if::<FTeid>(accepting, elements, 1) else {
+            return None;
+        };
+        let control = needed_if::<FTeid>(accepting, elements, 1);
+        let Some(_) = read_if::<Paa>(accepting, elements, 0) else {
+            return None;
+        };
+        let paa = needed_if::<Paa>(accepting, elements, 0);
+        let ambr = optional::<Ambr>(elements, 0);
+        let need = Need::where_accepting(accepting);
+        let contexts = read_contexts::<SessionResponseContext>(alloc, need, accepting, elements)?;
+        let recovery = optional::<Recovery>(elements, 0);
+        Some(Body::CreateSessionResponse(Boxed::new(
+            alloc,
+            CreateSessionResponse {
+                cause,
+                control,
+                paa,
+                ambr,
+                contexts,
+                recovery,
+            },
+        )
+        .ok()?))
     }
 
     #[tactic(auto, using(crate::proofs::Appends::appending))]

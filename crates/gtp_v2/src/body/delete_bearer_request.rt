@@ -11,7 +11,7 @@ use crate::header::Header;
 use crate::kinds::DELETE_BEARER_REQUEST;
 use crate::listed::Listed;
 use crate::message::Datagram;
-use crate::repeated::{several, several_pass};
+use crate::repeated::{read_several, several, several_pass};
 use crate::room::{after_option, after_several};
 use crate::rows::optional;
 use crate::typed::Typed;
@@ -61,6 +61,14 @@ impl Typed for DeleteBearerRequest {
     fn passes(elements: &Indexed) -> bool {
         let linked_ebi = optional::<EbiValue>(elements, 0);
         several_pass::<EbiValue>(linked_ebi.is_none(), elements, 1)
+    }
+
+    #[inline(never)]
+    #[tactic(auto, unfolding(crate::specs::reading::Rows::lines_at, crate::specs::reading::Rows::several_at))]
+    fn read(alloc: Global, elements: &Indexed) -> Option<Body> {
+        let linked_ebi = optional::<EbiValue>(elements, 0);
+        let ebis = read_several::<EbiValue>(alloc, linked_ebi.is_none(), elements, 1)?;
+        Some(Body::DeleteBearerRequest(DeleteBearerRequest { linked_ebi, ebis }))
     }
 
     #[tactic(auto, using(crate::proofs::Appends::appending))]

@@ -7,7 +7,7 @@ ghost use Rattle.gtp_v2.specs.DeleteBearerResponse.{delete_bearer_response, dele
 
 use crate::body::Body;
 use crate::fault::{Need, V2Fault};
-use crate::groups::{Context, contexts, contexts_pass};
+use crate::groups::{Context, contexts, contexts_pass, read_contexts};
 use crate::header::Header;
 use crate::kinds::DELETE_BEARER_RESPONSE;
 use crate::listed::Listed;
@@ -79,6 +79,27 @@ impl Typed for DeleteBearerResponse {
         let accepting = cause.is_accepting();
         let _linked_ebi = optional::<EbiValue>(elements, 0);
         contexts_pass::<RemovalResponseContext>(Need::Optional, accepting, elements)
+    }
+
+    #[inline(never)]
+    #[tactic(auto, unfolding(crate::specs::reading::Rows::lines_at))]
+    fn read(alloc: Global, elements: &Indexed) -> Option<Body> {
+        let cause = read::<Cause>(elements, 0)?;
+        let accepting = cause.is_accepting();
+        let linked_ebi = optional::<EbiValue>(elements, 0);
+        let contexts = read_contexts::<RemovalResponseContext>(
+            alloc,
+            Need::Optional,
+            accepting,
+            elements,
+        )?;
+        let recovery = optional::<Recovery>(elements, 0);
+        Some(Body::DeleteBearerResponse(DeleteBearerResponse {
+            cause,
+            linked_ebi,
+            contexts,
+            recovery,
+        }))
     }
 
     #[tactic(auto, using(crate::proofs::Appends::appending))]

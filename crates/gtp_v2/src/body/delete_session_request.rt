@@ -57,6 +57,13 @@ impl Typed for DeleteSessionRequest {
         true
     }
 
+    #[inline(never)]
+    #[tactic(auto, unfolding(crate::specs::reading::Rows::lines_at))]
+    fn read(_alloc: Global, elements: &Indexed) -> Option<Body> {
+        let linked_ebi = optional::<EbiValue>(elements, 0);
+        Some(Body::DeleteSessionRequest(DeleteSessionRequest { linked_ebi }))
+    }
+
     #[tactic(auto, using(crate::proofs::Appends::appending))]
     fn write(&self, out: &mut Vec<u8>) -> Result<(), AllocError> {
         put_option(out, 0, &self.linked_ebi)?;

@@ -64,6 +64,14 @@ impl Typed for DeleteSessionResponse {
         true
     }
 
+    #[inline(never)]
+    #[tactic(auto, unfolding(crate::specs::reading::Rows::lines_at))]
+    fn read(_alloc: Global, elements: &Indexed) -> Option<Body> {
+        let cause = read::<Cause>(elements, 0)?;
+        let recovery = optional::<Recovery>(elements, 0);
+        Some(Body::DeleteSessionResponse(DeleteSessionResponse { cause, recovery }))
+    }
+
     #[tactic(auto, using(crate::proofs::Appends::appending))]
     fn write(&self, out: &mut Vec<u8>) -> Result<(), AllocError> {
         put_row(out, 0, &self.cause)?;

@@ -60,6 +60,13 @@ impl Typed for EchoResponse {
         true
     }
 
+    #[inline(never)]
+    #[tactic(auto, unfolding(crate::specs::reading::Rows::lines_at))]
+    fn read(_alloc: Global, elements: &Indexed) -> Option<Body> {
+        let recovery = read::<Recovery>(elements, 0)?;
+        Some(Body::EchoResponse(EchoResponse { recovery }))
+    }
+
     #[tactic(auto, using(crate::proofs::Appends::appending))]
     fn write(&self, out: &mut Vec<u8>) -> Result<(), AllocError> {
         put_row(out, 0, &self.recovery)?;

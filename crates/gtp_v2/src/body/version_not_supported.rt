@@ -50,6 +50,12 @@ impl Typed for VersionNotSupported {
         true
     }
 
+    #[inline(never)]
+    #[tactic(auto, unfolding(crate::specs::reading::Rows::lines_at))]
+    fn read(_alloc: Global, _elements: &Indexed) -> Option<Body> {
+        Some(Body::VersionNotSupported(VersionNotSupported {}))
+    }
+
     #[tactic(auto, using(crate::proofs::Appends::appending))]
     fn write(&self, _out: &mut Vec<u8>) -> Result<(), AllocError> {
         Ok(())

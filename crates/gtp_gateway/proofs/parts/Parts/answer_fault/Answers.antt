@@ -25,7 +25,7 @@ returns-clause-taken c = λ request from peer new.
     let fault = fault_of f in
     let cause = defect_cause (defect_of f.defect) in
     let m : Message = refusing (kind_of f.kind) (faulty_header node (kind_of f.kind) fault) f.seq (cause_at cause f.element f.instance) node.counter in
-    let said : control_message c.refusal-message.result ≡ m = c.refusal-message.ensures.says ∙ (λ i. refusing (kind_of f.kind) (c.faulty_header-header.ensures i) f.seq ((c.fault_cause-cause.ensures ∙ ap (λ n. cause_at n f.element f.instance) c.cause.ensures) i) (c.counter-counter.ensures i)) in
+    let said : control_message c.in_ok-message.message ≡ m = c.in_ok-message.ensures.says ∙ (λ i. refusing (kind_of f.kind) (c.faulty_header-header.ensures i) f.seq ((c.fault_cause-cause.ensures ∙ ap (λ n. cause_at n f.element f.instance) c.cause.ensures) i) (c.counter-counter.ensures i)) in
     let sent = c.in_ok-out.ensures.sent ∙ (λ i. datagram_of node.config (record { destination = sym from i; messages = said i ∷ [] })) in
     let shown : c.sent.result ≡ record { out = Some c.in_ok-out.out; report = plain_report (Answered cause) } = c.sent.ensures ∙ ap (λ n. record { out = Some c.in_ok-out.out; report = plain_report (Answered n) }) c.cause-2.ensures in
     subst (λ (s : ControlStep). IsFaultEffect request (Faulty fault) old s) (sym shown)
