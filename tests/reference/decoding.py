@@ -4,8 +4,9 @@ and the protocol profile and not after the program. Clauses are those of TS 29.2
 from dataclasses import dataclass
 from typing import Optional
 
-from gateways import (AMBR, APN, CAUSE, CHARGING_ID, CONTEXT, EBI, ERROR_INDICATION, FTEID, IMSI, PAA, PDN_TYPE, QOS, RAT, RECOVERY,
-                      SELECTION, SERVING_NETWORK, TFT, Message, accepts)
+from gateways import (AMBR, APN, CAUSE, CHARGING_ID, CONDITIONAL_IE_MISSING, CONTEXT, EBI, ERROR_INDICATION, FTEID, IMSI,
+                      INVALID_LENGTH, MANDATORY_IE_INCORRECT, MANDATORY_IE_MISSING, PAA, PDN_TYPE, QOS, RAT, RECOVERY, SELECTION,
+                      SERVING_NETWORK, TFT, Message, accepts)
 
 PTI = 100
 
@@ -70,8 +71,8 @@ def defect_of(kind, body):
     """The cause of an element that cannot be read: too short, or bad."""
     least, is_bad = FORMS[kind]
     if len(body) < (least(body) if callable(least) else least):
-        return 67
-    return 69 if is_bad is not None and is_bad(body) else None
+        return INVALID_LENGTH
+    return MANDATORY_IE_INCORRECT if is_bad is not None and is_bad(body) else None
 
 
 # Rows of messages (clause 7): type and instance, mark, and of bearer contexts their rows. M: mandatory; C: conditional and
@@ -126,7 +127,7 @@ class Reading:
         self.found = [it for it in self.found if it[:2] != (kind, instance)]
 
     def missing(self, kind, instance, mark):
-        raise Fault("H6", self.message, kind, instance, 70 if mark == "M" else 103)
+        raise Fault("H6", self.message, kind, instance, MANDATORY_IE_MISSING if mark == "M" else CONDITIONAL_IE_MISSING)
 
     def defect(self, kind, instance, cause):
         raise Fault("H7", self.message, kind, instance, cause)

@@ -19,6 +19,12 @@ CREATE_SESSION, DELETE_SESSION, CREATE_BEARER, DELETE_BEARER = 32, 36, 95, 99
 REQUESTS = (CREATE_SESSION, DELETE_SESSION, CREATE_BEARER, DELETE_BEARER)
 ERROR_INDICATION, END_MARKER, G_PDU = 26, 254, 255
 
+# Cause values (table 8.4-1).
+REQUEST_ACCEPTED, REQUEST_ACCEPTED_PARTIALLY, NEW_PDN_TYPE_DUE_TO_NETWORK_PREFERENCE = 16, 17, 18
+CONTEXT_NOT_FOUND, INVALID_LENGTH, MANDATORY_IE_INCORRECT, MANDATORY_IE_MISSING = 64, 67, 69, 70
+NO_RESOURCES_AVAILABLE, MISSING_OR_UNKNOWN_APN, PREFERRED_PDN_TYPE_NOT_SUPPORTED = 73, 78, 83
+ALL_DYNAMIC_ADDRESSES_ARE_OCCUPIED, REQUEST_REJECTED, CONDITIONAL_IE_MISSING = 84, 94, 103
+
 MOST_SESSIONS, MOST_PENDING, MOST_HELD, MOST_PAYLOAD, MOST_RESTARTS = 1000, 256, 4096, 65000, 127
 
 
@@ -561,7 +567,7 @@ class Gateway:
             DELETE_BEARER: self.bearers_deleted,
         }
         header, cause, rows, *along = rules[message.kind](message)
-        offending = EBI if cause == 69 else None
+        offending = EBI if cause == MANDATORY_IE_INCORRECT else None
         body = cause_of(cause, offending) + rows + number_of(RECOVERY, self.counter)
         answer = control(message.kind + 1, header, message.number, body)
         if along:
@@ -576,29 +582,30 @@ class Gateway:
         pdn = first(found, PDN_TYPE, 0)[0] & 7
         context, *others = message.contexts
         if others:
-            return header, 94, b""
+            return header, REQUEST_REJECTED, b""
         identity = first(context, EBI, 0)[0] & 15
         if identity < 5:
-            return header, 69, b""
+            return header, MANDATORY_IE_INCORRECT, b""
         if apn not in self.setup.access_points:
-            return header, 78, b""
+            return header, MISSING_OR_UNKNOWN_APN, b""
         if not self.setup.serves(pdn):
-            return header, 83, b""
+            return header, PREFERRED_PDN_TYPE_NOT_SUPPORTED, b""
         if len(self.sessions) >= MOST_SESSIONS or not self.has_draws(2):
-            return header, 73, b""
+            return header, NO_RESOURCES_AVAILABLE, b""
         address = self.free_address(pdn)
         if address is None:
-            return header, 84, b""
+            return header, ALL_DYNAMIC_ADDRESSES_ARE_OCCUPIED, b""
         session, bearer = self.draw(), self.draw()
         imsi = unpacked(first(found, IMSI, 0))
         self.sessions[session] = Session(imsi, apn, identity, ACTIVE, header, address)
         self.bearers[bearer] = Bearer(session, True, ACTIVE, identity, teid_in(first(context, FTEID, 2)))
-        made = number_of(EBI, identity) + cause_of(16) + end_of(2, 5, bearer, self.setup.user)
+        made = number_of(EBI, identity) + cause_of(REQUEST_ACCEPTED) + end_of(2, 5, bearer, self.setup.user)
         made += quality_again(first(context, QOS, 0)) + number_of(CHARGING_ID, bearer, 4)
         rows = end_of(1, 7, session, self.setup.control) + allocation(address, PREFIX)
         rates = first(found, AMBR, 0)
         rows += (b"" if rates is None else element(AMBR, 0, rates[:8])) + element(CONTEXT, 0, made)
-        return header, 16 if address.kind == pdn else 18, rows, *self.request_of_template(session)
+        cause = REQUEST_ACCEPTED if address.kind == pdn else NEW_PDN_TYPE_DUE_TO_NETWORK_PREFERENCE
+        return header, cause, rows, *self.request_of_template(session)
 
     def request_of_template(self, session):
         """The Create Bearer Request that goes along with the answer about a new session, if there is a template and
@@ -611,56 +618,61 @@ class Gateway:
     def session_deleted(self, message):
         session = self.sessions.get(message.teid)
         if session is None:
-            return 0, 64, b""
+            return 0, CONTEXT_NOT_FOUND, b""
         linked = first(message.found, EBI, 0)
         if linked is not None and linked[0] & 15 != session.identity:
-            return session.remote, 64, b""
+            return session.remote, CONTEXT_NOT_FOUND, b""
         self.remove_session(message.teid)
-        return session.remote, 16, b""
+        return session.remote, REQUEST_ACCEPTED, b""
 
     def bearer_asked(self, message):
         session = self.sessions.get(message.teid)
         if session is None:
-            return 0, 64, b""
+            return 0, CONTEXT_NOT_FOUND, b""
         if session.state != ACTIVE:
             raise Refused("X5")
         if len(message.contexts) > 1:
-            return session.remote, 94, b""
+            return session.remote, REQUEST_REJECTED, b""
         if first(message.found, EBI, 0)[0] & 15 != session.identity:
-            return session.remote, 64, b""
+            return session.remote, CONTEXT_NOT_FOUND, b""
         asked = first(message.contexts[0], FTEID, 1)
         identity = self.free_identity(message.teid)
         if identity is None or not self.has_draws(1):
-            refused = number_of(EBI, 0) + cause_of(73) + end_again(3, asked)
-            return session.remote, 73, element(CONTEXT, 0, refused)
+            refused = number_of(EBI, 0) + cause_of(NO_RESOURCES_AVAILABLE) + end_again(3, asked)
+            return session.remote, NO_RESOURCES_AVAILABLE, element(CONTEXT, 0, refused)
         bearer = self.draw()
         self.bearers[bearer] = Bearer(message.teid, False, ACTIVE, identity, teid_in(asked))
-        made = number_of(EBI, identity) + cause_of(16) + end_of(2, 4, bearer, self.setup.user)
+        made = number_of(EBI, identity) + cause_of(REQUEST_ACCEPTED) + end_of(2, 4, bearer, self.setup.user)
         made += end_again(3, asked)
-        return session.remote, 16, element(CONTEXT, 0, made)
+        return session.remote, REQUEST_ACCEPTED, element(CONTEXT, 0, made)
 
     def bearers_deleted(self, message):
         session = self.sessions.get(message.teid)
         if session is None:
-            return 0, 64, b""
+            return 0, CONTEXT_NOT_FOUND, b""
         if session.state == PENDING:
             raise Refused("X5")
         linked = first(message.found, EBI, 0)
         if linked is not None:
             if linked[0] & 15 != session.identity:
-                return session.remote, 64, b""
+                return session.remote, CONTEXT_NOT_FOUND, b""
             self.remove_session(message.teid)
-            return session.remote, 16, number_of(EBI, session.identity)
+            return session.remote, REQUEST_ACCEPTED, number_of(EBI, session.identity)
         causes, rows = [], b""
         if len(every(message.found, EBI, 1)) > 11:
-            return session.remote, 94, b""
+            return session.remote, REQUEST_REJECTED, b""
         for body in every(message.found, EBI, 1):
             bearer = self.with_identity(message.teid, body[0] & 15)
-            causes.append(64 if bearer is None or self.bearers[bearer].default else 16)
-            if causes[-1] == 16:
+            is_there = bearer is not None and not self.bearers[bearer].default
+            causes.append(REQUEST_ACCEPTED if is_there else CONTEXT_NOT_FOUND)
+            if is_there:
                 self.remove_bearer(bearer)
             rows += element(CONTEXT, 0, number_of(EBI, body[0] & 15) + cause_of(causes[-1]))
-        cause = 16 if 64 not in causes else 17 if 16 in causes else 64
+        cause = CONTEXT_NOT_FOUND
+        if CONTEXT_NOT_FOUND not in causes:
+            cause = REQUEST_ACCEPTED
+        elif REQUEST_ACCEPTED in causes:
+            cause = REQUEST_ACCEPTED_PARTIALLY
         return session.remote, cause, rows
 
     # Responses.
@@ -669,7 +681,7 @@ class Gateway:
         pending = next((p for p in self.pending if p.number == message.number), None)
         if pending is None:
             raise Refused("X3")
-        refusal = message.teid == 0 and message.cause == 64 and pending.header != 0
+        refusal = message.teid == 0 and message.cause == CONTEXT_NOT_FOUND and pending.header != 0
         named = pending.kind == ECHO_REQUEST or message.teid == pending.session or refusal
         if message.kind != pending.kind + 1 or not named:
             raise Refused("X4")

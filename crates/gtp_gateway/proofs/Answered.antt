@@ -1,4 +1,5 @@
 -- Create Session Requests that were answered, as rows of the machine.
+use Rattle.gtp_machine.specs.declared.message_type.MessageType.TheVariants as types
 use Rattle.std.proofs.Common.{◌≡◌, ℕ, Bool, false, List, [], ◌∷◌, Some, None, sym, ◌∙◌, ap}
 use Rattle.std.specs.FinMap.{insert}
 use Rattle.gtp_values.specs.declared.address.Endpoint.{Endpoint}
@@ -7,7 +8,7 @@ use Rattle.gtp_values.specs.PdnAddress.{allocation}
 use Rattle.gtp_machine.specs.Answer.{refusing}
 use Rattle.gtp_machine.specs.Config.{Config}
 use Rattle.gtp_machine.specs.Element.{tunnel_end, cause_of}
-use Rattle.gtp_machine.specs.Input.{Effect, Of_create_session}
+use Rattle.gtp_machine.specs.Input.{Effect}
 use Rattle.gtp_machine.specs.Message.{CreateSessionRequest, RequestedBearer, Message, Create_session_response, Create_bearer_request}
 use Rattle.gtp_machine.specs.Node.{Active, Default, Node}
 use Rattle.gtp_machine.specs.Command.{bearer_asked}
@@ -38,8 +39,8 @@ module _ (r : SessionRequest) (q : CreateSessionRequest) (says : SaysSession r q
   abbrev left : Node
   left = node_heard heard node
 
-  pub refusal_same : (cause : Cause) → refusing Of_create_session r.control.teid r.seq cause node.counter ≡ refusing Of_create_session q.control.teid q.number cause left.counter
-  refusal_same cause = λ i. refusing Of_create_session (sym says.control i).teid (sym says.number i) cause (sym (counter_stays heard node) i)
+  pub refusal_same : (cause : Cause) → refusing types.CreateSessionRequest r.control.teid r.seq cause node.counter ≡ refusing types.CreateSessionRequest q.control.teid q.number cause left.counter
+  refusal_same cause = λ i. refusing types.CreateSessionRequest (sym says.control i).teid (sym says.number i) cause (sym (counter_stays heard node) i)
 
   module _ (g : Grant) (identity : g.identity ≡ r.default.identity) where
     pub grant_same : grants r g node ≡ Create_session_response (session_response left q g.drawn.control.0 g.drawn.user.0 g.address)

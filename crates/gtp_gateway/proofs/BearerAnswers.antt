@@ -26,11 +26,13 @@ use Rattle.gtp_machine.specs.Response.{Named}
 use Rattle.gtp_machine.specs.Sound.{IsSound, IsWanted}
 use Rattle.gtp_machine.proofs.Sound.Changes.{is_bearer}
 use Rattle.gtp_machine.proofs.Basics.Facts.{one_value}
+use Rattle.gtp_machine.proofs.Basics.Types.{type_kind}
+use Rattle.gtp_machine.specs.declared.role.Role.TheVariants.{Packet}
 use Rattle.gtp_gateway.specs.declared.bearer_response.AskedBearer.{AskedBearer}
 use Rattle.gtp_gateway.specs.declared.bearer_response.BearerResponse.{BearerResponse}
 use Rattle.gtp_gateway.specs.declared.contexts.ResponseContext.{ResponseContext}
 use Rattle.gtp_gateway.specs.declared.hearing.Heard.{Heard}
-use Rattle.gtp_gateway.specs.declared.procedure.Procedure.TheVariants.{BearerAnswered}
+use Rattle.gtp_machine.specs.declared.message_type.MessageType.TheVariants as types
 use Rattle.gtp_gateway.specs.declared.purpose.Purpose.{Purpose}
 use Rattle.gtp_gateway.specs.declared.purpose.Purpose.TheVariants.{CreateBearer}
 use Rattle.gtp_gateway.specs.declared.response.Response.{Response}
@@ -40,14 +42,15 @@ use Rattle.gtp_gateway.specs.BearerAnswer.{SaysGiven, SaysOnlyGiven, SaysBearer,
 use Rattle.gtp_gateway.specs.Contexts.{context_values, AreContexts, ReadsOnly}
 use Rattle.gtp_gateway.specs.Hearing.{node_heard}
 use Rattle.gtp_gateway.specs.Parts.{session_of, bearer_of}
-use Rattle.gtp_gateway.specs.Procedure.{procedure_at, has, TakesBy}
+use Rattle.gtp_machine.specs.MessageType.{type_at, takes_type}
+use Rattle.gtp_machine.specs.Step.{TakesBy}
 use Rattle.gtp_gateway.specs.Settled.{IsWaiting, effect_by}
 use Rattle.gtp_gateway.specs.Spelled.{is_for}
 use Rattle.gtp_gateway.proofs.Blank.{IsBlank, stands_there, blank_there}
-use Rattle.gtp_gateway.proofs.InPlace.{type_is, groups_so, bearer_answered}
+use Rattle.gtp_gateway.proofs.InPlace.{groups_so, bearer_answered}
 use Rattle.gtp_gateway.proofs.Pendings.{names_here, names_there}
 use Rattle.gtp_gateway.proofs.Settled.{heard_sound}
-use Rattle.gtp_gateway.proofs.Procedures.{at_packet}
+use Rattle.gtp_gateway.proofs.Procedures.{at_taker}
 
 -- ---- what the message says, where it lies
 
@@ -55,9 +58,9 @@ use Rattle.gtp_gateway.proofs.Procedures.{at_packet}
 abbrev pub given_others : List Element → List (List Value)
 given_others es = option_to_list (optional_at 87 2 es) ∷ option_to_list (optional_at 87 3 es) ∷ []
 
-pub given_contexts : (octets : List ℕ) (m : MessageValue) (is : IsMessage octets m) (at : procedure_at m.kind ≡ Some BearerAnswered) → AreContexts m given_others (bearer_answered octets m (type_is m.kind BearerAnswered at) is).groups
+pub given_contexts : (octets : List ℕ) (m : MessageValue) (is : IsMessage octets m) (at : type_at m.kind ≡ Some types.CreateBearerResponse) → AreContexts m given_others (bearer_answered octets m (type_kind m.kind types.CreateBearerResponse at) is).groups
 given_contexts octets m is at =
-    let a = bearer_answered octets m (type_is m.kind BearerAnswered at) is in
+    let a = bearer_answered octets m (type_kind m.kind types.CreateBearerResponse at) is in
     record {
       stand = subst (λ o. IsSomeAnd o (λ p. (p.1 ≡ a.groups) × ((es : List Element) → values_in p.0 es ≡ context_values given_others es))) (sym (groups_so 96 93 0 _ m a.says)) (refl, λ es. refl);
       each = a.each;
@@ -248,5 +251,5 @@ module _ (role : Role) (heard : Heard) (old : Node) (whole : ∥ IsSound role ol
 
 -- ---- wired to the kinds of message
 
-pub takes_bearer_response : (role : Role) (request : Arrival) (x : CreateBearerResponse) (m : Message) → has role BearerAnswered ≡ true → m ≡ Create_bearer_response x → (n : Node) (e : Effect) → BearerRow x n e → TakesBy role request m n e
-takes_bearer_response role request x m has_it is n e takes = at_packet (λ r k. TakesBy r request k n e) BearerAnswered role m (Create_bearer_response x) refl has_it is takes
+pub takes_bearer_response : (role : Role) (request : Arrival) (x : CreateBearerResponse) (m : Message) → takes_type role types.CreateBearerResponse ≡ true → m ≡ Create_bearer_response x → (n : Node) (e : Effect) → BearerRow x n e → TakesBy role request m n e
+takes_bearer_response role request x m has_it is n e takes = at_taker (λ r k. TakesBy r request k n e) Packet role m (Create_bearer_response x) has_it is takes

@@ -20,18 +20,20 @@ use Rattle.gtp_machine.specs.Input.{Effect}
 use Rattle.gtp_machine.specs.Packet.{SessionAsked as SessionAskedRow, DeletionAsked as DeletionAskedRow, RemovalAnswered as RemovalRow}
 use Rattle.gtp_machine.specs.Response.{EchoAnswered as EchoRow}
 use Rattle.gtp_machine.specs.Serving.{DeletionAnswered as DeletionRow}
-use Rattle.gtp_gateway.specs.declared.procedure.Procedure.{Procedure}
-use Rattle.gtp_gateway.specs.declared.procedure.Procedure.TheVariants.{EchoAsked, EchoAnswered, SessionAsked, SessionAnswered, DeletionAsked, DeletionAnswered, BearerAsked, BearerAnswered, RemovalAsked, RemovalAnswered}
+use Rattle.gtp_machine.specs.declared.message_type.MessageType.{MessageType}
+use Rattle.gtp_machine.specs.declared.message_type.MessageType.TheVariants as types
+use Rattle.gtp_machine.proofs.Basics.Types.{type_kind}
+use Rattle.gtp_machine.specs.declared.role.Role.TheVariants.{Serving, Packet}
 use Rattle.gtp_gateway.specs.declared.deletion.DeletionRequest.{DeletionRequest}
 use Rattle.gtp_gateway.specs.declared.hearing.Heard.{Heard}
 use Rattle.gtp_gateway.specs.Asked.{ReadsDeletion, deletion_by}
 use Rattle.gtp_gateway.specs.Hearing.{node_heard}
 use Rattle.gtp_gateway.specs.Row.{IsWeighed}
 use Rattle.gtp_gateway.specs.Station.{Station}
-use Rattle.gtp_gateway.specs.Procedure.{procedure_at, has, TakesBy, takes_by}
-use Rattle.gtp_gateway.proofs.InPlace.{type_of, type_is, says_by, Says, reads_so, row_so, its_row, echo_asked, echo_answered, session_asked, session_answered, bearer_asked, bearer_answered}
-use Rattle.gtp_gateway.proofs.Procedures as kinds
-use Rattle.gtp_gateway.proofs.Procedures.{at_both, at_packet, at_serving}
+use Rattle.gtp_machine.specs.MessageType.{type_at, takes_type, takes_message, type_row}
+use Rattle.gtp_machine.specs.Step.{TakesBy}
+use Rattle.gtp_gateway.proofs.InPlace.{says_by, Says, reads_so, row_so, its_row, echo_asked, echo_answered, session_asked, session_answered, bearer_asked, bearer_answered}
+use Rattle.gtp_gateway.proofs.Procedures.{at_both, at_taker}
 
 -- ---- Echo Request and Echo Response
 
@@ -40,14 +42,14 @@ pub record IsEcho (message : Echo → Message) (m : MessageValue) : Type 0 where
   pub is : message_of m ≡ message echo
   pub number : echo.number ≡ m.seq
 
-pub echo_request_is : (octets : List ℕ) (m : MessageValue) → IsMessage octets m → procedure_at m.kind ≡ Some EchoAsked → IsEcho Echo_request m
-echo_request_is octets m is at = let a = echo_asked octets m (type_is m.kind EchoAsked at) is in record { echo = _; is = reads_so 1 _ m a.says; number = refl }
+pub echo_request_is : (octets : List ℕ) (m : MessageValue) → IsMessage octets m → type_at m.kind ≡ Some types.EchoRequest → IsEcho Echo_request m
+echo_request_is octets m is at = let a = echo_asked octets m (type_kind m.kind types.EchoRequest at) is in record { echo = _; is = reads_so 1 _ m a.says; number = refl }
 
 pub takes_echo_request : (role : Role) (request : Arrival) (q : Echo) (m : Message) → m ≡ Echo_request q → (n : Node) (e : Effect) → e ≡ echoed request q n → TakesBy role request m n e
 takes_echo_request role request q m is n e takes = at_both (λ r k. TakesBy r request k n e) role m (Echo_request q) is takes takes
 
-pub echo_response_is : (octets : List ℕ) (m : MessageValue) → IsMessage octets m → procedure_at m.kind ≡ Some EchoAnswered → IsEcho Echo_response m
-echo_response_is octets m is at = let a = echo_answered octets m (type_is m.kind EchoAnswered at) is in record { echo = _; is = reads_so 2 _ m a.says; number = refl }
+pub echo_response_is : (octets : List ℕ) (m : MessageValue) → IsMessage octets m → type_at m.kind ≡ Some types.EchoResponse → IsEcho Echo_response m
+echo_response_is octets m is at = let a = echo_answered octets m (type_kind m.kind types.EchoResponse at) is in record { echo = _; is = reads_so 2 _ m a.says; number = refl }
 
 pub takes_echo_response : (role : Role) (request : Arrival) (a : Echo) (m : Message) → m ≡ Echo_response a → (n : Node) (e : Effect) → EchoRow a n e → TakesBy role request m n e
 takes_echo_response role request a m is n e takes = at_both (λ r k. TakesBy r request k n e) role m (Echo_response a) is takes takes
@@ -60,21 +62,21 @@ linked_is [] (Some e) is = absurd cc
 linked_is (v ∷ vs) None is = absurd cc
 linked_is (v ∷ vs) (Some e) is = let same : v ≡ OfEbi e = cc in ap number_of same
 
-pub deletion_request_is : (octets : List ℕ) (m : MessageValue) (r : DeletionRequest) → IsMessage octets m → procedure_at m.kind ≡ Some DeletionAsked → ReadsDeletion m r → message_of m ≡ Delete_session_request (deletion_by r)
+pub deletion_request_is : (octets : List ℕ) (m : MessageValue) (r : DeletionRequest) → IsMessage octets m → type_at m.kind ≡ Some types.DeleteSessionRequest → ReadsDeletion m r → message_of m ≡ Delete_session_request (deletion_by r)
 unfolding row_in
 deletion_request_is octets m r is at reads =
-    let of = type_is m.kind DeletionAsked at in
+    let of = type_kind m.kind types.DeleteSessionRequest at in
     let a = says_by 36 delete_session_request octets m refl of is in
     let linked = linked_is (unwrap_or (values_by 73 0 (table_of 36) (Fields a.0)) []) r.linked (reads.linked (ap (λ k. has_row k 73 0) of) ∙ ap front_value (its_row 36 73 0 a.0 m a.1)) in
     reads_so 36 a.0 m a.1 ∙ (λ i. Delete_session_request (record { header = sym reads.header i; number = sym reads.number i; linked = linked i }))
 
-pub takes_deletion_request : (role : Role) (request : Arrival) (d : DeleteSessionRequest) (m : Message) → has role DeletionAsked ≡ true → m ≡ Delete_session_request d → (n : Node) (e : Effect) → DeletionAskedRow request d n e → TakesBy role request m n e
-takes_deletion_request role request d m has_it is n e takes = at_packet (λ r k. TakesBy r request k n e) DeletionAsked role m (Delete_session_request d) refl has_it is takes
+pub takes_deletion_request : (role : Role) (request : Arrival) (d : DeleteSessionRequest) (m : Message) → takes_type role types.DeleteSessionRequest ≡ true → m ≡ Delete_session_request d → (n : Node) (e : Effect) → DeletionAskedRow request d n e → TakesBy role request m n e
+takes_deletion_request role request d m has_it is n e takes = at_taker (λ r k. TakesBy r request k n e) Packet role m (Delete_session_request d) has_it is takes
 
 -- ---- Create Session Request
 
-pub takes_session_request : (role : Role) (request : Arrival) (q : CreateSessionRequest) (m : Message) → has role SessionAsked ≡ true → m ≡ Create_session_request q → (n : Node) (e : Effect) → SessionAskedRow request q n e → TakesBy role request m n e
-takes_session_request role request q m has_it is n e takes = at_packet (λ r k. TakesBy r request k n e) SessionAsked role m (Create_session_request q) refl has_it is takes
+pub takes_session_request : (role : Role) (request : Arrival) (q : CreateSessionRequest) (m : Message) → takes_type role types.CreateSessionRequest ≡ true → m ≡ Create_session_request q → (n : Node) (e : Effect) → SessionAskedRow request q n e → TakesBy role request m n e
+takes_session_request role request q m has_it is n e takes = at_taker (λ r k. TakesBy r request k n e) Packet role m (Create_session_request q) has_it is takes
 
 -- the message tells no counter, and so nothing was heard
 pub unheard : (heard : Heard) (m : Message) (s : Station) → IsWeighed heard m s → recovery_of m ≡ None → s.node ≡ node_heard heard s.node
@@ -95,41 +97,41 @@ pub record IsResponse {A : Type 0} (message : A → Message) (header_of seq_of :
   pub number : seq_of response ≡ m.seq
   pub cause : cause_of response ≡ c
 
-pub deletion_response_is : (octets : List ℕ) (m : MessageValue) (c : Cause) → IsMessage octets m → procedure_at m.kind ≡ Some DeletionAnswered → in_row 2 0 m ≡ Some (OfCause c ∷ []) → IsResponse Delete_session_response (λ d. d.header) (λ d. d.number) (λ d. d.cause) m c
+pub deletion_response_is : (octets : List ℕ) (m : MessageValue) (c : Cause) → IsMessage octets m → type_at m.kind ≡ Some types.DeleteSessionResponse → in_row 2 0 m ≡ Some (OfCause c ∷ []) → IsResponse Delete_session_response (λ d. d.header) (λ d. d.number) (λ d. d.cause) m c
 unfolding row_in
 deletion_response_is octets m c is at read =
-    let a = says_by 37 delete_session_response octets m refl (type_is m.kind DeletionAnswered at) is in
+    let a = says_by 37 delete_session_response octets m refl (type_kind m.kind types.DeleteSessionResponse at) is in
     record { response = _; is = reads_so 37 a.0 m a.1; header = refl; number = refl; cause = cause_is (values_by 2 0 (table_of 37) (Fields a.0)) c (sym (row_so 37 2 0 a.0 m a.1) ∙ read) }
 
-pub takes_deletion_response : (role : Role) (request : Arrival) (d : DeleteSessionResponse) (m : Message) → has role DeletionAnswered ≡ true → m ≡ Delete_session_response d → (n : Node) (e : Effect) → DeletionRow d n e → TakesBy role request m n e
-takes_deletion_response role request d m has_it is n e takes = at_serving (λ r k. TakesBy r request k n e) DeletionAnswered role m (Delete_session_response d) refl has_it is takes
+pub takes_deletion_response : (role : Role) (request : Arrival) (d : DeleteSessionResponse) (m : Message) → takes_type role types.DeleteSessionResponse ≡ true → m ≡ Delete_session_response d → (n : Node) (e : Effect) → DeletionRow d n e → TakesBy role request m n e
+takes_deletion_response role request d m has_it is n e takes = at_taker (λ r k. TakesBy r request k n e) Serving role m (Delete_session_response d) has_it is takes
 
-pub removal_response_is : (octets : List ℕ) (m : MessageValue) (c : Cause) → IsMessage octets m → procedure_at m.kind ≡ Some RemovalAnswered → in_row 2 0 m ≡ Some (OfCause c ∷ []) → IsResponse Delete_bearer_response (λ d. d.header) (λ d. d.number) (λ d. d.cause) m c
+pub removal_response_is : (octets : List ℕ) (m : MessageValue) (c : Cause) → IsMessage octets m → type_at m.kind ≡ Some types.DeleteBearerResponse → in_row 2 0 m ≡ Some (OfCause c ∷ []) → IsResponse Delete_bearer_response (λ d. d.header) (λ d. d.number) (λ d. d.cause) m c
 unfolding row_in
 removal_response_is octets m c is at read =
-    let a = says_by 100 delete_bearer_response octets m refl (type_is m.kind RemovalAnswered at) is in
+    let a = says_by 100 delete_bearer_response octets m refl (type_kind m.kind types.DeleteBearerResponse at) is in
     record { response = _; is = reads_so 100 a.0 m a.1; header = refl; number = refl; cause = cause_is (values_by 2 0 (table_of 100) (Fields a.0)) c (sym (row_so 100 2 0 a.0 m a.1) ∙ read) }
 
-pub takes_removal_response : (role : Role) (request : Arrival) (d : DeleteBearerResponse) (m : Message) → has role RemovalAnswered ≡ true → m ≡ Delete_bearer_response d → (n : Node) (e : Effect) → RemovalRow d n e → TakesBy role request m n e
-takes_removal_response role request d m has_it is n e takes = at_packet (λ r k. TakesBy r request k n e) RemovalAnswered role m (Delete_bearer_response d) refl has_it is takes
+pub takes_removal_response : (role : Role) (request : Arrival) (d : DeleteBearerResponse) (m : Message) → takes_type role types.DeleteBearerResponse ≡ true → m ≡ Delete_bearer_response d → (n : Node) (e : Effect) → RemovalRow d n e → TakesBy role request m n e
+takes_removal_response role request d m has_it is n e takes = at_taker (λ r k. TakesBy r request k n e) Packet role m (Delete_bearer_response d) has_it is takes
 
--- ---- a gateway takes the messages for which it has a procedure
+-- ---- a gateway takes the messages for which types it takes
 
-pub is_taken : (role : Role) (octets : List ℕ) (m : MessageValue) (p : Procedure) → IsMessage octets m → procedure_at m.kind ≡ Some p → has role p ≡ true → takes_by role (message_of m) ≡ true
+pub is_taken : (role : Role) (octets : List ℕ) (m : MessageValue) (p : MessageType) → IsMessage octets m → type_at m.kind ≡ Some p → takes_type role p ≡ true → takes_message role (message_of m) ≡ true
 unfolding contexts_in
-is_taken role octets m p is at has_it = by p (type_is m.kind p at) has_it
+is_taken role octets m p is at has_it = by p (type_kind m.kind p at) has_it
   where
-    so : (kind : ℕ) (fields : List Field) → Says kind fields m → takes_by role (content_message kind (written m.teid) m.seq (Fields fields)) ≡ true → takes_by role (message_of m) ≡ true
-    so kind fields says takes = ap (takes_by role) (reads_so kind fields m says) ∙ takes
+    so : (kind : ℕ) (fields : List Field) → Says kind fields m → takes_message role (content_message kind (written m.teid) m.seq (Fields fields)) ≡ true → takes_message role (message_of m) ≡ true
+    so kind fields says takes = ap (takes_message role) (reads_so kind fields m says) ∙ takes
 
-    by : (p : Procedure) → m.kind ≡ type_of p → has role p ≡ true → takes_by role (message_of m) ≡ true
-    by EchoAsked of has_it = so 1 _ (echo_asked octets m of is).says (kinds.echo_asked role _ ∙ has_it)
-    by EchoAnswered of has_it = so 2 _ (echo_answered octets m of is).says (kinds.echo_answered role _ ∙ has_it)
-    by SessionAsked of has_it = so 32 _ (session_asked octets m of is).says (kinds.session_asked role _ ∙ has_it)
-    by SessionAnswered of has_it = so 33 _ (session_answered octets m of is).says (kinds.session_answered role _ ∙ has_it)
-    by DeletionAsked of has_it = let a = says_by 36 delete_session_request octets m refl of is in so 36 a.0 a.1 (kinds.deletion_asked role _ ∙ has_it)
-    by DeletionAnswered of has_it = let a = says_by 37 delete_session_response octets m refl of is in so 37 a.0 a.1 (kinds.deletion_answered role _ ∙ has_it)
-    by BearerAsked of has_it = so 95 _ (bearer_asked octets m of is).says (kinds.bearer_asked role _ ∙ has_it)
-    by BearerAnswered of has_it = so 96 _ (bearer_answered octets m of is).says (kinds.bearer_answered role _ ∙ has_it)
-    by RemovalAsked of has_it = let a = says_by 99 delete_bearer_request octets m refl of is in so 99 a.0 a.1 (kinds.removal_asked role _ ∙ has_it)
-    by RemovalAnswered of has_it = let a = says_by 100 delete_bearer_response octets m refl of is in so 100 a.0 a.1 (kinds.removal_answered role _ ∙ has_it)
+    by : (p : MessageType) → m.kind ≡ (type_row p).kind → takes_type role p ≡ true → takes_message role (message_of m) ≡ true
+    by types.EchoRequest of has_it = so 1 _ (echo_asked octets m of is).says has_it
+    by types.EchoResponse of has_it = so 2 _ (echo_answered octets m of is).says has_it
+    by types.CreateSessionRequest of has_it = so 32 _ (session_asked octets m of is).says has_it
+    by types.CreateSessionResponse of has_it = so 33 _ (session_answered octets m of is).says has_it
+    by types.DeleteSessionRequest of has_it = let a = says_by 36 delete_session_request octets m refl of is in so 36 a.0 a.1 has_it
+    by types.DeleteSessionResponse of has_it = let a = says_by 37 delete_session_response octets m refl of is in so 37 a.0 a.1 has_it
+    by types.CreateBearerRequest of has_it = so 95 _ (bearer_asked octets m of is).says has_it
+    by types.CreateBearerResponse of has_it = so 96 _ (bearer_answered octets m of is).says has_it
+    by types.DeleteBearerRequest of has_it = let a = says_by 99 delete_bearer_request octets m refl of is in so 99 a.0 a.1 has_it
+    by types.DeleteBearerResponse of has_it = let a = says_by 100 delete_bearer_response octets m refl of is in so 100 a.0 a.1 has_it

@@ -19,7 +19,7 @@ use Rattle.gtp_machine.specs.Choice.{HasPending}
 use Rattle.gtp_machine.specs.Spelling.{datagram_of}
 use Rattle.gtp_machine.specs.declared.outcome.Outcome.{Outcome}
 use Rattle.gtp_machine.specs.declared.outcome.Outcome.TheVariants as outcomes
-use Rattle.gtp_machine.specs.Determined.{HeldOnce}
+use Rattle.gtp_machine.specs.Determined.{OneAnswerPerRequest}
 use Rattle.gtp_machine.proofs.Basics.FiniteMaps.{found-insert, get-insert_same, get-insert_other, found-kept}
 use Rattle.gtp_machine.proofs.Determined.Alike.{Fits, sound_fits, WaitsBeside, PickAlike, Alike}
 use Rattle.gtp_machine.proofs.Determined.Commands.{packet_sent, end_marked}
@@ -78,7 +78,7 @@ same_answer (p ∷ ps) apart g h (inl g_is) (inr there) same = absurd (none_held
 same_answer (p ∷ ps) apart g h (inr there) (inl h_is) same = absurd (none_held ps p.source p.request apart.0 g there (same ∙ ap (λ (k : Held). k.request) h_is))
 same_answer (p ∷ ps) apart g h (inr g_in) (inr h_in) same = same_answer ps apart.1 g h g_in h_in same
 
-pub held_once : (s : Station) → IsTied s → AreApart s.timing.held → HeldOnce s.node
+pub held_once : (s : Station) → IsTied s → AreApart s.timing.held → OneAnswerPerRequest s.node
 held_once s tied apart = record {
   once = λ g h g_in h_in. same_answer s.timing.held apart g h (subst (Among g) tied.held g_in) (subst (Among h) tied.held h_in);
 }
@@ -145,7 +145,7 @@ number_wanted : (plane : Plane) (source : Endpoint) (octets : List ℕ) (old : S
 number_wanted Control source octets old whole tied apart step other new left goes also request reading is others m n p q waits too = number_begun old whole tied apart source octets new left others m n p q goes also waits too
 number_wanted User source octets old whole tied apart step other new left goes also request reading is others m n p q waits too = absurd cc
 
-module _ (plane : Plane) (source : Endpoint) (octets : List ℕ) (old : Station) (whole : IsWhole old) (once : HeldOnce old.node) (tied : IsTied old) (apart : AreDistinct old.timing.waiting) where
+module _ (plane : Plane) (source : Endpoint) (octets : List ℕ) (old : Station) (whole : IsWhole old) (once : OneAnswerPerRequest old.node) (tied : IsTied old) (apart : AreDistinct old.timing.waiting) where
   module _ (step other : Step) (new left : Station) (m : MeetsOnce plane source octets old step new) (n : MeetsOnce plane source octets old other left) where
     abbrev e : Effect
     e = m.received.effect
@@ -244,7 +244,7 @@ opening_bearer request a old e t (inr (peer, inl r)) none = ap (λ (x : Effect).
 opening_bearer request a old e t (inr (peer, inr (new, inl f))) none = ap (λ (x : Effect). get x.node.bearers t) f.1 ∙ none
 opening_bearer request a old e t (inr (peer, inr (new, inr (kind, r)))) none = heard_bearer a old a.recovery e t r none
 
-module _ (source : Endpoint) (octets : List ℕ) (old : Station) (whole : IsWhole old) (once : HeldOnce old.node) (apart : AreDistinct old.timing.waiting) (serving : old.role ≡ Serving) (a : CreateSessionResponse) (q : CreateBearerRequest) (step other : Step) (new left : Station)
+module _ (source : Endpoint) (octets : List ℕ) (old : Station) (whole : IsWhole old) (once : OneAnswerPerRequest old.node) (apart : AreDistinct old.timing.waiting) (serving : old.role ≡ Serving) (a : CreateSessionResponse) (q : CreateBearerRequest) (step other : Step) (new left : Station)
     (m : AreReceived source octets a q old step new) (n : AreReceived source octets a q old other left) (goes : GoesOn source (second_part octets) old new) (also_goes : GoesOn source (second_part octets) old left) (between : IsWhole (record old { node = m.first.node })) (chooses : ChoosesLowest step.report.made old.role old.node new.node) (also_chooses : ChoosesLowest other.report.made old.role old.node left.node) where
   abbrev first_input : Input
   first_input = first_comes source octets a
@@ -270,7 +270,7 @@ module _ (source : Endpoint) (octets : List ℕ) (old : Station) (whole : IsWhol
   abbrev mid : Node
   mid = m.first.node
 
-  mid_once : HeldOnce mid
+  mid_once : OneAnswerPerRequest mid
   mid_once = record { once = λ g h g_in h_in. once.once g h (subst (Among g) held g_in) (subst (Among h) held h_in) }
     where
       held : mid.held ≡ old.node.held
@@ -340,7 +340,7 @@ between_sound source octets old whole pair e takes =
     ∥∥₁_elim whole ∥∥₁_prop (λ before. merely (stays_sound old.role old.node (first_comes source octets pair.answer) e before (pair_reads_whole octets (Create_session_response pair.answer) (Create_bearer_request pair.asked) (sym pair.is)).0 takes))
 
 -- a datagram of the control plane: as a whole, or message by message
-control_one : (source : Endpoint) (octets : List ℕ) (old : Station) → IsWhole old → HeldOnce old.node → IsTied old → AreDistinct old.timing.waiting → (step other : Step) (new left : Station) → IsReceived Control source octets old step new → ControlGoesOn source octets old new → ChoosesLowest step.report.made old.role old.node new.node → IsReceived Control source octets old other left → ControlGoesOn source octets old left
+control_one : (source : Endpoint) (octets : List ℕ) (old : Station) → IsWhole old → OneAnswerPerRequest old.node → IsTied old → AreDistinct old.timing.waiting → (step other : Step) (new left : Station) → IsReceived Control source octets old step new → ControlGoesOn source octets old new → ChoosesLowest step.report.made old.role old.node new.node → IsReceived Control source octets old other left → ControlGoesOn source octets old left
     → ChoosesLowest other.report.made old.role old.node left.node → AreOneStep step other new left
 control_one source octets old whole once tied apart step other new left (inl m) (inl goes) chooses (inl n) (inl also) too =
     one_step Control source octets old whole once tied apart step other new left (record { received = m.1; timing = goes.1; choices = chooses }) (record { received = n.1; timing = also.1; choices = too })
@@ -356,7 +356,7 @@ control_one source octets old whole once tied apart step other new left (inl m) 
 control_one source octets old whole once tied apart step other new left (inr m) (inr goes) chooses (inl n) also too = absurd (n.0 m.0)
 control_one source octets old whole once tied apart step other new left (inr m) (inr goes) chooses (inr n) (inl also) too = absurd (also.0 n.0)
 
-pub receives_one : (old : Station) → IsWhole old → HeldOnce old.node → IsTied old → AreDistinct old.timing.waiting → ReceivesOne old
+pub receives_one : (old : Station) → IsWhole old → OneAnswerPerRequest old.node → IsTied old → AreDistinct old.timing.waiting → ReceivesOne old
 receives_one old whole once tied apart Control source octets step other new left m n = control_one source octets old whole once tied apart step other new left m.received m.timing m.choices n.received n.timing n.choices
 receives_one old whole once tied apart User source octets step other new left m n = one_step User source octets old whole once tied apart step other new left (record { received = m.received; timing = m.timing; choices = m.choices }) (record { received = n.received; timing = n.timing; choices = n.choices })
 
@@ -387,7 +387,7 @@ one_teid (Mark_end bearer) old begun other new left m n e = m.0 ∙ sym n.0
 one_teid (Send_user bearer payload) old begun other new left m n e = m.0 ∙ sym n.0
 one_teid command old begun other new left m n e = same_begun begun.teid other.teid e
 
-module _ (old : Station) (whole : IsWhole old) (once : HeldOnce old.node) (tied : IsTied old) where
+module _ (old : Station) (whole : IsWhole old) (once : OneAnswerPerRequest old.node) (tied : IsTied old) where
   asks_one : (command : Command) (begun other : Begun) (new left : Station) (m : IsDone command old begun new) (n : IsDone command old other left) → AsksNext old begun new → AsksNext old other left → m.effect ≡ n.effect
   asks_one command begun other new left m n next also =
       let both = step_done old.role old.node (Commanded command) (whole_fits old whole) once m.effect n.effect m.step n.step in

@@ -35,22 +35,25 @@ use Rattle.gtp_machine.proofs.Octets.ByName.{removed_read}
 use Rattle.gtp_machine.specs.Serving.{RemovesEach, RemovalTaken, RemovalJudged, all_removed, any_removed, removal_cause}
 use Rattle.gtp_machine.specs.Serving.{RemovalAsked as RemovalAskedRow}
 use Rattle.gtp_machine.specs.Spelling.{removed_rows, typed, where_there}
+use Rattle.gtp_machine.proofs.Basics.Types.{type_kind}
+use Rattle.gtp_machine.specs.declared.role.Role.TheVariants.{Serving}
 use Rattle.gtp_gateway.specs.declared.change.Change.TheVariants.{Stays}
 use Rattle.gtp_gateway.specs.declared.deletion.DeletionRequest.{DeletionRequest}
 use Rattle.gtp_gateway.specs.declared.ending.NamedBearer.{NamedBearer}
-use Rattle.gtp_gateway.specs.declared.procedure.Procedure.TheVariants.{RemovalAsked}
+use Rattle.gtp_machine.specs.declared.message_type.MessageType.TheVariants as types
 use Rattle.gtp_gateway.specs.declared.control_step.ControlStep.{ControlStep}
 use Rattle.gtp_gateway.specs.Ending.{is_at, goes_for, is_found, was_named, NamesOne, NamesEach, identity_named, cause_named, removed_by, context_by, without_named, without_each}
 use Rattle.gtp_gateway.specs.Ending.{ReadsIdentities, SaysRemoval, SaysIdentities, IsForBearers, number_in, removal_effect}
 use Rattle.gtp_gateway.specs.Asked.{ReadsDeletion}
-use Rattle.gtp_gateway.specs.Procedure.{procedure_at, has, TakesBy}
+use Rattle.gtp_machine.specs.MessageType.{type_at, takes_type}
+use Rattle.gtp_machine.specs.Step.{TakesBy}
 use Rattle.gtp_gateway.specs.Own.{IsOwn}
 use Rattle.gtp_gateway.specs.Row.{IsRow}
 use Rattle.gtp_gateway.specs.Station.{Station}
 use Rattle.gtp_gateway.proofs.ByProcedure.{linked_is}
-use Rattle.gtp_gateway.proofs.InPlace.{type_is, fields_of, Says, reads_so, its_row}
+use Rattle.gtp_gateway.proofs.InPlace.{fields_of, Says, reads_so, its_row}
 use Rattle.gtp_v2.specs.Viewed.{has_row, front_value}
-use Rattle.gtp_gateway.proofs.Procedures.{at_serving}
+use Rattle.gtp_gateway.proofs.Procedures.{at_taker}
 
 -- a row of one kind, as a row of another that holds of the same effects at this node
 pub row_as : (T U : Node → Effect → Type 0) (request : Arrival) (role : Role) (old : Node) (step : ControlStep) (new : Station) → ((e : Effect) → T old e → U old e) → IsRow T request role old step new → IsRow U request role old step new
@@ -286,10 +289,10 @@ numbers_read (i ∷ ids) = λ x. i.0 ∷ numbers_read ids x
 same_list : (linked identities others values : List Value) (content : Content) → content ≡ Fields (Plain linked ∷ Plain identities ∷ []) → content ≡ Fields (Plain others ∷ Plain values ∷ []) → identities ≡ values
 same_list linked identities others values content is read = cc
 
-pub delete_bearer_is : (octets : List ℕ) (m : MessageValue) (r : DeletionRequest) → IsMessage octets m → procedure_at m.kind ≡ Some RemovalAsked → ReadsDeletion m r → IsDeleteBearer m r
+pub delete_bearer_is : (octets : List ℕ) (m : MessageValue) (r : DeletionRequest) → IsMessage octets m → type_at m.kind ≡ Some types.DeleteBearerRequest → ReadsDeletion m r → IsDeleteBearer m r
 unfolding row_in list_in
 delete_bearer_is octets m r is at reads =
-    let a = removal_asked octets m (type_is m.kind RemovalAsked at) is in
+    let a = removal_asked octets m (type_kind m.kind types.DeleteBearerRequest at) is in
     record {
       request = _;
       is = reads_so 99 _ m a.says;
@@ -297,5 +300,5 @@ delete_bearer_is octets m r is at reads =
       reads = λ ids listed. ap (map (λ (v : Value). unwrap_or (number_of v) 0)) (same_list a.linked a.identities listed.0 (map (λ (i : EbiValue). OfEbi i.0) ids) m.content a.says.content listed.1) ∙ numbers_read ids;
     }
 
-pub takes_removal_request : (role : Role) (request : Arrival) (d : DeleteBearerRequest) (m : Message) → has role RemovalAsked ≡ true → m ≡ Delete_bearer_request d → (n : Node) (e : Effect) → RemovalAskedRow request d n e → TakesBy role request m n e
-takes_removal_request role request d m has_it is n e takes = at_serving (λ r k. TakesBy r request k n e) RemovalAsked role m (Delete_bearer_request d) refl has_it is takes
+pub takes_removal_request : (role : Role) (request : Arrival) (d : DeleteBearerRequest) (m : Message) → takes_type role types.DeleteBearerRequest ≡ true → m ≡ Delete_bearer_request d → (n : Node) (e : Effect) → RemovalAskedRow request d n e → TakesBy role request m n e
+takes_removal_request role request d m has_it is n e takes = at_taker (λ r k. TakesBy r request k n e) Serving role m (Delete_bearer_request d) has_it is takes

@@ -20,14 +20,15 @@ use Rattle.gtp_machine.proofs.Changes.Shrinking.{Shrunk-finished}
 use Rattle.gtp_machine.proofs.Determined.Responses.{session_answered}
 use Rattle.gtp_gateway.specs.declared.hearing.Heard.{Heard}
 use Rattle.gtp_gateway.specs.declared.hearing.Heard.TheVariants as heards
-use Rattle.gtp_gateway.specs.declared.procedure.Procedure.TheVariants as procedures
+use Rattle.gtp_machine.specs.declared.message_type.MessageType.TheVariants as types
 use Rattle.gtp_gateway.specs.declared.session_response.SessionResponse.{SessionResponse}
 use Rattle.gtp_gateway.specs.declared.settle.Verdict.{Verdict}
 use Rattle.gtp_gateway.specs.Hearing.{weighed_by, node_heard, IsEarlier, told_in, later_in}
 use Rattle.gtp_gateway.specs.Needing.{StepSendsOrOpens}
 use Rattle.gtp_gateway.specs.Pairing.{node_settled}
 use Rattle.gtp_gateway.specs.Parts.{arrival_of}
-use Rattle.gtp_gateway.specs.Procedure.{has, TakesBy, takes_by}
+use Rattle.gtp_machine.specs.MessageType.{takes_type, takes_message}
+use Rattle.gtp_machine.specs.Step.{TakesBy}
 use Rattle.gtp_gateway.specs.SessionAnswer.{SaysSession, JudgesAnswer}
 use Rattle.gtp_gateway.specs.Settled.{outcome_by, effect_by}
 use Rattle.gtp_gateway.specs.Station.{Station}
@@ -118,11 +119,11 @@ module _ (source : Endpoint) (octets : List ℕ) (old : Station) (serving : old.
   abbrev pub first_effect : Effect
   first_effect = told recovery old.node.known (effect_by v a.number left)
 
-  takes_it : takes_by old.role message ≡ true
-  takes_it = ap (λ (k : Role). takes_by k message) serving
+  takes_it : takes_message old.role message ≡ true
+  takes_it = ap (λ (k : Role). takes_message k message) serving
 
-  has_it : has old.role procedures.SessionAnswered ≡ true
-  has_it = ap (λ (k : Role). has k procedures.SessionAnswered) serving
+  has_it : takes_type old.role types.CreateSessionResponse ≡ true
+  has_it = ap (λ (k : Role). takes_type k types.CreateSessionResponse) serving
 
   by_counter : IsEarlier heard ⊎ (IsEarlier heard → ⊥) → Hears (SessionAnswered a) old.node (option_map (λ (c : Counter). c.0) recovery) first_effect
   by_counter (inr on) = hears (SessionAnswered a) old.node recovery (effect_by v a.number left) on (j.judged on a says)

@@ -16,12 +16,15 @@ use Rattle.gtp_machine.specs.Input.{Effect}
 use Rattle.gtp_machine.specs.Message.{Message, CreateBearerRequest, Create_bearer_request}
 use Rattle.gtp_machine.specs.Node.{Arrival, Node}
 use Rattle.gtp_machine.specs.Serving.{BearerAsked as BearerAskedRow}
+use Rattle.gtp_machine.proofs.Basics.Types.{type_kind}
+use Rattle.gtp_machine.specs.declared.role.Role.TheVariants.{Serving}
 use Rattle.gtp_gateway.specs.declared.granting.BearerRequest.{BearerRequest}
-use Rattle.gtp_gateway.specs.declared.procedure.Procedure.TheVariants.{BearerAsked}
+use Rattle.gtp_machine.specs.declared.message_type.MessageType.TheVariants as types
 use Rattle.gtp_gateway.specs.Granting.{HasBearerContext, ReadsBearer, SaysBearer}
-use Rattle.gtp_gateway.specs.Procedure.{procedure_at, has, TakesBy}
-use Rattle.gtp_gateway.proofs.InPlace.{type_is, reads_so, row_so, groups_so, bearer_asked}
-use Rattle.gtp_gateway.proofs.Procedures.{at_serving}
+use Rattle.gtp_machine.specs.MessageType.{type_at, takes_type}
+use Rattle.gtp_machine.specs.Step.{TakesBy}
+use Rattle.gtp_gateway.proofs.InPlace.{reads_so, row_so, groups_so, bearer_asked}
+use Rattle.gtp_gateway.proofs.Procedures.{at_taker}
 
 -- no further item came
 pub none_further : {X : Type 0} (o : Option X) (left after : List X) (none : Bool) → is_some o ≡ not none → MatchOption o ((left ≡ []) × (after ≡ [])) (λ x. left ≡ x ∷ after) → IsTrue none ↔ (left ≡ [])
@@ -52,10 +55,10 @@ none_free node session all free =
 -- ---- the message, by what was read of it
 
 -- its rows are there
-pub has_context : (octets : List ℕ) (m : MessageValue) → IsMessage octets m → procedure_at m.kind ≡ Some BearerAsked → HasBearerContext m
+pub has_context : (octets : List ℕ) (m : MessageValue) → IsMessage octets m → type_at m.kind ≡ Some types.CreateBearerRequest → HasBearerContext m
 has_context octets m is at =
-    let a = bearer_asked octets m (type_is m.kind BearerAsked at) is in
-    record { linked = ap (λ (k : ℕ). always_has k 73 0) (type_is m.kind BearerAsked at); first = a.first; further = a.further; user = a.user; groups = groups_so 95 93 0 _ m a.says; ends = a.ends }
+    let a = bearer_asked octets m (type_kind m.kind types.CreateBearerRequest at) is in
+    record { linked = ap (λ (k : ℕ). always_has k 73 0) (type_kind m.kind types.CreateBearerRequest at); first = a.first; further = a.further; user = a.user; groups = groups_so 95 93 0 _ m a.says; ends = a.ends }
 
 pub record IsCreateBearer (m : MessageValue) (r : BearerRequest) : Type 0 where
   pub request : CreateBearerRequest
@@ -69,10 +72,10 @@ alone_so : (alone : Bool) (further : List (List (List Value))) → IsTrue alone 
 alone_so alone [] test = (λ _. refl, λ _. test.1 refl)
 alone_so alone (g ∷ further) test = (λ yes. absurd (let some : g ∷ further ≡ [] = test.0 yes in cc), λ empty. absurd cc)
 
-pub create_bearer_is : (octets : List ℕ) (m : MessageValue) (r : BearerRequest) → IsMessage octets m → procedure_at m.kind ≡ Some BearerAsked → ReadsBearer m r → IsCreateBearer m r
+pub create_bearer_is : (octets : List ℕ) (m : MessageValue) (r : BearerRequest) → IsMessage octets m → type_at m.kind ≡ Some types.CreateBearerRequest → ReadsBearer m r → IsCreateBearer m r
 unfolding row_in contexts_in
 create_bearer_is octets m r is at reads =
-    let a = bearer_asked octets m (type_is m.kind BearerAsked at) is in
+    let a = bearer_asked octets m (type_kind m.kind types.CreateBearerRequest at) is in
     let contexts = reads.contexts a.first a.further (groups_so 95 93 0 _ m a.says) in
     record {
       request = _;
@@ -86,5 +89,5 @@ create_bearer_is octets m r is at reads =
       };
     }
 
-pub takes_bearer_request : (role : Role) (request : Arrival) (q : CreateBearerRequest) (m : Message) → has role BearerAsked ≡ true → m ≡ Create_bearer_request q → (n : Node) (e : Effect) → BearerAskedRow request q n e → TakesBy role request m n e
-takes_bearer_request role request q m has_it is n e takes = at_serving (λ r k. TakesBy r request k n e) BearerAsked role m (Create_bearer_request q) refl has_it is takes
+pub takes_bearer_request : (role : Role) (request : Arrival) (q : CreateBearerRequest) (m : Message) → takes_type role types.CreateBearerRequest ≡ true → m ≡ Create_bearer_request q → (n : Node) (e : Effect) → BearerAskedRow request q n e → TakesBy role request m n e
+takes_bearer_request role request q m has_it is n e takes = at_taker (λ r k. TakesBy r request k n e) Serving role m (Create_bearer_request q) has_it is takes

@@ -1,14 +1,12 @@
 -- What messages say, by the values of their rows, where they lie.
 use Rattle.std.proofs.Common.{◌≡◌, ℕ, ◌<◌, Bool, true, false, length, List, [], ◌∷◌, Option, Some, None, option_map, unwrap_or, refl, sym, ◌∙◌, ap, subst, arith}
-use Rattle.std.specs.Prelude.{◌==◌, if◌then◌else◌}
-use Rattle.std.proofs.lemmas.Bool.Decides.{nat_tests}
 use Rattle.gtp_ie.specs.Element.{Element, all_of}
 use Rattle.gtp_ie.specs.Value.{Value, OfRecovery}
 use Rattle.gtp_ie.specs.declared.value.recovery.Recovery.{Recovery}
 use Rattle.gtp_v2.specs.Table.{Field, Plain, Groups, Table, start, after}
 use Rattle.gtp_v2.specs.Grammar.{RowsAre, GroupsAre, LinesAre}
 use Rattle.gtp_v2.specs.Headed.{Headed}
-use Rattle.gtp_v2.specs.Message.{Content, Fields, MessageValue}
+use Rattle.gtp_v2.specs.Message.{Content, Fields, Raw, MessageValue}
 use Rattle.gtp_v2.specs.Datagram.{IsMessage, CarriesBy}
 use Rattle.gtp_v2.specs.Tables.{table_of}
 use Rattle.gtp_v2.specs.Viewed.{in_row, values_by, has_row, row_of, front_value, in_groups, groups_by}
@@ -22,54 +20,14 @@ use Rattle.gtp_v2.specs.CreateBearerResponse.{create_bearer_response}
 use Rattle.gtp_v2.specs.DeleteBearerResponse.{delete_bearer_response}
 use Rattle.gtp_machine.specs.Message.{recovery_of}
 use Rattle.gtp_machine.specs.Node.{written}
-use Rattle.gtp_machine.specs.Decoded.{row_in, contexts_in, first_in, number_of, number_at, row, content_message, message_of}
-use Rattle.gtp_gateway.specs.declared.procedure.Procedure.{Procedure}
-use Rattle.gtp_gateway.specs.declared.procedure.Procedure.TheVariants.{EchoAsked, EchoAnswered, SessionAsked, SessionAnswered, DeletionAsked, DeletionAnswered, BearerAsked, BearerAnswered, RemovalAsked, RemovalAnswered}
-use Rattle.gtp_gateway.specs.Procedure.{procedure_at}
-use Rattle.gtp_gateway.specs.InPlace.{tells_counter}
+use Rattle.gtp_machine.specs.Decoded.{row_in, contexts_in, first_in, number_of, number_at, row, bearer_request_in, message_by, content_message, message_of}
+use Rattle.gtp_machine.specs.declared.message_type.MessageType.{MessageType}
+use Rattle.gtp_machine.specs.declared.message_type.MessageType.TheVariants as types
+use Rattle.gtp_machine.specs.MessageType.{type_at, type_row}
+use Rattle.gtp_machine.proofs.Basics.Types.{type_kind}
 use Rattle.gtp_gateway.specs.Contexts.{HasCause}
 use Rattle.gtp_gateway.proofs.ResponseContexts.{group_has, each_group}
 use Rattle.gtp_values.specs.FiniteMap.{Among}
-
--- the type of message that a procedure takes
-abbrev pub type_of : Procedure → ℕ
-type_of EchoAsked = 1
-type_of EchoAnswered = 2
-type_of SessionAsked = 32
-type_of SessionAnswered = 33
-type_of DeletionAsked = 36
-type_of DeletionAnswered = 37
-type_of BearerAsked = 95
-type_of BearerAnswered = 96
-type_of RemovalAsked = 99
-type_of RemovalAnswered = 100
-
-abbrev procedure : Procedure → Option Procedure
-procedure p = Some p
-
-chain : (kind number : ℕ) (q p : Procedure) (rest : Option Procedure) → number ≡ type_of q → (rest ≡ Some p → kind ≡ type_of p) → (if kind == number then Some q else rest) ≡ Some p → kind ≡ type_of p
-chain kind number q p rest of later is = by (kind == number) refl is
-  where
-    by : (b : Bool) → (kind == number) ≡ b → (if b then Some q else rest) ≡ Some p → kind ≡ type_of p
-    by true same is =
-        let here : kind ≡ number = grind (arith, nat_tests, same) in
-        let one : q ≡ p = cc in
-        here ∙ (of ∙ ap type_of one)
-    by false other is = later is
-
--- a procedure takes messages of its type alone
-pub type_is : (kind : ℕ) (p : Procedure) → procedure_at kind ≡ Some p → kind ≡ type_of p
-type_is kind p =
-    chain kind 1 EchoAsked p _ refl
-    (chain kind 2 EchoAnswered p _ refl
-    (chain kind 32 SessionAsked p _ refl
-    (chain kind 33 SessionAnswered p _ refl
-    (chain kind 36 DeletionAsked p _ refl
-    (chain kind 37 DeletionAnswered p _ refl
-    (chain kind 95 BearerAsked p _ refl
-    (chain kind 96 BearerAnswered p _ refl
-    (chain kind 99 RemovalAsked p _ refl
-    (chain kind 100 RemovalAnswered p _ refl (λ none. absurd cc))))))))))
 
 -- ---- the fields of a message are those of its table's lines
 
@@ -329,35 +287,39 @@ if_there [] (Some r) is = absurd cc
 if_there (v ∷ vs) None is = absurd cc
 if_there (v ∷ vs) (Some r) is = let same : OfRecovery r.0.0 ≡ v = cc in ap number_of same
 
-pub tells_else : (p : Procedure) → (p ≡ DeletionAsked → ⊥) → (p ≡ BearerAsked → ⊥) → (p ≡ RemovalAsked → ⊥) → tells_counter p ≡ true
-tells_else EchoAsked a b c = refl
-tells_else EchoAnswered a b c = refl
-tells_else SessionAsked a b c = refl
-tells_else SessionAnswered a b c = refl
-tells_else DeletionAsked a b c = absurd (a refl)
-tells_else DeletionAnswered a b c = refl
-tells_else BearerAsked a b c = absurd (b refl)
-tells_else BearerAnswered a b c = refl
-tells_else RemovalAsked a b c = absurd (c refl)
-tells_else RemovalAnswered a b c = refl
-
 -- the counter that was read in the row of a Recovery is the one that the message tells
-pub counter_read : (octets : List ℕ) (m : MessageValue) (p : Procedure) (r : Option Recovery) → IsMessage octets m → procedure_at m.kind ≡ Some p → tells_counter p ≡ true
+pub counter_read : (octets : List ℕ) (m : MessageValue) (p : MessageType) (r : Option Recovery) → IsMessage octets m → type_at m.kind ≡ Some p → (type_row p).has_counter ≡ true
     → (has_row m.kind 3 0 ≡ true → option_map (λ (x : Recovery). OfRecovery x.0.0) r ≡ front_value (row_of 3 0 m)) → option_map (λ (x : Recovery). x.0.0) r ≡ recovery_of (message_of m)
 unfolding row_in contexts_in
-counter_read octets m p r is at tells reads = by p (type_is m.kind p at) tells
+counter_read octets m p r is at tells reads = by p (type_kind m.kind p at) tells
   where
     so : (kind : ℕ) (fields : List Field) → Says kind fields m → has_row kind 3 0 ≡ true → recovery_of (content_message kind (written m.teid) m.seq (Fields fields)) ≡ first_in number_of (unwrap_or (values_by 3 0 (table_of kind) (Fields fields)) []) → option_map (λ (x : Recovery). x.0.0) r ≡ recovery_of (message_of m)
     so kind fields says has tells = if_there _ r (reads (ap (λ k. has_row k 3 0) says.of ∙ has) ∙ ap front_value (its_row kind 3 0 fields m says)) ∙ (sym tells ∙ ap recovery_of (sym (reads_so kind fields m says)))
 
-    by : (p : Procedure) → m.kind ≡ type_of p → tells_counter p ≡ true → option_map (λ (x : Recovery). x.0.0) r ≡ recovery_of (message_of m)
-    by EchoAsked of tells = let a = echo_asked octets m of is in needed a.counter r (reads (ap (λ k. has_row k 3 0) of) ∙ ap front_value (its_row 1 3 0 _ m a.says)) ∙ ap recovery_of (sym (reads_so 1 _ m a.says))
-    by EchoAnswered of tells = let a = echo_answered octets m of is in needed a.counter r (reads (ap (λ k. has_row k 3 0) of) ∙ ap front_value (its_row 2 3 0 _ m a.says)) ∙ ap recovery_of (sym (reads_so 2 _ m a.says))
-    by SessionAsked of tells = so 32 _ (session_asked octets m of is).says refl refl
-    by SessionAnswered of tells = let a = says_by 33 create_session_response octets m refl of is in so 33 a.0 a.1 refl refl
-    by DeletionAsked of tells = absurd cc
-    by DeletionAnswered of tells = let a = says_by 37 delete_session_response octets m refl of is in so 37 a.0 a.1 refl refl
-    by BearerAsked of tells = absurd cc
-    by BearerAnswered of tells = let a = says_by 96 create_bearer_response octets m refl of is in so 96 a.0 a.1 refl refl
-    by RemovalAsked of tells = absurd cc
-    by RemovalAnswered of tells = let a = says_by 100 delete_bearer_response octets m refl of is in so 100 a.0 a.1 refl refl
+    by : (p : MessageType) → m.kind ≡ (type_row p).kind → (type_row p).has_counter ≡ true → option_map (λ (x : Recovery). x.0.0) r ≡ recovery_of (message_of m)
+    by types.EchoRequest of tells = let a = echo_asked octets m of is in needed a.counter r (reads (ap (λ k. has_row k 3 0) of) ∙ ap front_value (its_row 1 3 0 _ m a.says)) ∙ ap recovery_of (sym (reads_so 1 _ m a.says))
+    by types.EchoResponse of tells = let a = echo_answered octets m of is in needed a.counter r (reads (ap (λ k. has_row k 3 0) of) ∙ ap front_value (its_row 2 3 0 _ m a.says)) ∙ ap recovery_of (sym (reads_so 2 _ m a.says))
+    by types.CreateSessionRequest of tells = so 32 _ (session_asked octets m of is).says refl refl
+    by types.CreateSessionResponse of tells = let a = says_by 33 create_session_response octets m refl of is in so 33 a.0 a.1 refl refl
+    by types.DeleteSessionResponse of tells = let a = says_by 37 delete_session_response octets m refl of is in so 37 a.0 a.1 refl refl
+    by types.CreateBearerResponse of tells = let a = says_by 96 create_bearer_response octets m refl of is in so 96 a.0 a.1 refl refl
+    by types.DeleteBearerResponse of tells = let a = says_by 100 delete_bearer_response octets m refl of is in so 100 a.0 a.1 refl refl
+    by p of tells = absurd (let never : false ≡ true = tells in cc)
+
+-- a message of a type that has none tells no counter
+pub none_read : (m : MessageValue) (p : MessageType) → type_at m.kind ≡ Some p → (type_row p).has_counter ≡ false → recovery_of (message_of m) ≡ None
+none_read m p at none = content m.content
+  where
+    bearer : (f : List Field) (groups : List (List (List Value))) → recovery_of (bearer_request_in (written m.teid) m.seq f groups) ≡ None
+    bearer f [] = refl
+    bearer f (g ∷ groups) = refl
+
+    fields : (p : MessageType) → (type_row p).has_counter ≡ false → (f : List Field) → recovery_of (message_by (Some p) m.kind (written m.teid) m.seq f) ≡ None
+    fields types.DeleteSessionRequest none f = refl
+    fields types.CreateBearerRequest none f = bearer f _
+    fields types.DeleteBearerRequest none f = refl
+    fields p none f = absurd (let never : true ≡ false = none in cc)
+
+    content : (c : Content) → recovery_of (content_message m.kind (written m.teid) m.seq c) ≡ None
+    content (Fields f) = ap (λ t. recovery_of (message_by t m.kind (written m.teid) m.seq f)) at ∙ fields p none f
+    content (Raw octets) = refl

@@ -8,7 +8,6 @@ use Rattle.gtp_v2.specs.Pair.{alone, both, IsDatagram, IsDatagramFault, LiesIn, 
 use Rattle.gtp_v2.specs.Viewed.{Viewed}
 use Rattle.gtp_v2.specs.declared.fault.V2Fault.{V2Fault}
 use Rattle.gtp_machine.specs.declared.role.Role.{Role}
-use Rattle.gtp_machine.specs.declared.role.Role.TheVariants.{Serving, Packet}
 use Rattle.gtp_machine.specs.Message.{Control, Other_control}
 use Rattle.gtp_machine.specs.Node.{Arrival, Node}
 use Rattle.gtp_machine.specs.Answer.{IsNew}
@@ -46,8 +45,7 @@ reads_fault octets f fails = ap taken_as ((datagram_by_grammar octets (Alone (da
 
 -- both gateways drop a datagram whose fault is not answered
 pub fault_dropped : (role : Role) (old : Node) (request : Arrival) (number : ℕ) → request.source.ip ≡ old.config.peer.control → IsNew old request → Step role old (Control_came request (Control_fault number)) (dropped old (undecodable Control number))
-fault_dropped Serving old request number peer new = inr (peer, inr (new, refl))
-fault_dropped Packet old request number peer new = inr (peer, inr (new, refl))
+fault_dropped role old request number peer new = inr (peer, inr (new, refl))
 
 -- what was done with a datagram at fault is a step on what its octets read as
 pub fault_received : (source : Endpoint) (octets : List ℕ) (old : Station) (f : V2Fault) (reading : ControlReading) (step : ControlStep) → source.ip ≡ old.node.config.peer.control → IsNew old.node (arrival_of source octets) → IsDatagramFault octets f → reading ≡ datagram_fault (announces octets) f → IsFaultTaken source reading old step → IsTaken source octets old step old

@@ -1,5 +1,5 @@
 -- What takes memory on the control plane, rule by rule.
-use Rattle.std.proofs.Common.{◌≡◌, inl, inr, ℕ, true, List, [], ◌∷◌, Option, Some, None, option_map, Result, Ok, Err, refl, sym, ◌∙◌, ap, subst}
+use Rattle.std.proofs.Common.{◌≡◌, inl, inr, ℕ, Bool, true, List, [], ◌∷◌, Option, Some, None, option_map, Result, Ok, Err, sym, ◌∙◌, ap, subst}
 use Rattle.std.specs.Prelude.{OnErr}
 use Rattle.std.specs.FinMap.{get}
 use Rattle.gtp_values.specs.Counter.{age_of}
@@ -10,28 +10,25 @@ use Rattle.gtp_values.specs.declared.counter.Age.TheVariants as ages
 use Rattle.gtp_machine.specs.declared.role.Role.{Role}
 use Rattle.gtp_machine.specs.declared.role.Role.TheVariants.{Serving, Packet}
 use Rattle.gtp_machine.specs.declared.outcome.Outcome.TheVariants.{Opened}
-use Rattle.gtp_machine.specs.Answer.{IsNew, answered}
+use Rattle.gtp_machine.specs.Answer.{IsNew, Faulted, TakesReading, answered}
 use Rattle.gtp_machine.specs.Choice.{HasHeldRoom, HasSession, HasPending}
 use Rattle.gtp_machine.specs.Config.{Template, template_for}
 use Rattle.gtp_machine.specs.Element.{IsAccepting, teid_in}
-use Rattle.gtp_machine.specs.Input.{Came_to, Effect, RequestKind, FaultyRequest, ControlReading, Control_message, Faulty, Control_came}
+use Rattle.gtp_machine.specs.Input.{Came_to, Effect, FaultyRequest, ControlReading, Control_message, Faulty}
 use Rattle.gtp_machine.specs.Message.{Message, CreateSessionRequest, CreateSessionResponse, CreatedBearer, DeleteSessionRequest, CreateBearerRequest, CreateBearerResponse, GivenBearer, DeleteBearerRequest, Echo, Echo_request, Create_session_request, Create_session_response, Delete_session_request, Create_bearer_request, Create_bearer_response, Delete_bearer_request, recovery_of}
 use Rattle.gtp_machine.specs.Node.{Active, Pending, Session, PendingRequest, Arrival, Held, Node}
-use Rattle.gtp_machine.specs.Packet.{AnswersWith, session_cause, session_response, made_session, session_made, SessionJudged, SessionAsked, DeletionJudged, DeletionAsked, BearerAnswered, FitsBearer, DescribesBearer, CanOpen, PacketFaulted, PacketReads}
+use Rattle.gtp_machine.specs.Packet.{AnswersWith, session_cause, session_response, made_session, session_made, SessionJudged, SessionAsked, DeletionJudged, DeletionAsked, BearerAnswered, FitsBearer, DescribesBearer, CanOpen}
 use Rattle.gtp_machine.specs.Recovery.{Judges, Weighs, Hears}
-use Rattle.gtp_machine.specs.Serving.{BearerJudged, BearerAsked, RemovalTaken, RemovalJudged, RemovalAsked, SessionAnswered, FitsSession, DescribesSession, ServingFaulted, ServingReads}
-use Rattle.gtp_machine.specs.Step.{Step as MachineStep}
+use Rattle.gtp_machine.specs.Serving.{BearerJudged, BearerAsked, RemovalTaken, RemovalJudged, RemovalAsked, SessionAnswered, FitsSession, DescribesSession}
 use Rattle.gtp_machine.proofs.Basics.Facts.{one_value}
-use Rattle.gtp_gateway.specs.declared.faulty.Request.{Request}
-use Rattle.gtp_gateway.specs.declared.faulty.Request.TheVariants as requests
-use Rattle.gtp_gateway.specs.declared.procedure.Procedure.TheVariants as procedures
+use Rattle.gtp_machine.specs.declared.message_type.MessageType.TheVariants as types
 use Rattle.gtp_gateway.specs.Answering.{answering}
-use Rattle.gtp_gateway.specs.Faulty.{kind_of, is_answered}
 use Rattle.gtp_gateway.specs.Hearing.{aged, weighed, weighed_by, node_heard, IsEarlier}
 use Rattle.gtp_gateway.specs.Needing.{SendsOrOpens, AlwaysSendsOrOpens, StepSendsOrOpens}
-use Rattle.gtp_gateway.specs.Procedure.{has, TakesBy, takes_by}
+use Rattle.gtp_machine.specs.MessageType.{takes_type, takes_message, answers_type}
+use Rattle.gtp_machine.specs.Step.{TakesBy}
 use Rattle.gtp_gateway.specs.Station.{Station}
-use Rattle.gtp_gateway.proofs.Procedures.{at_both, at_packet, at_serving}
+use Rattle.gtp_gateway.proofs.Procedures.{at_both, at_taker}
 
 -- what follows where there is an error
 pub on_err : {A E P : Type 0} (r : Result A E) → P → OnErr r P
@@ -215,23 +212,23 @@ module _ (role : Role) (request : Arrival) (m : Message) (n : Node) where
   pub needs_echo : (q : Echo) → m ≡ Echo_request q → Always role m
   needs_echo q is = at_both Always role m (Echo_request q) is (λ e same. sends (λ none. cc) same) (λ e same. sends (λ none. cc) same)
 
-  pub needs_session : (q : CreateSessionRequest) → has role procedures.SessionAsked ≡ true → m ≡ Create_session_request q → AlwaysSendsOrOpens (SessionAsked request q) n → Always role m
-  needs_session q has_it is needs = at_packet Always procedures.SessionAsked role m (Create_session_request q) refl has_it is needs
+  pub needs_session : (q : CreateSessionRequest) → takes_type role types.CreateSessionRequest ≡ true → m ≡ Create_session_request q → AlwaysSendsOrOpens (SessionAsked request q) n → Always role m
+  needs_session q has_it is needs = at_taker Always Packet role m (Create_session_request q) has_it is needs
 
-  pub needs_deletion : (d : DeleteSessionRequest) → has role procedures.DeletionAsked ≡ true → m ≡ Delete_session_request d → AlwaysSendsOrOpens (DeletionAsked request d) n → Always role m
-  needs_deletion d has_it is needs = at_packet Always procedures.DeletionAsked role m (Delete_session_request d) refl has_it is needs
+  pub needs_deletion : (d : DeleteSessionRequest) → takes_type role types.DeleteSessionRequest ≡ true → m ≡ Delete_session_request d → AlwaysSendsOrOpens (DeletionAsked request d) n → Always role m
+  needs_deletion d has_it is needs = at_taker Always Packet role m (Delete_session_request d) has_it is needs
 
-  pub needs_bearer : (q : CreateBearerRequest) → has role procedures.BearerAsked ≡ true → m ≡ Create_bearer_request q → AlwaysSendsOrOpens (BearerAsked request q) n → Always role m
-  needs_bearer q has_it is needs = at_serving Always procedures.BearerAsked role m (Create_bearer_request q) refl has_it is needs
+  pub needs_bearer : (q : CreateBearerRequest) → takes_type role types.CreateBearerRequest ≡ true → m ≡ Create_bearer_request q → AlwaysSendsOrOpens (BearerAsked request q) n → Always role m
+  needs_bearer q has_it is needs = at_taker Always Serving role m (Create_bearer_request q) has_it is needs
 
-  pub needs_removal : (d : DeleteBearerRequest) → has role procedures.RemovalAsked ≡ true → m ≡ Delete_bearer_request d → AlwaysSendsOrOpens (RemovalAsked request d) n → Always role m
-  needs_removal d has_it is needs = at_serving Always procedures.RemovalAsked role m (Delete_bearer_request d) refl has_it is needs
+  pub needs_removal : (d : DeleteBearerRequest) → takes_type role types.DeleteBearerRequest ≡ true → m ≡ Delete_bearer_request d → AlwaysSendsOrOpens (RemovalAsked request d) n → Always role m
+  needs_removal d has_it is needs = at_taker Always Serving role m (Delete_bearer_request d) has_it is needs
 
-  pub needs_session_response : (a : CreateSessionResponse) → has role procedures.SessionAnswered ≡ true → m ≡ Create_session_response a → AlwaysSendsOrOpens (SessionAnswered a) n → Always role m
-  needs_session_response a has_it is needs = at_serving Always procedures.SessionAnswered role m (Create_session_response a) refl has_it is needs
+  pub needs_session_response : (a : CreateSessionResponse) → takes_type role types.CreateSessionResponse ≡ true → m ≡ Create_session_response a → AlwaysSendsOrOpens (SessionAnswered a) n → Always role m
+  needs_session_response a has_it is needs = at_taker Always Serving role m (Create_session_response a) has_it is needs
 
-  pub needs_bearer_response : (x : CreateBearerResponse) → has role procedures.BearerAnswered ≡ true → m ≡ Create_bearer_response x → AlwaysSendsOrOpens (BearerAnswered x) n → Always role m
-  needs_bearer_response x has_it is needs = at_packet Always procedures.BearerAnswered role m (Create_bearer_response x) refl has_it is needs
+  pub needs_bearer_response : (x : CreateBearerResponse) → takes_type role types.CreateBearerResponse ≡ true → m ≡ Create_bearer_response x → AlwaysSendsOrOpens (BearerAnswered x) n → Always role m
+  needs_bearer_response x has_it is needs = at_taker Always Packet role m (Create_bearer_response x) has_it is needs
 
 -- ---- before the message is taken
 
@@ -250,56 +247,26 @@ hears_needs : (Takes : Node → Effect → Type 0) (old : Node) (recovery : Opti
 hears_needs Takes old None on needs e is = needs e is
 hears_needs Takes old (Some counter) on needs e (taken, weighs, is) = subst SendsOrOpens (sym is) (weighed_needs Takes old counter old.known taken on needs weighs)
 
--- what the gateway does with what was read
-abbrev reads_by : Role → ControlReading → Arrival → Node → Effect → Type 0
-reads_by Serving = ServingReads
-reads_by Packet = PacketReads
-
 -- a datagram from the peer: an answer that is held is sent
 module _ (request : Arrival) (reading : ControlReading) (old : Station) (peer : request.source.ip ≡ old.node.config.peer.control) where
-  pub read_needs : (IsNew old.node request → AlwaysSendsOrOpens (reads_by old.role reading request) old.node) → StepSendsOrOpens request reading old
-  read_needs each e step = by old.role each step
-    where
-      by : (role : Role) → (IsNew old.node request → AlwaysSendsOrOpens (reads_by role reading request) old.node) → MachineStep role old.node (Control_came request reading) e → SendsOrOpens e
-      by Serving each (inl f) = absurd (f.0 peer)
-      by Serving each (inr (from, inl repeats)) = sends (λ none. cc) repeats.gives
-      by Serving each (inr (from, inr (new, reads))) = each new e reads
-      by Packet each (inl f) = absurd (f.0 peer)
-      by Packet each (inr (from, inl repeats)) = sends (λ none. cc) repeats.gives
-      by Packet each (inr (from, inr (new, reads))) = each new e reads
+  pub read_needs : (IsNew old.node request → AlwaysSendsOrOpens (TakesReading old.role (TakesBy old.role) reading request) old.node) → StepSendsOrOpens request reading old
+  read_needs each e (inl f) = absurd (f.0 peer)
+  read_needs each e (inr (from, inl repeats)) = sends (λ none. cc) repeats.gives
+  read_needs each e (inr (from, inr (new, reads))) = each new e reads
 
 -- a request that was answered before
 pub repeated_needs : (request : Arrival) (reading : ControlReading) (old : Station) → request.source.ip ≡ old.node.config.peer.control → (pair : Held) → Among pair old.node.held → pair.request ≡ request → StepSendsOrOpens request reading old
 repeated_needs request reading old peer pair stands same = read_needs request reading old peer (λ new. absurd (new pair stands same))
 
 -- a message that the gateway takes, whose counter is not of an earlier start
-pub message_needs : (request : Arrival) (old : Station) (m : Message) (recovery : Option Counter) → request.source.ip ≡ old.node.config.peer.control → takes_by old.role m ≡ true → option_map (λ (c : Counter). c.0) recovery ≡ recovery_of m → (IsEarlier (weighed_by recovery old.node.known) → ⊥)
+pub message_needs : (request : Arrival) (old : Station) (m : Message) (recovery : Option Counter) → request.source.ip ≡ old.node.config.peer.control → takes_message old.role m ≡ true → option_map (λ (c : Counter). c.0) recovery ≡ recovery_of m → (IsEarlier (weighed_by recovery old.node.known) → ⊥)
     → AlwaysSendsOrOpens (TakesBy old.role request m) (node_heard (weighed_by recovery old.node.known) old.node) → StepSendsOrOpens request (Control_message m) old
-message_needs request old m recovery peer takes counter on needs = read_needs request (Control_message m) old peer (λ new. by old.role takes needs)
+message_needs request old m recovery peer takes counter on needs = read_needs request (Control_message m) old peer (λ new. by)
   where
-    by : (role : Role) → takes_by role m ≡ true → AlwaysSendsOrOpens (TakesBy role request m) (node_heard (weighed_by recovery old.node.known) old.node) → AlwaysSendsOrOpens (reads_by role (Control_message m) request) old.node
-    by Serving takes needs e (inl f) = absurd (f.0 takes)
-    by Serving takes needs e (inr (taken, hears)) = hears_needs (TakesBy Serving request m) old.node recovery on needs e (subst (λ (o : Option ℕ). Hears (TakesBy Serving request m) old.node o e) (sym counter) hears)
-    by Packet takes needs e (inl f) = absurd (f.0 takes)
-    by Packet takes needs e (inr (taken, hears)) = hears_needs (TakesBy Packet request m) old.node recovery on needs e (subst (λ (o : Option ℕ). Hears (TakesBy Packet request m) old.node o e) (sym counter) hears)
+    by : AlwaysSendsOrOpens (TakesReading old.role (TakesBy old.role) (Control_message m) request) old.node
+    by e (inl f) = absurd (f.0 takes)
+    by e (inr (taken, hears)) = hears_needs (TakesBy old.role request m) old.node recovery on needs e (subst (λ (o : Option ℕ). Hears (TakesBy old.role request m) old.node o e) (sym counter) hears)
 
 -- a request at fault that the gateway answers
-module _ (request : Arrival) (f : FaultyRequest) (old : Node) (e : Effect) where
-  serving_needs : (kind : Request) → is_answered Serving kind ≡ true → ServingFaulted request f (kind_of kind) old e → SendsOrOpens e
-  serving_needs requests.CreateSession is faulted = absurd cc
-  serving_needs requests.DeleteSession is faulted = absurd cc
-  serving_needs requests.CreateBearer is faulted = sends (λ none. cc) faulted
-  serving_needs requests.DeleteBearer is faulted = sends (λ none. cc) faulted
-
-  packet_needs : (kind : Request) → is_answered Packet kind ≡ true → PacketFaulted request f (kind_of kind) old e → SendsOrOpens e
-  packet_needs requests.CreateSession is faulted = sends (λ none. cc) faulted
-  packet_needs requests.DeleteSession is faulted = sends (λ none. cc) faulted
-  packet_needs requests.CreateBearer is faulted = absurd cc
-  packet_needs requests.DeleteBearer is faulted = absurd cc
-
-pub fault_needs : (request : Arrival) (f : FaultyRequest) (old : Station) (kind : Request) → request.source.ip ≡ old.node.config.peer.control → f.kind ≡ kind_of kind → is_answered old.role kind ≡ true → StepSendsOrOpens request (Faulty f) old
-fault_needs request f old kind peer same is = read_needs request (Faulty f) old peer (λ new. by old.role is)
-  where
-    by : (role : Role) → is_answered role kind ≡ true → AlwaysSendsOrOpens (reads_by role (Faulty f) request) old.node
-    by Serving is e reads = serving_needs request f old.node e kind is (subst (λ (k : RequestKind). ServingFaulted request f k old.node e) same reads)
-    by Packet is e reads = packet_needs request f old.node e kind is (subst (λ (k : RequestKind). PacketFaulted request f k old.node e) same reads)
+pub fault_needs : (request : Arrival) (f : FaultyRequest) (old : Station) → request.source.ip ≡ old.node.config.peer.control → answers_type old.role f.kind ≡ true → StepSendsOrOpens request (Faulty f) old
+fault_needs request f old peer is = read_needs request (Faulty f) old peer (λ new e reads. sends (λ none. cc) (subst (λ (b : Bool). Faulted b request f old.node e) is reads))

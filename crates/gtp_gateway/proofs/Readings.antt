@@ -1,6 +1,6 @@
 -- What is read on the control plane is of the control plane.
 use Rattle.std.proofs.Common.{◌≡◌, ℕ, Bool, true, false, List, [], ◌∷◌, Option, Some, None, Result, Ok, Err, refl}
-use Rattle.std.specs.Prelude.{◌==◌, if◌then◌else◌}
+use Rattle.std.specs.Prelude.{if◌then◌else◌}
 use Rattle.gtp_v2.specs.Table.{Field}
 use Rattle.gtp_v2.specs.Message.{Content, Fields, Raw, MessageValue}
 use Rattle.gtp_v2.specs.Pair.{DatagramValue}
@@ -8,22 +8,19 @@ use Rattle.gtp_v2.specs.reading.Message.{message_at}
 use Rattle.gtp_v2.specs.reading.Pair.{datagram_at}
 use Rattle.gtp_v2.specs.declared.fault.V2Fault.{V2Fault}
 use Rattle.gtp_ie.specs.Value.{Value}
-use Rattle.gtp_v2.specs.CreateSessionRequest.{create_session_request}
-use Rattle.gtp_v2.specs.CreateBearerRequest.{create_bearer_request}
 use Rattle.gtp_machine.specs.Message.{Message, Control, plane_of}
-use Rattle.gtp_machine.specs.Decoded.{contexts_in, session_request_in, bearer_request_in, message_in, content_message, message_of}
+use Rattle.gtp_machine.specs.Decoded.{session_request_in, bearer_request_in, message_by, content_message, message_of}
 use Rattle.gtp_machine.specs.Input.{ControlReading, Control_message, Faulty, Control_fault}
 use Rattle.gtp_machine.specs.Reading.{control_fault, control_reading_of, Alone, announces, messages_read, pair_reading_of}
 use Rattle.gtp_machine.specs.Spelling.{datagram_plane}
 use Rattle.gtp_machine.proofs.Octets.Faults.{IsFault, fault_is}
+use Rattle.gtp_machine.specs.declared.message_type.MessageType.TheVariants as types
+use Rattle.gtp_machine.specs.declared.message_type.MessageType.{MessageType}
+use Rattle.gtp_machine.specs.MessageType.{type_at}
 use Rattle.gtp_gateway.specs.Spelled as kept
 
 abbrev IsControl : Message → Type 0
 IsControl m = plane_of m ≡ Control
-
-either : (b : Bool) (x y : Message) → IsControl x → IsControl y → IsControl (if b then x else y)
-either true x y p q = p
-either false x y p q = q
 
 session : (header number : ℕ) (f : List Field) (groups : List (List (List Value))) → IsControl (session_request_in header number f groups)
 session header number f [] = refl
@@ -33,21 +30,13 @@ bearer : (header number : ℕ) (f : List Field) (groups : List (List (List Value
 bearer header number f [] = refl
 bearer header number f (g ∷ groups) = refl
 
-fields : (kind header number : ℕ) (f : List Field) → IsControl (message_in kind header number f)
-fields kind header number f =
-    either (kind == 1) _ _ refl
-    (either (kind == 2) _ _ refl
-    (either (kind == 32) _ _ (session header number f (contexts_in create_session_request f))
-    (either (kind == 33) _ _ refl
-    (either (kind == 36) _ _ refl
-    (either (kind == 37) _ _ refl
-    (either (kind == 95) _ _ (bearer header number f (contexts_in create_bearer_request f))
-    (either (kind == 96) _ _ refl
-    (either (kind == 99) _ _ refl
-    (either (kind == 100) _ _ refl refl)))))))))
+fields : (t : Option MessageType) (kind header number : ℕ) (f : List Field) → IsControl (message_by t kind header number f)
+fields (Some types.CreateSessionRequest) kind header number f = session header number f _
+fields (Some types.CreateBearerRequest) kind header number f = bearer header number f _
+fields t kind header number f = refl
 
 content : (kind header number : ℕ) (c : Content) → IsControl (content_message kind header number c)
-content kind header number (Fields f) = fields kind header number f
+content kind header number (Fields f) = fields (type_at kind) kind header number f
 content kind header number (Raw octets) = refl
 
 message : (m : MessageValue) → IsControl (message_of m)

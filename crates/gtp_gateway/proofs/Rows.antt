@@ -5,7 +5,6 @@ use Rattle.gtp_values.specs.declared.address.Endpoint.{Endpoint}
 use Rattle.gtp_values.specs.declared.counter.Counter.{Counter}
 use Rattle.gtp_machine.specs.Config.{Config}
 use Rattle.gtp_machine.specs.declared.role.Role.{Role}
-use Rattle.gtp_machine.specs.declared.role.Role.TheVariants.{Serving, Packet}
 use Rattle.gtp_machine.specs.Message.{Message, recovery_of}
 use Rattle.gtp_machine.specs.Answer.{IsNew, answered}
 use Rattle.gtp_machine.specs.Recovery.{Hears, learned_by}
@@ -25,7 +24,8 @@ use Rattle.gtp_gateway.specs.Row.{TellsRow, IsRow, IsHeardRow}
 use Rattle.gtp_gateway.specs.Station.{Station}
 use Rattle.gtp_gateway.specs.Taken.{plain_report, datagrams, Tells, IsTaken}
 use Rattle.gtp_gateway.specs.Hearing.{weighed_by, node_heard, IsEarlier, report_heard, effect_heard}
-use Rattle.gtp_gateway.specs.Procedure.{TakesBy, takes_by}
+use Rattle.gtp_machine.specs.MessageType.{takes_message}
+use Rattle.gtp_machine.specs.Step.{TakesBy}
 use Rattle.gtp_gateway.specs.Parts.{arrival_of}
 use Rattle.gtp_gateway.proofs.SentBack.{none_sent, one_sent}
 use Rattle.gtp_gateway.proofs.Weighing.{told_is, later_is, hears_on, hears_old, config_stays}
@@ -93,14 +93,12 @@ hears_early Takes old None early = absurd early
 hears_early Takes old (Some counter) early = hears_old Takes old counter early
 
 -- a message that the gateway takes, from the peer, for which no answer is held
-pub message_taken : (role : Role) (old : Node) (request : Arrival) (m : Message) (e : Effect) → request.source.ip ≡ old.config.peer.control → IsNew old request → takes_by role m ≡ true → Hears (TakesBy role request m) old (recovery_of m) e → MachineStep role old (Control_came request (Control_message m)) e
-message_taken Serving old request m e peer new takes hears = inr (peer, inr (new, inr (takes, hears)))
-message_taken Packet old request m e peer new takes hears = inr (peer, inr (new, inr (takes, hears)))
+pub message_taken : (role : Role) (old : Node) (request : Arrival) (m : Message) (e : Effect) → request.source.ip ≡ old.config.peer.control → IsNew old request → takes_message role m ≡ true → Hears (TakesBy role request m) old (recovery_of m) e → MachineStep role old (Control_came request (Control_message m)) e
+message_taken role old request m e peer new takes hears = inr (peer, inr (new, inr (takes, hears)))
 
 -- one that it does not take
-pub message_left : (role : Role) (old : Node) (request : Arrival) (m : Message) → request.source.ip ≡ old.config.peer.control → IsNew old request → (takes_by role m ≡ true → ⊥) → MachineStep role old (Control_came request (Control_message m)) (dropped old Unexpected)
-message_left Serving old request m peer new not = inr (peer, inr (new, inl (not, refl)))
-message_left Packet old request m peer new not = inr (peer, inr (new, inl (not, refl)))
+pub message_left : (role : Role) (old : Node) (request : Arrival) (m : Message) → request.source.ip ≡ old.config.peer.control → IsNew old request → (takes_message role m ≡ true → ⊥) → MachineStep role old (Control_came request (Control_message m)) (dropped old Unexpected)
+message_left role old request m peer new not = inr (peer, inr (new, inl (not, refl)))
 
 tells_heard : (config : Config) (request : Arrival) (old : Station) (step : ControlStep) (recovery : Option Counter) (e : Effect) → config ≡ old.node.config → TellsRow config request step e → Tells old request (record step { report = report_heard (weighed_by recovery old.node.known) step.report }) (told recovery old.node.known e)
 tells_heard config request old step None e same tells =
@@ -129,7 +127,7 @@ told_node None known e = refl
 told_node (Some counter) known e = refl
 
 -- a row, once the counter was heard, is a step on what the octets read as
-pub row_taken : (source : Endpoint) (octets : List ℕ) (old : Station) (m : Message) (recovery : Option Counter) (step : ControlStep) (new : Station) → source.ip ≡ old.node.config.peer.control → IsNew old.node (arrival_of source octets) → taken_as (datagram_reading octets) ≡ Control_message m → takes_by old.role m ≡ true
+pub row_taken : (source : Endpoint) (octets : List ℕ) (old : Station) (m : Message) (recovery : Option Counter) (step : ControlStep) (new : Station) → source.ip ≡ old.node.config.peer.control → IsNew old.node (arrival_of source octets) → taken_as (datagram_reading octets) ≡ Control_message m → takes_message old.role m ≡ true
     → option_map (λ (c : Counter). c.0) recovery ≡ recovery_of m → (IsEarlier (weighed_by recovery old.node.known) → ⊥) → IsHeardRow (arrival_of source octets) m (weighed_by recovery old.node.known) old step new
     → IsTaken source octets old (record step { report = report_heard (weighed_by recovery old.node.known) step.report }) new
 row_taken source octets old m recovery step new peer fresh reads takes counter on row =
@@ -145,7 +143,7 @@ row_taken source octets old m recovery step new peer fresh reads takes counter o
     }
 
 -- a message with a counter of an earlier start is dropped
-pub early_taken : (source : Endpoint) (octets : List ℕ) (old : Station) (m : Message) (recovery : Option Counter) → source.ip ≡ old.node.config.peer.control → IsNew old.node (arrival_of source octets) → taken_as (datagram_reading octets) ≡ Control_message m → takes_by old.role m ≡ true
+pub early_taken : (source : Endpoint) (octets : List ℕ) (old : Station) (m : Message) (recovery : Option Counter) → source.ip ≡ old.node.config.peer.control → IsNew old.node (arrival_of source octets) → taken_as (datagram_reading octets) ≡ Control_message m → takes_message old.role m ≡ true
     → option_map (λ (c : Counter). c.0) recovery ≡ recovery_of m → IsEarlier (weighed_by recovery old.node.known)
     → IsTaken source octets old (record { out = None; report = report_heard (weighed_by recovery old.node.known) (plain_report (Dropped OldCounter)) }) old
 early_taken source octets old m recovery peer fresh reads takes counter early =

@@ -12,7 +12,7 @@ use Rattle.gtp_machine.specs.Answer.{IsNew, refusing}
 use Rattle.gtp_machine.specs.Element.{cause_of}
 use Rattle.gtp_machine.specs.Choice.{HasHeldRoom}
 use Rattle.gtp_machine.specs.Config.{Config}
-use Rattle.gtp_machine.specs.Input.{Came_to, ControlReading, Control_message, nothing, says_all, Effect, Of_create_bearer}
+use Rattle.gtp_machine.specs.Input.{Came_to, ControlReading, Control_message, nothing, says_all, Effect}
 use Rattle.gtp_machine.specs.Message.{Message, CreateBearerRequest, Create_bearer_request}
 use Rattle.gtp_machine.specs.Node.{Session, Arrival, Held, Node}
 use Rattle.gtp_machine.specs.Serving.{BearerJudged, BearerAsked}
@@ -20,7 +20,7 @@ use Rattle.gtp_gateway.specs.declared.control_step.ControlStep.{ControlStep}
 use Rattle.gtp_gateway.specs.declared.granting.BearerAnswer.{BearerAnswer}
 use Rattle.gtp_gateway.specs.declared.granting.BearerAnswer.TheVariants.{Refused, NoResources, Granted}
 use Rattle.gtp_gateway.specs.declared.granting.BearerRequest.{BearerRequest}
-use Rattle.gtp_gateway.specs.declared.procedure.Procedure.TheVariants as procedures
+use Rattle.gtp_machine.specs.declared.message_type.MessageType.TheVariants as types
 use Rattle.gtp_gateway.specs.declared.sent.Sent.{Sent}
 use Rattle.gtp_gateway.specs.Answering.{answering}
 use Rattle.gtp_gateway.specs.Choosing.{MakesLowestBearer}
@@ -28,7 +28,7 @@ use Rattle.gtp_gateway.specs.Granting.{IsChosen, bearer_answer, change_for, gran
 use Rattle.gtp_gateway.specs.Change.{changed_by}
 use Rattle.gtp_gateway.specs.Needing.{StepSendsOrOpens}
 use Rattle.gtp_gateway.specs.Parts.{arrival_of, held_of}
-use Rattle.gtp_gateway.specs.Procedure.{has, takes_by}
+use Rattle.gtp_machine.specs.MessageType.{takes_type, takes_message}
 use Rattle.gtp_gateway.specs.Row.{IsRow}
 use Rattle.gtp_gateway.specs.Sent.{datagram_by, AreSent}
 use Rattle.gtp_gateway.specs.Station.{Station}
@@ -77,11 +77,11 @@ module _ (source : Endpoint) (octets : List ℕ) (q : CreateBearerRequest) (old 
   abbrev message : Message
   message = Create_bearer_request q
 
-  has_it : has old.role procedures.BearerAsked ≡ true
-  has_it = ap (λ (r : Role). has r procedures.BearerAsked) serving
+  has_it : takes_type old.role types.CreateBearerRequest ≡ true
+  has_it = ap (λ (r : Role). takes_type r types.CreateBearerRequest) serving
 
-  takes_it : takes_by old.role message ≡ true
-  takes_it = ap (λ (r : Role). takes_by r message) serving
+  takes_it : takes_message old.role message ≡ true
+  takes_it = ap (λ (r : Role). takes_message r message) serving
 
   pub row_is_taken : IsNew old.node request → (step : ControlStep) (new : Station) → IsRow (BearerAsked request q) request old.role old.node step new → IsTakenAs (Control_message message) source octets old step new
   row_is_taken fresh step new row =
@@ -121,7 +121,7 @@ module _ (source : Endpoint) (octets : List ℕ) (q : CreateBearerRequest) (old 
 
 -- the answer is the same at any gateway with this counter and these settings
 pub same_answer : (a : BearerAnswer) (header : ℕ) (q : CreateBearerRequest) (old node : Node) → node.counter ≡ old.counter → node.config ≡ old.config → bearer_answer a header q old ≡ bearer_answer a header q node
-same_answer (Refused cause) header q old node counter config = λ i. refusing Of_create_bearer header q.number (cause_of cause) (sym counter i)
+same_answer (Refused cause) header q old node counter config = λ i. refusing types.CreateBearerRequest header q.number (cause_of cause) (sym counter i)
 same_answer NoResources header q old node counter config = λ i. bearer_answer NoResources header q (record node { counter = sym counter i })
 same_answer (Granted g) header q old node counter config = λ i. bearer_answer (Granted g) header q (record node { counter = sym counter i; config = sym config i })
 

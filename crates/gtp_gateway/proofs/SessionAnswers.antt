@@ -26,12 +26,14 @@ use Rattle.gtp_machine.specs.Response.{Named}
 use Rattle.gtp_machine.specs.Serving.{FitsSession, DescribesSession, opened_session, opened_bearer, SessionAnswered as SessionRow}
 use Rattle.gtp_machine.specs.Sound.{IsSound}
 use Rattle.gtp_machine.proofs.Sound.Changes.{is_session}
+use Rattle.gtp_machine.proofs.Basics.Types.{type_kind}
+use Rattle.gtp_machine.specs.declared.role.Role.TheVariants.{Serving}
 use Rattle.gtp_gateway.specs.declared.hearing.Heard.{Heard}
 use Rattle.gtp_gateway.specs.Hearing.{node_heard}
 use Rattle.gtp_gateway.proofs.Blank.{IsBlank, stands_there, blank_there}
 use Rattle.gtp_gateway.proofs.Settled.{heard_sound}
 use Rattle.gtp_gateway.specs.declared.contexts.ResponseContext.{ResponseContext}
-use Rattle.gtp_gateway.specs.declared.procedure.Procedure.TheVariants.{SessionAnswered}
+use Rattle.gtp_machine.specs.declared.message_type.MessageType.TheVariants as types
 use Rattle.gtp_gateway.specs.declared.purpose.Purpose.{Purpose}
 use Rattle.gtp_gateway.specs.declared.purpose.Purpose.TheVariants.{CreateSession}
 use Rattle.gtp_gateway.specs.declared.response.Response.{Response}
@@ -42,12 +44,13 @@ use Rattle.gtp_gateway.specs.declared.settle.Verdict.TheVariants.{Drops, Finishe
 use Rattle.gtp_gateway.specs.Asking.{about}
 use Rattle.gtp_gateway.specs.Contexts.{context_values, AreContexts, ReadsOnly}
 use Rattle.gtp_gateway.specs.Parts.{session_of}
-use Rattle.gtp_gateway.specs.Procedure.{procedure_at, has, TakesBy}
+use Rattle.gtp_machine.specs.MessageType.{type_at, takes_type}
+use Rattle.gtp_machine.specs.Step.{TakesBy}
 use Rattle.gtp_gateway.specs.SessionAnswer.{SaysCreated, SaysOnlyCreated, SaysSession, FitsSessionOf, IsAskedSession, IsDescribed}
 use Rattle.gtp_gateway.specs.Settled.{IsWaiting, effect_by}
 use Rattle.gtp_gateway.specs.Spelled.{is_for}
-use Rattle.gtp_gateway.proofs.InPlace.{type_is, groups_so, session_answered}
-use Rattle.gtp_gateway.proofs.Procedures.{at_serving}
+use Rattle.gtp_gateway.proofs.InPlace.{groups_so, session_answered}
+use Rattle.gtp_gateway.proofs.Procedures.{at_taker}
 
 -- ---- what the message says, where it lies
 
@@ -55,9 +58,9 @@ use Rattle.gtp_gateway.proofs.Procedures.{at_serving}
 abbrev pub created_others : List Element → List (List Value)
 created_others es = option_to_list (optional_at 87 2 es) ∷ option_to_list (optional_at 80 0 es) ∷ option_to_list (optional_at 94 0 es) ∷ []
 
-pub created_contexts : (octets : List ℕ) (m : MessageValue) (is : IsMessage octets m) (at : procedure_at m.kind ≡ Some SessionAnswered) → AreContexts m created_others (session_answered octets m (type_is m.kind SessionAnswered at) is).groups
+pub created_contexts : (octets : List ℕ) (m : MessageValue) (is : IsMessage octets m) (at : type_at m.kind ≡ Some types.CreateSessionResponse) → AreContexts m created_others (session_answered octets m (type_kind m.kind types.CreateSessionResponse at) is).groups
 created_contexts octets m is at =
-    let a = session_answered octets m (type_is m.kind SessionAnswered at) is in
+    let a = session_answered octets m (type_kind m.kind types.CreateSessionResponse at) is in
     record {
       stand = subst (λ o. IsSomeAnd o (λ p. (p.1 ≡ a.groups) × ((es : List Element) → values_in p.0 es ≡ context_values created_others es))) (sym (groups_so 33 93 0 _ m a.says)) (refl, λ es. refl);
       each = a.each;
@@ -236,5 +239,5 @@ module _ (role : Role) (heard : Heard) (old : Node) (whole : ∥ IsSound role ol
 
 -- ---- wired to the kinds of message
 
-pub takes_session_response : (role : Role) (request : Arrival) (a : CreateSessionResponse) (m : Message) → has role SessionAnswered ≡ true → m ≡ Create_session_response a → (n : Node) (e : Effect) → SessionRow a n e → TakesBy role request m n e
-takes_session_response role request a m has_it is n e takes = at_serving (λ r k. TakesBy r request k n e) SessionAnswered role m (Create_session_response a) refl has_it is takes
+pub takes_session_response : (role : Role) (request : Arrival) (a : CreateSessionResponse) (m : Message) → takes_type role types.CreateSessionResponse ≡ true → m ≡ Create_session_response a → (n : Node) (e : Effect) → SessionRow a n e → TakesBy role request m n e
+takes_session_response role request a m has_it is n e takes = at_taker (λ r k. TakesBy r request k n e) Serving role m (Create_session_response a) has_it is takes

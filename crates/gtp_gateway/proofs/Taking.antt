@@ -5,24 +5,20 @@ use Rattle.std.proofs.lemmas.List.Elements.{recursion_from_All}
 use Rattle.gtp_values.specs.declared.address.Endpoint.{Endpoint}
 use Rattle.gtp_reliable.specs.Held.{HeldPair, HasAnswer}
 use Rattle.gtp_machine.specs.declared.role.Role.{Role}
-use Rattle.gtp_machine.specs.declared.role.Role.TheVariants.{Serving, Packet}
 use Rattle.gtp_machine.specs.Node.{Arrival, Node}
-use Rattle.gtp_machine.specs.Answer.{ControlStep}
+use Rattle.gtp_machine.specs.Answer.{ControlStep, TakesReading}
 use Rattle.gtp_machine.specs.Input.{ControlReading, Control_message, Control_came, Effect}
 use Rattle.gtp_machine.specs.Message.{Message, Plane, Control, plane_of}
-use Rattle.gtp_machine.specs.Packet.{PacketReads}
 use Rattle.gtp_machine.specs.Reading.{Alone, DatagramReads, reading_of}
-use Rattle.gtp_machine.specs.Serving.{ServingReads}
 use Rattle.gtp_machine.specs.Spelling.{datagram_plane, spelled_all}
-use Rattle.gtp_machine.specs.Step.{Step}
+use Rattle.gtp_machine.specs.Step.{Step, TakesBy}
 use Rattle.gtp_machine.proofs.Octets.Datagrams.{message_reads_alone}
 use Rattle.gtp_gateway.specs.Sent.{ReadsBackOn, ReadsBack}
 use Rattle.gtp_gateway.specs.Spelled.{message_in, those_read, messages_in, LieApart, AreSpelled, AreSpelledAll, IsKept, AreAnswered}
 
 -- before a datagram is read, both gateways take the same steps
 pub by_role : (role : Role) (old : Node) (request : Arrival) (reading : ControlReading) (e : Effect) → ((Reads : Arrival → Node → Effect → Type 0) → ControlStep Reads request old e) → Step role old (Control_came request reading) e
-by_role Serving old request reading e step = step (ServingReads reading)
-by_role Packet old request reading e step = step (PacketReads reading)
+by_role role old request reading e step = step (TakesReading role (TakesBy role) reading)
 
 answered_there : (ps : List HeldPair) (source : Endpoint) (request answer : List ℕ) → AllByRecursion IsKept ps → HasAnswer source request answer ps → AreSpelledAll answer
 answered_there [] source request answer each has = absurd has

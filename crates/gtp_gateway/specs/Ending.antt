@@ -9,6 +9,7 @@ use Rattle.gtp_ie.specs.Value.{Value, OfEbi}
 use Rattle.gtp_v2.specs.Message.{Fields, MessageValue}
 use Rattle.gtp_v2.specs.Table.{Plain}
 use Rattle.gtp_v2.specs.declared.body.delete_bearer_response.RemovalResponseContext.{RemovalResponseContext}
+use Rattle.gtp_machine.specs.declared.causes.TheConstants.{REQUEST_ACCEPTED, CONTEXT_NOT_FOUND}
 use Rattle.gtp_machine.specs.Answer.{answered}
 use Rattle.gtp_machine.specs.Command.{NamesBearer}
 use Rattle.gtp_machine.specs.Element.{cause_of}
@@ -78,10 +79,10 @@ NamesEach old session before (n ∷ named) = NamesOne old session before n.ident
 abbrev pub identity_named : NamedBearer → ℕ
 identity_named n = n.identity.0
 
--- 16 where a bearer goes, and else 64
+-- whether a bearer goes, or there is none
 abbrev pub cause_named : Option Teid → ℕ
-cause_named None = 64
-cause_named (Some teid) = 16
+cause_named None = CONTEXT_NOT_FOUND
+cause_named (Some teid) = REQUEST_ACCEPTED
 
 abbrev pub removed_by : NamedBearer → RemovedBearer
 removed_by n = record { identity = n.identity.0; cause = cause_of (cause_named n.teid) }

@@ -1,4 +1,5 @@
 -- Create Session Requests, as the packet gateway answers them.
+use Rattle.gtp_machine.specs.declared.message_type.MessageType.TheVariants as types
 use Rattle.std.specs.Prelude.{◌≡◌, ℕ, ◌<◌, Bool, true, false, List, [], ◌∷◌, Some, length}
 use Rattle.std.specs.FinMap.{insert}
 use Rattle.gtp_values.specs.FiniteMap.{FiniteMap}
@@ -7,12 +8,13 @@ use Rattle.gtp_values.specs.declared.cause.Cause.{Cause}
 use Rattle.gtp_values.specs.Cause.{is_accepting_value}
 use Rattle.gtp_reliable.specs.Pending.{AreDistinct, IsNextFree}
 use Rattle.gtp_tables.specs.Free.{IsLowestGiven}
+use Rattle.gtp_machine.specs.declared.causes.TheConstants.{NO_RESOURCES_AVAILABLE, ALL_DYNAMIC_ADDRESSES_ARE_OCCUPIED}
 use Rattle.gtp_machine.specs.declared.outcome.Outcome.TheVariants.{Answered}
 use Rattle.gtp_machine.specs.Choice.{HasDraws, HasSessionRoom, asked_by, CanGive}
 use Rattle.gtp_machine.specs.Element.{cause_of, tunnel_end}
 use Rattle.gtp_machine.specs.Command.{bearer_request, bearer_asked, pending_dedicated}
 use Rattle.gtp_machine.specs.Config.{template_for}
-use Rattle.gtp_machine.specs.Input.{Effect, Of_create_session}
+use Rattle.gtp_machine.specs.Input.{Effect}
 use Rattle.gtp_machine.specs.Message.{Message, Create_session_response, Create_bearer_request}
 use Rattle.gtp_machine.specs.Message as messages
 use Rattle.gtp_machine.specs.Node.{Active, Default, Session, Bearer, Arrival, Node, holding}
@@ -111,8 +113,8 @@ IsVerdict identity pdn (GrantedWith g a) heard s = Chooses identity pdn g heard 
 -- the last rules, which look at what is free
 abbrev pub RoomJudged : Arrival → messages.CreateSessionRequest → Node → Effect → Type 0
 RoomJudged request q old e =
-    Unless (HasSessionRoom old × HasDraws old 2) (e ≡ session_refused request q (cause_of 73) old) (λ few.
-    Unless (CanGive old q.pdn) (e ≡ session_refused request q (cause_of 84) old) (λ can.
+    Unless (HasSessionRoom old × HasDraws old 2) (e ≡ session_refused request q (cause_of NO_RESOURCES_AVAILABLE) old) (λ few.
+    Unless (CanGive old q.pdn) (e ≡ session_refused request q (cause_of ALL_DYNAMIC_ADDRESSES_ARE_OCCUPIED) old) (λ can.
     MakesSession request old q e))
 
 -- the verdict is the machine's by the last rule, for a request of this access point
@@ -143,7 +145,7 @@ pub record IsAnsweredSo (source : Endpoint) (octets : List ℕ) (answer : List M
 
 -- it was refused
 abbrev pub IsRefusedSession : Endpoint → List ℕ → SessionRequest → Cause → Heard → Station → ControlStep → Station → Type 0
-IsRefusedSession source octets r cause heard old step new = IsAnsweredSo source octets (refusing Of_create_session r.control.teid r.seq cause old.node.counter ∷ []) cause.value false (node_heard heard old.node) old step new
+IsRefusedSession source octets r cause heard old step new = IsAnsweredSo source octets (refusing types.CreateSessionRequest r.control.teid r.seq cause old.node.counter ∷ []) cause.value false (node_heard heard old.node) old step new
 
 -- it was granted
 abbrev pub IsGrantedSession : Endpoint → List ℕ → SessionRequest → Grant → Heard → Station → ControlStep → Station → Type 0

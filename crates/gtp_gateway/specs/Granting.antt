@@ -1,4 +1,5 @@
 -- Create Bearer Requests, as the serving gateway takes them.
+use Rattle.gtp_machine.specs.declared.message_type.MessageType.TheVariants as types
 use Rattle.gtp_ie.specs.Form.{number_of, bearer_context}
 use Rattle.gtp_ie.specs.declared.form.Form.TheVariants as forms
 use Rattle.std.specs.Prelude.{◌≡◌, ◌↔◌, ℕ, Bool, true, false, IsTrue, IsSome, List, [], ◌∷◌, Option, Some, None}
@@ -11,10 +12,11 @@ use Rattle.gtp_ie.specs.Value.{Value, OfEbi, OfFTeid}
 use Rattle.gtp_v2.specs.CreateBearerRequest.{bearer_request_context_rows}
 use Rattle.gtp_v2.specs.Message.{MessageValue}
 use Rattle.gtp_v2.specs.Viewed.{in_row, in_groups, always_has}
+use Rattle.gtp_machine.specs.declared.causes.TheConstants.{REQUEST_ACCEPTED, NO_RESOURCES_AVAILABLE}
 use Rattle.gtp_machine.specs.Answer.{refusing}
 use Rattle.gtp_machine.specs.Decoded.{row}
 use Rattle.gtp_machine.specs.Element.{cause_of, tunnel_end}
-use Rattle.gtp_machine.specs.Input.{Of_create_bearer, Effect, dropped}
+use Rattle.gtp_machine.specs.Input.{Effect, dropped}
 use Rattle.gtp_machine.specs.declared.outcome.DropReason.TheVariants.{ContextNotActive}
 use Rattle.gtp_machine.specs.Message.{Message, Create_bearer_response}
 use Rattle.gtp_machine.specs.Message as messages
@@ -75,21 +77,26 @@ granted_to r identity = record { remote = Some r.user.teid; session = r.header.0
 
 -- the answer to a request, at this node
 abbrev pub bearer_answer : BearerAnswer → ℕ → messages.CreateBearerRequest → Node → Message
-bearer_answer (Refused cause) header q old = refusing Of_create_bearer header q.number (cause_of cause) old.counter
+bearer_answer (Refused cause) header q old = refusing types.CreateBearerRequest header q.number (cause_of cause) old.counter
 bearer_answer NoResources header q old = Create_bearer_response (no_resources old q header)
 bearer_answer (Granted g) header q old =
     Create_bearer_response (record {
       header = header;
       number = q.number;
-      cause = cause_of 16;
-      contexts = record { identity = g.identity; cause = cause_of 16; serving_user = Some (tunnel_end 4 g.drawn.teid.0 old.config.own.user); packet_user = Some q.context.user } ∷ [];
+      cause = cause_of REQUEST_ACCEPTED;
+      contexts = record {
+        identity = g.identity;
+        cause = cause_of REQUEST_ACCEPTED;
+        serving_user = Some (tunnel_end 4 g.drawn.teid.0 old.config.own.user);
+        packet_user = Some q.context.user;
+      } ∷ [];
       recovery = Some old.counter;
     })
 
 abbrev pub cause_in : BearerAnswer → ℕ
 cause_in (Refused cause) = cause
-cause_in NoResources = 73
-cause_in (Granted g) = 16
+cause_in NoResources = NO_RESOURCES_AVAILABLE
+cause_in (Granted g) = REQUEST_ACCEPTED
 
 abbrev pub is_granted : BearerAnswer → Bool
 is_granted (Refused cause) = false

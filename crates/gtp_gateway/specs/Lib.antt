@@ -17,7 +17,6 @@ pub mod Wish
 pub mod Answering
 pub mod Taken
 pub mod Hearing
-pub mod Procedure
 pub mod Row
 pub mod Response
 pub mod Settled
@@ -25,7 +24,6 @@ pub mod Contexts
 pub mod SessionAnswer
 pub mod BearerAnswer
 pub mod Asked
-pub mod InPlace
 pub mod Granting
 pub mod Ending
 pub mod Faulty

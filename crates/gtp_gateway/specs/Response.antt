@@ -1,5 +1,6 @@
 -- Responses that a gateway gets, by what their requests were for.
 use Rattle.std.specs.Prelude.{◌≡◌, ◌⊎◌, ℕ, Bool, true}
+use Rattle.gtp_machine.specs.declared.causes.TheConstants.{CONTEXT_NOT_FOUND}
 use Rattle.gtp_machine.specs.Message as messages
 use Rattle.gtp_values.specs.declared.address.Endpoint.{Endpoint}
 use Rattle.gtp_machine.specs.Answer.{echoed}
@@ -16,9 +17,9 @@ use Rattle.gtp_gateway.specs.Hearing.{node_heard}
 use Rattle.gtp_gateway.specs.Station.{Station}
 use Rattle.gtp_gateway.specs.Row.{IsRow}
 
--- the header names the session that the request is about; or it is 0 with cause 64 (context not found), where the request's own was not
+-- the header names the session that the request is about; or it is 0 with the cause that no context was found, where the request's own was not
 abbrev pub Names : Response → ℕ → Bool → Type 0
-Names r session named = (session ≡ r.header.0) ⊎ ((r.header.0 ≡ 0) × (r.cause.value ≡ 64) × (named ≡ true))
+Names r session named = (session ≡ r.header.0) ⊎ ((r.header.0 ≡ 0) × (r.cause.value ≡ CONTEXT_NOT_FOUND) × (named ≡ true))
 
 -- the request is an Echo Request
 abbrev pub FitsEcho : Purpose → Type 0

@@ -9,7 +9,7 @@ use Rattle.gtp_machine.specs.Input.{Came_to, nothing, Effect}
 use Rattle.gtp_gateway.specs.declared.control_step.ControlStep.{ControlStep}
 use Rattle.gtp_gateway.specs.declared.hearing.Heard.{Heard}
 use Rattle.gtp_gateway.specs.Hearing.{weighed_by, node_heard}
-use Rattle.gtp_gateway.specs.Procedure.{TakesBy}
+use Rattle.gtp_machine.specs.Step.{TakesBy}
 use Rattle.gtp_gateway.specs.Sent.{AreSent}
 use Rattle.gtp_gateway.specs.Station.{Station}
 use Rattle.gtp_gateway.specs.Taken.{datagrams, made_for}

@@ -7,6 +7,7 @@ use Rattle.gtp_v2.specs.Message.{MessageValue}
 use Rattle.gtp_v2.specs.Viewed.{in_groups}
 use Rattle.gtp_values.specs.PdnAddress.{PdnAddress, allocation}
 use Rattle.gtp_values.specs.TunnelEnd.{TunnelEnd}
+use Rattle.gtp_machine.specs.declared.causes.TheConstants.{REQUEST_ACCEPTED}
 use Rattle.gtp_machine.specs.Element.{cause_of}
 use Rattle.gtp_machine.specs.Message as messages
 use Rattle.gtp_machine.specs.Packet.{session_cause}
@@ -44,6 +45,12 @@ granted r control user address counter =
       control = Some control;
       address = Some (allocation 64 address);
       ambr = r.ambr;
-      contexts = record { identity = r.default.identity; cause = cause_of 16; user = Some user; qos = Some r.default.qos; charging = Some user.teid } ∷ [];
+      contexts = record {
+        identity = r.default.identity;
+        cause = cause_of REQUEST_ACCEPTED;
+        user = Some user;
+        qos = Some r.default.qos;
+        charging = Some user.teid;
+      } ∷ [];
       recovery = Some counter;
     }

@@ -7,6 +7,7 @@ ghost use Rattle.gtp_machine.specs.Reading.{control_message, removed_bearer};
 ghost use Rattle.gtp_gateway.specs.Own.{IsOwn};
 
 use crate::messages::plain_cause;
+use gtp_machine::causes::{NO_RESOURCES_AVAILABLE, REQUEST_ACCEPTED};
 use gtp_v2::{
     BearerResponseContext, Body, CreateBearerResponse, DeleteBearerResponse, EbiValue, Listed,
     Message, Recovery, RemovalResponseContext,
@@ -30,10 +31,10 @@ pub fn bearer_grant(
         ≡ Create_bearer_response (record {
           header = header.0;
           number = seq;
-          cause = cause_of 16;
+          cause = cause_of REQUEST_ACCEPTED;
           contexts = record {
             identity = identity;
-            cause = cause_of 16;
+            cause = cause_of REQUEST_ACCEPTED;
             serving_user = Some serving_user;
             packet_user = Some packet_user;
           } ∷ [];
@@ -43,7 +44,7 @@ pub fn bearer_grant(
 {
     let context = BearerResponseContext {
         ebi: EbiValue::from(identity),
-        cause: plain_cause(16),
+        cause: plain_cause(REQUEST_ACCEPTED),
         serving_user: Some(serving_user),
         packet_user: Some(packet_user),
     };
@@ -53,7 +54,7 @@ pub fn bearer_grant(
         seq,
         priority: None,
         body: Body::CreateBearerResponse(CreateBearerResponse {
-            cause: plain_cause(16),
+            cause: plain_cause(REQUEST_ACCEPTED),
             contexts: Listed::of(contexts),
             recovery: Some(Recovery(counter)),
         }),
@@ -74,10 +75,10 @@ pub fn no_resources_response(
         ≡ Create_bearer_response (record {
           header = header.0;
           number = seq;
-          cause = cause_of 73;
+          cause = cause_of NO_RESOURCES_AVAILABLE;
           contexts = record {
             identity = 0;
-            cause = cause_of 73;
+            cause = cause_of NO_RESOURCES_AVAILABLE;
             serving_user = None;
             packet_user = Some packet_user;
           } ∷ [];
@@ -87,7 +88,7 @@ pub fn no_resources_response(
 {
     let context = BearerResponseContext {
         ebi: EbiValue(Below::new(0)),
-        cause: plain_cause(73),
+        cause: plain_cause(NO_RESOURCES_AVAILABLE),
         serving_user: None,
         packet_user: Some(packet_user),
     };
@@ -97,7 +98,7 @@ pub fn no_resources_response(
         seq,
         priority: None,
         body: Body::CreateBearerResponse(CreateBearerResponse {
-            cause: plain_cause(73),
+            cause: plain_cause(NO_RESOURCES_AVAILABLE),
             contexts: Listed::of(contexts),
             recovery: Some(Recovery(counter)),
         }),

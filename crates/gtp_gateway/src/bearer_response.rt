@@ -7,12 +7,12 @@ ghost use Rattle.gtp_values.specs.declared.counter.Counter.{Counter as AnyCounte
 ghost use Rattle.gtp_machine.specs.Message as messages;
 ghost use Rattle.gtp_machine.specs.Node.{Active, Closing};
 ghost use Rattle.gtp_machine.specs.Packet.{BearerAnswered};
-ghost use Rattle.gtp_gateway.specs.declared.procedure.Procedure.TheVariants as procedures;
+ghost use Rattle.gtp_machine.specs.declared.message_type.MessageType.TheVariants as types;
 ghost use Rattle.gtp_gateway.specs.BearerAnswer.{ReadsBearer, FitsBearerOf, IsAskedBearer, CanOpenIn, SaysBearer, JudgesBearer, TakesBearer};
 ghost use Rattle.gtp_gateway.specs.Hearing.{weighed_by, node_heard};
 ghost use Rattle.gtp_gateway.specs.Needing.{AlwaysSendsOrOpens};
 ghost use Rattle.gtp_gateway.specs.Parts.{node_of};
-ghost use Rattle.gtp_gateway.specs.Procedure.{procedure_at};
+ghost use Rattle.gtp_machine.specs.MessageType.{type_at};
 ghost use Rattle.gtp_gateway.specs.Station.{IsWhole, station_of};
 
 use crate::contexts::{ResponseContext, accepts, only_context_in};
@@ -45,7 +45,7 @@ pub struct AskedBearer {
 /// What a Create Bearer Response says.
 pub fn bearer_response_in(view: &MessageView<'_>) -> BearerResponse
     requires spelled { (octets : List ℕ) × IsMessage octets view.now.message }
-    requires of { procedure_at view.now.message.kind ≡ Some procedures.BearerAnswered }
+    requires of { type_at view.now.message.kind ≡ Some types.CreateBearerResponse }
     ensures { ReadsBearer view.now.message result }
 {
     BearerResponse {

@@ -15,7 +15,7 @@ use crate::control_step::ControlStep;
 use crate::messages::deletion_response;
 use crate::parts::Parts;
 use crate::user::written_teid;
-use gtp_machine::{DropReason, Outcome};
+use gtp_machine::{DropReason, Outcome, causes};
 use gtp_tables::Session;
 use gtp_v2::{EbiValue, MessageView};
 use gtp_values::{Below, Endpoint, Memory, Seq, Teid};
@@ -78,7 +78,7 @@ impl Parts {
         let Some(session) = self.sessions.get(request.header) else {
             return DeletionVerdict {
                 header: Teid(0),
-                cause: 64,
+                cause: causes::CONTEXT_NOT_FOUND,
                 change: Change::Stays,
             };
         };
@@ -86,13 +86,13 @@ impl Parts {
         if !is_linked_to(request.linked, &session) {
             return DeletionVerdict {
                 header,
-                cause: 64,
+                cause: causes::CONTEXT_NOT_FOUND,
                 change: Change::Stays,
             };
         }
         DeletionVerdict {
             header,
-            cause: 16,
+            cause: causes::REQUEST_ACCEPTED,
             change: Change::RemovesSession(request.header),
         }
     }

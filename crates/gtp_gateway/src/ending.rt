@@ -37,7 +37,7 @@ use crate::messages::plain_cause;
 use crate::parts::Parts;
 use crate::user::written_teid;
 use gtp_ie::IeValue;
-use gtp_machine::{DropReason, Outcome};
+use gtp_machine::{DropReason, Outcome, causes};
 use gtp_tables::{Session, State};
 use gtp_v2::{EbiValue, Message, MessageView, RemovalResponseContext};
 use gtp_values::{Below, Ebi, Endpoint, Memory, Seq, Teid};
@@ -121,13 +121,13 @@ impl NamedBearer {
         }
     }
 
-    /// Its bearer context in the answer: 16 where the bearer goes, and else 64.
+    /// Its bearer context in the answer: whether the bearer goes, or there is none.
     fn context(&self) -> RemovalResponseContext
         ensures { result ≡ context_by self.now }
     {
         let cause = match self.teid {
-            None => 64,
-            Some(_) => 16,
+            None => causes::CONTEXT_NOT_FOUND,
+            Some(_) => causes::REQUEST_ACCEPTED,
         };
         RemovalResponseContext {
             ebi: self.identity,
@@ -165,17 +165,16 @@ fn is_any_found(named: &[NamedBearer]) -> bool
     named.iter().any(|n| n.teid.is_some())
 }
 
-/// The cause of the answer: 16 where all bearers go, 17 (accepted partially) where some do, and 64
-/// where none does.
+/// The cause of the answer: all bearers go, some do, or none does.
 fn cause_of_all(named: &[NamedBearer]) -> u8
     ensures { result ≡ removal_cause (map removed_by named.now) }
 {
     if are_all_found(named) {
-        16
+        causes::REQUEST_ACCEPTED
     } else if is_any_found(named) {
-        17
+        causes::REQUEST_ACCEPTED_PARTIALLY
     } else {
-        64
+        causes::CONTEXT_NOT_FOUND
     }
 }
 
@@ -187,7 +186,7 @@ impl Parts {
         let Some(session) = self.sessions.get(request.header) else {
             return RemovalVerdict::Answered(RemovalAnswer {
                 header: Teid(0),
-                cause: 64,
+                cause: causes::CONTEXT_NOT_FOUND,
                 linked: None,
                 change: Change::Stays,
             });
@@ -202,14 +201,14 @@ impl Parts {
         if !is_default(linked, &session) {
             return RemovalVerdict::Answered(RemovalAnswer {
                 header,
-                cause: 64,
+                cause: causes::CONTEXT_NOT_FOUND,
                 linked: None,
                 change: Change::Stays,
             });
         }
         RemovalVerdict::Answered(RemovalAnswer {
             header,
-            cause: 16,
+            cause: causes::REQUEST_ACCEPTED,
             linked: Some(linked),
             change: Change::RemovesSession(request.header),
         })
@@ -393,7 +392,7 @@ impl Parts {
         if has_too_many(view) {
             let answer = RemovalAnswer {
                 header,
-                cause: 94,
+                cause: causes::REQUEST_REJECTED,
                 linked: None,
                 change: Change::Stays,
             };

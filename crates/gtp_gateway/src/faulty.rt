@@ -1,11 +1,12 @@
 //! Datagrams of the control plane that are at fault (TS 29.274 7.7).
 
-ghost use Rattle.std.specs.Prelude.{◌≡◌, ◌<◌, true, false, IfOk, OnErr, option_map};
+ghost use Rattle.std.specs.Prelude.{◌≡◌, ◌<◌, true, false, IfOk, OnErr};
 ghost use Rattle.gtp_v2.specs.Instances.{ElementInstanceIsSmall, InstanceIsSmall};
 ghost use Rattle.gtp_machine.specs.Answer.{fault_number, defect_cause, opened_remote, faulty_header};
-ghost use Rattle.gtp_machine.specs.Reading.{control_fault, request_kind, missing_in, defect_in, element_fault, announces, datagram_fault};
+ghost use Rattle.gtp_machine.specs.Reading.{control_fault, request_type, missing_in, defect_in, element_fault, announces, datagram_fault};
 ghost use Rattle.std.specs.FinMap as map;
-ghost use Rattle.gtp_gateway.specs.Faulty.{kind_of, defect_of, fault_of, reading_of, is_answered, dropped_for};
+ghost use Rattle.gtp_gateway.specs.Faulty.{defect_of, fault_of, reading_of, dropped_for};
+ghost use Rattle.gtp_machine.specs.MessageType.{answers_type};
 ghost use Rattle.gtp_gateway.specs.Parts.{node_of};
 ghost use Rattle.gtp_gateway.specs.Station.{station_of};
 ghost use Rattle.gtp_gateway.specs.Faulty.{IsFaultTaken};
@@ -17,23 +18,11 @@ use crate::messages::{fault_cause, refusal};
 use crate::parts::Parts;
 use crate::user::written_teid;
 use gtp_ie::IeFault;
-use gtp_machine::{DropReason, FaultName, Outcome, Plane, Role};
+use gtp_machine::{DropReason, FaultName, MessageType, Outcome, Plane, causes};
 use gtp_tables::State;
-use gtp_v2::kinds::{
-    CREATE_BEARER_REQUEST, CREATE_SESSION_REQUEST, DELETE_BEARER_REQUEST, DELETE_SESSION_REQUEST,
-};
 use gtp_v2::{BAD_ELEMENT, Head, MISSING_ELEMENT, V2Fault};
 use gtp_values::{Below, Endpoint, FTeid, Memory, Seq, Teid};
 use std::alloc::Global;
-
-/// The requests whose faults are answered.
-#[derive(Clone, Copy)]
-pub enum Request {
-    CreateSession,
-    DeleteSession,
-    CreateBearer,
-    DeleteBearer,
-}
 
 /// Why an element of a request cannot be taken (TS 29.274 7.7.6 to 7.7.8).
 #[derive(Clone, Copy)]
@@ -47,7 +36,8 @@ pub enum Defect {
 /// A request with a faulty element.
 #[derive(Clone, Copy)]
 pub struct FaultyRequest {
-    pub kind: Request,
+    /// One of those that are answered.
+    pub kind: MessageType,
     /// The TEID of its header.
     pub header: Teid,
     pub seq: Seq,
@@ -79,29 +69,25 @@ impl Defect {
         }
     }
 
-    /// The cause that it is answered with: mandatory or conditional element missing, invalid length,
-    /// mandatory element incorrect.
+    /// The cause that it is answered with.
     fn cause(self) -> u8
         ensures { result ≡ defect_cause (defect_of self) }
     {
         match self {
-            Defect::MandatoryMissing => 70,
-            Defect::ConditionalMissing => 103,
-            Defect::TooShort => 67,
-            Defect::OutOfRange => 69,
+            Defect::MandatoryMissing => causes::MANDATORY_IE_MISSING,
+            Defect::ConditionalMissing => causes::CONDITIONAL_IE_MISSING,
+            Defect::TooShort => causes::INVALID_LENGTH,
+            Defect::OutOfRange => causes::MANDATORY_IE_INCORRECT,
         }
     }
 }
 
-/// The request of a type, where its faults are answered.
-fn request_of(kind: u8) -> Option<Request>
-    ensures { option_map (λ k. kind_of k) result ≡ request_kind kind }
+/// The type of a request, where its faults are answered.
+fn request_of(kind: u8) -> Option<MessageType>
+    ensures { result ≡ request_type kind }
 {
-    match kind {
-        CREATE_SESSION_REQUEST => Some(Request::CreateSession),
-        DELETE_SESSION_REQUEST => Some(Request::DeleteSession),
-        CREATE_BEARER_REQUEST => Some(Request::CreateBearer),
-        DELETE_BEARER_REQUEST => Some(Request::DeleteBearer),
+    match MessageType::of(kind) {
+        Some(message_type) if message_type.is_request() => Some(message_type),
         _ => None,
     }
 }
@@ -121,7 +107,7 @@ fn missing(conditional: bool) -> Defect
 fn flaw_in(head: &Head, defect: Defect, element: u8, instance: u8) -> Flaw
     requires { instance < 16 }
     ensures { reading_of result
-        ≡ defect_in (request_kind head.now.kind) head.now (defect_of defect) element instance }
+        ≡ defect_in (request_type head.now.kind) head.now (defect_of defect) element instance }
 {
     match request_of(head.kind) {
         None => Flaw::Plain(defect.number()),
@@ -193,16 +179,6 @@ pub fn flaw_of(octets: &[u8], fault: &V2Fault) -> Flaw
     }
 }
 
-/// Whether a gateway takes such requests, and so answers their faults.
-fn answers(role: Role, kind: Request) -> bool
-    ensures { result ≡ is_answered role kind }
-{
-    match kind {
-        Request::CreateSession | Request::DeleteSession => role == Role::Packet,
-        Request::CreateBearer | Request::DeleteBearer => role == Role::Serving,
-    }
-}
-
 /// A datagram with the fault of this printed number is dropped.
 fn undecodable(number: u8) -> ControlStep
     ensures { result ≡ dropped_for number }
@@ -229,17 +205,15 @@ impl Parts {
 
     /// The header of the answer to a faulty request (TS 29.274 5.5.2).
     fn faulty_header(&self, faulty: &FaultyRequest) -> Teid
-        ensures { result.0 ≡ faulty_header (node_of self.now) (kind_of faulty.now.kind)
+        ensures { result.0 ≡ faulty_header (node_of self.now) faulty.now.kind
             (fault_of faulty.now) }
     {
         match faulty.kind {
-            Request::CreateSession => match faulty.sender {
+            MessageType::CreateSessionRequest => match faulty.sender {
                 None => Teid(0),
                 Some(sender) => sender.teid(),
             },
-            Request::DeleteSession | Request::CreateBearer | Request::DeleteBearer => {
-                self.opened_remote(faulty.header)
-            }
+            _ => self.opened_remote(faulty.header),
         }
     }
 
@@ -250,7 +224,7 @@ impl Parts {
         source: Endpoint,
         faulty: &FaultyRequest,
     ) -> Result<ControlStep, Memory>
-        requires { is_answered self.now.role faulty.now.kind ≡ true }
+        requires { answers_type self.now.role faulty.now.kind ≡ true }
         ensures taken { IfOk result (λ step.
             IsFaultTaken source (reading_of (flaws.Faulty faulty.now))
             (station_of self.now) step) }
@@ -281,7 +255,7 @@ impl Parts {
         match flaw {
             Flaw::Plain(number) => Ok(undecodable(*number)),
             Flaw::Faulty(faulty) => {
-                if answers(self.role, faulty.kind) {
+                if faulty.kind.is_answered_by(self.role) {
                     self.answer_fault(alloc, source, faulty)
                 } else {
                     Ok(undecodable(faulty.defect.number()))

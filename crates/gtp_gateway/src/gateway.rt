@@ -8,7 +8,7 @@ ghost use Rattle.gtp_gateway.specs.Begun.{IsDone, IsRefusedWhere, AsksNext};
 ghost use Rattle.gtp_gateway.specs.Choosing.{ChoosesLowest};
 ghost use Rattle.gtp_gateway.specs.Specified.{specification};
 ghost use Rattle.gtp_reliable.specs.Pending.{AreDistinct};
-ghost use Rattle.gtp_machine.specs.Determined.{HeldOnce};
+ghost use Rattle.gtp_machine.specs.Determined.{OneAnswerPerRequest};
 ghost use Rattle.gtp_gateway.specs.Station.{Station, starting, IsTied, IsWhole};
 ghost use Rattle.gtp_gateway.specs.Ticked.{IsIdle, ForgetsNone, IsTicked, CountsOn, arrivals_of, due_in};
 ghost use Rattle.gtp_gateway.specs.Received.{IsReceived, KeepsTiming, NeedsMemory};
@@ -255,7 +255,7 @@ impl Gateway {
     pub(crate) fn stands(&self)
         ensures whole { IsWhole self.now }
         ensures tied { IsTied self.now }
-        ensures once { HeldOnce self.now.node }
+        ensures once { OneAnswerPerRequest self.now.node }
         ensures distinct { AreDistinct self.now.timing.waiting }
     {
         let _held_full = self.parts.held.is_full();

@@ -24,11 +24,10 @@ use crate::change::Change;
 use crate::closing::is_open;
 use crate::control_step::ControlStep;
 use crate::drawing::OneDrawn;
-use crate::faulty::Request;
 use crate::messages::{own_end, plain_cause, refusal};
 use crate::parts::Parts;
 use crate::user::written_teid;
-use gtp_machine::DropReason;
+use gtp_machine::{DropReason, MessageType, causes};
 use gtp_tables::{Bearer, Kind, Session, State, View};
 use gtp_v2::{EbiValue, Message, MessageView};
 use gtp_values::{Below, Ebi, Endpoint, FTeid, Memory, Seq, Teid};
@@ -105,8 +104,8 @@ impl BearerAnswer {
     {
         match *self {
             BearerAnswer::Refused { cause } => cause,
-            BearerAnswer::NoResources => 73,
-            BearerAnswer::Granted(_) => 16,
+            BearerAnswer::NoResources => causes::NO_RESOURCES_AVAILABLE,
+            BearerAnswer::Granted(_) => causes::REQUEST_ACCEPTED,
         }
     }
 
@@ -183,7 +182,9 @@ impl Parts {
         let Some(session) = found else {
             return Some(BearerVerdict {
                 header: Teid(0),
-                answer: BearerAnswer::Refused { cause: 64 },
+                answer: BearerAnswer::Refused {
+                    cause: causes::CONTEXT_NOT_FOUND,
+                },
             });
         };
         if !is_open(&session) {
@@ -193,13 +194,17 @@ impl Parts {
         if !request.is_alone {
             return Some(BearerVerdict {
                 header,
-                answer: BearerAnswer::Refused { cause: 94 },
+                answer: BearerAnswer::Refused {
+                    cause: causes::REQUEST_REJECTED,
+                },
             });
         }
         if !is_default(request.linked, &session) {
             return Some(BearerVerdict {
                 header,
-                answer: BearerAnswer::Refused { cause: 64 },
+                answer: BearerAnswer::Refused {
+                    cause: causes::CONTEXT_NOT_FOUND,
+                },
             });
         }
         let Some(grant) = self.choose(request.header, view) else {
@@ -233,7 +238,14 @@ impl Parts {
         match verdict.answer {
             BearerAnswer::Refused { cause } => {
                 let cause = plain_cause(cause);
-                refusal(alloc, Request::CreateBearer, header, seq, cause, counter)
+                refusal(
+                    alloc,
+                    MessageType::CreateBearerRequest,
+                    header,
+                    seq,
+                    cause,
+                    counter,
+                )
             }
             BearerAnswer::NoResources => {
                 no_resources_response(alloc, header, seq, request.user, counter)

@@ -4,21 +4,22 @@ ghost use Rattle.std.specs.Prelude.{◌≡◌, ℕ, List, Some, option_map};
 ghost use Rattle.gtp_v2.specs.Datagram.{IsMessage};
 ghost use Rattle.gtp_machine.specs.Message.{recovery_of};
 ghost use Rattle.gtp_machine.specs.Decoded.{message_of};
-ghost use Rattle.gtp_gateway.specs.Procedure.{procedure_at};
+ghost use Rattle.gtp_machine.specs.MessageType.{type_at};
 
-use crate::procedure::Procedure;
+use gtp_machine::MessageType;
 use gtp_v2::{MessageView, Recovery};
 use gtp_values::Counter;
 
-/// The sender's restart counter, where the message that the procedure takes tells one.
-pub fn counter_in(view: &MessageView<'_>, procedure: Procedure) -> Option<Counter>
+/// The sender's restart counter, where a message of this type tells one.
+pub fn counter_in(view: &MessageView<'_>, message_type: MessageType) -> Option<Counter>
     requires spelled { (octets : List ℕ) × IsMessage octets view.now.message }
-    requires taken { procedure_at view.now.message.kind ≡ Some procedure }
+    requires taken { type_at view.now.message.kind ≡ Some message_type }
     ensures { option_map (λ c. c.0) result ≡ recovery_of (message_of view.now.message) }
 {
-    match procedure {
-        Procedure::DeletionAsked | Procedure::BearerAsked | Procedure::RemovalAsked => None,
-        _ => counter_of(view.value(0)),
+    if message_type.has_counter() {
+        counter_of(view.value(0))
+    } else {
+        None
     }
 }
 

@@ -28,7 +28,6 @@ mod listing;
 mod messages;
 mod pair;
 mod parts;
-mod procedure;
 mod purpose;
 mod receive;
 mod removal;

@@ -1,5 +1,6 @@
 //! The messages that a gateway sends.
 
+ghost use Rattle.gtp_machine.specs.declared.message_type.MessageType.TheVariants as types;
 ghost use Rattle.std.specs.Prelude.{◌≡◌, ◌∷◌, false, [], Some, None, IfOk};
 ghost use Rattle.gtp_machine.specs.Message.{Echo_request, Echo_response, Create_session_request, Create_session_response, Delete_session_request, Delete_session_response, Create_bearer_request, Delete_bearer_request};
 ghost use Rattle.gtp_machine.specs.Command.{asked_allocation};
@@ -7,16 +8,14 @@ ghost use Rattle.gtp_machine.specs.Element.{cause_of, cause_at, tunnel_end};
 ghost use Rattle.gtp_machine.specs.Packet.{session_cause};
 ghost use Rattle.gtp_gateway.specs.SessionAsked.{granted};
 ghost use Rattle.gtp_machine.specs.Answer.{refusing};
-ghost use Rattle.gtp_machine.specs.Input.{Of_create_session, Of_delete_session, Of_create_bearer, Of_delete_bearer};
 ghost use Rattle.gtp_values.specs.Cause.{is_accepting_value};
-ghost use Rattle.gtp_gateway.specs.Faulty.{kind_of};
 ghost use Rattle.gtp_gateway.specs.Specified.{requested};
 ghost use Rattle.gtp_machine.specs.Reading.{control_message};
 ghost use Rattle.gtp_gateway.specs.Own.{IsOwn};
 
-use crate::faulty::Request;
 use crate::session::SessionSpec;
 use crate::session_request::SessionRequest;
+use gtp_machine::{MessageType, causes};
 use gtp_v2::{
     BearerRequestContext, Body, Boxed, ChargingId, CreateBearerRequest, CreateBearerResponse,
     CreateSessionRequest, CreateSessionResponse, DeleteBearerRequest, DeleteBearerResponse,
@@ -110,10 +109,10 @@ pub fn fault_cause(value: u8, kind: u8, instance: Below<16>) -> Cause
     }
 }
 
-/// A response that refuses a request: Cause and Recovery alone.
+/// A response that refuses a request of this type, of those that are answered: Cause and Recovery alone.
 pub fn refusal(
     alloc: Global,
-    request: Request,
+    request: MessageType,
     header: Teid,
     seq: Seq,
     cause: Cause,
@@ -121,14 +120,14 @@ pub fn refusal(
 ) -> Result<Message, Memory>
     requires { is_accepting_value cause.value ≡ false }
     ensures says { IfOk result (λ message. control_message message
-        ≡ refusing (kind_of request) header.0 seq cause counter.0) }
+        ≡ refusing request header.0 seq cause counter.0) }
     ensures own { IfOk result (λ message. IsOwn message) }
 {
     match request {
-        Request::CreateSession => session_refusal(alloc, header, seq, cause, counter),
-        Request::DeleteSession => Ok(deletion_refusal(header, seq, cause, counter)),
-        Request::CreateBearer => Ok(bearer_refusal(alloc, header, seq, cause, counter)),
-        Request::DeleteBearer => Ok(removal_refusal(alloc, header, seq, cause, counter)),
+        MessageType::CreateSessionRequest => session_refusal(alloc, header, seq, cause, counter),
+        MessageType::DeleteSessionRequest => Ok(deletion_refusal(header, seq, cause, counter)),
+        MessageType::CreateBearerRequest => Ok(bearer_refusal(alloc, header, seq, cause, counter)),
+        _ => Ok(removal_refusal(alloc, header, seq, cause, counter)),
     }
 }
 
@@ -143,7 +142,7 @@ fn session_refusal(
 ) -> Result<Message, Memory>
     requires { is_accepting_value cause.value ≡ false }
     ensures says { IfOk result (λ message. control_message message
-        ≡ refusing Of_create_session header.0 seq cause counter.0) }
+        ≡ refusing types.CreateSessionRequest header.0 seq cause counter.0) }
     ensures own { IfOk result (λ message. IsOwn message) }
 {
     let response = Boxed::new(
@@ -170,7 +169,7 @@ fn session_refusal(
 fn deletion_refusal(header: Teid, seq: Seq, cause: Cause, counter: Counter) -> Message
     requires { is_accepting_value cause.value ≡ false }
     ensures says { control_message result
-        ≡ refusing Of_delete_session header.0 seq cause counter.0 }
+        ≡ refusing types.DeleteSessionRequest header.0 seq cause counter.0 }
     ensures own { IsOwn result }
 {
     Message {
@@ -188,7 +187,7 @@ fn deletion_refusal(header: Teid, seq: Seq, cause: Cause, counter: Counter) -> M
 #[tactic(auto, unfolding(gtp_machine::specs::Decoded::row_in, gtp_machine::specs::Decoded::list_in, gtp_machine::specs::Decoded::contexts_in))]
 fn bearer_refusal(alloc: Global, header: Teid, seq: Seq, cause: Cause, counter: Counter) -> Message
     requires { is_accepting_value cause.value ≡ false }
-    ensures says { control_message result ≡ refusing Of_create_bearer header.0 seq cause counter.0 }
+    ensures says { control_message result ≡ refusing types.CreateBearerRequest header.0 seq cause counter.0 }
     ensures own { IsOwn result }
 {
     Message {
@@ -207,7 +206,7 @@ fn bearer_refusal(alloc: Global, header: Teid, seq: Seq, cause: Cause, counter: 
 #[tactic(auto, unfolding(gtp_machine::specs::Decoded::row_in, gtp_machine::specs::Decoded::list_in, gtp_machine::specs::Decoded::contexts_in))]
 fn removal_refusal(alloc: Global, header: Teid, seq: Seq, cause: Cause, counter: Counter) -> Message
     requires { is_accepting_value cause.value ≡ false }
-    ensures says { control_message result ≡ refusing Of_delete_bearer header.0 seq cause counter.0 }
+    ensures says { control_message result ≡ refusing types.DeleteBearerRequest header.0 seq cause counter.0 }
     ensures own { IsOwn result }
 {
     Message {
@@ -415,17 +414,17 @@ pub fn session_request(
     })
 }
 
-/// The number of the answer to a session that is granted: 18 (new PDN type due to network preference)
-/// where IPv4v6 was asked for and one version is given, else 16 (TS 29.274 8.4).
+/// The cause of the answer to a session that is granted (TS 29.274 8.4): a new PDN type if IPv4v6 was
+/// requested and one version is given.
 pub fn session_cause(pdn: PdnType, address: Addr) -> u8
     ensures { result ≡ session_cause pdn.0 address }
 {
     if pdn.0.number() != 3 {
-        return 16;
+        return causes::REQUEST_ACCEPTED;
     }
     match (address.v4(), address.v6()) {
-        (Some(_), Some(_)) => 16,
-        _ => 18,
+        (Some(_), Some(_)) => causes::REQUEST_ACCEPTED,
+        _ => causes::NEW_PDN_TYPE_DUE_TO_NETWORK_PREFERENCE,
     }
 }
 
@@ -445,7 +444,7 @@ pub fn session_response(
 {
     let context = SessionResponseContext {
         ebi: EbiValue(request.default.identity),
-        cause: plain_cause(16),
+        cause: plain_cause(causes::REQUEST_ACCEPTED),
         user: Some(user),
         qos: Some(request.default.qos),
         charging_id: Some(ChargingId(user.teid().0)),

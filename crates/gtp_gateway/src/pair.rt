@@ -10,7 +10,7 @@ ghost use Rattle.gtp_machine.specs.Message as messages;
 ghost use Rattle.gtp_machine.specs.Reading.{announces};
 ghost use Rattle.gtp_machine.specs.declared.role.Role.TheVariants.{Serving};
 ghost use Rattle.gtp_gateway.specs.declared.change.Change.TheVariants as changes;
-ghost use Rattle.gtp_gateway.specs.declared.procedure.Procedure.TheVariants as procedures;
+ghost use Rattle.gtp_machine.specs.declared.message_type.MessageType.TheVariants as types;
 ghost use Rattle.gtp_gateway.specs.Change.{changed_by, CanChange};
 ghost use Rattle.gtp_gateway.specs.Choosing.{MakesLowestBearer};
 ghost use Rattle.gtp_gateway.specs.GoesOn.{GoesOn};
@@ -18,7 +18,7 @@ ghost use Rattle.gtp_gateway.specs.Granting.{JudgesBearer, CanGive, HasFitCause,
 ghost use Rattle.gtp_gateway.specs.Hearing.{weighed_by, node_heard};
 ghost use Rattle.gtp_gateway.specs.Pairing.{session_left, node_settled, settled_station, MayStand, IsSecondTaken, NeedsEither, ArePair};
 ghost use Rattle.gtp_gateway.specs.Parts.{node_of};
-ghost use Rattle.gtp_gateway.specs.Procedure.{procedure_at};
+ghost use Rattle.gtp_machine.specs.MessageType.{type_at};
 ghost use Rattle.gtp_gateway.specs.Received.{AreReceived, EitherSendsOrOpens, of_control};
 ghost use Rattle.gtp_gateway.specs.SessionAnswer.{IsOfSession};
 ghost use Rattle.gtp_gateway.specs.Settled.{CanSettle};
@@ -33,10 +33,9 @@ use crate::granting::{
 use crate::hearing::Heard;
 use crate::in_place::counter_in;
 use crate::parts::Parts;
-use crate::procedure::Procedure;
 use crate::session_response::session_response_in;
 use crate::settle::Verdict;
-use gtp_machine::{DropReason, Outcome, Role};
+use gtp_machine::{DropReason, MessageType, Outcome, Role};
 use gtp_tables::{Bearer, Draws, Session};
 use gtp_v2::MessageView;
 use gtp_v2::kinds::{CREATE_BEARER_REQUEST, CREATE_SESSION_RESPONSE};
@@ -74,8 +73,8 @@ impl Parts {
     /// Whether two messages in one datagram are the pair that this gateway takes.
     pub fn takes_pair(&self, first: &MessageView<'_>, second: &MessageView<'_>) -> bool
         ensures { IsTrue result ↔ ((self.now.role ≡ Serving)
-            × (procedure_at first.now.message.kind ≡ Some procedures.SessionAnswered)
-            × (procedure_at second.now.message.kind ≡ Some procedures.BearerAsked)) }
+            × (type_at first.now.message.kind ≡ Some types.CreateSessionResponse)
+            × (type_at second.now.message.kind ≡ Some types.CreateBearerRequest)) }
     {
         self.role == Role::Serving
             && first.kind() == CREATE_SESSION_RESPONSE
@@ -297,8 +296,8 @@ impl Parts {
         requires serving { self.old.role ≡ Serving }
         requires peer { source.ip ≡ self.old.config.config.peer.control }
         requires lie { (octets : List ℕ) × LieIn octets first.now (Some second.now) back.now }
-        requires first { procedure_at first.now.message.kind ≡ Some procedures.SessionAnswered }
-        requires second { procedure_at second.now.message.kind ≡ Some procedures.BearerAsked }
+        requires first { type_at first.now.message.kind ≡ Some types.CreateSessionResponse }
+        requires second { type_at second.now.message.kind ≡ Some types.CreateBearerRequest }
         ensures taken { IfOk result (λ step. (octets : List ℕ)
             → LieIn octets first.now (Some second.now) back.now
             → (a : messages.CreateSessionResponse) (q : messages.CreateBearerRequest)
@@ -317,7 +316,7 @@ impl Parts {
         ensures err { OnErr result (station_of self.new ≡ station_of self.old) }
     {
         let answer = session_response_in(first);
-        let heard = self.weigh(counter_in(first, Procedure::SessionAnswered));
+        let heard = self.weigh(counter_in(first, MessageType::CreateSessionResponse));
         let verdict = self.judge_answer(&answer, heard);
         let outcome = verdict.outcome();
         let request = bearer_request_in(second);

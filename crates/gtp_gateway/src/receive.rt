@@ -4,7 +4,7 @@ ghost use Rattle.std.specs.Prelude.{◌≡◌, ◌↔◌, ℕ, false, IsTrue, So
 ghost use Rattle.gtp_gateway.specs.Choosing.{ChoosesLowest, MadeNothing};
 ghost use Rattle.gtp_gateway.specs.Pair.{IsSecondAt};
 ghost use Rattle.gtp_gateway.specs.Parts.{node_of};
-ghost use Rattle.gtp_gateway.specs.Procedure.{procedure_at, has, HasNot};
+ghost use Rattle.gtp_machine.specs.MessageType.{type_at, takes_type, takes_some};
 ghost use Rattle.gtp_gateway.specs.Station.{IsWhole, station_of};
 ghost use Rattle.gtp_gateway.specs.Received.{ControlGoesOn, ControlNeedsMemory, IsControlTaken, IsReceived, KeepsTiming, NeedsMemory};
 ghost use Rattle.gtp_gateway.specs.Taken.{IsEntered, IsSentAgain};
@@ -15,11 +15,10 @@ use crate::ask::control_end_of;
 use crate::control_step::ControlStep;
 use crate::faulty::{announces_second, flaw_of};
 use crate::parts::Parts;
-use crate::procedure::{Procedure, procedure_of};
 use crate::sent::Sent;
 use crate::step::Step;
 use crate::user_receive::Judged;
-use gtp_machine::{DropReason, Outcome, Plane};
+use gtp_machine::{DropReason, MessageType, Outcome, Plane};
 use gtp_v2::view;
 use gtp_values::{Endpoint, Memory};
 use std::alloc::Global;
@@ -138,8 +137,10 @@ impl Parts {
             }
             return self.take_pair(alloc, source, message, &second, view.back());
         }
-        match self.procedure_for(message.kind()) {
-            Some(procedure) => { self.take_message(alloc, source, octets, message, procedure) }
+        match self.type_for(message.kind()) {
+            Some(message_type) => {
+                self.take_message(alloc, source, octets, message, message_type)
+            }
             None => Ok(ControlStep::dropped(DropReason::Unexpected)),
         }
     }
@@ -180,14 +181,14 @@ impl Parts {
         self.reply_user(alloc, reply)
     }
 
-    /// The gateway's procedure for messages of a type, where it has one.
-    fn procedure_for(&self, kind: u8) -> Option<Procedure>
-        ensures some { IfSome result (λ p. (procedure_at kind ≡ Some p)
-            × (has self.now.role p ≡ true)) }
-        ensures none { IfNone result (HasNot self.now.role (procedure_at kind)) }
+    /// The type with this number, if the gateway takes messages of it.
+    fn type_for(&self, kind: u8) -> Option<MessageType>
+        ensures some { IfSome result (λ t. (type_at kind ≡ Some t)
+            × (takes_type self.now.role t ≡ true)) }
+        ensures none { IfNone result (takes_some self.now.role (type_at kind) ≡ false) }
     {
-        match procedure_of(kind) {
-            Some(procedure) if procedure.is_of(self.role) => Some(procedure),
+        match MessageType::of(kind) {
+            Some(message_type) if message_type.is_taken_by(self.role) => Some(message_type),
             _ => None,
         }
     }

@@ -17,6 +17,7 @@ ghost use Rattle.gtp_gateway.specs.UserTaken.{WaitOn};
 use crate::control_step::ControlStep;
 use crate::parts::Parts;
 use crate::purpose::Purpose;
+use gtp_machine::causes::CONTEXT_NOT_FOUND;
 use gtp_machine::{DropReason, Outcome};
 use gtp_v2::MessageView;
 use gtp_values::{Cause, Seq, Teid};
@@ -49,11 +50,12 @@ impl Response {
     ghost use Rattle.gtp_gateway.specs.Response.{Names};
 
     /// Whether the header names the session that the request is about (TS 29.274 5.5.2): it has the
-    /// session's TEID, or 0 with cause 64 where a TEID stood in the request's own.
+    /// session's TEID, or 0 with "context not found" where a TEID stood in the request's own.
     pub fn names(&self, session: Teid, is_named: bool) -> bool
         ensures { IsTrue result ↔ Names self.now session.0 is_named }
     {
-        session == self.header || (self.header.0 == 0 && self.cause.value == 64 && is_named)
+        session == self.header
+            || (self.header.0 == 0 && self.cause.value == CONTEXT_NOT_FOUND && is_named)
     }
 }
 

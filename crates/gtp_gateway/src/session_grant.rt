@@ -35,7 +35,6 @@ use crate::config::Template;
 use crate::control_step::ControlStep;
 use crate::drawing::{OneDrawn, TwoDrawn};
 use crate::encode::{EncodedPair, encode_both};
-use crate::faulty::Request;
 use crate::hearing::Heard;
 use crate::messages::{
     bearer_request, fault_cause, own_end, plain_cause, refusal, session_cause, session_response,
@@ -45,7 +44,8 @@ use crate::purpose::Purpose;
 use crate::session_request::SessionRequest;
 use crate::user::written_teid;
 use crate::wish::{is_there, pending_dedicated};
-use gtp_machine::DropReason;
+use gtp_ie::kinds;
+use gtp_machine::{DropReason, MessageType, causes};
 use gtp_tables::{Asked, Bearer, Kind, Session, State, Subscriber};
 use gtp_v2::{Message, PdnType};
 use gtp_values::{Addr, Apn, Below, Cause, Ebi, Endpoint, Memory, Seq};
@@ -197,10 +197,10 @@ impl Parts {
     {
         let view = self.view_after(heard);
         let Some(drawn) = self.draw_two() else {
-            return refused(73);
+            return refused(causes::NO_RESOURCES_AVAILABLE);
         };
         if view.is_full() {
-            return refused(73);
+            return refused(causes::NO_RESOURCES_AVAILABLE);
         }
         match view.lowest_free_address(&self.config.pools(), asked_by(pdn)) {
             Ok(address) => {
@@ -211,7 +211,7 @@ impl Parts {
                 };
                 self.judge_added(access_point, grant, heard)
             }
-            Err(_) => refused(84),
+            Err(_) => refused(causes::ALL_DYNAMIC_ADDRESSES_ARE_OCCUPIED),
         }
     }
 
@@ -222,16 +222,17 @@ impl Parts {
         ensures { JudgesSession request.now heard (station_of self.now) result }
     {
         if !request.default.is_alone {
-            return refused(94);
+            return refused(causes::REQUEST_REJECTED);
         }
         let Ok(identity) = Ebi::try_new(request.default.identity.number()) else {
-            return SessionVerdict::Refused(fault_cause(69, 73, Below::new(0)));
+            let cause = fault_cause(causes::MANDATORY_IE_INCORRECT, kinds::EBI, Below::new(0));
+            return SessionVerdict::Refused(cause);
         };
         if !self.serves(&request.access_point) {
-            return refused(78);
+            return refused(causes::MISSING_OR_UNKNOWN_APN);
         }
         if !self.serves_type(request.pdn) {
-            return refused(83);
+            return refused(causes::PREFERRED_PDN_TYPE_NOT_SUPPORTED);
         }
         self.judge_room(identity, request.pdn, &request.access_point, heard)
     }
@@ -316,7 +317,7 @@ impl Parts {
         let counter = self.draws.counter();
         let message = refusal(
             alloc,
-            Request::CreateSession,
+            MessageType::CreateSessionRequest,
             header,
             request.seq,
             cause,

@@ -7,11 +7,11 @@ ghost use Rattle.gtp_values.specs.declared.counter.Counter.{Counter as AnyCounte
 ghost use Rattle.gtp_machine.specs.Message as messages;
 ghost use Rattle.gtp_machine.specs.Node.{Active};
 ghost use Rattle.gtp_machine.specs.Serving.{SessionAnswered};
-ghost use Rattle.gtp_gateway.specs.declared.procedure.Procedure.TheVariants as procedures;
+ghost use Rattle.gtp_machine.specs.declared.message_type.MessageType.TheVariants as types;
 ghost use Rattle.gtp_gateway.specs.Hearing.{weighed_by, node_heard};
 ghost use Rattle.gtp_gateway.specs.Needing.{AlwaysSendsOrOpens};
 ghost use Rattle.gtp_gateway.specs.Parts.{node_of};
-ghost use Rattle.gtp_gateway.specs.Procedure.{procedure_at};
+ghost use Rattle.gtp_machine.specs.MessageType.{type_at};
 ghost use Rattle.gtp_gateway.specs.SessionAnswer.{ReadsSession, FitsSessionOf, IsAskedSession, IsDescribed, SaysSession, JudgesSession, JudgesAnswer, TakesSession};
 ghost use Rattle.gtp_gateway.specs.Station.{IsWhole, station_of};
 
@@ -57,7 +57,7 @@ pub struct DescribedSession {
 /// What a Create Session Response says.
 pub fn session_response_in(view: &MessageView<'_>) -> SessionResponse
     requires spelled { (octets : List ℕ) × IsMessage octets view.now.message }
-    requires of { procedure_at view.now.message.kind ≡ Some procedures.SessionAnswered }
+    requires of { type_at view.now.message.kind ≡ Some types.CreateSessionResponse }
     ensures { ReadsSession view.now.message result }
 {
     SessionResponse {

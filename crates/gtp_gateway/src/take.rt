@@ -1,4 +1,4 @@
-//! Messages of the control plane that a gateway takes, by their procedures.
+//! Messages of the control plane that a gateway takes, by their types.
 
 ghost use Rattle.gtp_gateway.specs.GoesOn.{GoesOn};
 ghost use Rattle.std.specs.Prelude.{◌≡◌, true, Some, IfOk, OnOk, OnErr};
@@ -9,7 +9,8 @@ ghost use Rattle.gtp_gateway.specs.Choosing.{ChoosesLowest};
 ghost use Rattle.gtp_gateway.specs.Hearing.{node_heard};
 ghost use Rattle.gtp_gateway.specs.Needing.{AlwaysSendsOrOpens, ControlSendsOrOpens};
 ghost use Rattle.gtp_gateway.specs.Parts.{arrival_of, node_of};
-ghost use Rattle.gtp_gateway.specs.Procedure.{procedure_at, has, TakesBy};
+ghost use Rattle.gtp_machine.specs.MessageType.{type_at, takes_type};
+ghost use Rattle.gtp_machine.specs.Step.{TakesBy};
 ghost use Rattle.gtp_gateway.specs.Row.{IsWeighed, IsHeardRow};
 ghost use Rattle.gtp_gateway.specs.Station.{IsWhole, station_of};
 ghost use Rattle.gtp_gateway.specs.Taken.{IsFresh, IsTaken};
@@ -21,11 +22,10 @@ use crate::granting::bearer_request_in;
 use crate::hearing::Heard;
 use crate::in_place::counter_in;
 use crate::parts::Parts;
-use crate::procedure::Procedure;
 use crate::response::response_in;
 use crate::session_request::session_request_in;
 use crate::session_response::session_response_in;
-use gtp_machine::DropReason;
+use gtp_machine::{DropReason, MessageType};
 use gtp_v2::MessageView;
 use gtp_values::{Endpoint, Memory};
 use std::alloc::Global;
@@ -39,15 +39,15 @@ impl Parts {
         source: Endpoint,
         octets: &[u8],
         view: &MessageView<'_>,
-        procedure: Procedure,
+        message_type: MessageType,
         heard: Heard,
     ) -> Result<ControlStep, Memory>
         requires whole { IsWhole (station_of self.old) }
         requires fresh { IsFresh source octets.now (station_of self.old) self.old.held.pairs }
         requires spelled { IsMessage octets.now view.now.message }
         requires carries { Carries octets.now view.now }
-        requires of { procedure_at view.now.message.kind ≡ Some procedure }
-        requires has { has self.old.role procedure ≡ true }
+        requires of { type_at view.now.message.kind ≡ Some message_type }
+        requires has { takes_type self.old.role message_type ≡ true }
         requires weighed { IsWeighed heard (message_of view.now.message) (station_of self.old) }
         ensures taken { IfOk result (λ step.
             IsHeardRow (arrival_of source octets.now) (message_of view.now.message) heard
@@ -61,42 +61,42 @@ impl Parts {
             (node_heard heard (node_of self.old))) }
         ensures err { OnErr result (station_of self.new ≡ station_of self.old) }
     {
-        match procedure {
-            Procedure::EchoAsked => self.take_echo_request(alloc, source, view.seq(), heard),
-            Procedure::EchoAnswered => {
+        match message_type {
+            MessageType::EchoRequest => self.take_echo_request(alloc, source, view.seq(), heard),
+            MessageType::EchoResponse => {
                 self.hear(heard);
                 Ok(self.take_echo_response(view.seq()))
             }
-            Procedure::SessionAsked => {
+            MessageType::CreateSessionRequest => {
                 let request = session_request_in(view);
                 self.take_session_request(alloc, source, octets, &request, heard)
             }
-            Procedure::SessionAnswered => {
+            MessageType::CreateSessionResponse => {
                 let answer = session_response_in(view);
                 self.take_session_response(&answer, heard)
             }
-            Procedure::DeletionAsked => {
+            MessageType::DeleteSessionRequest => {
                 let request = deletion_request_in(view);
                 self.take_deletion_request(alloc, source, octets, &request)
             }
-            Procedure::DeletionAnswered => {
+            MessageType::DeleteSessionResponse => {
                 let response = response_in(view);
                 self.hear(heard);
                 Ok(self.take_deletion_response(&response))
             }
-            Procedure::BearerAsked => {
+            MessageType::CreateBearerRequest => {
                 let request = bearer_request_in(view);
                 self.take_bearer_request(alloc, source, octets, &request)
             }
-            Procedure::RemovalAsked => {
+            MessageType::DeleteBearerRequest => {
                 let request = deletion_request_in(view);
                 self.take_removal_request(alloc, source, octets, view, &request)
             }
-            Procedure::BearerAnswered => {
+            MessageType::CreateBearerResponse => {
                 let answer = bearer_response_in(view);
                 self.take_bearer_response(&answer, heard)
             }
-            Procedure::RemovalAnswered => {
+            MessageType::DeleteBearerResponse => {
                 let response = response_in(view);
                 self.hear(heard);
                 Ok(self.take_removal_response(&response))
@@ -112,14 +112,14 @@ impl Parts {
         source: Endpoint,
         octets: &[u8],
         view: &MessageView<'_>,
-        procedure: Procedure,
+        message_type: MessageType,
     ) -> Result<ControlStep, Memory>
         requires whole { IsWhole (station_of self.old) }
         requires fresh { IsFresh source octets.now (station_of self.old) self.old.held.pairs }
         requires spelled { IsMessage octets.now view.now.message }
         requires carries { Carries octets.now view.now }
-        requires of { procedure_at view.now.message.kind ≡ Some procedure }
-        requires has { has self.old.role procedure ≡ true }
+        requires of { type_at view.now.message.kind ≡ Some message_type }
+        requires has { takes_type self.old.role message_type ≡ true }
         ensures taken { IfOk result (λ step.
             IsTaken source octets.now (station_of self.old) step (station_of self.new)) }
         ensures goes { OnOk result
@@ -130,11 +130,11 @@ impl Parts {
             (ControlSendsOrOpens source octets.now (station_of self.old)) }
         ensures err { OnErr result (station_of self.new ≡ station_of self.old) }
     {
-        let heard = self.weigh(counter_in(view, procedure));
+        let heard = self.weigh(counter_in(view, message_type));
         if heard.is_earlier() {
             return Ok(ControlStep::dropped(DropReason::OldCounter).hearing(heard));
         }
-        let step = self.take_heard(alloc, source, octets, view, procedure, heard)?;
+        let step = self.take_heard(alloc, source, octets, view, message_type, heard)?;
         Ok(step.hearing(heard))
     }
 }

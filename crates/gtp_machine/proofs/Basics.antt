@@ -7,3 +7,4 @@ pub mod Ages
 pub mod Kinds
 pub mod Datagrams
 pub mod Templates
+pub mod Types

@@ -8,20 +8,33 @@ use Rattle.gtp_values.specs.declared.qos.Qos.{Qos}
 use Rattle.gtp_machine.specs.Ordered.{Unless}
 use Rattle.gtp_machine.specs.Config.{control_end, user_end}
 use Rattle.gtp_machine.specs.Element.{tunnel_end}
-use Rattle.gtp_machine.specs.Message.{CreateSessionRequest, CreateBearerRequest, Echo_request, Create_session_request, Delete_session_request, Create_bearer_request, Delete_bearer_request, Packet_data, End_marker, subscriber_of}
-use Rattle.gtp_machine.specs.Node.{Role, Serving, Packet, Pending, Active, Closing, Session, Default, Dedicated, Bearer, PendingRequest, Node, written}
-use Rattle.gtp_machine.specs.Input.{Came_to, Specification, Command, Create_session, Delete_session, Create_bearer, Delete_bearer, Release_session, Mark_end, Send_echo, Send_user, Effect, Begun, GoneOut, entry_for, says, refused, NoSuchContext, NotActive, WrongRole, SessionsFull, TeidsUsed, PendingFull, BearerEnded, PacketTooLong}
+use Rattle.gtp_machine.specs.Message.{CreateSessionRequest, DeleteSessionRequest, CreateBearerRequest, DeleteBearerRequest, Echo_request}
+use Rattle.gtp_machine.specs.Message.{Create_session_request, Delete_session_request, Create_bearer_request, Delete_bearer_request}
+use Rattle.gtp_machine.specs.Message.{Packet_data, End_marker, subscriber_of}
+use Rattle.gtp_machine.specs.Node.{Role, Serving, Packet, Pending, Active, Closing, Session, Default, Dedicated, Bearer, PendingRequest}
+use Rattle.gtp_machine.specs.Node.{Node, written}
+use Rattle.gtp_machine.specs.Input.{Came_to, Specification, Command, Create_session, Delete_session, Create_bearer, Delete_bearer}
+use Rattle.gtp_machine.specs.Input.{Release_session, Mark_end, Send_echo, Send_user, Effect, Begun, GoneOut, entry_for, says, refused}
+use Rattle.gtp_machine.specs.Input.{NoSuchContext, NotActive, WrongRole, SessionsFull, TeidsUsed, PendingFull, BearerEnded, PacketTooLong}
 use Rattle.gtp_machine.specs.Choice.{IsFree, HasDraws, IsFreeNumber, HasSessionRoom, HasPendingRoom, HasSession, HasBearer}
 use Rattle.gtp_machine.specs.Removal.{session_closing}
 use Rattle.gtp_machine.specs.User.{ended_bearer}
 
 -- a request is sent to the peer, and waits for its answer
 abbrev pub asks : Node → ℕ → PendingRequest → Option ℕ → Node → Effect
-asks old number pending teid new = record { out = says (control_end old.config.peer.control) pending.request; outcome = Came_to (Begun teid); node = record new { pending = insert old.pending number pending } }
+asks old number pending teid new = record {
+  out = says (control_end old.config.peer.control) pending.request;
+  outcome = Came_to (Begun teid);
+  node = record new { pending = insert old.pending number pending };
+}
 
--- The PDN Address Allocation (8.14) that is asked for, with no address yet: of the PDN type, and as of version 4 for a type that is none of the three.
+-- The PDN Address Allocation (8.14) that is asked for, with no address yet: of the PDN type, and as of version 4 for a type that
+-- is none of the three.
 abbrev pub asked_allocation : ℕ → Paa
-asked_allocation pdn = if pdn == 2 then paas.V6 0 (replicate 16 0) else (if pdn == 3 then paas.V4V6 0 (replicate 16 0) (replicate 4 0) else paas.V4 (replicate 4 0))
+asked_allocation pdn =
+    if pdn == 2 then paas.V6 0 (replicate 16 0)
+    else (if pdn == 3 then paas.V4V6 0 (replicate 16 0) (replicate 4 0)
+    else paas.V4 (replicate 4 0))
 
 -- the Create Session Request for a specification, with these TEIDs and this number
 abbrev pub session_request : Node → Specification → ℕ → ℕ → ℕ → CreateSessionRequest
@@ -49,7 +62,8 @@ pending_session q = record { remote = None; subscriber = subscriber_of q; addres
 
 -- its default bearer
 abbrev pub pending_bearer : ℕ → CreateSessionRequest → Bearer
-pending_bearer control q = record { remote = None; session = control; identity = Some q.context.identity; kind = Default; state = Pending; ended = false }
+pending_bearer control q =
+    record { remote = None; session = control; identity = Some q.context.identity; kind = Default; state = Pending; ended = false }
 
 -- two draws, and a pending session with its default bearer
 abbrev pub session_begun : Node → ℕ → ℕ → CreateSessionRequest → Node
@@ -69,19 +83,32 @@ pub record BeginsSession (old : Node) (spec : Specification) (e : Effect) : Type
   pub user_free : IsFree old user
   pub apart : control ≢ user
   pub number_free : IsFreeNumber old number
-  pub gives : e ≡ asks old number (record { session = Some control; bearer = None; request = Create_session_request (session_request old spec control user number) }) (Some control) (session_begun old control user (session_request old spec control user number))
+  pub gives : e ≡ asks old number
+      (record { session = Some control; bearer = None; request = Create_session_request (session_request old spec control user number) })
+      (Some control) (session_begun old control user (session_request old spec control user number))
+
+-- the requests to delete a session: of the serving gateway, and of the packet gateway
+abbrev pub deletion_request : Session → ℕ → DeleteSessionRequest
+deletion_request s number = record { header = written s.remote; number = number; linked = Some s.subscriber.identity }
+
+abbrev pub release_request : Session → ℕ → DeleteBearerRequest
+release_request s number = record { header = written s.remote; number = number; linked = Some s.subscriber.identity; identities = [] }
 
 -- A session and its bearers are closing, and the serving gateway asks to delete it (7.2.9.1).
 pub record ClosesSession (old : Node) (session : ℕ) (at : Session) (e : Effect) : Type 0 where
   pub number : ℕ
   pub number_free : IsFreeNumber old number
-  pub gives : e ≡ asks old number (record { session = Some session; bearer = None; request = Delete_session_request (record { header = written at.remote; number = number; linked = Some at.subscriber.identity }) }) (Some session) (session_closing old session at)
+  pub gives : e ≡ asks old number
+      (record { session = Some session; bearer = None; request = Delete_session_request (deletion_request at number) })
+      (Some session) (session_closing old session at)
 
 -- A session and its bearers are closing, and the packet gateway asks to delete its default bearer (7.2.9.2).
 pub record ReleasesSession (old : Node) (session : ℕ) (at : Session) (e : Effect) : Type 0 where
   pub number : ℕ
   pub number_free : IsFreeNumber old number
-  pub gives : e ≡ asks old number (record { session = Some session; bearer = None; request = Delete_bearer_request (record { header = written at.remote; number = number; linked = Some at.subscriber.identity; identities = [] }) }) (Some session) (session_closing old session at)
+  pub gives : e ≡ asks old number
+      (record { session = Some session; bearer = None; request = Delete_bearer_request (release_request at number) })
+      (Some session) (session_closing old session at)
 
 -- the Create Bearer Request for a session, with this TEID and this number
 abbrev pub bearer_request : Node → Session → List ℕ → Qos → ℕ → ℕ → CreateBearerRequest
@@ -128,22 +155,36 @@ pub record NamesBearer (node : Node) (session identity : ℕ) : Type 0 where
   pub dedicated : at.bearer.kind ≡ Dedicated
   pub has : at.bearer.identity ≡ Some identity
 
+-- the request to delete the dedicated bearer with this identity
+abbrev pub removal_request : Session → ℕ → ℕ → DeleteBearerRequest
+removal_request s number identity = record { header = written s.remote; number = number; linked = None; identities = identity ∷ [] }
+
 -- A dedicated bearer is closing, and the packet gateway asks to delete it (7.2.9.2).
 pub record ClosesBearer (old : Node) (session : ℕ) (at : Session) (identity bearer : ℕ) (b : Bearer) (e : Effect) : Type 0 where
   pub number : ℕ
   pub number_free : IsFreeNumber old number
-  pub gives : e ≡ asks old number (record { session = Some session; bearer = Some bearer; request = Delete_bearer_request (record { header = written at.remote; number = number; linked = None; identities = identity ∷ [] }) }) (Some bearer) (record old { bearers = insert old.bearers bearer (record b { state = Closing }) })
+  pub gives : e ≡ asks old number
+      (record { session = Some session; bearer = Some bearer; request = Delete_bearer_request (removal_request at number identity) })
+      (Some bearer) (record old { bearers = insert old.bearers bearer (record b { state = Closing }) })
 
 -- An Echo Request is sent (7.1.1).
 pub record SendsEcho (old : Node) (e : Effect) : Type 0 where
   pub number : ℕ
   pub number_free : IsFreeNumber old number
-  pub gives : e ≡ asks old number (record { session = None; bearer = None; request = Echo_request (record { number = number; recovery = old.counter }) }) None old
+  pub gives : e ≡ asks old number
+      (record { session = None; bearer = None; request = Echo_request (record { number = number; recovery = old.counter }) })
+      None old
 
 -- A packet is handed in for a bearer, and sent.
 pub record SendsPacket (old : Node) (at : Bearer) (payload : List ℕ) (e : Effect) : Type 0 where
   pub of : HasSession old at.session
-  pub gives : e ≡ record { out = record (says (user_end old.config.peer.user) (Packet_data (written at.remote) payload)) { handed = entry_for (written at.remote) payload of.session.subscriber at.identity ∷ [] }; outcome = Came_to GoneOut; node = old }
+  pub gives : e ≡ record {
+    out = record (says (user_end old.config.peer.user) (Packet_data (written at.remote) payload)) {
+      handed = entry_for (written at.remote) payload of.session.subscriber at.identity ∷ [];
+    };
+    outcome = Came_to GoneOut;
+    node = old;
+  }
 
 -- no End Marker was sent before: that counts at the packet gateway alone
 abbrev pub MayGo : Role → Bearer → Type 0
@@ -204,7 +245,11 @@ EndMarked Packet bearer old e =
     Unless (HasBearer old bearer) (e ≡ refused old NoSuchContext) (λ at.
     Unless (at.bearer.state ≡ Active) (e ≡ refused old NotActive) (λ active.
     Unless (at.bearer.ended ≡ false) (e ≡ refused old BearerEnded) (λ before.
-    e ≡ record { out = says (user_end old.config.peer.user) (End_marker (written at.bearer.remote)); outcome = Came_to GoneOut; node = record old { bearers = insert old.bearers bearer (ended_bearer at.bearer) } })))
+    e ≡ record {
+      out = says (user_end old.config.peer.user) (End_marker (written at.bearer.remote));
+      outcome = Came_to GoneOut;
+      node = record old { bearers = insert old.bearers bearer (ended_bearer at.bearer) };
+    })))
 
 -- echo: at both
 abbrev pub EchoBegun : Node → Effect → Type 0

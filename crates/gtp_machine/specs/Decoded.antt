@@ -11,7 +11,8 @@ use Rattle.gtp_values.specs.declared.paa.Paa.{Paa}
 use Rattle.gtp_ie.specs.Form.{number_of as number_of_form, bearer_context}
 use Rattle.gtp_ie.specs.declared.form.Form.{Form}
 use Rattle.gtp_ie.specs.declared.form.Form.TheVariants as forms
-use Rattle.gtp_ie.specs.Value.{Value, OfImsi, OfCause, OfRecovery, OfApn, OfAmbr, OfEbi, OfPaa, OfQos, OfRat, OfPlmn, OfTft, OfFTeid, OfChargingId, OfPdnType, OfPti, OfSelection}
+use Rattle.gtp_ie.specs.Value.{Value, OfImsi, OfCause, OfRecovery, OfApn, OfAmbr, OfEbi, OfPaa, OfQos, OfRat, OfPlmn, OfTft, OfFTeid}
+use Rattle.gtp_ie.specs.Value.{OfChargingId, OfPdnType, OfPti, OfSelection}
 use Rattle.gtp_v2.specs.EchoRequest.{echo_request}
 use Rattle.gtp_v2.specs.EchoResponse.{echo_response}
 use Rattle.gtp_v2.specs.CreateSessionRequest.{create_session_request, session_request_context_rows}
@@ -26,8 +27,15 @@ use Rattle.gtp_v2.specs.declared.table.Row.{Row}
 use Rattle.gtp_v2.specs.Table.{kind_of, instance_of, Field, Plain, Groups, Table}
 use Rattle.gtp_v2.specs.Viewed.{values_by, list_by, groups_by}
 use Rattle.gtp_v2.specs.Message.{Content, Fields, Raw, MessageValue}
+use Rattle.gtp_machine.specs.declared.message_type.MessageType.{MessageType}
+use Rattle.gtp_machine.specs.declared.message_type.MessageType.TheVariants as types
 use Rattle.gtp_machine.specs.Element.{cause_of}
-use Rattle.gtp_machine.specs.Message.{RequestedBearer, CreatedBearer, WantedBearer, GivenBearer, RemovedBearer, Message, Echo_request, Echo_response, Create_session_request, Create_session_response, Delete_session_request, Delete_session_response, Create_bearer_request, Create_bearer_response, Delete_bearer_request, Delete_bearer_response, Other_control}
+use Rattle.gtp_machine.specs.Message.{RequestedBearer, CreatedBearer, WantedBearer, GivenBearer, RemovedBearer, Echo, CreateSessionResponse}
+use Rattle.gtp_machine.specs.Message.{DeleteSessionRequest, DeleteSessionResponse, CreateBearerResponse, DeleteBearerRequest}
+use Rattle.gtp_machine.specs.Message.{DeleteBearerResponse, Message, Echo_request, Echo_response, Create_session_request}
+use Rattle.gtp_machine.specs.Message.{Create_session_response, Delete_session_request, Delete_session_response, Create_bearer_request}
+use Rattle.gtp_machine.specs.Message.{Create_bearer_response, Delete_bearer_request, Delete_bearer_response, Other_control}
+use Rattle.gtp_machine.specs.MessageType.{type_at}
 use Rattle.gtp_machine.specs.Node.{written}
 
 -- the number that a value is
@@ -218,22 +226,86 @@ session_request_in header number f (first ∷ further) =
 abbrev pub bearer_request_in : ℕ → ℕ → List Field → List (List (List Value)) → Message
 bearer_request_in header number f [] = Other_control create_bearer_request.kind
 bearer_request_in header number f (first ∷ further) =
-    Create_bearer_request (record { header = header; number = number; transaction = first_in number_of (row_in create_bearer_request forms.Pti 0 f); linked = number_at (row_in create_bearer_request forms.Ebi 0 f); context = wanted first; further = map wanted further })
+    Create_bearer_request (record {
+      header = header;
+      number = number;
+      transaction = first_in number_of (row_in create_bearer_request forms.Pti 0 f);
+      linked = number_at (row_in create_bearer_request forms.Ebi 0 f);
+      context = wanted first;
+      further = map wanted further;
+    })
 
--- the message of a type with these fields, under the TEID and the sequence number of its header; a type that no gateway knows says no more
+-- the other messages (7.1, 7.2)
+abbrev pub session_response_in : ℕ → ℕ → List Field → CreateSessionResponse
+session_response_in header number f = record {
+  header = header;
+  number = number;
+  cause = cause_at (row_in create_session_response forms.Cause 0 f);
+  control = first_in end_in (row_in create_session_response forms.FTeid 1 f);
+  address = first_in paa_in (row_in create_session_response forms.Paa 0 f);
+  ambr = first_in ambr_in (row_in create_session_response forms.Ambr 0 f);
+  contexts = map created (contexts_in create_session_response f);
+  recovery = first_in number_of (row_in create_session_response forms.Recovery 0 f);
+}
+
+abbrev pub deletion_request_in : ℕ → ℕ → List Field → DeleteSessionRequest
+deletion_request_in header number f =
+    record { header = header; number = number; linked = first_in number_of (row_in delete_session_request forms.Ebi 0 f) }
+
+abbrev pub deletion_response_in : ℕ → ℕ → List Field → DeleteSessionResponse
+deletion_response_in header number f = record {
+  header = header;
+  number = number;
+  cause = cause_at (row_in delete_session_response forms.Cause 0 f);
+  recovery = first_in number_of (row_in delete_session_response forms.Recovery 0 f);
+}
+
+abbrev pub bearer_response_in : ℕ → ℕ → List Field → CreateBearerResponse
+bearer_response_in header number f = record {
+  header = header;
+  number = number;
+  cause = cause_at (row_in create_bearer_response forms.Cause 0 f);
+  contexts = map given (contexts_in create_bearer_response f);
+  recovery = first_in number_of (row_in create_bearer_response forms.Recovery 0 f);
+}
+
+abbrev pub removal_request_in : ℕ → ℕ → List Field → DeleteBearerRequest
+removal_request_in header number f = record {
+  header = header;
+  number = number;
+  linked = first_in number_of (row_in delete_bearer_request forms.Ebi 0 f);
+  identities = map (λ v. unwrap_or (number_of v) 0) (list_in delete_bearer_request forms.Ebi 1 f);
+}
+
+abbrev pub removal_response_in : ℕ → ℕ → List Field → DeleteBearerResponse
+removal_response_in header number f = record {
+  header = header;
+  number = number;
+  cause = cause_at (row_in delete_bearer_response forms.Cause 0 f);
+  linked = first_in number_of (row_in delete_bearer_response forms.Ebi 0 f);
+  contexts = map removed (contexts_in delete_bearer_response f);
+  recovery = first_in number_of (row_in delete_bearer_response forms.Recovery 0 f);
+}
+
+abbrev pub echo_in : ℕ → Table → List Field → Echo
+echo_in number table f = record { number = number; recovery = number_at (row_in table forms.Recovery 0 f) }
+
+-- the message of a type with these fields, under the TEID and the sequence number of its header; a type that no gateway takes says no more
+abbrev pub message_by : Option MessageType → ℕ → ℕ → ℕ → List Field → Message
+message_by (Some types.EchoRequest) kind header number f = Echo_request (echo_in number echo_request f)
+message_by (Some types.EchoResponse) kind header number f = Echo_response (echo_in number echo_response f)
+message_by (Some types.CreateSessionRequest) kind header number f = session_request_in header number f (contexts_in create_session_request f)
+message_by (Some types.CreateSessionResponse) kind header number f = Create_session_response (session_response_in header number f)
+message_by (Some types.DeleteSessionRequest) kind header number f = Delete_session_request (deletion_request_in header number f)
+message_by (Some types.DeleteSessionResponse) kind header number f = Delete_session_response (deletion_response_in header number f)
+message_by (Some types.CreateBearerRequest) kind header number f = bearer_request_in header number f (contexts_in create_bearer_request f)
+message_by (Some types.CreateBearerResponse) kind header number f = Create_bearer_response (bearer_response_in header number f)
+message_by (Some types.DeleteBearerRequest) kind header number f = Delete_bearer_request (removal_request_in header number f)
+message_by (Some types.DeleteBearerResponse) kind header number f = Delete_bearer_response (removal_response_in header number f)
+message_by None kind header number f = Other_control kind
+
 abbrev pub message_in : ℕ → ℕ → ℕ → List Field → Message
-message_in kind header number f =
-    if kind == echo_request.kind then Echo_request (record { number = number; recovery = number_at (row_in echo_request forms.Recovery 0 f) })
-    else (if kind == echo_response.kind then Echo_response (record { number = number; recovery = number_at (row_in echo_response forms.Recovery 0 f) })
-    else (if kind == create_session_request.kind then session_request_in header number f (contexts_in create_session_request f)
-    else (if kind == create_session_response.kind then Create_session_response (record { header = header; number = number; cause = cause_at (row_in create_session_response forms.Cause 0 f); control = first_in end_in (row_in create_session_response forms.FTeid 1 f); address = first_in paa_in (row_in create_session_response forms.Paa 0 f); ambr = first_in ambr_in (row_in create_session_response forms.Ambr 0 f); contexts = map created (contexts_in create_session_response f); recovery = first_in number_of (row_in create_session_response forms.Recovery 0 f) })
-    else (if kind == delete_session_request.kind then Delete_session_request (record { header = header; number = number; linked = first_in number_of (row_in delete_session_request forms.Ebi 0 f) })
-    else (if kind == delete_session_response.kind then Delete_session_response (record { header = header; number = number; cause = cause_at (row_in delete_session_response forms.Cause 0 f); recovery = first_in number_of (row_in delete_session_response forms.Recovery 0 f) })
-    else (if kind == create_bearer_request.kind then bearer_request_in header number f (contexts_in create_bearer_request f)
-    else (if kind == create_bearer_response.kind then Create_bearer_response (record { header = header; number = number; cause = cause_at (row_in create_bearer_response forms.Cause 0 f); contexts = map given (contexts_in create_bearer_response f); recovery = first_in number_of (row_in create_bearer_response forms.Recovery 0 f) })
-    else (if kind == delete_bearer_request.kind then Delete_bearer_request (record { header = header; number = number; linked = first_in number_of (row_in delete_bearer_request forms.Ebi 0 f); identities = map (λ v. unwrap_or (number_of v) 0) (list_in delete_bearer_request forms.Ebi 1 f) })
-    else (if kind == delete_bearer_response.kind then Delete_bearer_response (record { header = header; number = number; cause = cause_at (row_in delete_bearer_response forms.Cause 0 f); linked = first_in number_of (row_in delete_bearer_response forms.Ebi 0 f); contexts = map removed (contexts_in delete_bearer_response f); recovery = first_in number_of (row_in delete_bearer_response forms.Recovery 0 f) })
-    else Other_control kind)))))))))
+message_in kind header number f = message_by (type_at kind) kind header number f
 
 -- the message of a type that carries this; the octets of another type are not looked at
 abbrev pub content_message : ℕ → ℕ → ℕ → Content → Message

@@ -25,7 +25,8 @@ cause_of value = record { value = value; pce = false; bce = false; cs = false; o
 
 -- a Cause that names the type and instance of the element at fault
 abbrev pub cause_at : ℕ → ℕ → ℕ → Cause
-cause_at value kind instance = record { value = value; pce = false; bce = false; cs = false; offending = Some (record { kind = kind; instance = instance }) }
+cause_at value kind instance =
+    record { value = value; pce = false; bce = false; cs = false; offending = Some (record { kind = kind; instance = instance }) }
 
 -- the octets of an IPv4 address
 abbrev pub v4_of : Ip → Option (List ℕ)

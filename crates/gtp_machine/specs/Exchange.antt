@@ -10,6 +10,7 @@ use Rattle.gtp_values.specs.declared.qos.Ambr.{Ambr}
 use Rattle.gtp_values.specs.declared.qos.Qos.{Qos}
 use Rattle.gtp_ie.specs.Value.{AreRates}
 use Rattle.gtp_tables.specs.Pool.{IsPool, ArePrefixes}
+use Rattle.gtp_machine.specs.declared.causes.TheConstants.{REQUEST_ACCEPTED, NEW_PDN_TYPE_DUE_TO_NETWORK_PREFERENCE}
 use Rattle.gtp_machine.specs.Config.{Template, Config}
 use Rattle.gtp_machine.specs.Element.{PdnAddress}
 use Rattle.gtp_machine.specs.Message.{CreateSessionResponse, Message, Create_session_response, plane_of}
@@ -98,7 +99,9 @@ pub record IsCarried (w sent came : World) (role : Role) (payload : List ℕ) : 
 
 -- a packet of at most 65,000 octets that is sent on the bearer, and comes next, is accepted
 abbrev pub Carries : World → Role → ℕ → Type 0
-Carries w role bearer = (payload : List ℕ) (sent came : World) → length payload ≤ 65000 → Happens w (Does role (Send_user bearer payload)) sent → Happens sent (Deliver (length w.datagrams)) came → IsCarried w sent came role payload
+Carries w role bearer =
+    (payload : List ℕ) (sent came : World) → length payload ≤ 65000 → Happens w (Does role (Send_user bearer payload)) sent →
+    Happens sent (Deliver (length w.datagrams)) came → IsCarried w sent came role payload
 
 -- There is a session for the specification at both gateways, and its default bearer carries packets in both directions.
 pub record IsMade (w : World) (spec : Specification) : Type 0 where
@@ -129,9 +132,9 @@ pub record IsNewIn (w opened : World) (spec : Specification) (made : IsMade open
   pub bearer : (b : Bearer) → get w.serving.node.bearers made.bearer ≡ Some b → ⊥
   pub bearer_there : (b : Bearer) → get w.packet.node.bearers made.bearer_there ≡ Some b → ⊥
 
--- the three events come to these outcomes, and a new session is made: the one that was begun. Its address, the same at both gateways, is one that the packet gateway
--- may give, of versions that the PDN type asks for, and the answer has the cause that goes with it (8.4): 18 where both versions were asked for and one is given,
--- else 16
+-- the three events come to these outcomes, and a new session is made: the one that was begun. Its address, the same at both
+-- gateways, is one that the packet gateway may give, of versions that the PDN type asks for, and the answer has the cause that
+-- goes with it (8.4)
 pub record Exchanged (spec : Specification) (w begun answered opened : World) : Type 0 where
   pub made : IsMade opened spec
   pub new : IsNewIn w opened spec made
@@ -144,8 +147,8 @@ pub record Exchanged (spec : Specification) (w begun answered opened : World) : 
   pub says : answer.cause.value ≡ cause
   pub address : PdnAddress
   pub given : IsGiven (heard_by w.packet.node w.serving.node.counter) spec.pdn address  -- by the rules, once the request's counter is heard
-  pub v4_asked : IsTrue (is_some address.v4) → (spec.pdn ≡ 1) ⊎ (spec.pdn ≡ 3)  -- an IPv4 address only for the PDN types IPv4 (1) and IPv4v6 (3), 8.34
-  pub v6_asked : IsTrue (is_some address.v6) → (spec.pdn ≡ 2) ⊎ (spec.pdn ≡ 3)  -- an IPv6 address only for the PDN types IPv6 (2) and IPv4v6 (3)
+  pub v4_asked : IsTrue (is_some address.v4) → (spec.pdn ≡ 1) ⊎ (spec.pdn ≡ 3)  -- only for the PDN types IPv4 (1) and IPv4v6 (3), 8.34
+  pub v6_asked : IsTrue (is_some address.v6) → (spec.pdn ≡ 2) ⊎ (spec.pdn ≡ 3)  -- only for the PDN types IPv6 (2) and IPv4v6 (3)
   pub has : made.at_serving.address ≡ Some address
   pub has_there : made.at_packet.address ≡ Some address
   pub for_address : cause ≡ session_cause spec.pdn address
@@ -164,19 +167,24 @@ pub record IsExchange (w begun answered opened : World) (spec : Specification) :
 
 -- After each run the command, the delivery of its request and the delivery of its answer make the session.
 abbrev pub FairExchange : Type 0
-FairExchange = (serving packet : Config) (serving_counter packet_counter : ℕ) (events : List Event) (w begun answered opened : World) (spec : Specification) → Run (start serving packet serving_counter packet_counter) events w → IsExchange w begun answered opened spec → Exchanged spec w begun answered opened
+FairExchange =
+    (serving packet : Config) (serving_counter packet_counter : ℕ) (events : List Event) (w begun answered opened : World) (spec : Specification) →
+    Run (start serving packet serving_counter packet_counter) events w → IsExchange w begun answered opened spec →
+    Exchanged spec w begun answered opened
 
 -- And each message that is sent in them can be sent, so it reads as itself.
 abbrev pub ExchangeSendable : Type 0
 ExchangeSendable =
-    (serving packet : Config) (serving_counter packet_counter : ℕ) (events : List Event) (w begun answered opened : World) (spec : Specification) → Run (start serving packet serving_counter packet_counter) events w → IsExchange w begun answered opened spec → (role : Role) (m : Message) → HasSent opened.history role m → HasSent w.history role m ⊎ IsSendable m
+    (serving packet : Config) (serving_counter packet_counter : ℕ) (events : List Event) (w begun answered opened : World) (spec : Specification) →
+    Run (start serving packet serving_counter packet_counter) events w → IsExchange w begun answered opened spec →
+    (role : Role) (m : Message) → HasSent opened.history role m → HasSent w.history role m ⊎ IsSendable m
 
 -- Where each message that was sent can be sent, each reads as itself.
 abbrev pub SendableRead : Type 0
 SendableRead = (w : World) → EachSendable w → AllRead w
 
--- An exchange for a session of this type, which is answered with this cause, right after a start: two configurations, a specification and its three events, with all
--- that `FairExchange` asks of them. And each message that is sent in it can be sent.
+-- An exchange for a session of this type, which is answered with this cause, right after a start: two configurations, a
+-- specification and its three events, with all that `FairExchange` asks of them. And each message that is sent in it can be sent.
 pub record AnExchange (pdn cause : ℕ) : Type 0 where
   pub serving : Config
   pub packet : Config
@@ -194,7 +202,7 @@ pub record AnExchange (pdn cause : ℕ) : Type 0 where
 
 -- There is such an exchange for each of the three types, and for type 3 one of each cause.
 pub record ExchangesArePossible : Type 0 where
-  pub v4 : AnExchange 1 16
-  pub v6 : AnExchange 2 16
-  pub both : AnExchange 3 16
-  pub one_of_both : AnExchange 3 18
+  pub v4 : AnExchange 1 REQUEST_ACCEPTED
+  pub v6 : AnExchange 2 REQUEST_ACCEPTED
+  pub both : AnExchange 3 REQUEST_ACCEPTED
+  pub one_of_both : AnExchange 3 NEW_PDN_TYPE_DUE_TO_NETWORK_PREFERENCE

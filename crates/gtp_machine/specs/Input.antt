@@ -8,13 +8,18 @@ use Rattle.gtp_values.specs.declared.qos.Qos.{Qos}
 use Rattle.gtp_machine.specs.Element.{Subscriber}
 use Rattle.gtp_machine.specs.Message.{Message, Plane}
 use Rattle.gtp_machine.specs.Node.{Arrival, Node}
+pub use Rattle.gtp_machine.specs.declared.message_type.MessageType.{MessageType}
 pub use Rattle.gtp_machine.specs.declared.outcome.Refusal.{Refusal}
-pub use Rattle.gtp_machine.specs.declared.outcome.Refusal.TheVariants.{NoSuchContext, NotActive, WrongRole, SessionsFull, TeidsUsed, PendingFull, BearerEnded, PacketTooLong}
+pub use Rattle.gtp_machine.specs.declared.outcome.Refusal.TheVariants.{NoSuchContext, NotActive, WrongRole, SessionsFull, TeidsUsed}
+pub use Rattle.gtp_machine.specs.declared.outcome.Refusal.TheVariants.{PendingFull, BearerEnded, PacketTooLong}
 pub use Rattle.gtp_machine.specs.declared.outcome.FaultName.{FaultName}
 pub use Rattle.gtp_machine.specs.declared.outcome.DropReason.{DropReason}
-pub use Rattle.gtp_machine.specs.declared.outcome.DropReason.TheVariants.{Undecodable, OldCounter, NoPending, Mismatch, ContextNotActive, UnknownContext, AfterEnd, HeldFull, Unexpected, UnknownExtension, NotPeer}
+pub use Rattle.gtp_machine.specs.declared.outcome.DropReason.TheVariants.{Undecodable, OldCounter, NoPending, Mismatch, ContextNotActive}
+pub use Rattle.gtp_machine.specs.declared.outcome.DropReason.TheVariants.{UnknownContext, AfterEnd, HeldFull, Unexpected, UnknownExtension}
+pub use Rattle.gtp_machine.specs.declared.outcome.DropReason.TheVariants.{NotPeer}
 pub use Rattle.gtp_machine.specs.declared.outcome.Outcome.{Outcome}
-pub use Rattle.gtp_machine.specs.declared.outcome.Outcome.TheVariants.{Begun, GoneOut, Refused, Answered, Echoed, Repeated, Opened, Closed, Clash, Rejected, Alive, Accepted, Ended, Broken, Dropped}
+pub use Rattle.gtp_machine.specs.declared.outcome.Outcome.TheVariants.{Begun, GoneOut, Refused, Answered, Echoed, Repeated, Opened, Closed}
+pub use Rattle.gtp_machine.specs.declared.outcome.Outcome.TheVariants.{Clash, Rejected, Alive, Accepted, Ended, Broken, Dropped}
 
 -- what a session is to be made with; where a command is well formed (Sound) the identity of its default bearer is 5 to 15
 pub record Specification : Type 0 where
@@ -26,13 +31,6 @@ pub record Specification : Type 0 where
   pub ambr : Ambr
   pub qos : Qos
 
--- the requests whose faults are answered
-pub data RequestKind : Type 0 where
-  Of_create_session : RequestKind
-  Of_delete_session : RequestKind
-  Of_create_bearer : RequestKind
-  Of_delete_bearer : RequestKind
-
 -- why a row of a message can't be taken (TS 29.274, 7.7)
 pub data Defect : Type 0 where
   Mandatory_missing : Defect
@@ -42,7 +40,7 @@ pub data Defect : Type 0 where
 
 -- a request with a faulty element: its head, the element's type and instance, and its sender's control F-TEID where that reads
 pub record FaultyRequest : Type 0 where
-  pub kind : RequestKind
+  pub kind : MessageType
   pub header : ℕ
   pub number : ℕ
   pub defect : Defect
@@ -96,7 +94,8 @@ pub record Entry : Type 0 where
 
 -- the entry of a packet for a bearer with this identity, of a session for this subscriber
 abbrev pub entry_for : ℕ → List ℕ → Subscriber → Option ℕ → Entry
-entry_for target payload subscriber identity = record { target = target; payload = payload; imsi = subscriber.imsi; access_point = subscriber.access_point; identity = identity }
+entry_for target payload subscriber identity =
+    record { target = target; payload = payload; imsi = subscriber.imsi; access_point = subscriber.access_point; identity = identity }
 
 -- a datagram that is sent, and where to
 pub record Sending : Type 0 where

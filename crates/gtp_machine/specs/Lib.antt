@@ -1,6 +1,7 @@
 pub mod Ordered
 pub mod Element
 pub mod Message
+pub mod MessageType
 pub mod Config
 pub mod Node
 pub mod Input

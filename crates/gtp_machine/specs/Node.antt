@@ -45,7 +45,8 @@ pub record Node : Type 0 where
 
 -- a gateway that has just started
 abbrev pub fresh_node : Config → ℕ → Node
-fresh_node config counter = record { config = config; counter = counter; drawn = []; known = None; sessions = empty; bearers = empty; pending = empty; held = [] }
+fresh_node config counter =
+    record { config = config; counter = counter; drawn = []; known = None; sessions = empty; bearers = empty; pending = empty; held = [] }
 
 -- a gateway that holds one more answer, after the others
 abbrev pub holding : Arrival → List Message → Node → Node

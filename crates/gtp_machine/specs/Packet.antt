@@ -1,24 +1,37 @@
 -- The control plane of the packet gateway.
-use Rattle.std.specs.Prelude.{◌≡◌, ◌≢◌, ℕ, ◌==◌, ◌&&◌, not, [], ◌∷◌, Option, Some, None, is_some, Bool, true, false, if◌then◌else◌}
+use Rattle.std.specs.Prelude.{◌≡◌, ◌≢◌, ℕ, ◌==◌, ◌&&◌, not, List, [], ◌∷◌, Option, Some, None, is_some, false, if◌then◌else◌}
 use Rattle.std.specs.FinMap.{insert, remove}
 use Rattle.gtp_values.specs.declared.cause.Cause.{Cause}
 use Rattle.gtp_values.specs.PdnAddress.{allocation}
+use Rattle.gtp_ie.specs.declared.kinds.TheConstants.{EBI}
+use Rattle.gtp_machine.specs.declared.causes.TheConstants.{REQUEST_ACCEPTED, NEW_PDN_TYPE_DUE_TO_NETWORK_PREFERENCE, CONTEXT_NOT_FOUND}
+use Rattle.gtp_machine.specs.declared.causes.TheConstants.{MANDATORY_IE_INCORRECT, NO_RESOURCES_AVAILABLE, MISSING_OR_UNKNOWN_APN}
+use Rattle.gtp_machine.specs.declared.causes.TheConstants.{PREFERRED_PDN_TYPE_NOT_SUPPORTED, ALL_DYNAMIC_ADDRESSES_ARE_OCCUPIED}
+use Rattle.gtp_machine.specs.declared.causes.TheConstants.{REQUEST_REJECTED}
+use Rattle.gtp_machine.specs.declared.message_type.MessageType.TheVariants as types
 use Rattle.gtp_machine.specs.Ordered.{Unless}
 use Rattle.gtp_machine.specs.Config.{Template, template_for}
 use Rattle.gtp_values.specs.FiniteMap.{Among}
 use Rattle.gtp_machine.specs.Element.{IsAccepting, PdnAddress, cause_of, cause_at, teid_in, tunnel_end}
-use Rattle.gtp_machine.specs.Message.{CreateSessionRequest, CreateSessionResponse, DeleteSessionRequest, CreateBearerRequest, GivenBearer, CreateBearerResponse, DeleteBearerRequest, DeleteBearerResponse, Message, Control, Echo_request, Echo_response, Create_session_request, Create_session_response, Delete_session_request, Delete_session_response, Create_bearer_request, Create_bearer_response, Delete_bearer_request, Delete_bearer_response, subscriber_of, first_given, first_identity}
+use Rattle.gtp_machine.specs.Message.{CreateSessionRequest, CreateSessionResponse, DeleteSessionRequest, DeleteSessionResponse}
+use Rattle.gtp_machine.specs.Message.{CreateBearerRequest, GivenBearer, CreateBearerResponse, DeleteBearerRequest, DeleteBearerResponse}
+use Rattle.gtp_machine.specs.Message.{Message, Echo_request, Echo_response, Create_session_request, Create_session_response}
+use Rattle.gtp_machine.specs.Message.{Delete_session_request, Delete_session_response, Create_bearer_request, Create_bearer_response}
+use Rattle.gtp_machine.specs.Message.{Delete_bearer_request, Delete_bearer_response, subscriber_of, first_given, first_identity}
 use Rattle.gtp_machine.specs.Node.{Active, Closing, Session, Bearer, Default, PendingRequest, Arrival, Node, written}
-use Rattle.gtp_machine.specs.Input.{Came_to, ControlReading, RequestKind, Of_create_session, Of_delete_session, Of_create_bearer, Of_delete_bearer, FaultyRequest, Effect, Opened, Closed, Clash, Rejected, nothing, dropped, undecodable, NoPending, Mismatch, Unexpected}
-use Rattle.gtp_machine.specs.Choice.{IsFree, HasDraws, IsFreeNumber, IsGiven, CanGive, IsServed, IsIdentity, IsUnused, HasSessionRoom, HasPendingRoom, HasSession, HasBearer, HasPending}
+use Rattle.gtp_machine.specs.Input.{Came_to, Effect, Opened, Closed, Clash, Rejected, nothing, dropped, NoPending, Mismatch, Unexpected}
+use Rattle.gtp_machine.specs.Choice.{IsFree, HasDraws, IsFreeNumber, IsGiven, CanGive, IsServed, IsIdentity, IsUnused, HasSessionRoom}
+use Rattle.gtp_machine.specs.Choice.{HasPendingRoom, HasSession, HasBearer, HasPending}
 use Rattle.gtp_machine.specs.Removal.{without_session}
 use Rattle.gtp_machine.specs.Response.{Named, finishing, EchoAnswered}
 use Rattle.gtp_machine.specs.Command.{bearer_request, bearer_asked}
-use Rattle.gtp_machine.specs.Answer.{UnlessFull, answered, making, echoed, refusing, faulted, fault_number, TakesReading}
+use Rattle.gtp_machine.specs.Answer.{UnlessFull, answered, making, echoed, request_refused}
 
--- 18 (new PDN type due to network preference) where both versions were asked for and one is given, else 16 (8.4)
+-- the cause of the answer to a session that is made (8.4): a new PDN type where both versions were asked for and one is given
 abbrev pub session_cause : ℕ → PdnAddress → ℕ
-session_cause pdn address = if (pdn == 3) && not (is_some address.v4 && is_some address.v6) then 18 else 16
+session_cause pdn address =
+    if (pdn == 3) && not (is_some address.v4 && is_some address.v6) then NEW_PDN_TYPE_DUE_TO_NETWORK_PREFERENCE
+    else REQUEST_ACCEPTED
 
 -- the answer that makes a session: any two free TEIDs and any free address, its part of version 6 under a prefix of 64 bits
 abbrev pub session_response : Node → CreateSessionRequest → ℕ → ℕ → PdnAddress → CreateSessionResponse
@@ -30,7 +43,13 @@ session_response node q control user address =
       control = Some (tunnel_end 7 control node.config.own.control);
       address = Some (allocation 64 address);
       ambr = q.ambr;
-      contexts = record { identity = q.context.identity; cause = cause_of 16; user = Some (tunnel_end 5 user node.config.own.user); qos = Some q.context.qos; charging = Some user } ∷ [];
+      contexts = record {
+        identity = q.context.identity;
+        cause = cause_of REQUEST_ACCEPTED;
+        user = Some (tunnel_end 5 user node.config.own.user);
+        qos = Some q.context.qos;
+        charging = Some user;
+      } ∷ [];
       recovery = Some node.counter;
     }
 
@@ -40,7 +59,14 @@ made_session q address = record { remote = Some q.control.teid; subscriber = sub
 
 -- its default bearer
 abbrev pub made_bearer : CreateSessionRequest → ℕ → Bearer
-made_bearer q control = record { remote = Some q.context.user.teid; session = control; identity = Some q.context.identity; kind = Default; state = Active; ended = false }
+made_bearer q control = record {
+  remote = Some q.context.user.teid;
+  session = control;
+  identity = Some q.context.identity;
+  kind = Default;
+  state = Active;
+  ended = false;
+}
 
 -- two draws, and an active session with its default bearer
 abbrev pub session_made : Node → CreateSessionRequest → ℕ → ℕ → PdnAddress → Node
@@ -51,17 +77,24 @@ session_made old q control user address =
       bearers = insert old.bearers user (made_bearer q control);
     }
 
--- The bearer of the template is begun with the session (7.2.3): any free TEID and any free number. Its request goes with the answer, in one datagram (5.5.1), and
--- that is the answer that is held.
-pub record AddsBearer (t : Template) (request : Arrival) (a : CreateSessionResponse) (cause : ℕ) (session : ℕ) (s : Session) (made : Node) (e : Effect) : Type 0 where
+-- the answer to a session that is made, and the request of a bearer of its, in one datagram
+abbrev pub response_and_request : CreateSessionResponse → CreateBearerRequest → List Message
+response_and_request a r = Create_session_response a ∷ Create_bearer_request r ∷ []
+
+-- The bearer of the template is begun with the session (7.2.3): any free TEID and any free number. Its request goes with the
+-- answer, in one datagram (5.5.1), and that is the answer that is held.
+pub record AddsBearer
+    (t : Template) (request : Arrival) (a : CreateSessionResponse) (cause : ℕ) (session : ℕ) (s : Session) (made : Node) (e : Effect)
+    : Type 0 where
   pub user : ℕ
   pub number : ℕ
   pub user_free : IsFree made user
   pub number_free : IsFreeNumber made number
-  pub gives : e ≡ making request (Create_session_response a ∷ Create_bearer_request (bearer_request made s t.tft t.qos user number) ∷ []) cause (bearer_asked made session (bearer_request made s t.tft t.qos user number) user)
+  pub gives : e ≡ making request (response_and_request a (bearer_request made s t.tft t.qos user number)) cause
+      (bearer_asked made session (bearer_request made s t.tft t.qos user number) user)
 
--- The answer to a session that is made, and held: where its access point has a template, one more TEID can be drawn and one more request can wait, it goes with the
--- request of the template's bearer, and else alone.
+-- The answer to a session that is made, and held: where its access point has a template, one more TEID can be drawn and one more
+-- request can wait, it goes with the request of the template's bearer, and else alone.
 abbrev pub AnswersWith : Option Template → Arrival → CreateSessionResponse → ℕ → ℕ → Session → Node → Effect → Type 0
 AnswersWith None request a cause session s made e = e ≡ making request (Create_session_response a ∷ []) cause made
 AnswersWith (Some t) request a cause session s made e =
@@ -77,42 +110,55 @@ pub record MakesSession (request : Arrival) (old : Node) (q : CreateSessionReque
   pub user_free : IsFree old user
   pub apart : control ≢ user
   pub given : IsGiven old q.pdn address
-  pub gives : AnswersWith (template_for q.access_point old.config.templates) request (session_response old q control user address) (session_cause q.pdn address) control (made_session q address) (session_made old q control user address) e
+  pub gives : AnswersWith (template_for q.access_point old.config.templates)
+      request (session_response old q control user address) (session_cause q.pdn address)
+      control (made_session q address) (session_made old q control user address) e
 
--- a refusal of a Create Session Request goes to the sender's control plane TEID
-abbrev pub session_refused : Arrival → CreateSessionRequest → Cause → Node → Effect
-session_refused request q cause old = answered request (refusing Of_create_session q.control.teid q.number cause old.counter) cause.value old
+module _ (request : Arrival) (q : CreateSessionRequest) where
+  -- refused with this cause: the response goes to the sender's control plane TEID, and nothing changes
+  abbrev pub session_refused : Cause → Node → Effect
+  session_refused cause old = request_refused request types.CreateSessionRequest q.control.teid q.number cause old
 
--- A Create Session Request (7.2.1) whose answer can be held, with its refusals in their order.
-abbrev pub SessionJudged : Arrival → CreateSessionRequest → Node → Effect → Type 0
-SessionJudged request q old e =
-    Unless (q.further ≡ []) (e ≡ session_refused request q (cause_of 94) old) (λ one.
-    Unless (IsIdentity q.context.identity) (e ≡ session_refused request q (cause_at 69 73 0) old) (λ identity.
-    Unless (Among q.access_point old.config.access_points) (e ≡ session_refused request q (cause_of 78) old) (λ configured.
-    Unless (IsServed old.config q.pdn) (e ≡ session_refused request q (cause_of 83) old) (λ served.
-    Unless (HasSessionRoom old × HasDraws old 2) (e ≡ session_refused request q (cause_of 73) old) (λ few.
-    Unless (CanGive old q.pdn) (e ≡ session_refused request q (cause_of 84) old) (λ can.
-    MakesSession request old q e))))))
+  -- A Create Session Request (7.2.1) whose answer can be held, with its refusals in their order.
+  abbrev pub SessionJudged : Node → Effect → Type 0
+  SessionJudged old e =
+      Unless (q.further ≡ []) (e ≡ session_refused (cause_of REQUEST_REJECTED) old) (λ one.
+      Unless (IsIdentity q.context.identity) (e ≡ session_refused (cause_at MANDATORY_IE_INCORRECT EBI 0) old) (λ identity.
+      Unless (Among q.access_point old.config.access_points) (e ≡ session_refused (cause_of MISSING_OR_UNKNOWN_APN) old) (λ configured.
+      Unless (IsServed old.config q.pdn) (e ≡ session_refused (cause_of PREFERRED_PDN_TYPE_NOT_SUPPORTED) old) (λ served.
+      Unless (HasSessionRoom old × HasDraws old 2) (e ≡ session_refused (cause_of NO_RESOURCES_AVAILABLE) old) (λ few.
+      Unless (CanGive old q.pdn) (e ≡ session_refused (cause_of ALL_DYNAMIC_ADDRESSES_ARE_OCCUPIED) old) (λ can.
+      MakesSession request old q e))))))
 
--- A Create Session Request.
-abbrev pub SessionAsked : Arrival → CreateSessionRequest → Node → Effect → Type 0
-SessionAsked request q old e = UnlessFull (SessionJudged request q) old e
+  -- A Create Session Request.
+  abbrev pub SessionAsked : Node → Effect → Type 0
+  SessionAsked old e = UnlessFull SessionJudged old e
 
 -- the linked identity is absent, or the session's default
 abbrev pub IsLinkedTo : Option ℕ → Session → Type 0
 IsLinkedTo None s = Unit {0}
 IsLinkedTo (Some identity) s = identity ≡ s.subscriber.identity
 
--- A Delete Session Request (7.2.9.1) whose answer can be held, in any state of the session.
-abbrev pub DeletionJudged : Arrival → DeleteSessionRequest → Node → Effect → Type 0
-DeletionJudged request d old e =
-    Unless (HasSession old d.header) (e ≡ answered request (refusing Of_delete_session 0 d.number (cause_of 64) old.counter) 64 old) (λ at.
-    Unless (IsLinkedTo d.linked at.session) (e ≡ answered request (refusing Of_delete_session (written at.session.remote) d.number (cause_of 64) old.counter) 64 old) (λ linked.
-    e ≡ answered request (Delete_session_response (record { header = written at.session.remote; number = d.number; cause = cause_of 16; recovery = Some old.counter })) 16 (without_session old d.header)))
+-- the response that the session is removed
+abbrev pub deletion_response : Node → DeleteSessionRequest → Session → DeleteSessionResponse
+deletion_response node d s =
+    record { header = written s.remote; number = d.number; cause = cause_of REQUEST_ACCEPTED; recovery = Some node.counter }
 
--- A Delete Session Request.
-abbrev pub DeletionAsked : Arrival → DeleteSessionRequest → Node → Effect → Type 0
-DeletionAsked request d old e = UnlessFull (DeletionJudged request d) old e
+module _ (request : Arrival) (d : DeleteSessionRequest) where
+  -- refused with this cause: the response goes to this TEID, and nothing changes
+  abbrev pub deletion_refused : ℕ → ℕ → Node → Effect
+  deletion_refused header cause old = request_refused request types.DeleteSessionRequest header d.number (cause_of cause) old
+
+  -- A Delete Session Request (7.2.9.1) whose answer can be held, in any state of the session.
+  abbrev pub DeletionJudged : Node → Effect → Type 0
+  DeletionJudged old e =
+      Unless (HasSession old d.header) (e ≡ deletion_refused 0 CONTEXT_NOT_FOUND old) (λ at.
+      Unless (IsLinkedTo d.linked at.session) (e ≡ deletion_refused (written at.session.remote) CONTEXT_NOT_FOUND old) (λ linked.
+      e ≡ answered request (Delete_session_response (deletion_response old d at.session)) REQUEST_ACCEPTED (without_session old d.header)))
+
+  -- A Delete Session Request.
+  abbrev pub DeletionAsked : Node → Effect → Type 0
+  DeletionAsked old e = UnlessFull DeletionJudged old e
 
 -- the request is a Create Bearer Request for the session that the response names
 pub record FitsBearer (p : PendingRequest) (x : CreateBearerResponse) : Type 0 where
@@ -143,7 +189,11 @@ opened_dedicated b x = record b { remote = first_given x.contexts; identity = fi
 -- The bearer is active, with its remote and identity.
 pub record OpensBearer (old : Node) (x : CreateBearerResponse) (bearer : ℕ) (e : Effect) : Type 0 where
   pub at : HasBearer old bearer
-  pub gives : e ≡ record { out = nothing; outcome = Came_to Opened; node = record old { bearers = insert old.bearers bearer (opened_dedicated at.bearer x); pending = remove old.pending x.number } }
+  pub gives : e ≡ record {
+    out = nothing;
+    outcome = Came_to Opened;
+    node = record old { bearers = insert old.bearers bearer (opened_dedicated at.bearer x); pending = remove old.pending x.number };
+  }
 
 -- A Create Bearer Response (7.2.4). What does not accept, or clashes, removes the pending bearer.
 abbrev pub BearerAnswered : CreateBearerResponse → Node → Effect → Type 0
@@ -152,7 +202,7 @@ BearerAnswered x old e =
     Unless (FitsBearer at.pending x) (e ≡ dropped old Mismatch) (λ fits.
     Unless (IsAccepting x.cause) (e ≡ finishing old x.number at.pending (Rejected x.cause.value)) (λ accepts.
     Unless (DescribesBearer x) (e ≡ dropped old Mismatch) (λ new.
-    Unless (IsAccepting new.context.cause) (e ≡ finishing old x.number at.pending (Rejected new.context.cause.value)) (λ both.
+    Unless (IsAccepting new.context.cause) (e ≡ finishing old x.number at.pending (Rejected new.context.cause.value)) (λ all.
     Unless (teid_in new.context.packet_user ≡ Some fits.bearer) (e ≡ dropped old Mismatch) (λ returned.
     Unless (CanOpen old fits.session new.context.identity) (e ≡ finishing old x.number at.pending Clash) (λ can.
     OpensBearer old x fits.bearer e)))))))
@@ -179,24 +229,3 @@ PacketTakes request (Delete_session_request d) old e = DeletionAsked request d o
 PacketTakes request (Create_bearer_response x) old e = BearerAnswered x old e
 PacketTakes request (Delete_bearer_response d) old e = RemovalAnswered d old e
 PacketTakes request _ old e = e ≡ dropped old Unexpected
-
--- the kinds that the packet gateway takes
-abbrev pub packet_takes : Message → Bool
-packet_takes (Echo_request q) = true
-packet_takes (Echo_response a) = true
-packet_takes (Create_session_request q) = true
-packet_takes (Delete_session_request d) = true
-packet_takes (Create_bearer_response x) = true
-packet_takes (Delete_bearer_response d) = true
-packet_takes _ = false
-
--- a faulty request is answered where the packet gateway takes its kind
-abbrev pub PacketFaulted : Arrival → FaultyRequest → RequestKind → Node → Effect → Type 0
-PacketFaulted request f Of_create_session old e = e ≡ faulted request f old
-PacketFaulted request f Of_delete_session old e = e ≡ faulted request f old
-PacketFaulted request f Of_create_bearer old e = e ≡ dropped old (undecodable Control (fault_number f.defect))
-PacketFaulted request f Of_delete_bearer old e = e ≡ dropped old (undecodable Control (fault_number f.defect))
-
--- what the packet gateway does with what was read
-abbrev pub PacketReads : ControlReading → Arrival → Node → Effect → Type 0
-PacketReads = TakesReading packet_takes PacketTakes PacketFaulted

@@ -1,5 +1,6 @@
 -- How datagrams read: what the decoders of the two planes tell, as the machine sees it.
-use Rattle.std.specs.Prelude.{◌≡◌, ◌⊎◌, ◌↔◌, ℕ, ◌-◌, ◌<◌, ◌/◌, ◌==◌, nat_lt, Bool, true, false, List, [], ◌∷◌, length, take, Option, Some, None, option_map, unwrap_or, Result, Ok, Err, if◌then◌else◌}
+use Rattle.std.specs.Prelude.{◌≡◌, ◌⊎◌, ◌↔◌, ℕ, ◌-◌, ◌<◌, ◌/◌, ◌==◌, nat_lt, Bool, true, false, List, [], ◌∷◌, length, take, Option, Some}
+use Rattle.std.specs.Prelude.{None, option_map, unwrap_or, Result, Ok, Err, if◌then◌else◌}
 use Rattle.gtp_values.specs.declared.identifiers.Teid.{Teid}
 use Rattle.gtp_ie.specs.declared.fault.IeFault.{IeFault}
 use Rattle.gtp_ie.specs.declared.fault.IeFault.TheVariants as elements
@@ -12,10 +13,6 @@ use Rattle.gtp_v2.specs.Codes.{number_of, short_number, length_number, element_n
 use Rattle.gtp_v2.specs.declared.fault.Head.{Head}
 use Rattle.gtp_v2.specs.declared.fault.V2Fault.{V2Fault}
 use Rattle.gtp_v2.specs.declared.fault.V2Fault.TheVariants as faults
-use Rattle.gtp_v2.specs.CreateSessionRequest.{create_session_request}
-use Rattle.gtp_v2.specs.DeleteSessionRequest.{delete_session_request}
-use Rattle.gtp_v2.specs.CreateBearerRequest.{create_bearer_request}
-use Rattle.gtp_v2.specs.DeleteBearerRequest.{delete_bearer_request}
 use Rattle.gtp_v2.specs.Body.{message_value}
 use Rattle.gtp_v2.specs.Message.{MessageValue}
 use Rattle.gtp_v2.specs.reading.Message.{message_at}
@@ -31,8 +28,12 @@ use Rattle.gtp_user.specs.declared.fault.UserFault.TheVariants as user_faults
 use Rattle.gtp_user.specs.Message as user_messages
 use Rattle.gtp_user.specs.reading.Message as user_octets
 use Rattle.gtp_user.specs.Datagram.{IsUserMessage, IsUserFault}
-use Rattle.gtp_machine.specs.Message.{CreateSessionRequest, CreateBearerRequest, RemovedBearer, Message, Other_control, Create_session_request, Create_bearer_request, Packet_data, End_marker, Error_indication, User_echo_request, User_echo_response, Supported_extensions, Other_user}
-use Rattle.gtp_machine.specs.Input.{RequestKind, Of_create_session, Of_delete_session, Of_create_bearer, Of_delete_bearer, Defect, Mandatory_missing, Conditional_missing, Too_short, Out_of_range, ControlReading, Control_message, Faulty, Control_fault, UserReading, User_message, Extension_needed, User_fault}
+use Rattle.gtp_machine.specs.Message.{CreateSessionRequest, CreateBearerRequest, RemovedBearer, Message, Other_control}
+use Rattle.gtp_machine.specs.Message.{Create_session_request, Create_bearer_request, Packet_data, End_marker, Error_indication}
+use Rattle.gtp_machine.specs.Message.{User_echo_request, User_echo_response, Supported_extensions, Other_user}
+use Rattle.gtp_machine.specs.Input.{MessageType, Defect, Mandatory_missing, Conditional_missing, Too_short, Out_of_range, ControlReading}
+use Rattle.gtp_machine.specs.Input.{Control_message, Faulty, Control_fault, UserReading, User_message, Extension_needed, User_fault}
+use Rattle.gtp_machine.specs.MessageType.{type_at, request_only}
 use Rattle.gtp_machine.specs.Node.{written}
 use Rattle.gtp_machine.specs.Decoded.{message_of}
 use Rattle.gtp_machine.specs.Answer.{fault_number}
@@ -49,19 +50,22 @@ removed_bearer c = record { identity = c.ebi.0; cause = c.cause }
 abbrev pub control_message : decoded.Message → Message
 control_message m = message_of (message_value m)
 
--- the requests whose faults are answered, by their type (6.1)
-abbrev pub request_kind : ℕ → Option RequestKind
-request_kind kind =
-    if kind == create_session_request.kind then Some Of_create_session
-    else (if kind == delete_session_request.kind then Some Of_delete_session
-    else (if kind == create_bearer_request.kind then Some Of_create_bearer
-    else (if kind == delete_bearer_request.kind then Some Of_delete_bearer
-    else None)))
+-- the type (6.1) of a request whose faults are answered
+abbrev pub request_type : ℕ → Option MessageType
+request_type kind = request_only (type_at kind)
 
 -- an element at fault (7.7): of a request that is answered, or of another message
-abbrev pub defect_in : Option RequestKind → Head → Defect → ℕ → ℕ → ControlReading
+abbrev pub defect_in : Option MessageType → Head → Defect → ℕ → ℕ → ControlReading
 defect_in None head defect element instance = Control_fault (fault_number defect)
-defect_in (Some kind) head defect element instance = Faulty (record { kind = kind; header = header_in head.teid; number = head.seq; defect = defect; element = element; instance = instance; sender = head.sender })
+defect_in (Some kind) head defect element instance = Faulty (record {
+  kind = kind;
+  header = header_in head.teid;
+  number = head.seq;
+  defect = defect;
+  element = element;
+  instance = instance;
+  sender = head.sender;
+})
 
 -- an element that is missing (7.7.6)
 abbrev pub missing_in : Bool → Defect
@@ -71,14 +75,14 @@ missing_in false = Mandatory_missing
 -- an element that has no value (7.7.7, 7.7.8): too short, or out of its range; one that runs past the end of its list is answered by none
 abbrev pub element_fault : Head → IeFault → ControlReading
 element_fault head (elements.Truncated at) = Control_fault element_number
-element_fault head (elements.ShortValue kind instance at) = defect_in (request_kind head.kind) head Too_short kind instance
-element_fault head (elements.BadValue kind instance at) = defect_in (request_kind head.kind) head Out_of_range kind instance
+element_fault head (elements.ShortValue kind instance at) = defect_in (request_type head.kind) head Too_short kind instance
+element_fault head (elements.BadValue kind instance at) = defect_in (request_type head.kind) head Out_of_range kind instance
 element_fault head elements.Memory = Control_fault element_number
 element_fault head elements.TooLong = Control_fault element_number
 
 -- a control datagram at fault: by an element (7.7.6 to 7.7.8), or by the fault's printed number, H1 to H9 (7.7.2, 7.7.3)
 abbrev pub control_fault : V2Fault → ControlReading
-control_fault (faults.Missing kind instance conditional head) = defect_in (request_kind head.kind) head (missing_in conditional) kind instance
+control_fault (faults.Missing kind instance conditional head) = defect_in (request_type head.kind) head (missing_in conditional) kind instance
 control_fault (faults.Element fault head) = element_fault head fault
 control_fault fault = Control_fault (number_of fault)
 
@@ -144,10 +148,13 @@ reading_of (first ∷ second ∷ rest) = Both first second
 abbrev pub cut_fault : ℕ → ℕ
 cut_fault count = if nat_lt count 4 then short_number else length_number
 
--- the same of a datagram of two messages, of which the first has so many octets: H1 and H3 as of the first alone; H5, as the second that is announced is
--- not there; then H1 and H3 as of the second
+-- the same of a datagram of two messages, of which the first has so many octets: H1 and H3 as of the first alone; H5, as the
+-- second that is announced is not there; then H1 and H3 as of the second
 abbrev pub pair_cut_fault : ℕ → ℕ → ℕ
-pair_cut_fault count front = if nat_lt count front then cut_fault count else (if count == front then number_of (faults.BadPiggyback front) else cut_fault (count - front))
+pair_cut_fault count front =
+    if nat_lt count front then cut_fault count
+    else (if count == front then number_of (faults.BadPiggyback front)
+    else cut_fault (count - front))
 
 -- what a user plane message carries, by its type (TS 29.281, 6.1); the sequence number counts in Echo messages alone
 abbrev pub user_body_message : Option ℕ → UserBody → Message
@@ -195,18 +202,22 @@ user_reading octets = user_reading_of (user_octets.message_at octets)
 abbrev pub UserReads : List ℕ → UserReading → Type 0
 UserReads octets reading = reading ≡ user_reading octets
 
--- the fault of a user plane datagram of which only so many first octets come, by its printed number: U1, fewer than the first eight of a header, or U4,
--- fewer than these state (5.1)
+-- the fault of a user plane datagram of which only so many first octets come, by its printed number: U1, fewer than the first
+-- eight of a header, or U4, fewer than these state (5.1)
 abbrev pub user_cut_fault : ℕ → ℕ
 user_cut_fault count = if nat_lt count 8 then user_codes.short_number else user_codes.length_number
 
 -- Each Create Session Request that is decoded has a bearer context, and reads as one, with what its fields say.
 abbrev pub SessionRequestReads : Type 0
-SessionRequestReads = (octets : List ℕ) (m : decoded.Message) (q : session_requests.CreateSessionRequest) → IsMessage octets (message_value m) → m.body ≡ bodies.CreateSessionRequest q → (said : CreateSessionRequest) × (control_message m ≡ Create_session_request said)
+SessionRequestReads =
+    (octets : List ℕ) (m : decoded.Message) (q : session_requests.CreateSessionRequest) → IsMessage octets (message_value m) →
+    m.body ≡ bodies.CreateSessionRequest q → (said : CreateSessionRequest) × (control_message m ≡ Create_session_request said)
 
 -- Each Create Bearer Request that is decoded has a bearer context, and reads as one, with what its fields say.
 abbrev pub BearerRequestReads : Type 0
-BearerRequestReads = (octets : List ℕ) (m : decoded.Message) (q : bearer_requests.CreateBearerRequest) → IsMessage octets (message_value m) → m.body ≡ bodies.CreateBearerRequest q → (said : CreateBearerRequest) × (control_message m ≡ Create_bearer_request said)
+BearerRequestReads =
+    (octets : List ℕ) (m : decoded.Message) (q : bearer_requests.CreateBearerRequest) → IsMessage octets (message_value m) →
+    m.body ≡ bodies.CreateBearerRequest q → (said : CreateBearerRequest) × (control_message m ≡ Create_bearer_request said)
 
 -- What a decoded message of the user plane reads as is what it carries.
 abbrev pub UserByName : Type 0
@@ -214,11 +225,15 @@ UserByName = (m : UserMessage) → user_message_of (user_messages.message_value 
 
 -- Octets that spell a decoded message of the control plane read as that message.
 abbrev pub DecodedReads : Type 0
-DecodedReads = (octets : List ℕ) (m : decoded.Message) → IsMessage octets (message_value m) → ControlReads octets (Control_message (control_message m))
+DecodedReads =
+    (octets : List ℕ) (m : decoded.Message) → IsMessage octets (message_value m) →
+    ControlReads octets (Control_message (control_message m))
 
 -- Octets that spell a decoded message of the user plane read as that message.
 abbrev pub UserDecodedReads : Type 0
-UserDecodedReads = (octets : List ℕ) (m : UserMessage) → IsUserMessage octets (user_messages.message_value m) → UserReads octets (User_message (user_message m))
+UserDecodedReads =
+    (octets : List ℕ) (m : UserMessage) → IsUserMessage octets (user_messages.message_value m) →
+    UserReads octets (User_message (user_message m))
 
 -- the octets spell a message that reads so, or their first fault reads so
 abbrev pub IsReadOf : List ℕ → ControlReading → Type 0
@@ -236,7 +251,8 @@ IsDatagramReadOf octets reading =
     ((d : DatagramValue) × IsDatagram octets d × (reading ≡ messages_read d.first d.second))
     ⊎ ((fault : V2Fault) × IsDatagramFault octets fault × (reading ≡ Alone (datagram_fault (announces octets) fault)))
 
--- A control datagram reads as the one or two messages that the grammar says its octets spell, or as the fault that it says is their first, and not otherwise.
+-- A control datagram reads as the one or two messages that the grammar says its octets spell, or as the fault that it says is
+-- their first, and not otherwise.
 abbrev pub DatagramByGrammar : Type 0
 DatagramByGrammar = (octets : List ℕ) (reading : DatagramReading) → DatagramReads octets reading ↔ IsDatagramReadOf octets reading
 
@@ -252,7 +268,9 @@ UserByGrammar = (octets : List ℕ) (reading : UserReading) → UserReads octets
 
 -- The first octets of a control message, but not all, read as the fault of a cut.
 abbrev pub CutsRead : Type 0
-CutsRead = (octets : List ℕ) (m : MessageValue) (count : ℕ) → IsMessage octets m → count < length octets → ControlReads (take count octets) (Control_fault (cut_fault count))
+CutsRead =
+    (octets : List ℕ) (m : MessageValue) (count : ℕ) → IsMessage octets m → count < length octets →
+    ControlReads (take count octets) (Control_fault (cut_fault count))
 
 -- Octets that read as a message by themselves read as a datagram of that one message.
 abbrev pub MessageReadsAlone : Type 0
@@ -260,12 +278,19 @@ MessageReadsAlone = (octets : List ℕ) (m : Message) → ControlReads octets (C
 
 -- A datagram of one message that comes cut reads as the fault of a cut.
 abbrev pub DatagramCutsRead : Type 0
-DatagramCutsRead = (octets : List ℕ) (m : MessageValue) (count : ℕ) → IsMessage octets m → count < length octets → DatagramReads (take count octets) (Alone (Control_fault (cut_fault count)))
+DatagramCutsRead =
+    (octets : List ℕ) (m : MessageValue) (count : ℕ) → IsMessage octets m → count < length octets →
+    DatagramReads (take count octets) (Alone (Control_fault (cut_fault count)))
 
 -- A datagram of two messages that comes cut reads as the fault of a cut of two.
 abbrev pub PairCutsRead : Type 0
-PairCutsRead = (octets front back : List ℕ) (a b : MessageValue) (count : ℕ) → Announces octets front back → IsMessage front a → IsMessage back b → count < length octets → DatagramReads (take count octets) (Alone (Control_fault (pair_cut_fault count (length front))))
+PairCutsRead =
+    (octets front back : List ℕ) (a b : MessageValue) (count : ℕ) → Announces octets front back → IsMessage front a →
+    IsMessage back b → count < length octets →
+    DatagramReads (take count octets) (Alone (Control_fault (pair_cut_fault count (length front))))
 
 -- The first octets of a user plane message, but not all, read as the fault of a cut.
 abbrev pub UserCutsRead : Type 0
-UserCutsRead = (octets : List ℕ) (m : user_messages.MessageValue) (count : ℕ) → IsUserMessage octets m → count < length octets → UserReads (take count octets) (User_fault (user_cut_fault count))
+UserCutsRead =
+    (octets : List ℕ) (m : user_messages.MessageValue) (count : ℕ) → IsUserMessage octets m → count < length octets →
+    UserReads (take count octets) (User_fault (user_cut_fault count))

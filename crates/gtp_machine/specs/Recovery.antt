@@ -37,7 +37,9 @@ learned_by (Some known) counter = later_only (age_of known counter) counter
 -- First the counter is heard, where the message has one, and then the message is taken.
 abbrev pub Hears : (Node → Effect → Type 0) → Node → Option ℕ → Effect → Type 0
 Hears Takes old None e = Takes old e
-Hears Takes old (Some counter) e = (taken : Effect) × Weighs Takes old counter old.known taken × (e ≡ record taken { out = record taken.out { heard = Some counter; learned = learned_by old.known counter } })
+Hears Takes old (Some counter) e =
+    (taken : Effect) × Weighs Takes old counter old.known taken ×
+    (e ≡ record taken { out = record taken.out { heard = Some counter; learned = learned_by old.known counter } })
 
 -- the gateway once it has heard a counter of this age
 abbrev pub heard_at_age : Node → ℕ → Age → Node

@@ -1,6 +1,7 @@
 -- Responses that a gateway gets (TS 29.274, 7.6): a response fits a pending request, or is dropped.
 use Rattle.std.specs.Prelude.{◌≡◌, ◌≢◌, ◌⊎◌, ℕ, Some}
 use Rattle.gtp_values.specs.declared.cause.Cause.{Cause}
+use Rattle.gtp_machine.specs.declared.causes.TheConstants.{CONTEXT_NOT_FOUND}
 use Rattle.gtp_machine.specs.Ordered.{Unless}
 use Rattle.gtp_machine.specs.Message.{Echo, Echo_request, header_of}
 use Rattle.gtp_machine.specs.Node.{PendingRequest, Node}
@@ -8,9 +9,9 @@ use Rattle.gtp_machine.specs.Input.{Effect, Outcome, Came_to, Alive, nothing, dr
 use Rattle.gtp_machine.specs.Choice.{HasPending}
 use Rattle.gtp_machine.specs.Removal.{finished}
 
--- the header names the session that the request is about; or it is 0 with cause 64 (context not found), where the request's own was not
+-- the header names the session that the request is about; or it is 0 with the cause that no context was found, where the request's own was not
 abbrev pub Named : PendingRequest → ℕ → Cause → Type 0
-Named p header cause = (p.session ≡ Some header) ⊎ ((header ≡ 0) × (cause.value ≡ 64) × (header_of p.request ≢ 0))
+Named p header cause = (p.session ≡ Some header) ⊎ ((header ≡ 0) × (cause.value ≡ CONTEXT_NOT_FOUND) × (header_of p.request ≢ 0))
 
 -- the request with this number is finished, and what it was about goes
 abbrev pub finishing : Node → ℕ → PendingRequest → Outcome → Effect

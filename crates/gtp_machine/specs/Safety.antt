@@ -1,5 +1,5 @@
--- Tunnel safety, of what a world shows: the node of each gateway and the counters that it has heard since it started; the packets that were handed in and those that
--- were accepted, and by which gateway; and how many deliveries were late.
+-- Tunnel safety, of what a world shows: the node of each gateway and the counters that it has heard since it started; the packets
+-- that were handed in and those that were accepted, and by which gateway; and how many deliveries were late.
 use Rattle.std.specs.Prelude.{◌≡◌, ℕ, List, Some}
 use Rattle.std.specs.FinMap.{get}
 use Rattle.gtp_values.specs.Counter.{age_of}
@@ -28,7 +28,9 @@ pub record Agree (c d : Session) : Type 0 where
 
 -- sessions that name each other agree
 abbrev pub SessionsAgree : Node → Node → Type 0
-SessionsAgree serving packet = (c d : ℕ) (at_serving at_packet : Session) → MutualSessions serving packet c d at_serving at_packet → Agree at_serving at_packet
+SessionsAgree serving packet =
+    (c d : ℕ) (at_serving at_packet : Session) → MutualSessions serving packet c d at_serving at_packet →
+    Agree at_serving at_packet
 
 -- a bearer of each gateway, both active, each under the TEID that the other has for it
 pub record MutualBearers (serving_node packet_node : Node) (c d : ℕ) (at_serving at_packet : Bearer) : Type 0 where
@@ -50,7 +52,9 @@ pub record AgreeBearers (serving packet : Node) (c d : Bearer) : Type 0 where
 
 -- bearers that name each other agree
 abbrev pub BearersAgree : Node → Node → Type 0
-BearersAgree serving packet = (c d : ℕ) (at_serving at_packet : Bearer) → MutualBearers serving packet c d at_serving at_packet → AgreeBearers serving packet at_serving at_packet
+BearersAgree serving packet =
+    (c d : ℕ) (at_serving at_packet : Bearer) → MutualBearers serving packet c d at_serving at_packet →
+    AgreeBearers serving packet at_serving at_packet
 
 -- an accepted packet is owed: it was handed in at the other gateway, octet for octet, for the same target, subscriber, access point and identity
 abbrev pub IsOwed : List (By Entry) → Role → Entry → Type 0
@@ -61,13 +65,13 @@ abbrev pub EachOwed : ℕ → List (By Entry) → List (By Entry) → Type 0
 EachOwed late handed accepted = late ≡ 0 → (role : Role) (entry : Entry) → HasBy accepted role entry → IsOwed handed role entry
 
 -- the session has a remote whose counter is earlier than one of those that its gateway has heard
-pub record IsOver (heard : List ℕ) (s : Session) : Type 0 where
+pub record OutlivesRestart (heard : List ℕ) (s : Session) : Type 0 where
   pub remote : ℕ
   pub has : s.remote ≡ Some remote
   pub counter : ℕ
   pub was_heard : Among counter heard
-  pub is_later : age_of (counter_of remote) counter ≡ Later
+  pub heard_is_later : age_of (counter_of remote) counter ≡ Later
 
 -- no session outlives a restart of the peer that its gateway has heard of
-abbrev pub NoneOver : Node → List ℕ → Type 0
-NoneOver node heard = (t : ℕ) (s : Session) → get node.sessions t ≡ Some s → IsOver heard s → ⊥
+abbrev pub NoneOutlivesRestart : Node → List ℕ → Type 0
+NoneOutlivesRestart node heard = (t : ℕ) (s : Session) → get node.sessions t ≡ Some s → OutlivesRestart heard s → ⊥

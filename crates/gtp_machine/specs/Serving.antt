@@ -1,16 +1,23 @@
 -- The control plane of the serving gateway.
 use Rattle.std.specs.Prelude.{◌≡◌, ◌≢◌, ℕ, ◌≤◌, ◌==◌, ◌&&◌, ◌||◌, List, [], ◌∷◌, Option, Some, None, Bool, true, false, length, if◌then◌else◌}
 use Rattle.std.specs.FinMap.{insert, remove}
+use Rattle.gtp_machine.specs.declared.causes.TheConstants.{REQUEST_ACCEPTED, REQUEST_ACCEPTED_PARTIALLY, CONTEXT_NOT_FOUND}
+use Rattle.gtp_machine.specs.declared.causes.TheConstants.{NO_RESOURCES_AVAILABLE, REQUEST_REJECTED}
+use Rattle.gtp_machine.specs.declared.message_type.MessageType.TheVariants as types
 use Rattle.gtp_machine.specs.Ordered.{Unless}
 use Rattle.gtp_machine.specs.Element.{IsAccepting, PdnAddress, address_of, cause_of, teid_in, tunnel_end}
-use Rattle.gtp_machine.specs.Message.{CreateSessionRequest, CreatedBearer, CreateSessionResponse, DeleteSessionRequest, DeleteSessionResponse, CreateBearerRequest, CreateBearerResponse, DeleteBearerRequest, RemovedBearer, Message, Control, Echo_request, Echo_response, Create_session_request, Create_session_response, Delete_session_request, Delete_session_response, Create_bearer_request, Create_bearer_response, Delete_bearer_request, Delete_bearer_response, first_created}
+use Rattle.gtp_machine.specs.Message.{CreateSessionRequest, CreatedBearer, CreateSessionResponse, DeleteSessionRequest}
+use Rattle.gtp_machine.specs.Message.{DeleteSessionResponse, CreateBearerRequest, CreateBearerResponse, DeleteBearerRequest, RemovedBearer}
+use Rattle.gtp_machine.specs.Message.{DeleteBearerResponse, Message, Echo_request, Echo_response, Create_session_request}
+use Rattle.gtp_machine.specs.Message.{Create_session_response, Delete_session_request, Delete_session_response, Create_bearer_request}
+use Rattle.gtp_machine.specs.Message.{Create_bearer_response, Delete_bearer_request, Delete_bearer_response, first_created}
 use Rattle.gtp_machine.specs.Node.{Pending, Active, Session, Bearer, Dedicated, PendingRequest, Arrival, Node, written}
-use Rattle.gtp_machine.specs.Input.{Came_to, ControlReading, RequestKind, Of_create_session, Of_delete_session, Of_create_bearer, Of_delete_bearer, FaultyRequest, Effect, Opened, Closed, Rejected, nothing, dropped, undecodable, NoPending, Mismatch, ContextNotActive, Unexpected}
+use Rattle.gtp_machine.specs.Input.{Came_to, Effect, Opened, Closed, Rejected, nothing, dropped, NoPending, Mismatch, ContextNotActive, Unexpected}
 use Rattle.gtp_machine.specs.Choice.{IsFree, HasDraws, IsFreeIdentity, HasFreeIdentity, HasSession, HasBearer, HasPending}
 use Rattle.gtp_machine.specs.Removal.{without_session, without_bearer}
 use Rattle.gtp_machine.specs.Response.{Named, finishing, EchoAnswered}
 use Rattle.gtp_machine.specs.Command.{NamesBearer}
-use Rattle.gtp_machine.specs.Answer.{UnlessFull, answered, making, echoed, refusing, faulted, fault_number, TakesReading}
+use Rattle.gtp_machine.specs.Answer.{UnlessFull, answered, making, echoed, request_refused}
 
 -- the request is a Create Session Request for the session that the response names
 pub record FitsSession (p : PendingRequest) (a : CreateSessionResponse) : Type 0 where
@@ -38,7 +45,9 @@ abbrev pub opened_bearer : Bearer → CreateSessionResponse → Bearer
 opened_bearer b a = record b { remote = first_created a.contexts; state = Active }
 
 -- The session and its default bearer are active, with their remotes and the address.
-pub record OpensSession (old : Node) (a : CreateSessionResponse) (q : CreateSessionRequest) (session : ℕ) (s : Session) (address : PdnAddress) (e : Effect) : Type 0 where
+pub record OpensSession
+    (old : Node) (a : CreateSessionResponse) (q : CreateSessionRequest) (session : ℕ) (s : Session) (address : PdnAddress) (e : Effect)
+    : Type 0 where
   pub default : HasBearer old q.context.user.teid
   pub gives : e ≡ record {
     out = nothing;
@@ -79,14 +88,26 @@ bearer_response node r s user identity =
     record {
       header = written s.remote;
       number = r.number;
-      cause = cause_of 16;
-      contexts = record { identity = identity; cause = cause_of 16; serving_user = Some (tunnel_end 4 user node.config.own.user); packet_user = Some r.context.user } ∷ [];
+      cause = cause_of REQUEST_ACCEPTED;
+      contexts = record {
+        identity = identity;
+        cause = cause_of REQUEST_ACCEPTED;
+        serving_user = Some (tunnel_end 4 user node.config.own.user);
+        packet_user = Some r.context.user;
+      } ∷ [];
       recovery = Some node.counter;
     }
 
 -- a dedicated bearer of the serving gateway, active at once
 abbrev pub granted_bearer : CreateBearerRequest → ℕ → Bearer
-granted_bearer r identity = record { remote = Some r.context.user.teid; session = r.header; identity = Some identity; kind = Dedicated; state = Active; ended = false }
+granted_bearer r identity = record {
+  remote = Some r.context.user.teid;
+  session = r.header;
+  identity = Some identity;
+  kind = Dedicated;
+  state = Active;
+  ended = false;
+}
 
 -- A bearer is made in an active session: a draw, an active bearer, and the answer, which is held.
 pub record MakesBearer (request : Arrival) (old : Node) (r : CreateBearerRequest) (s : Session) (e : Effect) : Type 0 where
@@ -94,7 +115,8 @@ pub record MakesBearer (request : Arrival) (old : Node) (r : CreateBearerRequest
   pub identity : ℕ
   pub user_free : IsFree old user
   pub identity_free : IsFreeIdentity old r.header identity
-  pub gives : e ≡ making request (Create_bearer_response (bearer_response old r s user identity) ∷ []) 16 (record old { drawn = user ∷ old.drawn; bearers = insert old.bearers user (granted_bearer r identity) })
+  pub gives : e ≡ making request (Create_bearer_response (bearer_response old r s user identity) ∷ []) REQUEST_ACCEPTED
+      (record old { drawn = user ∷ old.drawn; bearers = insert old.bearers user (granted_bearer r identity) })
 
 -- the refusal for want of an identity or a TEID has a context with the packet gateway's F-TEID
 abbrev pub no_resources : Node → CreateBearerRequest → ℕ → CreateBearerResponse
@@ -102,73 +124,113 @@ no_resources node r header =
     record {
       header = header;
       number = r.number;
-      cause = cause_of 73;
-      contexts = record { identity = 0; cause = cause_of 73; serving_user = None; packet_user = Some r.context.user } ∷ [];
+      cause = cause_of NO_RESOURCES_AVAILABLE;
+      contexts = record { identity = 0; cause = cause_of NO_RESOURCES_AVAILABLE; serving_user = None; packet_user = Some r.context.user } ∷ [];
       recovery = Some node.counter;
     }
 
--- A Create Bearer Request (7.2.3) whose answer can be held, with its refusals in their order.
-abbrev pub BearerJudged : Arrival → CreateBearerRequest → Node → Effect → Type 0
-BearerJudged request r old e =
-    Unless (HasSession old r.header) (e ≡ answered request (refusing Of_create_bearer 0 r.number (cause_of 64) old.counter) 64 old) (λ at.
-    Unless (at.session.state ≡ Active) (e ≡ dropped old ContextNotActive) (λ active.
-    Unless (r.further ≡ []) (e ≡ answered request (refusing Of_create_bearer (written at.session.remote) r.number (cause_of 94) old.counter) 94 old) (λ one.
-    Unless (r.linked ≡ at.session.subscriber.identity) (e ≡ answered request (refusing Of_create_bearer (written at.session.remote) r.number (cause_of 64) old.counter) 64 old) (λ linked.
-    Unless (HasFreeIdentity old r.header × HasDraws old 1) (e ≡ answered request (Create_bearer_response (no_resources old r (written at.session.remote))) 73 old) (λ free.
-    MakesBearer request old r at.session e)))))
+module _ (request : Arrival) (r : CreateBearerRequest) where
+  -- refused with this cause: the response goes to this TEID, and nothing changes
+  abbrev pub bearer_refused : ℕ → ℕ → Node → Effect
+  bearer_refused header cause old = request_refused request types.CreateBearerRequest header r.number (cause_of cause) old
 
--- A Create Bearer Request.
-abbrev pub BearerAsked : Arrival → CreateBearerRequest → Node → Effect → Type 0
-BearerAsked request r old e = UnlessFull (BearerJudged request r) old e
+  -- refused for want of an identity or a TEID
+  abbrev pub resources_refused : ℕ → Node → Effect
+  resources_refused header old = answered request (Create_bearer_response (no_resources old r header)) NO_RESOURCES_AVAILABLE old
 
--- Each identity in turn: the session's dedicated bearer that has it is removed (16), and without one its context says 64.
+  -- A Create Bearer Request (7.2.3) whose answer can be held, with its refusals in their order.
+  abbrev pub BearerJudged : Node → Effect → Type 0
+  BearerJudged old e =
+      Unless (HasSession old r.header) (e ≡ bearer_refused 0 CONTEXT_NOT_FOUND old) (λ at.
+      Unless (at.session.state ≡ Active) (e ≡ dropped old ContextNotActive) (λ active.
+      Unless (r.further ≡ []) (e ≡ bearer_refused (written at.session.remote) REQUEST_REJECTED old) (λ one.
+      Unless (r.linked ≡ at.session.subscriber.identity) (e ≡ bearer_refused (written at.session.remote) CONTEXT_NOT_FOUND old) (λ linked.
+      Unless (HasFreeIdentity old r.header × HasDraws old 1) (e ≡ resources_refused (written at.session.remote) old) (λ free.
+      MakesBearer request old r at.session e)))))
+
+  -- A Create Bearer Request.
+  abbrev pub BearerAsked : Node → Effect → Type 0
+  BearerAsked old e = UnlessFull BearerJudged old e
+
+-- Each identity in turn: the session's dedicated bearer that has it is removed, and its context says so or that there is none.
 abbrev pub RemovesEach : ℕ → List ℕ → Node → List RemovedBearer → Node → Type 0
 RemovesEach session [] old contexts new = (contexts ≡ []) × (new ≡ old)
 RemovesEach session (identity ∷ rest) old contexts new =
     (others : List RemovedBearer) ×
-    Unless (NamesBearer old session identity) ((contexts ≡ record { identity = identity; cause = cause_of 64 } ∷ others) × RemovesEach session rest old others new) (λ named.
-    (contexts ≡ record { identity = identity; cause = cause_of 16 } ∷ others) × RemovesEach session rest (without_bearer old named.key) others new)
+    Unless (NamesBearer old session identity)
+    ((contexts ≡ record { identity = identity; cause = cause_of CONTEXT_NOT_FOUND } ∷ others) × RemovesEach session rest old others new) (λ named.
+    (contexts ≡ record { identity = identity; cause = cause_of REQUEST_ACCEPTED } ∷ others) ×
+    RemovesEach session rest (without_bearer old named.key) others new)
 
 -- each context says that its bearer was removed
 abbrev pub all_removed : List RemovedBearer → Bool
 all_removed [] = true
-all_removed (context ∷ rest) = (context.cause.value == 16) && all_removed rest
+all_removed (context ∷ rest) = (context.cause.value == REQUEST_ACCEPTED) && all_removed rest
 
 -- some context says that its bearer was removed
 abbrev pub any_removed : List RemovedBearer → Bool
 any_removed [] = false
-any_removed (context ∷ rest) = (context.cause.value == 16) || any_removed rest
+any_removed (context ∷ rest) = (context.cause.value == REQUEST_ACCEPTED) || any_removed rest
 
--- 16 if all were removed, 17 (accepted partially) if some were, 64 if none was
+-- the cause of the response: all were removed, some were, or none was
 abbrev pub removal_cause : List RemovedBearer → ℕ
-removal_cause contexts = if all_removed contexts then 16 else if any_removed contexts then 17 else 64
+removal_cause contexts =
+    if all_removed contexts then REQUEST_ACCEPTED
+    else if any_removed contexts then REQUEST_ACCEPTED_PARTIALLY
+    else CONTEXT_NOT_FOUND
+
+-- the response about all bearers of the session, and the one about those of a list, with these contexts
+abbrev pub session_removed : Node → DeleteBearerRequest → Session → ℕ → DeleteBearerResponse
+session_removed node d s identity = record {
+  header = written s.remote;
+  number = d.number;
+  cause = cause_of REQUEST_ACCEPTED;
+  linked = Some identity;
+  contexts = [];
+  recovery = Some node.counter;
+}
+
+abbrev pub bearers_removed : Node → DeleteBearerRequest → Session → List RemovedBearer → DeleteBearerResponse
+bearers_removed node d s contexts = record {
+  header = written s.remote;
+  number = d.number;
+  cause = cause_of (removal_cause contexts);
+  linked = None;
+  contexts = contexts;
+  recovery = Some node.counter;
+}
 
 -- Dedicated bearers are removed as the packet gateway asks, and the answer is held.
 pub record RemovesBearers (request : Arrival) (d : DeleteBearerRequest) (old : Node) (s : Session) (e : Effect) : Type 0 where
   pub contexts : List RemovedBearer
   pub left : Node
   pub removes : RemovesEach d.header d.identities old contexts left
-  pub gives : e ≡ answered request (Delete_bearer_response (record { header = written s.remote; number = d.number; cause = cause_of (removal_cause contexts); linked = None; contexts = contexts; recovery = Some old.counter })) (removal_cause contexts) left
+  pub gives : e ≡ answered request (Delete_bearer_response (bearers_removed old d s contexts)) (removal_cause contexts) left
 
--- with a linked identity the session is removed, and else the bearers of the list, at most 11
-abbrev pub RemovalTaken : Arrival → DeleteBearerRequest → Option ℕ → Node → Session → Effect → Type 0
-RemovalTaken request d (Some identity) old s e =
-    Unless (identity ≡ s.subscriber.identity) (e ≡ answered request (refusing Of_delete_bearer (written s.remote) d.number (cause_of 64) old.counter) 64 old) (λ linked.
-    e ≡ answered request (Delete_bearer_response (record { header = written s.remote; number = d.number; cause = cause_of 16; linked = Some identity; contexts = []; recovery = Some old.counter })) 16 (without_session old d.header))
-RemovalTaken request d None old s e =
-    Unless (length d.identities ≤ 11) (e ≡ answered request (refusing Of_delete_bearer (written s.remote) d.number (cause_of 94) old.counter) 94 old) (λ few.
-    RemovesBearers request d old s e)
+module _ (request : Arrival) (d : DeleteBearerRequest) where
+  -- refused with this cause: the response goes to this TEID, and nothing changes
+  abbrev pub removal_refused : ℕ → ℕ → Node → Effect
+  removal_refused header cause old = request_refused request types.DeleteBearerRequest header d.number (cause_of cause) old
 
--- A Delete Bearer Request (7.2.9.2) whose answer can be held, with its refusals in their order.
-abbrev pub RemovalJudged : Arrival → DeleteBearerRequest → Node → Effect → Type 0
-RemovalJudged request d old e =
-    Unless (HasSession old d.header) (e ≡ answered request (refusing Of_delete_bearer 0 d.number (cause_of 64) old.counter) 64 old) (λ at.
-    Unless (at.session.state ≢ Pending) (e ≡ dropped old ContextNotActive) (λ opened.
-    RemovalTaken request d d.linked old at.session e))
+  -- with a linked identity the session is removed, and else the bearers of the list, at most 11
+  abbrev pub RemovalTaken : Option ℕ → Node → Session → Effect → Type 0
+  RemovalTaken (Some identity) old s e =
+      Unless (identity ≡ s.subscriber.identity) (e ≡ removal_refused (written s.remote) CONTEXT_NOT_FOUND old) (λ linked.
+      e ≡ answered request (Delete_bearer_response (session_removed old d s identity)) REQUEST_ACCEPTED (without_session old d.header))
+  RemovalTaken None old s e =
+      Unless (length d.identities ≤ 11) (e ≡ removal_refused (written s.remote) REQUEST_REJECTED old) (λ few.
+      RemovesBearers request d old s e)
 
--- A Delete Bearer Request.
-abbrev pub RemovalAsked : Arrival → DeleteBearerRequest → Node → Effect → Type 0
-RemovalAsked request d old e = UnlessFull (RemovalJudged request d) old e
+  -- A Delete Bearer Request (7.2.9.2) whose answer can be held, with its refusals in their order.
+  abbrev pub RemovalJudged : Node → Effect → Type 0
+  RemovalJudged old e =
+      Unless (HasSession old d.header) (e ≡ removal_refused 0 CONTEXT_NOT_FOUND old) (λ at.
+      Unless (at.session.state ≢ Pending) (e ≡ dropped old ContextNotActive) (λ opened.
+      RemovalTaken d.linked old at.session e))
+
+  -- A Delete Bearer Request.
+  abbrev pub RemovalAsked : Node → Effect → Type 0
+  RemovalAsked old e = UnlessFull RemovalJudged old e
 
 -- what the serving gateway does with a message of a kind that it takes, once the peer's counter was heard
 abbrev pub ServingTakes : Arrival → Message → Node → Effect → Type 0
@@ -179,24 +241,3 @@ ServingTakes request (Delete_session_response d) old e = DeletionAnswered d old 
 ServingTakes request (Create_bearer_request r) old e = BearerAsked request r old e
 ServingTakes request (Delete_bearer_request d) old e = RemovalAsked request d old e
 ServingTakes request _ old e = e ≡ dropped old Unexpected
-
--- the kinds that the serving gateway takes
-abbrev pub serving_takes : Message → Bool
-serving_takes (Echo_request q) = true
-serving_takes (Echo_response a) = true
-serving_takes (Create_session_response a) = true
-serving_takes (Delete_session_response d) = true
-serving_takes (Create_bearer_request r) = true
-serving_takes (Delete_bearer_request d) = true
-serving_takes _ = false
-
--- a faulty request is answered where the serving gateway takes its kind
-abbrev pub ServingFaulted : Arrival → FaultyRequest → RequestKind → Node → Effect → Type 0
-ServingFaulted request f Of_create_session old e = e ≡ dropped old (undecodable Control (fault_number f.defect))
-ServingFaulted request f Of_delete_session old e = e ≡ dropped old (undecodable Control (fault_number f.defect))
-ServingFaulted request f Of_create_bearer old e = e ≡ faulted request f old
-ServingFaulted request f Of_delete_bearer old e = e ≡ faulted request f old
-
--- what the serving gateway does with what was read
-abbrev pub ServingReads : ControlReading → Arrival → Node → Effect → Type 0
-ServingReads = TakesReading serving_takes ServingTakes ServingFaulted

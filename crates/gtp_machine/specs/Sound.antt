@@ -4,10 +4,14 @@ use Rattle.std.specs.FinMap.{get, len}
 use Rattle.gtp_values.specs.FiniteMap.{FiniteMap, Each, Among}
 use Rattle.gtp_machine.specs.Step.{Step, Done, Steps}
 use Rattle.gtp_machine.specs.Element.{IsAccepting, teid_in}
-use Rattle.gtp_machine.specs.Message.{Echo, CreateSessionRequest, DeleteSessionRequest, CreateBearerRequest, DeleteBearerRequest, Message, Echo_request, Create_session_request, Create_session_response, Delete_session_request, Create_bearer_request, Create_bearer_response, Delete_bearer_request, CreatedBearer, GivenBearer}
-use Rattle.gtp_machine.specs.Node.{Role, Serving, Packet, State, Pending, Active, Closing, Kind, Default, Dedicated, Session, Bearer, PendingRequest, Held, Arrival, Node, fresh_node}
+use Rattle.gtp_machine.specs.Message.{Echo, CreateSessionRequest, DeleteSessionRequest, CreateBearerRequest, DeleteBearerRequest, Message}
+use Rattle.gtp_machine.specs.Message.{Echo_request, Create_session_request, Create_session_response, Delete_session_request}
+use Rattle.gtp_machine.specs.Message.{Create_bearer_request, Create_bearer_response, Delete_bearer_request, CreatedBearer, GivenBearer}
+use Rattle.gtp_machine.specs.Node.{Role, Serving, Packet, State, Pending, Active, Closing, Kind, Default, Dedicated, Session, Bearer}
+use Rattle.gtp_machine.specs.Node.{PendingRequest, Held, Arrival, Node, fresh_node}
 use Rattle.gtp_machine.specs.Config.{Config}
-use Rattle.gtp_machine.specs.Input.{Create_session, Input, Commanded, Control_came, Moves_on, ControlReading, Control_message, Move, Resend, Give_up, Forget, Out, Effect}
+use Rattle.gtp_machine.specs.Input.{Create_session, Input, Commanded, Control_came, Moves_on, ControlReading, Control_message, Move, Resend}
+use Rattle.gtp_machine.specs.Input.{Give_up, Forget, Out, Effect}
 use Rattle.gtp_machine.specs.Tick.{TickStep, Due, Ticks}
 use Rattle.gtp_machine.specs.Choice.{IsIdentity, HasPending}
 use Rattle.gtp_machine.specs.User.{is_default_to, default_among}
@@ -44,7 +48,9 @@ pub record IsSoundBearer (drawn : List ℕ) (sessions : FiniteMap Session) (t : 
 
 -- no two bearers of a session have one identity
 abbrev pub AreApart : FiniteMap Bearer → Type 0
-AreApart bearers = (s t : ℕ) (a b : Bearer) (identity : ℕ) → get bearers s ≡ Some a → get bearers t ≡ Some b → a.session ≡ b.session → a.identity ≡ Some identity → b.identity ≡ Some identity → s ≡ t
+AreApart bearers =
+    (s t : ℕ) (a b : Bearer) (identity : ℕ) → get bearers s ≡ Some a → get bearers t ≡ Some b → a.session ≡ b.session →
+    a.identity ≡ Some identity → b.identity ≡ Some identity → s ≡ t
 
 -- an Echo Request is about nothing
 pub record AsksEcho (number : ℕ) (p : PendingRequest) : Type 0 where
@@ -68,7 +74,8 @@ pub record AsksSession (role : Role) (sessions : FiniteMap Session) (bearers : F
 -- the request that deletes a session: a Delete Session Request, or at the packet gateway a Delete Bearer Request that names its default bearer alone
 abbrev pub DeletesSession : Role → ℕ → Message → Type 0
 DeletesSession Serving number message = (request : DeleteSessionRequest) × (message ≡ Delete_session_request request) × (request.number ≡ number)
-DeletesSession Packet number message = (request : DeleteBearerRequest) × (message ≡ Delete_bearer_request request) × (request.number ≡ number) × (request.identities ≡ [])
+DeletesSession Packet number message =
+    (request : DeleteBearerRequest) × (message ≡ Delete_bearer_request request) × (request.number ≡ number) × (request.identities ≡ [])
 
 -- a request that deletes a session: it is closing
 pub record EndsSession (role : Role) (sessions : FiniteMap Session) (number : ℕ) (p : PendingRequest) : Type 0 where
@@ -80,7 +87,9 @@ pub record EndsSession (role : Role) (sessions : FiniteMap Session) (number : �
 
 -- a bearer that was asked for is pending, or closing with its session
 abbrev pub IsWanted : FiniteMap Session → FiniteMap Bearer → ℕ → ℕ → Type 0
-IsWanted sessions bearers session key = At bearers key (IsBearerOf session Dedicated Pending) ⊎ (At bearers key (IsBearerOf session Dedicated Closing) × At sessions session (IsInState Closing))
+IsWanted sessions bearers session key =
+    At bearers key (IsBearerOf session Dedicated Pending) ⊎
+    (At bearers key (IsBearerOf session Dedicated Closing) × At sessions session (IsInState Closing))
 
 -- a Create Bearer Request of the packet gateway: the bearer that it names
 pub record AsksBearer (role : Role) (sessions : FiniteMap Session) (bearers : FiniteMap Bearer) (number : ℕ) (p : PendingRequest) : Type 0 where
@@ -108,7 +117,12 @@ pub record EndsBearer (role : Role) (bearers : FiniteMap Bearer) (number : ℕ) 
 
 -- a pending request is one of these five
 abbrev pub IsAbout : Role → FiniteMap Session → FiniteMap Bearer → ℕ → PendingRequest → Type 0
-IsAbout role sessions bearers number p = AsksEcho number p ⊎ (AsksSession role sessions bearers number p ⊎ (EndsSession role sessions number p ⊎ (AsksBearer role sessions bearers number p ⊎ EndsBearer role bearers number p)))
+IsAbout role sessions bearers number p =
+    AsksEcho number p ⊎
+    (AsksSession role sessions bearers number p ⊎
+    (EndsSession role sessions number p ⊎
+    (AsksBearer role sessions bearers number p ⊎
+    EndsBearer role bearers number p)))
 
 -- the TEID of what an answer to the request opens
 abbrev pub opened_by : Message → Option ℕ
@@ -118,7 +132,9 @@ opened_by _ = None
 
 -- no two pending requests open one context
 abbrev pub AreLone : FiniteMap PendingRequest → Type 0
-AreLone pending = (m n : ℕ) (p q : PendingRequest) (t : ℕ) → get pending m ≡ Some p → get pending n ≡ Some q → opened_by p.request ≡ Some t → opened_by q.request ≡ Some t → m ≡ n
+AreLone pending =
+    (m n : ℕ) (p q : PendingRequest) (t : ℕ) → get pending m ≡ Some p → get pending n ≡ Some q → opened_by p.request ≡ Some t →
+    opened_by q.request ≡ Some t → m ≡ n
 
 -- nothing is over its limit
 pub record IsWithin (sessions : FiniteMap Session) (pending : FiniteMap PendingRequest) (held : List Held) (drawn : List ℕ) : Type 0 where
@@ -135,7 +151,9 @@ pub record AreSoundContexts (drawn : List ℕ) (sessions : FiniteMap Session) (b
   pub apart : AreApart bearers
 
 -- pending requests that are sound
-pub record AreSoundRequests (role : Role) (sessions : FiniteMap Session) (bearers : FiniteMap Bearer) (pending : FiniteMap PendingRequest) : Type 0 where
+pub record AreSoundRequests
+    (role : Role) (sessions : FiniteMap Session) (bearers : FiniteMap Bearer) (pending : FiniteMap PendingRequest)
+    : Type 0 where
   pub each : Each (IsAbout role sessions bearers) pending
   pub lone : AreLone pending
 
@@ -147,8 +165,12 @@ pub record IsSound (role : Role) (node : Node) : Type 0 where
 
 -- a response that accepts names the F-TEIDs that its table asks for then
 abbrev pub IsWhole : Message → Type 0
-IsWhole (Create_session_response a) = IsAccepting a.cause → ((t : ℕ) × (teid_in a.control ≡ Some t)) × ((c : CreatedBearer) → Among c a.contexts → IsAccepting c.cause → (t : ℕ) × (teid_in c.user ≡ Some t))
-IsWhole (Create_bearer_response x) = IsAccepting x.cause → (c : GivenBearer) → Among c x.contexts → IsAccepting c.cause → (t : ℕ) × (teid_in c.serving_user ≡ Some t)
+IsWhole (Create_session_response a) =
+    IsAccepting a.cause →
+    ((t : ℕ) × (teid_in a.control ≡ Some t)) × ((c : CreatedBearer) → Among c a.contexts → IsAccepting c.cause → (t : ℕ) × (teid_in c.user ≡ Some t))
+IsWhole (Create_bearer_response x) =
+    IsAccepting x.cause → (c : GivenBearer) → Among c x.contexts → IsAccepting c.cause →
+    (t : ℕ) × (teid_in c.serving_user ≡ Some t)
 IsWhole _ = Unit {0}
 
 -- what comes was read from octets, whoever sent them, and a command names an identity of 5 to 15 for the default bearer
@@ -159,7 +181,9 @@ IsWellFormed _ = Unit {0}
 
 -- Each step from a sound gateway leaves it sound.
 abbrev pub StaysSound : Type 0
-StaysSound = (role : Role) (old : Node) (input : Input) (effect : Effect) → IsSound role old → IsWellFormed input → Step role old input effect → IsSound role effect.node
+StaysSound =
+    (role : Role) (old : Node) (input : Input) (effect : Effect) → IsSound role old → IsWellFormed input →
+    Step role old input effect → IsSound role effect.node
 
 -- a gateway that has just started is sound
 abbrev pub StartsSound : Type 0
@@ -181,8 +205,8 @@ abbrev pub AreDistinct : List Arrival → Type 0
 AreDistinct [] = Unit {0}
 AreDistinct (request ∷ requests) = (Among request requests → ⊥) × AreDistinct requests
 
--- what is due is there: the requests to send again wait, and the answers to forget are held, each due once; a request that is due to be given up need not
--- wait
+-- what is due is there: the requests to send again wait, and the answers to forget are held, each due once; a request that is due
+-- to be given up need not wait
 pub record CanTick (node : Node) (due : Due) : Type 0 where
   pub waits : (number : ℕ) → Among number due.resends → HasPending node number
   pub held : (request : Arrival) → Among request due.forgets → CanMove node (Forget request)
@@ -198,7 +222,9 @@ AlwaysSteps = (role : Role) (old : Node) (input : Input) → IsSound role old �
 
 -- A tick of a sound gateway leaves it sound.
 abbrev pub TickStaysSound : Type 0
-TickStaysSound = (role : Role) (old : Node) (moves : List Move) (out : Out) (new : Node) → IsSound role old → TickStep old moves out new → IsSound role new
+TickStaysSound =
+    (role : Role) (old : Node) (moves : List Move) (out : Out) (new : Node) → IsSound role old → TickStep old moves out new →
+    IsSound role new
 
 -- Whatever is due and there, a gateway can tick.
 abbrev pub AlwaysTicks : Type 0
@@ -206,11 +232,16 @@ AlwaysTicks = (node : Node) (due : Due) → CanTick node due → IsNotEmpty (λ 
 
 -- What a tick gives up was due to be given up, and waited when the tick began.
 abbrev pub GivesUpDue : Type 0
-GivesUpDue = (old : Node) (due : Due) (out : Out) (new : Node) → Ticks old due out new → (number : ℕ) → Among number out.gave_up → Among number due.give_ups × HasPending old number
+GivesUpDue =
+    (old : Node) (due : Due) (out : Out) (new : Node) → Ticks old due out new → (number : ℕ) → Among number out.gave_up →
+    Among number due.give_ups × HasPending old number
 
 -- The test by which a session goes with an Error Indication is true exactly where one of the bearers is its default one and has that remote.
 abbrev pub BreaksByDefault : Type 0
-BreaksByDefault = (remote session : ℕ) (bearers : FiniteMap Bearer) → (default_among remote session bearers ≡ true) ↔ ((t : ℕ) × (b : Bearer) × (get bearers t ≡ Some b) × (is_default_to remote session b ≡ true))
+BreaksByDefault =
+    (remote session : ℕ) (bearers : FiniteMap Bearer) →
+    (default_among remote session bearers ≡ true) ↔
+    ((t : ℕ) × (b : Bearer) × (get bearers t ≡ Some b) × (is_default_to remote session b ≡ true))
 
 -- each step takes what is well formed
 abbrev pub AreWellFormed : List Done → Type 0
@@ -219,7 +250,9 @@ AreWellFormed (done ∷ log) = IsWellFormed done.input × AreWellFormed log
 
 -- A gateway that is reached from a start is sound.
 abbrev pub ReachedIsSound : Type 0
-ReachedIsSound = (role : Role) (config : Config) (counter : ℕ) (log : List Done) (node : Node) → Steps role (fresh_node config counter) log node → AreWellFormed log → IsSound role node
+ReachedIsSound =
+    (role : Role) (config : Config) (counter : ℕ) (log : List Done) (node : Node) →
+    Steps role (fresh_node config counter) log node → AreWellFormed log → IsSound role node
 
 -- What is read from octets is whole.
 abbrev pub ReadsWhole : Type 0
@@ -231,4 +264,6 @@ PairReadsWhole = (octets : List ℕ) (first second : Message) → DatagramReads 
 
 -- So is what a gateway takes a datagram for.
 abbrev pub TakenWhole : Type 0
-TakenWhole = (request : Arrival) (reading : DatagramReading) → DatagramReads request.octets reading → IsWellFormed (Control_came request (taken_as reading))
+TakenWhole =
+    (request : Arrival) (reading : DatagramReading) → DatagramReads request.octets reading →
+    IsWellFormed (Control_came request (taken_as reading))

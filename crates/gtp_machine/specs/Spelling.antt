@@ -1,7 +1,8 @@
 -- The octets that a gateway sends for a message: the canonical encoding of what it says, field by field (TS 29.274, 5 to 8; TS 29.281, 5, 7 and 8).
 use Rattle.std.specs.Prelude.{◌≡◌, ℕ, ◌<◌, List, [], ◌∷◌, All, map, Option, Some, None, option_map, option_to_list}
 use Rattle.gtp_values.specs.declared.address.Endpoint.{Endpoint}
-use Rattle.gtp_ie.specs.Value.{Value, OfImsi, OfCause, OfRecovery, OfApn, OfAmbr, OfEbi, OfPaa, OfQos, OfRat, OfPlmn, OfTft, OfFTeid, OfChargingId, OfPdnType, OfPti, OfSelection}
+use Rattle.gtp_ie.specs.Value.{Value, OfImsi, OfCause, OfRecovery, OfApn, OfAmbr, OfEbi, OfPaa, OfQos, OfRat, OfPlmn, OfTft, OfFTeid}
+use Rattle.gtp_ie.specs.Value.{OfChargingId, OfPdnType, OfPti, OfSelection}
 use Rattle.gtp_v2.specs.EchoRequest.{echo_request}
 use Rattle.gtp_v2.specs.EchoResponse.{echo_response}
 use Rattle.gtp_v2.specs.CreateSessionRequest.{create_session_request}
@@ -18,7 +19,11 @@ use Rattle.gtp_v2.specs.Encoding.{canonical_encoding, Meets}
 use Rattle.gtp_v2.specs.Pair.{Announces, paired}
 use Rattle.gtp_user.specs.Message as user_messages
 use Rattle.gtp_user.specs.Encoding as user_encodings
-use Rattle.gtp_machine.specs.Message.{RequestedBearer, CreatedBearer, WantedBearer, GivenBearer, RemovedBearer, Message, Echo_request, Echo_response, Create_session_request, Create_session_response, Delete_session_request, Delete_session_response, Create_bearer_request, Create_bearer_response, Delete_bearer_request, Delete_bearer_response, Other_control, Packet_data, End_marker, Error_indication, User_echo_request, User_echo_response, Supported_extensions, Other_user, Plane, Control, User, plane_of}
+use Rattle.gtp_machine.specs.Message.{RequestedBearer, CreatedBearer, WantedBearer, GivenBearer, RemovedBearer, Message, Echo_request}
+use Rattle.gtp_machine.specs.Message.{Echo_response, Create_session_request, Create_session_response, Delete_session_request}
+use Rattle.gtp_machine.specs.Message.{Delete_session_response, Create_bearer_request, Create_bearer_response, Delete_bearer_request}
+use Rattle.gtp_machine.specs.Message.{Delete_bearer_response, Other_control, Packet_data, End_marker, Error_indication, User_echo_request}
+use Rattle.gtp_machine.specs.Message.{User_echo_response, Supported_extensions, Other_user, Plane, Control, User, plane_of}
 use Rattle.gtp_machine.specs.Config.{Config, own_end}
 use Rattle.gtp_machine.specs.Input.{Control_message, User_message, Sending}
 use Rattle.gtp_machine.specs.Reading.{ControlReads, DatagramReads, Both, UserReads}
@@ -33,7 +38,8 @@ requested_rows c = (OfEbi c.identity ∷ []) ∷ (OfQos c.qos ∷ []) ∷ (OfFTe
 
 -- the rows of a bearer context of a Create Session Response (table 7.2.2-2)
 abbrev pub created_rows : CreatedBearer → List (List Value)
-created_rows c = (OfEbi c.identity ∷ []) ∷ (OfCause c.cause ∷ []) ∷ where_there OfFTeid c.user ∷ where_there OfQos c.qos ∷ where_there OfChargingId c.charging ∷ []
+created_rows c =
+    (OfEbi c.identity ∷ []) ∷ (OfCause c.cause ∷ []) ∷ where_there OfFTeid c.user ∷ where_there OfQos c.qos ∷ where_there OfChargingId c.charging ∷ []
 
 -- the rows of a bearer context of a Create Bearer Request (table 7.2.3-2)
 abbrev pub wanted_rows : WantedBearer → List (List Value)
@@ -81,12 +87,32 @@ control_value (Create_session_response a) =
     ∷ []
     )
 control_value (Delete_session_request d) = typed delete_session_request.kind (Some d.header) d.number (Plain (where_there OfEbi d.linked) ∷ [])
-control_value (Delete_session_response d) = typed delete_session_response.kind (Some d.header) d.number (Plain (OfCause d.cause ∷ []) ∷ Plain (where_there OfRecovery d.recovery) ∷ [])
-control_value (Create_bearer_request r) = typed create_bearer_request.kind (Some r.header) r.number (Plain (where_there OfPti r.transaction) ∷ Plain (OfEbi r.linked ∷ []) ∷ Groups (map wanted_rows (r.context ∷ r.further)) ∷ [])
-control_value (Create_bearer_response x) = typed create_bearer_response.kind (Some x.header) x.number (Plain (OfCause x.cause ∷ []) ∷ Groups (map given_rows x.contexts) ∷ Plain (where_there OfRecovery x.recovery) ∷ [])
-control_value (Delete_bearer_request d) = typed delete_bearer_request.kind (Some d.header) d.number (Plain (where_there OfEbi d.linked) ∷ Plain (map OfEbi d.identities) ∷ [])
+control_value (Delete_session_response d) =
+    typed delete_session_response.kind (Some d.header) d.number (Plain (OfCause d.cause ∷ []) ∷ Plain (where_there OfRecovery d.recovery) ∷ [])
+control_value (Create_bearer_request r) =
+    typed create_bearer_request.kind (Some r.header) r.number (
+    Plain (where_there OfPti r.transaction)
+    ∷ Plain (OfEbi r.linked ∷ [])
+    ∷ Groups (map wanted_rows (r.context ∷ r.further))
+    ∷ []
+    )
+control_value (Create_bearer_response x) =
+    typed create_bearer_response.kind (Some x.header) x.number (
+    Plain (OfCause x.cause ∷ [])
+    ∷ Groups (map given_rows x.contexts)
+    ∷ Plain (where_there OfRecovery x.recovery)
+    ∷ []
+    )
+control_value (Delete_bearer_request d) =
+    typed delete_bearer_request.kind (Some d.header) d.number (Plain (where_there OfEbi d.linked) ∷ Plain (map OfEbi d.identities) ∷ [])
 control_value (Delete_bearer_response d) =
-    typed delete_bearer_response.kind (Some d.header) d.number (Plain (OfCause d.cause ∷ []) ∷ Plain (where_there OfEbi d.linked) ∷ Groups (map removed_rows d.contexts) ∷ Plain (where_there OfRecovery d.recovery) ∷ [])
+    typed delete_bearer_response.kind (Some d.header) d.number (
+    Plain (OfCause d.cause ∷ [])
+    ∷ Plain (where_there OfEbi d.linked)
+    ∷ Groups (map removed_rows d.contexts)
+    ∷ Plain (where_there OfRecovery d.recovery)
+    ∷ []
+    )
 control_value (Other_control kind) = record { kind = kind; teid = None; seq = 0; priority = None; content = Raw [] }
 control_value _ = record { kind = 0; teid = None; seq = 0; priority = None; content = Raw [] }
 
@@ -94,8 +120,8 @@ control_value _ = record { kind = 0; teid = None; seq = 0; priority = None; cont
 abbrev pub plain_user : Option ℕ → user_messages.Content → user_messages.MessageValue
 plain_user number content = record { seq = number; npdu = None; ext = []; content = content }
 
--- What a message of the user plane says (TS 29.281, 7.2 and 7.3). Where the standard wants a sequence number that means nothing it is 0. Of a message of another
--- type nothing is known but its type.
+-- What a message of the user plane says (TS 29.281, 7.2 and 7.3). Where the standard wants a sequence number that means nothing
+-- it is 0. Of a message of another type nothing is known but its type.
 abbrev pub user_value : Message → user_messages.MessageValue
 user_value (Packet_data target payload) = plain_user None (user_messages.Packet target payload)
 user_value (End_marker target) = plain_user None (user_messages.EndMarker target)
@@ -145,7 +171,12 @@ last_part (first ∷ second ∷ rest) = spelled second
 
 -- the datagram that a gateway with this configuration sends
 abbrev pub datagram_of : Config → Sending → Datagram
-datagram_of config s = record { plane = datagram_plane s.messages; from = own_end config (datagram_plane s.messages); to = s.destination; octets = spelled_all s.messages }
+datagram_of config s = record {
+  plane = datagram_plane s.messages;
+  from = own_end config (datagram_plane s.messages);
+  to = s.destination;
+  octets = spelled_all s.messages;
+}
 
 -- a kind that a gateway sends
 abbrev pub IsOfOwnKind : Message → Type 0
@@ -179,7 +210,9 @@ SpelledReads = (m : Message) → IsSendable m → ReadsAs (plane_of m) (spelled 
 
 -- What a gateway sends for two messages in one datagram reads as both: the first announces the second, and each lies there as it is spelled.
 abbrev pub PairSpelledReads : Type 0
-PairSpelledReads = (a b : Message) → IsSendable a → IsSendable b → plane_of a ≡ Control → plane_of b ≡ Control → Announces (spelled_all (a ∷ b ∷ [])) (spelled a) (spelled b) × DatagramReads (spelled_all (a ∷ b ∷ [])) (Both a b)
+PairSpelledReads =
+    (a b : Message) → IsSendable a → IsSendable b → plane_of a ≡ Control → plane_of b ≡ Control →
+    Announces (spelled_all (a ∷ b ∷ [])) (spelled a) (spelled b) × DatagramReads (spelled_all (a ∷ b ∷ [])) (Both a b)
 
 -- Messages that a gateway can send, with one encoding, are one.
 abbrev pub SpelledApart : Type 0

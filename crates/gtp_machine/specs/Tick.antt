@@ -24,21 +24,22 @@ joined first rest =
 -- A gateway makes these moves, one after the other: what they send and tell together, and the gateway after them.
 abbrev pub TickStep : Node → List Move → Out → Node → Type 0
 TickStep old [] out new = (out ≡ nothing) × (new ≡ old)
-TickStep old (move ∷ moves) out new = (effect : Effect) × (rest : Out) × MoveStep old move effect × TickStep effect.node moves rest new × (out ≡ joined effect.out rest)
+TickStep old (move ∷ moves) out new =
+    (effect : Effect) × (rest : Out) × MoveStep old move effect × TickStep effect.node moves rest new × (out ≡ joined effect.out rest)
 
 -- what a tick gives
 abbrev pub ticked : Out → Node → Effect
 ticked out new = record { out = out; outcome = Ticked; node = new }
 
--- what is due in a tick: requests to send again and requests to give up, each in the order in which they were begun, and requests whose answers are to be
--- forgotten, in the order in which those came to be held
+-- what is due in a tick: requests to send again and requests to give up, each in the order in which they were begun, and requests
+-- whose answers are to be forgotten, in the order in which those came to be held
 pub record Due : Type 0 where
   pub resends : List ℕ
   pub give_ups : List ℕ
   pub forgets : List Arrival
 
--- Of the requests that are due to be given up, each in turn that still waits is given up. A request that an earlier one of them took with it, since they
--- were about one session or one bearer, waits no more: it is not given up, and nothing is told of it.
+-- Of the requests that are due to be given up, each in turn that still waits is given up. A request that an earlier one of them
+-- took with it, since they were about one session or one bearer, waits no more: it is not given up, and nothing is told of it.
 abbrev pub AreGiveUps : Node → List ℕ → List Move → Type 0
 AreGiveUps old [] moves = moves ≡ []
 AreGiveUps old (number ∷ numbers) moves =

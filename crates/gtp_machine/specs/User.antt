@@ -7,26 +7,41 @@ use Rattle.gtp_values.specs.Number.{is_number}
 use Rattle.gtp_tables.specs.Index.{is_default, names}
 use Rattle.gtp_machine.specs.Ordered.{Unless}
 use Rattle.gtp_machine.specs.Config.{user_end}
-use Rattle.gtp_machine.specs.Message.{Message, User, Packet_data, End_marker, Error_indication, User_echo_request, User_echo_response, Supported_extensions}
+use Rattle.gtp_machine.specs.Message.{Message, User, Packet_data, End_marker, Error_indication, User_echo_request, User_echo_response}
+use Rattle.gtp_machine.specs.Message.{Supported_extensions}
 use Rattle.gtp_machine.specs.Node.{Role, Serving, Packet, Active, Bearer, Node}
-use Rattle.gtp_machine.specs.Input.{Came_to, UserReading, User_message, Extension_needed, User_fault, Effect, Accepted, Ended, Broken, Echoed, Dropped, entry_for, nothing, says, dropped, undecodable, ContextNotActive, UnknownContext, AfterEnd, Unexpected, UnknownExtension, NotPeer}
+use Rattle.gtp_machine.specs.Input.{Came_to, UserReading, User_message, Extension_needed, User_fault, Effect, Accepted, Ended, Broken}
+use Rattle.gtp_machine.specs.Input.{Echoed, Dropped, entry_for, nothing, says, dropped, undecodable, ContextNotActive, UnknownContext}
+use Rattle.gtp_machine.specs.Input.{AfterEnd, Unexpected, UnknownExtension, NotPeer}
 use Rattle.gtp_machine.specs.Choice.{HasSession, HasBearer}
 use Rattle.gtp_machine.specs.Removal.{without}
 
 -- A packet comes to an active bearer, and is accepted.
 pub record Accepts (old : Node) (target : ℕ) (payload : List ℕ) (at : Bearer) (e : Effect) : Type 0 where
   pub of : HasSession old at.session
-  pub gives : e ≡ record { out = record nothing { accepted = entry_for target payload of.session.subscriber at.identity ∷ [] }; outcome = Came_to Accepted; node = old }
+  pub gives : e ≡ record {
+    out = record nothing { accepted = entry_for target payload of.session.subscriber at.identity ∷ [] };
+    outcome = Came_to Accepted;
+    node = old;
+  }
 
 -- no End Marker came before: that counts at the serving gateway alone
 abbrev pub MayCome : Role → Bearer → Type 0
 MayCome Serving b = b.ended ≡ false
 MayCome Packet b = Unit {0}
 
+-- an Error Indication is sent for a packet with this TEID (7.3.1), and nothing changes
+abbrev pub indicated : ℕ → Node → Effect
+indicated target old = record {
+  out = says (user_end old.config.peer.user) (Error_indication target old.config.own.user);
+  outcome = Came_to (Dropped UnknownContext);
+  node = old;
+}
+
 -- A G-PDU: for no bearer it is answered with an Error Indication (7.3.1).
 abbrev pub PacketCame : Role → ℕ → List ℕ → Node → Effect → Type 0
 PacketCame role target payload old e =
-    Unless (HasBearer old target) (e ≡ record { out = says (user_end old.config.peer.user) (Error_indication target old.config.own.user); outcome = Came_to (Dropped UnknownContext); node = old }) (λ at.
+    Unless (HasBearer old target) (e ≡ indicated target old) (λ at.
     Unless (at.bearer.state ≡ Active) (e ≡ dropped old ContextNotActive) (λ open_to_packets.
     Unless (MayCome role at.bearer) (e ≡ dropped old AfterEnd) (λ comes.
     Accepts old target payload at.bearer e)))
@@ -72,13 +87,18 @@ abbrev pub UserTaken : Role → Endpoint → Message → Node → Effect → Typ
 UserTaken role source (Packet_data target payload) old e = PacketCame role target payload old e
 UserTaken role source (End_marker target) old e = EndCame role target old e
 UserTaken role source (Error_indication remote address) old e = ErrorCame remote old e
-UserTaken role source (User_echo_request number) old e = e ≡ record { out = says source (User_echo_response number); outcome = Came_to Echoed; node = old }
+UserTaken role source (User_echo_request number) old e =
+    e ≡ record { out = says source (User_echo_response number); outcome = Came_to Echoed; node = old }
 UserTaken role source _ old e = e ≡ dropped old Unexpected
 
 -- what was read; a needed extension header that is not known is told of, with one type that may stand, 64 (5.2.1, 7.2.3)
 abbrev pub UserRead : Role → Endpoint → UserReading → Node → Effect → Type 0
 UserRead role source (User_message message) old e = UserTaken role source message old e
-UserRead role source Extension_needed old e = e ≡ record { out = says (user_end old.config.peer.user) (Supported_extensions (64 ∷ [])); outcome = Came_to (Dropped UnknownExtension); node = old }
+UserRead role source Extension_needed old e = e ≡ record {
+  out = says (user_end old.config.peer.user) (Supported_extensions (64 ∷ []));
+  outcome = Came_to (Dropped UnknownExtension);
+  node = old;
+}
 UserRead role source (User_fault fault) old e = e ≡ dropped old (undecodable User fault)
 
 -- a user plane datagram: first its source address is looked at

@@ -6,7 +6,8 @@ use Rattle.gtp_user.specs.Codes as user_codes
 use Rattle.gtp_machine.specs.Config.{Addresses, Config, control_end, user_end}
 use Rattle.gtp_machine.specs.Message.{Message, Create_session_response, Create_bearer_request, Plane, Control, User}
 use Rattle.gtp_machine.specs.Node.{Role, Serving, Packet, Arrival, Node, fresh_node}
-use Rattle.gtp_machine.specs.Input.{Command, Move, Input, Commanded, Control_came, User_came, Control_message, Control_fault, User_message, User_fault, Entry, Outcome, Out, Effect, messages, datagrams}
+use Rattle.gtp_machine.specs.Input.{Command, Move, Input, Commanded, Control_came, User_came, Control_message, Control_fault, User_message}
+use Rattle.gtp_machine.specs.Input.{User_fault, Entry, Outcome, Out, Effect, messages, datagrams}
 pub use Rattle.gtp_machine.specs.Input.{EventOutcome, Came_to, Ticked, Restarted, No_such_datagram, Restarts_used, Cut_too_long}
 use Rattle.gtp_machine.specs.Tick.{TickStep, ticked}
 use Rattle.gtp_machine.specs.Step.{Step, TakesPair, Done, tick_steps}
@@ -147,7 +148,8 @@ quiet_note outcome = record { outcome = outcome; second = None; learned = None; 
 
 -- the note of what an event gave
 abbrev pub note_of : EventOutcome → Out → Note
-note_of outcome out = record { outcome = outcome; second = None; learned = out.learned; sent = datagrams out.sent; gave_up = out.gave_up; forgot = out.forgot }
+note_of outcome out =
+    record { outcome = outcome; second = None; learned = out.learned; sent = datagrams out.sent; gave_up = out.gave_up; forgot = out.forgot }
 
 -- the outcome that is told, where one is
 abbrev pub outcome_in : EventOutcome → Option Outcome
@@ -156,13 +158,15 @@ outcome_in outcome = None
 
 -- the note of two messages of one delivery: of the first, with the outcome of the second beside it, and what both sent
 abbrev pub note_of_both : Effect → Effect → Note
-note_of_both first next = record (note_of first.outcome first.out) { second = outcome_in next.outcome; sent = datagrams first.out.sent ++ datagrams next.out.sent }
+note_of_both first next =
+    record (note_of first.outcome first.out) { second = outcome_in next.outcome; sent = datagrams first.out.sent ++ datagrams next.out.sent }
 
 -- A gateway takes an input, and what comes of it is noted.
 pub record Moves (old : World) (role : Role) (input : Input) (new : World) : Type 0 where
   pub effect : Effect
   pub step : Step role (side_of old role).node input effect
-  pub becomes : new ≡ logged (noted (moved old role effect) (note_of effect.outcome effect.out)) role (record { before = (side_of old role).node; input = input; effect = effect } ∷ [])
+  pub becomes : new ≡ logged (noted (moved old role effect) (note_of effect.outcome effect.out)) role
+      (record { before = (side_of old role).node; input = input; effect = effect } ∷ [])
 
 -- A gateway takes the two messages of one delivery, one after the other, and what comes of both is noted.
 pub record MovesTwice (old : World) (role : Role) (first second : Input) (new : World) : Type 0 where
@@ -170,7 +174,10 @@ pub record MovesTwice (old : World) (role : Role) (first second : Input) (new : 
   pub step : Step role (side_of old role).node first effect
   pub next : Effect
   pub follows : Step role effect.node second next
-  pub becomes : new ≡ logged (noted (moved (moved old role effect) role next) (note_of_both effect next)) role (record { before = (side_of old role).node; input = first; effect = effect } ∷ record { before = effect.node; input = second; effect = next } ∷ [])
+  pub becomes : new ≡ logged (noted (moved (moved old role effect) role next) (note_of_both effect next)) role
+      (record { before = (side_of old role).node; input = first; effect = effect }
+      ∷ record { before = effect.node; input = second; effect = next }
+      ∷ [])
 
 -- A tick is any list of moves.
 pub record TicksOn (old : World) (role : Role) (new : World) : Type 0 where
@@ -178,7 +185,8 @@ pub record TicksOn (old : World) (role : Role) (new : World) : Type 0 where
   pub out : Out
   pub after : Node
   pub tick : TickStep (side_of old role).node moves out after
-  pub becomes : new ≡ logged (noted (moved old role (ticked out after)) (note_of Ticked out)) role (tick_steps (side_of old role).node moves out after tick)
+  pub becomes : new ≡ logged (noted (moved old role (ticked out after)) (note_of Ticked out)) role
+      (tick_steps (side_of old role).node moves out after tick)
 
 -- octets as they come over the path, from their sender's control address
 abbrev pub come_from : Addresses → List ℕ → Arrival
@@ -220,19 +228,23 @@ IsLateOn User from side datagram = ⊥
 
 -- the world where one more delivery was late: of this request, to that gateway
 abbrev pub late_once : World → Role → Arrival → World
-late_once w role request = record (with_side w role (record (side_of w role) { came_late = request ∷ (side_of w role).came_late })) { late = 1 + w.late }
+late_once w role request =
+    record (with_side w role (record (side_of w role) { came_late = request ∷ (side_of w role).came_late })) { late = 1 + w.late }
 
 -- A datagram comes to a gateway: the two messages of a pair that it takes, one after the other, and else the datagram as a whole.
 abbrev pub ComesTo : World → Role → Addresses → List Message → World → Type 0
 ComesTo old role from datagram new =
-    Unless (TakesPair role (side_of old role).node.config (come_from from (spelled_all datagram)) (reading_of datagram)) (Moves old role (delivered_on (datagram_plane datagram) from datagram) new) (λ pair.
+    Unless (TakesPair role (side_of old role).node.config (come_from from (spelled_all datagram)) (reading_of datagram))
+    (Moves old role (delivered_on (datagram_plane datagram) from datagram) new) (λ pair.
     MovesTwice old role (first_came from (Create_session_response pair.answer)) (second_came from (Create_bearer_request pair.asked)) new)
 
 -- A datagram comes to the gateway that did not send it; it stays in the list. A late delivery is counted.
 abbrev pub Delivers : World → Role → List Message → World → Type 0
 Delivers old sender datagram new =
-    Unless (IsLateOn (datagram_plane datagram) (side_of old sender).node.config.own (side_of old (other sender)) datagram) (ComesTo old (other sender) (side_of old sender).node.config.own datagram new) (λ late.
-    ComesTo (late_once old (other sender) (come_from (side_of old sender).node.config.own (last_part datagram))) (other sender) (side_of old sender).node.config.own datagram new)
+    Unless (IsLateOn (datagram_plane datagram) (side_of old sender).node.config.own (side_of old (other sender)) datagram)
+    (ComesTo old (other sender) (side_of old sender).node.config.own datagram new) (λ late.
+    ComesTo (late_once old (other sender) (come_from (side_of old sender).node.config.own (last_part datagram)))
+    (other sender) (side_of old sender).node.config.own datagram new)
 
 -- The first octets of a datagram come to the gateway that did not send it.
 abbrev pub Cuts : World → SentDatagram → ℕ → World → Type 0
@@ -249,7 +261,14 @@ next_counter side = (side.first + (side.restarts + 1)) % 256
 
 -- the same gateway, started afresh
 abbrev pub restarted : Side → Side
-restarted side = record side { node = fresh_node side.node.config (next_counter side); restarts = side.restarts + 1; seen = []; forgotten = []; came_late = []; made = [] }
+restarted side = record side {
+  node = fresh_node side.node.config (next_counter side);
+  restarts = side.restarts + 1;
+  seen = [];
+  forgotten = [];
+  came_late = [];
+  made = [];
+}
 
 -- One event. A datagram that is not there, a cut that is too long and a restart beyond 127 change nothing.
 abbrev pub Happens : World → Event → World → Type 0
@@ -273,8 +292,20 @@ Run old (event ∷ events) new = (mid : World) × Happens old event mid × Run m
 
 -- a gateway that has just started for the first time
 abbrev pub begun : Config → ℕ → Side
-begun config first = record { node = fresh_node config (first % 256); first = first; restarts = 0; seen = []; forgotten = []; came_late = []; made = [] }
+begun config first =
+    record { node = fresh_node config (first % 256); first = first; restarts = 0; seen = []; forgotten = []; came_late = []; made = [] }
 
 -- two gateways that have just started, so configured and with these counters
 abbrev pub start : Config → Config → ℕ → ℕ → World
-start serving packet serving_counter packet_counter = record { serving = begun serving serving_counter; packet = begun packet packet_counter; datagrams = []; history = []; handed = []; accepted = []; late = 0; notes = []; serving_steps = []; packet_steps = [] }
+start serving packet serving_counter packet_counter = record {
+  serving = begun serving serving_counter;
+  packet = begun packet packet_counter;
+  datagrams = [];
+  history = [];
+  handed = [];
+  accepted = [];
+  late = 0;
+  notes = [];
+  serving_steps = [];
+  packet_steps = [];
+}

@@ -4,24 +4,24 @@ ghost use Rattle.gtp_machine.specs.Laws.{
   ARunIsPossible,
   ATemplateIsPossible,
   Always,
-  BearersOnce,
-  EachActsOnce,
+  OneResponsePerBearerRequest,
+  EachRequestActsOnce,
   EachClosesWhole,
-  EachGoesBack,
+  ContextTeidsWereDrawn,
   EachOpened,
   KnownIsLatest,
-  MadeOnce,
-  NamesGoBack,
+  OneContextPerRequest,
+  NamedTeidsWereDrawn,
   NoneAhead,
   MessagesOfDatagrams,
   OfEachRun,
   OneMessage,
   PlanesApart,
-  ResponsesGoBack,
+  EachResponseAnswers,
   StepsAreKept,
 };
 ghost use Rattle.gtp_machine.specs.Node.{Role};
-ghost use Rattle.gtp_machine.specs.Safety.{BearersAgree, EachOwed, NoneOver, SessionsAgree};
+ghost use Rattle.gtp_machine.specs.Safety.{BearersAgree, EachOwed, NoneOutlivesRestart, SessionsAgree};
 ghost use Rattle.gtp_machine.specs.World.{side_of};
 ghost use Rattle.gtp_machine.specs.Reading.{
   BearerRequestReads,
@@ -44,7 +44,7 @@ ghost use Rattle.gtp_machine.specs.Determined.{
   OneIsDone,
   OneIsTold,
   OneTick,
-  ReachedHoldsOnce,
+  ReachedHoldsOneAnswer,
 };
 ghost use Rattle.gtp_machine.specs.Once.{ActsOnce, ActsOnceInTime, HeldUntilForgotten};
 ghost use Rattle.gtp_machine.specs.Exchange.{
@@ -83,7 +83,7 @@ pub fn tunnel_safety()
 
     // No session outlives a restart of the peer that its gateway has heard of.
     ensures none_over { Always (λ w.
-        (role : Role) → NoneOver (side_of w role).node (side_of w role).seen) }
+        (role : Role) → NoneOutlivesRestart (side_of w role).node (side_of w role).seen) }
 {}
 
 /// What tunnel safety rests on.
@@ -99,15 +99,15 @@ pub fn foundations()
 
     // The TEIDs of each session go back to F-TEIDs of the control plane in such messages, and those
     // of each bearer to F-TEIDs of the user plane.
-    ensures goes_back { Always EachGoesBack }
+    ensures goes_back { Always ContextTeidsWereDrawn }
 
     // The TEIDs that messages name, in their headers and for their packets, go back to such
     // messages.
-    ensures names { Always NamesGoBack }
+    ensures names { Always NamedTeidsWereDrawn }
 
     // Each Create Session Response of the packet gateway and each Create Bearer Response of the
     // serving gateway goes back to that request of the other for which it made or refused a context.
-    ensures responses { OfEachRun ResponsesGoBack }
+    ensures responses { OfEachRun EachResponseAnswers }
 
     // No counter in a message is ahead of its sender.
     ensures none_ahead { Always NoneAhead }
@@ -123,10 +123,10 @@ pub fn foundations()
 
     // Where no delivery of a create request was late, its gateway made at most one context for it
     // since it started.
-    ensures made_once { Always MadeOnce }
+    ensures made_once { Always OneContextPerRequest }
 
     // Where no delivery was late, each Create Bearer Request has one response that makes a bearer.
-    ensures bearers_once { Always BearersOnce }
+    ensures bearers_once { Always OneResponsePerBearerRequest }
 {}
 
 /// What one gateway makes for a request: its steps alone, whatever comes to it.
@@ -147,7 +147,7 @@ pub fn acts_once()
 
     // And in these a create request acts once: where no delivery of it was late, or where its answer
     // was not given up between two.
-    ensures runs { Always EachActsOnce }
+    ensures runs { Always EachRequestActsOnce }
 {}
 
 /// No law of safety is empty.
@@ -215,7 +215,7 @@ pub fn determined()
     ensures tick { OneTick }
 
     // A gateway that is reached from a start holds at most one answer for a request, as these ask.
-    ensures reached { ReachedHoldsOnce }
+    ensures reached { ReachedHoldsOneAnswer }
 {}
 
 /// How datagrams read.

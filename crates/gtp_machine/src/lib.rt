@@ -1,10 +1,13 @@
 //! Two gateways as a machine, and what holds of each run.
 #![tactic(auto)]
 
+pub mod causes;
 pub mod laws;
+mod message_type;
 mod outcome;
 mod role;
 
+pub use message_type::MessageType;
 pub use outcome::{DropReason, FaultName, Outcome, Refusal};
 pub use role::Role;
 

@@ -3,13 +3,13 @@ use Rattle.std.proofs.Common.{◌≡◌, inl, inr, ℕ, suc, Bool, true, false, 
 use Rattle.std.proofs.Math.Seq.{drop-append_seam, take-append_seam}
 use Rattle.gtp_v2.specs.Datagram.{IsMessage}
 use Rattle.gtp_v2.specs.Message.{MessageValue}
-use Rattle.gtp_v2.specs.Pair.{DatagramValue, Announces, paired, both}
+use Rattle.gtp_v2.specs.Pair.{DatagramValue, Announces, paired}
 use Rattle.gtp_machine.specs.Message.{CreateSessionResponse, Message, Create_session_response, Control}
 use Rattle.gtp_machine.specs.Input.{Control_message}
 use Rattle.gtp_machine.specs.Decoded.{message_of}
 use Rattle.gtp_v2.specs.declared.fault.V2Fault.{V2Fault}
 use Rattle.gtp_v2.specs.reading.Pair.{datagram_at}
-use Rattle.gtp_machine.specs.Reading.{ControlReads, DatagramReading, Alone, Both, announces, messages_read, datagram_fault, pair_reading_of, control_reading, datagram_reading, DatagramReads, IsDatagramReadOf}
+use Rattle.gtp_machine.specs.Reading.{ControlReads, Alone, Both, announces, messages_read, datagram_fault, pair_reading_of, control_reading, datagram_reading, DatagramReads, IsDatagramReadOf}
 use Rattle.gtp_machine.specs.Spelling.{spelled, announcing, spelled_all, last_part}
 use Rattle.gtp_machine.proofs.Octets.ByGrammar.{control_by_grammar}
 use Rattle.gtp_machine.proofs.Octets.Datagrams.{datagram_by_grammar}

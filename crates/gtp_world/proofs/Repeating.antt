@@ -7,7 +7,7 @@ use Rattle.gtp_machine.specs.Input.{Move, Input, Commanded, Control_came, Contro
 use Rattle.gtp_machine.specs.Laws.{Follow}
 use Rattle.gtp_machine.specs.Message.{CreateSessionResponse, CreateBearerRequest, Message, Create_session_response, Create_bearer_request, Other_control, Control, plane_of}
 use Rattle.gtp_machine.specs.Node.{Arrival, Node}
-use Rattle.gtp_machine.specs.Once.{Makes, Takes, NeverForgets}
+use Rattle.gtp_machine.specs.Once.{Makes, TookRequest, NeverForgets}
 use Rattle.gtp_machine.specs.Reading.{control_reading, ControlReads, Both, datagram_reading, reading_of}
 use Rattle.gtp_machine.specs.Spelling.{Datagram, datagram_plane, spelled, spelled_all, announcing, last_part}
 use Rattle.gtp_machine.specs.Step.{Step, TakesPair, Done, tick_steps}
@@ -230,7 +230,7 @@ record IsTaken (old : World) (role : Role) (request : Arrival) (m : Message) (ne
   pub front : List Done
   pub quiet : (done : Done) → Among done front → done.effect.out.forgot ≡ []
   pub done : Done
-  pub takes : Takes done request m
+  pub takes : TookRequest done request m
   pub steps : steps_of new role ≡ steps_of old role ++ (front ++ (done ∷ []))
   pub adds : new.datagrams ≡ old.datagrams ++ signed role (datagrams done.effect.out.sent)
 
@@ -503,10 +503,10 @@ answered_again first setup events r number second_number between answered second
           after = [];
           are = two_steps ∙ (ap (λ k. k ++ (two.front ++ (two.done ∷ []))) (grown.steps_are ∙ ap (λ k. k ++ grown.steps) one_steps) ∙ in_order steps one.front one.done grown.steps two.front two.done);
         } in
-        let takes : Takes one.done request create.request =
-        subst (λ k. Takes one.done k create.request) (sym (kept_as setup found.sent f.sent f.for create.plane r.world (set_up setup events r.world r.run f.sent.role))) one.takes in
-        let takes_again : Takes two.done request create.request =
-        subst (λ k. Takes two.done k create.request) (sym (kept_as setup found_again.sent g.sent g.for control_again on.whole.world (set_up setup _ on.whole.world on.whole.run g.sent.role)) ∙ kept_same) two.takes in
+        let takes : TookRequest one.done request create.request =
+        subst (λ k. TookRequest one.done k create.request) (sym (kept_as setup found.sent f.sent f.for create.plane r.world (set_up setup events r.world r.run f.sent.role))) one.takes in
+        let takes_again : TookRequest two.done request create.request =
+        subst (λ k. TookRequest two.done k create.request) (sym (kept_as setup found_again.sent g.sent g.for control_again on.whole.world (set_up setup _ on.whole.world on.whole.run g.sent.role)) ∙ kept_same) two.takes in
         let kept : NeverForgets (grown.steps ++ two.front) request = λ done among gone. ⊎_elim
         (λ here. timely (create.plane, subst (λ k. Among request k) (sym (half_stands setup second on.whole.world on.whole.stands receiver).forgotten) (grown.forgets done request here gone)))
         (λ there. subst (Among request) (two.quiet done there) gone)

@@ -3,7 +3,7 @@ use Rattle.std.proofs.Common.{List, sym, ◌∙◌, subst}
 use Rattle.gtp_machine.specs.declared.role.Role.{Role}
 use Rattle.gtp_machine.specs.declared.role.Role.TheVariants.{Serving, Packet}
 use Rattle.gtp_machine.specs.Input.{Entry}
-use Rattle.gtp_machine.specs.Safety.{SessionsAgree, BearersAgree, EachOwed, NoneOver}
+use Rattle.gtp_machine.specs.Safety.{SessionsAgree, BearersAgree, EachOwed, NoneOutlivesRestart}
 use Rattle.gtp_machine.specs.Node.{Node}
 use Rattle.gtp_machine.specs.World.{World, Event, By, HasBy, other, side_of}
 use Rattle.gtp_values.specs.FiniteMap.{Among}
@@ -22,11 +22,11 @@ module _ (setup : Setup) (v : Kept) (w : World) (stands : StandsFor setup v w) w
       subst (λ (log : List (By Entry)). HasBy log (other role) entry) (sym stands.handed)
       (law (sym stands.late ∙ none) role entry (subst (λ (log : List (By Entry)). HasBy log role entry) stands.accepted has))
 
-  none_over : ((role : Role) → NoneOver (side_of w role).node (side_of w role).seen) → (role : Role) → NoneOver (half_in v role).station.node (half_in v role).seen
-  none_over law Serving = subst (λ (n : Node). NoneOver n v.serving.seen) (sym stands.serving.node) (λ t s there over.
-      law Serving t s there (record { remote = over.remote; has = over.has; counter = over.counter; was_heard = among_oldest over.counter w.serving.seen (subst (λ l. Among over.counter l) stands.serving.seen over.was_heard); is_later = over.is_later }))
-  none_over law Packet = subst (λ (n : Node). NoneOver n v.packet.seen) (sym stands.packet.node) (λ t s there over.
-      law Packet t s there (record { remote = over.remote; has = over.has; counter = over.counter; was_heard = among_oldest over.counter w.packet.seen (subst (λ l. Among over.counter l) stands.packet.seen over.was_heard); is_later = over.is_later }))
+  none_over : ((role : Role) → NoneOutlivesRestart (side_of w role).node (side_of w role).seen) → (role : Role) → NoneOutlivesRestart (half_in v role).station.node (half_in v role).seen
+  none_over law Serving = subst (λ (n : Node). NoneOutlivesRestart n v.serving.seen) (sym stands.serving.node) (λ t s there over.
+      law Serving t s there (record { remote = over.remote; has = over.has; counter = over.counter; was_heard = among_oldest over.counter w.serving.seen (subst (λ l. Among over.counter l) stands.serving.seen over.was_heard); heard_is_later = over.heard_is_later }))
+  none_over law Packet = subst (λ (n : Node). NoneOutlivesRestart n v.packet.seen) (sym stands.packet.node) (λ t s there over.
+      law Packet t s there (record { remote = over.remote; has = over.has; counter = over.counter; was_heard = among_oldest over.counter w.packet.seen (subst (λ l. Among over.counter l) stands.packet.seen over.was_heard); heard_is_later = over.heard_is_later }))
 
 -- at the end of each run
 pub run_safe : (setup : Setup) (events : List Event) (v : Kept) → IsRunOf setup events v → IsSafe v

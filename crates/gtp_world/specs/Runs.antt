@@ -6,7 +6,7 @@ use Rattle.gtp_machine.specs.declared.role.Role.TheVariants.{Serving, Packet}
 use Rattle.gtp_machine.specs.Spelling.{Datagram, datagram_plane, spelled_all}
 use Rattle.gtp_machine.specs.World as machine
 use Rattle.gtp_machine.specs.World.{By, SentDatagram, Side, World, Event, Run, start}
-use Rattle.gtp_machine.specs.Safety.{SessionsAgree, BearersAgree, EachOwed, NoneOver}
+use Rattle.gtp_machine.specs.Safety.{SessionsAgree, BearersAgree, EachOwed, NoneOutlivesRestart}
 use Rattle.gtp_world.specs.Kept.{oldest_first, Half, Told, Kept, half_in}
 use Rattle.gtp_gateway.specs.Sent.{ReadsBack}
 use Rattle.gtp_gateway.specs.Settings.{Settings}
@@ -94,7 +94,7 @@ pub record IsSafe (v : Kept) : Type 0 where
   pub sessions : SessionsAgree v.serving.station.node v.packet.station.node
   pub bearers : BearersAgree v.serving.station.node v.packet.station.node
   pub owed : EachOwed v.log.late v.log.handed v.log.accepted
-  pub none_over : (role : Role) → NoneOver (half_in v role).station.node (half_in v role).seen
+  pub none_over : (role : Role) → NoneOutlivesRestart (half_in v role).station.node (half_in v role).seen
 
 -- The run of these events that was at this world of the machine goes on from there by more events, and leaves this.
 pub record Continues (setup : Setup) (events : List Event) (world : World) (more : List Event) (v : Kept) : Type 0 where

@@ -5,7 +5,7 @@ use Rattle.gtp_machine.specs.Input.{datagrams}
 use Rattle.gtp_machine.specs.Laws.{Follow}
 use Rattle.gtp_machine.specs.Message.{Message}
 use Rattle.gtp_machine.specs.Node.{Arrival}
-use Rattle.gtp_machine.specs.Once.{Makes, Takes}
+use Rattle.gtp_machine.specs.Once.{Makes, TookRequest}
 use Rattle.gtp_machine.specs.Ordered.{Unless}
 use Rattle.gtp_machine.specs.Spelling.{Datagram, spelled_all}
 use Rattle.gtp_machine.specs.Step.{Done}
@@ -38,7 +38,7 @@ IsMadeOnce v number count = (setup : Setup) (events : List Event) (r : IsRunOf s
 -- a step of a gateway that took the last message of the datagram, as a create request, and the messages of a datagram that was sent in answer to it
 pub record IsAnswer (receiver : Role) (d : By Datagram) (request : Message) (done : Done) (answer : List Message) : Type 0 where
   pub makes : Makes receiver request
-  pub takes : Takes done (as_it_came d) request
+  pub takes : TookRequest done (as_it_came d) request
   pub sends : Among answer (datagrams done.effect.out.sent)
 
 -- at the end of a run in which no delivery of the datagram was late, since its receiver started, all that was sent in answer to it since then is the same octets

@@ -2,9 +2,10 @@
 use Rattle.std.proofs.Common.{◌≡◌, Bool, true, false, ap}
 use Rattle.gtp_machine.specs.Message.{Echo, CreateSessionRequest, CreateSessionResponse, DeleteSessionRequest, DeleteSessionResponse, CreateBearerRequest, CreateBearerResponse, DeleteBearerRequest, DeleteBearerResponse, Message, Echo_request, Echo_response, Create_session_request, Create_session_response, Delete_session_request, Delete_session_response, Create_bearer_request, Create_bearer_response, Delete_bearer_request, Delete_bearer_response}
 use Rattle.gtp_machine.specs.Node.{Role, Serving, Packet, Arrival, Node}
-use Rattle.gtp_machine.specs.Input.{FaultyRequest, RequestKind, Of_create_session, Of_delete_session, Of_create_bearer, Of_delete_bearer, Effect, dropped, Unexpected}
-use Rattle.gtp_machine.specs.Serving.{ServingTakes, ServingFaulted}
-use Rattle.gtp_machine.specs.Packet.{PacketTakes, PacketFaulted}
+use Rattle.gtp_machine.specs.Input.{FaultyRequest, Effect, dropped, Unexpected}
+use Rattle.gtp_machine.specs.Answer.{Faulted}
+use Rattle.gtp_machine.specs.Serving.{ServingTakes}
+use Rattle.gtp_machine.specs.Packet.{PacketTakes}
 
 -- a request by which this gateway makes a session or a bearer
 abbrev pub creates : Role → Message → Bool
@@ -24,20 +25,9 @@ pub record IsDropped (Takes : Arrival → Message → Node → Effect → Type 0
   pub so : (request : Arrival) (old : Node) (e : Effect) → e ≡ dropped old Unexpected → Takes request m old e
 
 -- a faulty request leaves the gateway as it is
-abbrev pub LeavesNode : (Arrival → FaultyRequest → RequestKind → Node → Effect → Type 0) → Type 0
-LeavesNode Faulted = (request : Arrival) (f : FaultyRequest) (kind : RequestKind) (old : Node) (e : Effect) → Faulted request f kind old e → e.node ≡ old
-
-pub serving_faulted : LeavesNode ServingFaulted
-serving_faulted request f Of_create_session old e r = ap (λ (k : Effect). k.node) r
-serving_faulted request f Of_delete_session old e r = ap (λ (k : Effect). k.node) r
-serving_faulted request f Of_create_bearer old e r = ap (λ (k : Effect). k.node) r
-serving_faulted request f Of_delete_bearer old e r = ap (λ (k : Effect). k.node) r
-
-pub packet_faulted : LeavesNode PacketFaulted
-packet_faulted request f Of_create_session old e r = ap (λ (k : Effect). k.node) r
-packet_faulted request f Of_delete_session old e r = ap (λ (k : Effect). k.node) r
-packet_faulted request f Of_create_bearer old e r = ap (λ (k : Effect). k.node) r
-packet_faulted request f Of_delete_bearer old e r = ap (λ (k : Effect). k.node) r
+pub faulted_leaves : (answered : Bool) (request : Arrival) (f : FaultyRequest) (old : Node) (e : Effect) → Faulted answered request f old e → e.node ≡ old
+faulted_leaves true request f old e r = ap (λ (k : Effect). k.node) r
+faulted_leaves false request f old e r = ap (λ (k : Effect). k.node) r
 
 module _ (P : Message → Type 0) where
   -- at the serving gateway

@@ -1,17 +1,17 @@
 -- Requests, and their answers.
-use Rattle.std.proofs.Common.{◌≡◌, inl, inr, ℕ, ◌==◌, false, List, ◌∷◌, [], Option, Some, None, refl, sym, ◌∙◌, ap, subst}
+use Rattle.std.proofs.Common.{◌≡◌, inl, inr, ℕ, ◌==◌, Bool, true, false, List, ◌∷◌, [], Option, Some, None, refl, sym, ◌∙◌, ap, subst}
 use Rattle.gtp_values.specs.PdnAddress.{PdnAddress}
 use Rattle.gtp_machine.specs.Choice.{IsFree, IsFreeNumber}
 use Rattle.gtp_machine.specs.Command.{bearer_request, bearer_asked as begun_bearer}
 use Rattle.gtp_machine.specs.Element.{cause_of}
 use Rattle.gtp_machine.specs.Message.{CreateSessionRequest, DeleteSessionRequest, CreateBearerRequest, DeleteBearerRequest, RemovedBearer, Create_session_response, Create_bearer_request}
 use Rattle.gtp_machine.specs.Node.{Role, Serving, Packet, Session, Arrival, Node}
-use Rattle.gtp_machine.specs.Input.{Answered, EventOutcome, Came_to, ControlReading, Control_came, Input, RequestKind, Of_create_session, Of_delete_session, Of_create_bearer, Of_delete_bearer, FaultyRequest}
+use Rattle.gtp_machine.specs.Input.{Answered, EventOutcome, Came_to, ControlReading, Control_came, Input, FaultyRequest}
 use Rattle.gtp_machine.specs.Removal.{without_bearer}
-use Rattle.gtp_machine.specs.Serving.{MakesBearer, BearerAsked, RemovesEach, RemovesBearers, RemovalTaken, RemovalAsked, ServingFaulted}
+use Rattle.gtp_machine.specs.Serving.{MakesBearer, BearerAsked, RemovesEach, RemovesBearers, RemovalTaken, RemovalAsked}
 use Rattle.gtp_machine.specs.Config.{Template, template_for}
-use Rattle.gtp_machine.specs.Answer.{making}
-use Rattle.gtp_machine.specs.Packet.{session_cause, session_response, made_session, session_made, AddsBearer, AnswersWith, MakesSession, SessionAsked, DeletionAsked, PacketFaulted}
+use Rattle.gtp_machine.specs.Answer.{making, Faulted}
+use Rattle.gtp_machine.specs.Packet.{session_cause, session_response, made_session, session_made, AddsBearer, AnswersWith, MakesSession, SessionAsked, DeletionAsked}
 use Rattle.gtp_machine.specs.Sound.{AreApart}
 use Rattle.gtp_machine.proofs.Determined.Alike.{Fits, WaitsBeside, Alike, Determines, the_same, says_it, by_effects, unless_plain, unless_one}
 use Rattle.gtp_machine.proofs.Determined.Witnesses.{IsLeft, was_session, was_bearer, undrawn_before, apart_left, one_session, one_named}
@@ -131,14 +131,6 @@ module _ {role : Role} {first : Node} {input : Input} (request : Arrival) (old :
     pub removal_asked : (d : DeleteBearerRequest) → Determines (Alike role first input) (RemovalAsked request d old)
     removal_asked d = unless_plain says_it (unless_one (one_session old d.header) says_it (λ at. unless_plain says_it (removal_taken d d.linked at.session)))
 
-  pub serving_faulted : (q : FaultyRequest) (kind : RequestKind) → Determines (Alike role first input) (ServingFaulted request q kind old)
-  serving_faulted q Of_create_session = says_it
-  serving_faulted q Of_delete_session = says_it
-  serving_faulted q Of_create_bearer = says_it
-  serving_faulted q Of_delete_bearer = says_it
-
-  pub packet_faulted : (q : FaultyRequest) (kind : RequestKind) → Determines (Alike role first input) (PacketFaulted request q kind old)
-  packet_faulted q Of_create_session = says_it
-  packet_faulted q Of_delete_session = says_it
-  packet_faulted q Of_create_bearer = says_it
-  packet_faulted q Of_delete_bearer = says_it
+  pub faulted_once : (q : FaultyRequest) (answered : Bool) → Determines (Alike role first input) (Faulted answered request q old)
+  faulted_once q true = says_it
+  faulted_once q false = says_it

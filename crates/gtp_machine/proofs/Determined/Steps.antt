@@ -1,5 +1,5 @@
 -- A step, whatever comes.
-use Rattle.std.proofs.Common.{◌≡◌, ◌⊎◌, inl, inr, ⊎_elim, ℕ, Bool, List, Option, Some, None, sym, ◌∙◌, ap, subst, refl}
+use Rattle.std.proofs.Common.{◌≡◌, ◌⊎◌, inl, inr, ⊎_elim, ℕ, List, Option, Some, None, sym, ◌∙◌, ap, subst, refl}
 use Rattle.std.specs.FinMap.{get}
 use Rattle.gtp_values.specs.FiniteMap.{FiniteMap, Among}
 use Rattle.gtp_values.proofs.Outcomes.{none_some}
@@ -9,15 +9,16 @@ use Rattle.gtp_values.specs.declared.counter.Age.{Age}
 use Rattle.gtp_values.specs.declared.counter.Age.TheVariants.{Same, Later, Earlier}
 use Rattle.gtp_machine.specs.Message.{CreateBearerRequest, Message, Echo_request, Echo_response, Create_session_request, Create_session_response, Delete_session_request, Delete_session_response, Create_bearer_request, Create_bearer_response, Delete_bearer_request, Delete_bearer_response, Packet_data, End_marker, Error_indication, User_echo_request, recovery_of}
 use Rattle.gtp_machine.specs.Node.{Role, Serving, Packet, Bearer, PendingRequest, Arrival, Node}
-use Rattle.gtp_machine.specs.Input.{ControlReading, Control_message, Faulty, Control_fault, FaultyRequest, RequestKind, UserReading, User_message, Extension_needed, User_fault, Input, Commanded, Control_came, User_came, Moves_on, Out, Effect}
+use Rattle.gtp_machine.specs.Input.{ControlReading, Control_message, Faulty, Control_fault, UserReading, User_message, Extension_needed, User_fault, Input, Commanded, Control_came, User_came, Moves_on, Out, Effect}
+use Rattle.gtp_machine.specs.MessageType.{answers_type}
 use Rattle.gtp_machine.specs.Recovery.{Judges, Weighs, Hears, peer_restarted}
 use Rattle.gtp_machine.specs.User.{Accepts, PacketCame, EndCame, UserTaken, UserRead, UserStep}
 use Rattle.gtp_machine.specs.Answer.{Repeats, IsNew, TakesReading, ControlStep}
-use Rattle.gtp_machine.specs.Serving.{ServingTakes, ServingFaulted}
-use Rattle.gtp_machine.specs.Packet.{PacketTakes, PacketFaulted}
+use Rattle.gtp_machine.specs.Serving.{ServingTakes}
+use Rattle.gtp_machine.specs.Packet.{PacketTakes}
 use Rattle.gtp_machine.specs.Step.{Step}
 use Rattle.gtp_machine.specs.Sound.{IsSound}
-use Rattle.gtp_machine.specs.Determined.{HeldOnce, StepsTwice, OneIsTold, OneIsDone, OneAnswer}
+use Rattle.gtp_machine.specs.Determined.{OneAnswerPerRequest, StepsTwice, OneIsTold, OneIsDone, OneAnswer}
 use Rattle.gtp_machine.proofs.Requests.Opening.{IsMute, opening, same_drawn, none_made}
 use Rattle.gtp_machine.proofs.Sound.Changes.{is_bearer}
 use Rattle.gtp_machine.proofs.Basics.Facts.{one_value}
@@ -27,7 +28,7 @@ use Rattle.gtp_machine.proofs.Determined.Chosen.{new_number, comes_there}
 use Rattle.gtp_machine.proofs.Determined.Witnesses.{IsLeft, apart_left, one_bearer}
 use Rattle.gtp_machine.proofs.Changes.Shrinking.{Shrinks-itself, Shrinks-restart}
 use Rattle.gtp_machine.proofs.Determined.Commands.{command_done}
-use Rattle.gtp_machine.proofs.Determined.Answers.{session_asked, deletion_asked, bearer_asked, removal_asked, serving_faulted, packet_faulted}
+use Rattle.gtp_machine.proofs.Determined.Answers.{session_asked, deletion_asked, bearer_asked, removal_asked, faulted_once}
 use Rattle.gtp_machine.proofs.Determined.Responses.{echo_answered, session_answered, deletion_answered, bearer_answered, removal_answered}
 use Rattle.gtp_machine.proofs.Determined.Ticks.{move_made}
 
@@ -88,17 +89,17 @@ module _ {reading : ControlReading} (request : Arrival) (old : Node) (fits : Fit
   packet_takes (Delete_bearer_response d) node left = removal_answered node d
   packet_takes m node left = says_it
 
-module _ (role : Role) (takes : Message → Bool) (Takes : Arrival → Message → Node → Effect → Type 0) (Faulted : Arrival → FaultyRequest → RequestKind → Node → Effect → Type 0) (input : Input) (request : Arrival) (old : Node)
-    (rows : (m : Message) (node : Node) → IsLeft old node → Determines (Alike role old input) (Takes request m node)) (faulted : (q : FaultyRequest) (kind : RequestKind) → Determines (Alike role old input) (Faulted request q kind old)) (once : HeldOnce old) where
-  reads : (reading : ControlReading) → Determines (Alike role old input) (TakesReading takes Takes Faulted reading request old)
+module _ (role : Role) (Takes : Arrival → Message → Node → Effect → Type 0) (input : Input) (request : Arrival) (old : Node)
+    (rows : (m : Message) (node : Node) → IsLeft old node → Determines (Alike role old input) (Takes request m node)) (once : OneAnswerPerRequest old) where
+  reads : (reading : ControlReading) → Determines (Alike role old input) (TakesReading role Takes reading request old)
   reads (Control_message m) = unless_plain says_it (hears (Takes request m) old (rows m) (recovery_of m))
-  reads (Faulty q) = faulted q q.kind
+  reads (Faulty q) = faulted_once request old q (answers_type role q.kind)
   reads (Control_fault fault) = says_it
 
-  control_came : (reading : ControlReading) → Determines (Alike role old input) (ControlStep (TakesReading takes Takes Faulted reading) request old)
+  control_came : (reading : ControlReading) → Determines (Alike role old input) (ControlStep (TakesReading role Takes reading) request old)
   control_came reading = unless_plain says_it from_peer
     where
-      from_peer : Determines (Alike role old input) (λ e. Repeats old request e ⊎ (IsNew old request × TakesReading takes Takes Faulted reading request old e))
+      from_peer : Determines (Alike role old input) (λ e. Repeats old request e ⊎ (IsNew old request × TakesReading role Takes reading request old e))
       from_peer e f (inl r) (inl s) =
           let answer : r.held.answer ≡ s.held.answer = once.once r.held s.held r.stands s.stands (r.same ∙ sym s.same) in
           the_same e f cc
@@ -136,10 +137,10 @@ module _ (role : Role) (source : Endpoint) (old : Node) where
 
 -- ---- all together
 
-pub step_done : (role : Role) (old : Node) (input : Input) → Fits old → HeldOnce old → Determines (Alike role old input) (Step role old input)
+pub step_done : (role : Role) (old : Node) (input : Input) → Fits old → OneAnswerPerRequest old → Determines (Alike role old input) (Step role old input)
 step_done role old (Commanded command) fits once = command_done role command old fits.apart
-step_done Serving old (Control_came request reading) fits once = control_came Serving _ ServingTakes ServingFaulted _ request old (serving_takes request old fits) (serving_faulted request old) once reading
-step_done Packet old (Control_came request reading) fits once = control_came Packet _ PacketTakes PacketFaulted _ request old (packet_takes request old fits) (packet_faulted request old) once reading
+step_done Serving old (Control_came request reading) fits once = control_came Serving ServingTakes _ request old (serving_takes request old fits) once reading
+step_done Packet old (Control_came request reading) fits once = control_came Packet PacketTakes _ request old (packet_takes request old fits) once reading
 step_done role old (User_came source reading) fits once = λ e f r s. the_same e f (user_came role source old reading e f r s)
 step_done role old (Moves_on move) fits once = λ e f r s. the_same e f (move_made old move e f r s)
 

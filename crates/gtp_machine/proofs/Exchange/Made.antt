@@ -39,7 +39,7 @@ use Rattle.gtp_machine.proofs.Exchange.Added.{found_template, wanted_sendable, r
 use Rattle.gtp_machine.proofs.Exchange.Nodes.{pass, v4_given, v6_given, type_is as asked_type, begins, CanMake, IsAnswered, answers, waiting_for, Waits, OpensBy, IsOpened, is_opened_by, GoesOut, goes_out, SaysSo, asked_second}
 use Rattle.gtp_machine.proofs.Exchange.Texts.{request_like, response_like, same_request_teid, same_response_teid}
 use Rattle.gtp_machine.proofs.Exchange.Ranges.{IsWritten, given_written, request_sendable, request_short, response_sendable, response_short}
-use Rattle.gtp_machine.specs.Laws.{OwnsOn, IsFromOn}
+use Rattle.gtp_machine.specs.Laws.{OwnsOn, TeidWasDrawn}
 use Rattle.gtp_machine.proofs.Changes.After.{Knows}
 use Rattle.gtp_machine.proofs.Worlds.Safety.{bearer_goes_back}
 
@@ -490,7 +490,7 @@ module _ (serving packet : Config) (serving_counter packet_counter : ℕ) (event
       no_bearer : (role : Role) (t : ℕ) → IsFree (side_of w role).node t → (b : Bearer) → get (side_of w role).node.bearers t ≡ Some b → ⊥
       no_bearer role t free b stands = own_on role t free (bearer_goes_back packet.own w inv role t b stands).here
         where
-          own_on : (role : Role) (t : ℕ) → IsFree (side_of w role).node t → IsFromOn User w.history role t → ⊥
+          own_on : (role : Role) (t : ℕ) → IsFree (side_of w role).node t → TeidWasDrawn User w.history role t → ⊥
           own_on Serving t free from = unowned w.serving Serving w.history inv.serving.draws from.message t from.sent (owns_user from.message t from.owns) free
           own_on Packet t free from = unowned w.packet Packet w.history inv.packet.draws from.message t from.sent (owns_user from.message t from.owns) free
 

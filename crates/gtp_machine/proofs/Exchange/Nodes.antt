@@ -10,18 +10,19 @@ use Rattle.gtp_values.specs.declared.counter.Age.{Age}
 use Rattle.gtp_values.specs.declared.counter.Age.TheVariants.{Same, Later, Earlier}
 use Rattle.gtp_tables.specs.declared.pool.IpVersion.{IpVersion}
 use Rattle.gtp_tables.specs.declared.pool.IpVersion.TheVariants.{V4, V6}
+use Rattle.gtp_machine.specs.declared.causes.TheConstants.{CONTEXT_NOT_FOUND, REQUEST_REJECTED}
 use Rattle.gtp_machine.specs.Ordered.{Unless}
 use Rattle.gtp_machine.specs.Config.{Config, template_for}
-use Rattle.gtp_machine.specs.Element.{IsAccepting, PdnAddress, address_of, cause_of}
+use Rattle.gtp_machine.specs.Element.{IsAccepting, PdnAddress, address_of}
 use Rattle.gtp_machine.specs.Message.{CreateSessionRequest, CreatedBearer, CreateSessionResponse, CreateBearerRequest, Message, Create_session_request, Create_session_response, Create_bearer_request, Create_bearer_response}
 use Rattle.gtp_machine.specs.Node.{Serving, Packet, State, Pending, Active, Session, Bearer, PendingRequest, Arrival, Held, Node, written}
-use Rattle.gtp_machine.specs.Input.{Came_to, Specification, Control_came, Control_message, Opened, Effect, nothing, messages, dropped, ContextNotActive, Of_create_bearer}
+use Rattle.gtp_machine.specs.Input.{Came_to, Specification, Control_came, Control_message, Opened, Effect, nothing, messages, dropped, ContextNotActive}
 use Rattle.gtp_machine.specs.Choice.{IsFree, HasDraws, HasFreeIdentity, HasSession, HasFreeAddress, AsksFor, IsPart, IsGiven, CanGive, IsServed, IsIdentity, HasSessionRoom, HasPendingRoom, HasHeldRoom}
 use Rattle.gtp_machine.specs.Removal.{on, is_pending, is_opened}
 use Rattle.gtp_machine.specs.Recovery.{peer_restarted, Judges, Weighs, learned_by, Hears, heard_at_age, heard_from, heard_by}
 use Rattle.gtp_machine.specs.Command.{bearer_request, bearer_asked, pending_dedicated, BeginsSession, SessionBegun, pending_session, pending_bearer}
-use Rattle.gtp_machine.specs.Answer.{IsNew, making, answered, refusing}
-use Rattle.gtp_machine.specs.Serving.{opened_session, opened_bearer, SessionAnswered, bearer_response, granted_bearer, MakesBearer, no_resources, BearerAsked, ServingTakes}
+use Rattle.gtp_machine.specs.Answer.{IsNew, making}
+use Rattle.gtp_machine.specs.Serving.{bearer_refused, resources_refused, opened_session, opened_bearer, SessionAnswered, bearer_response, granted_bearer, MakesBearer, no_resources, BearerAsked, ServingTakes}
 use Rattle.gtp_machine.specs.Packet.{session_cause, session_response, made_session, made_bearer, session_made, MakesSession, SessionAsked, PacketTakes}
 use Rattle.gtp_machine.specs.Step.{Step}
 use Rattle.gtp_machine.proofs.Basics.Counting.{len-kept_most}
@@ -314,7 +315,7 @@ module _ (request : Arrival) (r : CreateBearerRequest) (s : Session) (old : Node
   asked_so stands active one linked (inl full) = stays_so _ full.1 refl refl refl (λ m none. absurd none)
   asked_so stands active one linked (inr (room, judged)) = by (pass (record { session = s; stands = stands }) judged)
     where
-      by : (at : HasSession old r.header) × Unless (at.session.state ≡ Active) (e ≡ dropped old ContextNotActive) (λ active. Unless (r.further ≡ []) (e ≡ answered request (refusing Of_create_bearer (written at.session.remote) r.number (cause_of 94) old.counter) 94 old) (λ one. Unless (r.linked ≡ at.session.subscriber.identity) (e ≡ answered request (refusing Of_create_bearer (written at.session.remote) r.number (cause_of 64) old.counter) 64 old) (λ linked. Unless (HasFreeIdentity old r.header × HasDraws old 1) (e ≡ answered request (Create_bearer_response (no_resources old r (written at.session.remote))) 73 old) (λ free. MakesBearer request old r at.session e))))
+      by : (at : HasSession old r.header) × Unless (at.session.state ≡ Active) (e ≡ dropped old ContextNotActive) (λ active. Unless (r.further ≡ []) (e ≡ bearer_refused request r (written at.session.remote) REQUEST_REJECTED old) (λ one. Unless (r.linked ≡ at.session.subscriber.identity) (e ≡ bearer_refused request r (written at.session.remote) CONTEXT_NOT_FOUND old) (λ linked. Unless (HasFreeIdentity old r.header × HasDraws old 1) (e ≡ resources_refused request r (written at.session.remote) old) (λ free. MakesBearer request old r at.session e))))
           → IsAsked r s old e
       by (at, next) =
           let same : s ≡ at.session = same_Some s at.session (sym stands ∙ at.stands) in

@@ -1,5 +1,5 @@
 -- The TEIDs that messages name go back to draws.
-use Rattle.std.proofs.Common.{◌≡◌, ◌≢◌, ◌⊎◌, inl, inr, ⊎_elim, ℕ, Bool, true, List, [], ◌∷◌, ◌++◌, Option, Some, None, refl, sym, ◌∙◌, ap, subst}
+use Rattle.std.proofs.Common.{◌≡◌, ◌≢◌, ◌⊎◌, inl, inr, ⊎_elim, ℕ, true, List, [], ◌∷◌, ◌++◌, Option, Some, None, refl, sym, ◌∙◌, ap, subst}
 use Rattle.gtp_values.specs.Counter.{age_of}
 use Rattle.gtp_values.specs.declared.address.Endpoint.{Endpoint}
 use Rattle.gtp_values.specs.declared.counter.Age.{Age}
@@ -9,19 +9,20 @@ use Rattle.gtp_values.specs.FiniteMap.{Each, Among}
 use Rattle.gtp_machine.specs.Step.{Step}
 use Rattle.gtp_machine.specs.Message.{Message, CreateSessionRequest, CreateBearerRequest, DeleteBearerRequest, DeleteSessionRequest, Create_session_request, Create_session_response, Create_bearer_request, Create_bearer_response, Other_control, Packet_data, End_marker, Error_indication, User_echo_request, recovery_of, Plane, Control, User}
 use Rattle.gtp_machine.specs.Node.{Role, Serving, Packet, Session, Bearer, PendingRequest, Arrival, Held, Node, written}
-use Rattle.gtp_machine.specs.Input.{Specification, Command, Create_session, Delete_session, Create_bearer, Delete_bearer, Release_session, Mark_end, Send_echo, Send_user, ControlReading, Control_message, Faulty, Control_fault, FaultyRequest, RequestKind, UserReading, User_message, Extension_needed, User_fault, Move, Resend, Give_up, Forget, Input, Commanded, Control_came, User_came, Moves_on, Effect, messages}
+use Rattle.gtp_machine.specs.Input.{Specification, Command, Create_session, Delete_session, Create_bearer, Delete_bearer, Release_session, Mark_end, Send_echo, Send_user, ControlReading, Control_message, Faulty, Control_fault, UserReading, User_message, Extension_needed, User_fault, Move, Resend, Give_up, Forget, Input, Commanded, Control_came, User_came, Moves_on, Effect, messages}
 use Rattle.gtp_machine.specs.Recovery.{Judges, Weighs, Hears, peer_restarted}
 use Rattle.gtp_machine.specs.Response.{EchoAnswered}
 use Rattle.gtp_machine.specs.User.{PacketCame, EndCame, ErrorCame, UserTaken, UserRead, UserStep}
 use Rattle.gtp_machine.specs.Command.{SessionBegun, SessionDeleted, BearerBegun, BearerDeleted, SessionReleased, EndMarked, EchoBegun, PacketSent, CommandStep}
+use Rattle.gtp_machine.specs.MessageType.{takes_message}
 use Rattle.gtp_machine.specs.Answer.{TakesReading, ControlStep}
 use Rattle.gtp_machine.specs.Move.{MoveStep}
-use Rattle.gtp_machine.specs.Serving.{SessionAnswered, DeletionAnswered, BearerAsked, RemovalTaken, RemovalAsked, ServingTakes, ServingFaulted, ServingReads}
+use Rattle.gtp_machine.specs.Serving.{SessionAnswered, DeletionAnswered, BearerAsked, RemovalTaken, RemovalAsked, ServingTakes}
 use Rattle.gtp_machine.specs.Config.{template_for}
 use Rattle.gtp_machine.proofs.Basics.Templates.{goes}
-use Rattle.gtp_machine.specs.Packet.{session_cause, session_response, made_session, session_made, SessionAsked, DeletionAsked, BearerAnswered, RemovalAnswered, PacketTakes, PacketFaulted, PacketReads}
+use Rattle.gtp_machine.specs.Packet.{session_cause, session_response, made_session, session_made, SessionAsked, DeletionAsked, BearerAnswered, RemovalAnswered, PacketTakes}
 use Rattle.gtp_machine.specs.World.{other, Sent, HasSent, signed}
-use Rattle.gtp_machine.specs.Laws.{IsFromOn, NamesBack, EachNamesBack}
+use Rattle.gtp_machine.specs.Laws.{TeidWasDrawn, NamedTeidWasDrawn, EachNamedTeidWasDrawn}
 use Rattle.gtp_machine.proofs.Basics.FiniteMaps.{Among-cases}
 use Rattle.gtp_machine.proofs.Origins.Drawing.{Extends, Extends-signed, signed_among}
 use Rattle.gtp_machine.proofs.Changes.After.{Knows}
@@ -34,7 +35,7 @@ use Rattle.gtp_machine.proofs.Basics.Facts.{one_value}
 
 -- a remote TEID goes back to a draw by the other gateway
 abbrev pub IsThere : Plane → List Sent → Role → Option ℕ → Type 0
-IsThere plane history role remote = (r : ℕ) → remote ≡ Some r → IsFromOn plane history (other role) r
+IsThere plane history role remote = (r : ℕ) → remote ≡ Some r → TeidWasDrawn plane history (other role) r
 
 -- what a gateway sends goes by what it has
 pub record Back (history : List Sent) (role : Role) (node : Node) : Type 0 where
@@ -45,9 +46,9 @@ pub record Back (history : List Sent) (role : Role) (node : Node) : Type 0 where
 
 -- what a step sends was sent before, or names what goes back
 abbrev pub Told : List Sent → Role → Effect → Type 0
-Told history role e = (m : Message) → Among m (messages e.out.sent) → HasSent history role m ⊎ NamesBack history role m
+Told history role e = (m : Message) → Among m (messages e.out.sent) → HasSent history role m ⊎ NamedTeidWasDrawn history role m
 
-twice : (history : List Sent) (role : Role) (t : ℕ) → IsFromOn User history (other (other role)) t → IsFromOn User history role t
+twice : (history : List Sent) (role : Role) (t : ℕ) → TeidWasDrawn User history (other (other role)) t → TeidWasDrawn User history role t
 twice history Serving t from = from
 twice history Packet t from = from
 
@@ -55,26 +56,26 @@ module _ (history : List Sent) (role : Role) where
   at : (e f : Effect) → e ≡ f → Told history role f → Told history role e
   at e f gives told = subst (λ k. Told history role k) (sym gives) told
 
-  silent : (m : Message) → Among m [] → HasSent history role m ⊎ NamesBack history role m
+  silent : (m : Message) → Among m [] → HasSent history role m ⊎ NamedTeidWasDrawn history role m
   silent m none = absurd none
 
-  one : (m : Message) → NamesBack history role m → (k : Message) → Among k (m ∷ []) → HasSent history role k ⊎ NamesBack history role k
-  one m back k (inl same) = inr (subst (λ x. NamesBack history role x) (sym same) back)
+  one : (m : Message) → NamedTeidWasDrawn history role m → (k : Message) → Among k (m ∷ []) → HasSent history role k ⊎ NamedTeidWasDrawn history role k
+  one m back k (inl same) = inr (subst (λ x. NamedTeidWasDrawn history role x) (sym same) back)
   one m back k (inr none) = absurd none
 
-  two : (m n : Message) → NamesBack history role m → NamesBack history role n → (k : Message) → Among k (m ∷ n ∷ []) → HasSent history role k ⊎ NamesBack history role k
-  two m n first second k (inl same) = inr (subst (λ x. NamesBack history role x) (sym same) first)
-  two m n first second k (inr (inl same)) = inr (subst (λ x. NamesBack history role x) (sym same) second)
+  two : (m n : Message) → NamedTeidWasDrawn history role m → NamedTeidWasDrawn history role n → (k : Message) → Among k (m ∷ n ∷ []) → HasSent history role k ⊎ NamedTeidWasDrawn history role k
+  two m n first second k (inl same) = inr (subst (λ x. NamedTeidWasDrawn history role x) (sym same) first)
+  two m n first second k (inr (inl same)) = inr (subst (λ x. NamedTeidWasDrawn history role x) (sym same) second)
   two m n first second k (inr (inr none)) = absurd none
 
-  again : (m : Message) → HasSent history role m → (k : Message) → Among k (m ∷ []) → HasSent history role k ⊎ NamesBack history role k
+  again : (m : Message) → HasSent history role m → (k : Message) → Among k (m ∷ []) → HasSent history role k ⊎ NamedTeidWasDrawn history role k
   again m was k (inl same) = inl (subst (λ x. HasSent history role x) (sym same) was)
   again m was k (inr none) = absurd none
 
-  none_named : ◌≢◌ {A = ℕ} 0 0 → IsFromOn Control history (other role) 0
+  none_named : ◌≢◌ {A = ℕ} 0 0 → TeidWasDrawn Control history (other role) 0
   none_named not = absurd (not refl)
 
-  there : {plane : Plane} (remote : Option ℕ) → IsThere plane history role remote → written remote ≢ 0 → IsFromOn plane history (other role) (written remote)
+  there : {plane : Plane} (remote : Option ℕ) → IsThere plane history role remote → written remote ≢ 0 → TeidWasDrawn plane history (other role) (written remote)
   there None is not = absurd (not refl)
   there (Some r) is not = is r refl
 
@@ -154,7 +155,7 @@ module _ (history : List Sent) (role : Role) where
     echo_answered a e (inr (b, inl f)) = at e _ f.1 silent
     echo_answered a e (inr (b, inr (c, r))) = at e _ r silent
 
-    packet_came : (by : Role) (target : ℕ) (payload : List ℕ) (e : Effect) → NamesBack history (other role) (Packet_data target payload) → PacketCame by target payload old e → Told history role e
+    packet_came : (by : Role) (target : ℕ) (payload : List ℕ) (e : Effect) → NamedTeidWasDrawn history (other role) (Packet_data target payload) → PacketCame by target payload old e → Told history role e
     packet_came by target payload e named (inl f) = at e _ f.1 (one _ (λ not. twice history role target (named not)))
     packet_came by target payload e named (inr (a, inl f)) = at e _ f.1 silent
     packet_came by target payload e named (inr (a, inr (b, inl f))) = at e _ f.1 silent
@@ -170,19 +171,19 @@ module _ (history : List Sent) (role : Role) where
     error_came remote e (inl f) = at e _ f.1 silent
     error_came remote e (inr (a, r)) = at e _ r silent
 
-    user_taken : (by : Role) (source : Endpoint) (m : Message) (e : Effect) → NamesBack history (other role) m → UserTaken by source m old e → Told history role e
+    user_taken : (by : Role) (source : Endpoint) (m : Message) (e : Effect) → NamedTeidWasDrawn history (other role) m → UserTaken by source m old e → Told history role e
     user_taken by source (Packet_data target payload) e named r = packet_came by target payload e named r
     user_taken by source (End_marker target) e named r = end_came by target e r
     user_taken by source (Error_indication remote address) e named r = error_came remote e r
     user_taken by source (User_echo_request number) e named r = at e _ r (one _ none_named)
     user_taken by source _ e named r = at e _ r silent
 
-    user_read : (by : Role) (source : Endpoint) (reading : UserReading) (e : Effect) → ((m : Message) → reading ≡ User_message m → NamesBack history (other role) m) → UserRead by source reading old e → Told history role e
+    user_read : (by : Role) (source : Endpoint) (reading : UserReading) (e : Effect) → ((m : Message) → reading ≡ User_message m → NamedTeidWasDrawn history (other role) m) → UserRead by source reading old e → Told history role e
     user_read by source (User_message m) e named r = user_taken by source m e (named m refl) r
     user_read by source Extension_needed e named r = at e _ r (one _ none_named)
     user_read by source (User_fault fault) e named r = at e _ r silent
 
-    user_step : (by : Role) (source : Endpoint) (reading : UserReading) (e : Effect) → ((m : Message) → reading ≡ User_message m → NamesBack history (other role) m) → UserStep by source reading old e → Told history role e
+    user_step : (by : Role) (source : Endpoint) (reading : UserReading) (e : Effect) → ((m : Message) → reading ≡ User_message m → NamedTeidWasDrawn history (other role) m) → UserStep by source reading old e → Told history role e
     user_step by source reading e named (inl f) = at e _ f.1 silent
     user_step by source reading e named (inr (a, r)) = user_read by source reading e named r
 
@@ -273,7 +274,7 @@ module _ (history : List Sent) where
     session_asked request q came e (inr (a, inr (b, inr (c, inr (d, inr (g, inl f)))))) = at history Packet e _ f.1 (one history Packet _ (λ not. record { message = Create_session_request q; sent = came; owns = refl }))
     session_asked request q came e (inr (a, inr (b, inr (c, inr (d, inr (g, inr (h, inl f))))))) = at history Packet e _ f.1 (one history Packet _ (λ not. record { message = Create_session_request q; sent = came; owns = refl }))
     session_asked request q came e (inr (a, inr (b, inr (c, inr (d, inr (g, inr (h, inr (k, r)))))))) =
-        let back : (n : ℕ) → n ≢ 0 → IsFromOn Control history Serving q.control.teid = λ n not. record { message = Create_session_request q; sent = came; owns = refl } in
+        let back : (n : ℕ) → n ≢ 0 → TeidWasDrawn Control history Serving q.control.teid = λ n not. record { message = Create_session_request q; sent = came; owns = refl } in
         ⊎_elim
         (λ alone. at history Packet e _ alone (one history Packet _ (back _)))
         (λ x. at history Packet e _ x.adds.gives (two history Packet _ _ (back _) (back _)))
@@ -312,15 +313,15 @@ module _ (history : List Sent) where
       (λ m drops came old back e r. at history Packet e _ (drops.only request old e r) (silent history Packet))
 
   -- what was read, at either gateway
-  module _ (role : Role) (takes : Message → Bool) (Takes : Arrival → Message → Node → Effect → Type 0) (Faulted : Arrival → FaultyRequest → RequestKind → Node → Effect → Type 0) (foreign : (kind : ℕ) → takes (Other_control kind) ≡ true → ⊥) (rows : (request : Arrival) (m : Message) → HasSent history (other role) m → (old : Node) → Back history role old → (e : Effect) → Takes request m old e → Told history role e) where
-    reads : (reading : ControlReading) (request : Arrival) (old : Node) → Back history role old → (e : Effect) → ControlCarried role history old reading → TakesReading takes Takes Faulted reading request old e → Told history role e
+  module _ (role : Role) (Takes : Arrival → Message → Node → Effect → Type 0) (rows : (request : Arrival) (m : Message) → HasSent history (other role) m → (old : Node) → Back history role old → (e : Effect) → Takes request m old e → Told history role e) where
+    reads : (reading : ControlReading) (request : Arrival) (old : Node) → Back history role old → (e : Effect) → ControlCarried role history old reading → TakesReading role Takes reading request old e → Told history role e
     reads (Control_message m) request old back e came (inl f) = at history role e _ f.1 (silent history role)
-    reads (Control_message m) request old back e (inr o) (inr (taken, r)) = absurd (foreign o.kind (ap takes (sym o.is) ∙ taken))
+    reads (Control_message m) request old back e (inr o) (inr (taken, r)) = absurd (let other : takes_message role (Other_control o.kind) ≡ true = ap (takes_message role) (sym o.is) ∙ taken in cc)
     reads (Control_message m) request old back e (inl came) (inr (taken, r)) = hears history role (Takes request m) (rows request m came.0) old back (recovery_of m) e r
     reads (Faulty f) request old back e came r = absurd came
     reads (Control_fault fault) request old back e came r = at history role e _ r (silent history role)
 
-  user_named : EachNamesBack history → (role : Role) (reading : UserReading) → ((m : Message) → reading ≡ User_message m → HasSent history (other role) m) → (m : Message) → reading ≡ User_message m → NamesBack history (other role) m
+  user_named : EachNamedTeidWasDrawn history → (role : Role) (reading : UserReading) → ((m : Message) → reading ≡ User_message m → HasSent history (other role) m) → (m : Message) → reading ≡ User_message m → NamedTeidWasDrawn history (other role) m
   user_named named role reading came m is = named (other role) m (came m is)
 
   user_came : (role : Role) (source : Endpoint) (reading : UserReading) (old : Node) → Carried role history old (User_came source reading) → (m : Message) → reading ≡ User_message m → HasSent history (other role) m
@@ -328,10 +329,10 @@ module _ (history : List Sent) where
   user_came role source Extension_needed old came m is = absurd (cc is)
   user_came role source (User_fault fault) old came m is = absurd (cc is)
 
-  pub step_told : EachNamesBack history → (role : Role) (old : Node) → Back history role old → (input : Input) (e : Effect) → Carried role history old input → Step role old input e → Told history role e
+  pub step_told : EachNamedTeidWasDrawn history → (role : Role) (old : Node) → Back history role old → (input : Input) (e : Effect) → Carried role history old input → Step role old input e → Told history role e
   step_told named role old back (Commanded c) e came r = command history role old back role c e r
-  step_told named Serving old back (Control_came request reading) e came r = control history Serving (ServingReads reading) request old back e (reads Serving _ ServingTakes ServingFaulted (λ kind is. absurd (cc is)) (λ request m came. serving_takes request m) reading request old back e came) r
-  step_told named Packet old back (Control_came request reading) e came r = control history Packet (PacketReads reading) request old back e (reads Packet _ PacketTakes PacketFaulted (λ kind is. absurd (cc is)) packet_takes reading request old back e came) r
+  step_told named Serving old back (Control_came request reading) e came r = control history Serving (TakesReading Serving ServingTakes reading) request old back e (reads Serving ServingTakes (λ request m came. serving_takes request m) reading request old back e came) r
+  step_told named Packet old back (Control_came request reading) e came r = control history Packet (TakesReading Packet PacketTakes reading) request old back e (reads Packet PacketTakes packet_takes reading request old back e came) r
   step_told named role old back (User_came source reading) e came r = user_step history role old back role source reading e (user_named named role reading (user_came role source reading old came)) r
   step_told named role old back (Moves_on move) e came r = moves history role old back move e r
 
@@ -359,22 +360,22 @@ back_of history Packet node knows = record {
 }
 
 module _ (before after : List Sent) (extends : Extends before after) where
-  from_later : {plane : Plane} (role : Role) (t : ℕ) → IsFromOn plane before role t → IsFromOn plane after role t
+  from_later : {plane : Plane} (role : Role) (t : ℕ) → TeidWasDrawn plane before role t → TeidWasDrawn plane after role t
   from_later role t from = record { message = from.message; sent = extends.keeps role from.message from.sent; owns = from.owns }
 
-  names_later : (role : Role) (m : Message) → NamesBack before role m → NamesBack after role m
+  names_later : (role : Role) (m : Message) → NamedTeidWasDrawn before role m → NamedTeidWasDrawn after role m
   names_later role (Packet_data target payload) back = λ not. from_later (other role) target (back not)
   names_later role (End_marker target) back = λ not. from_later (other role) target (back not)
   names_later role (Error_indication target address) back = λ not. from_later role target (back not)
   names_later role _ back = λ not. from_later (other role) _ (back not)
 
 -- what a step sends names what goes back too
-pub Names-step : (history : List Sent) (role : Role) (e : Effect) → EachNamesBack history → Told history role e → EachNamesBack (history ++ signed role (messages e.out.sent))
+pub Names-step : (history : List Sent) (role : Role) (e : Effect) → EachNamedTeidWasDrawn history → Told history role e → EachNamedTeidWasDrawn (history ++ signed role (messages e.out.sent))
 Names-step history role e named told by m has =
     let extends = Extends-signed history role (messages e.out.sent) in
     ⊎_elim
     (λ was. names_later history _ extends by m (named by m was))
     (λ now.
     let is = signed_among by role (messages e.out.sent) m now in
-    subst (λ k. NamesBack (history ++ signed role (messages e.out.sent)) k m) (sym is.0) (names_later history _ extends role m (⊎_elim (λ was. named role m was) (λ back. back) (told m is.1))))
+    subst (λ k. NamedTeidWasDrawn (history ++ signed role (messages e.out.sent)) k m) (sym is.0) (names_later history _ extends role m (⊎_elim (λ was. named role m was) (λ back. back) (told m is.1))))
     (Among-cases (record { role = by; what = m }) history (signed role (messages e.out.sent)) has)

@@ -12,13 +12,13 @@ use Rattle.gtp_machine.specs.Node.{Role, Serving, Packet, Bearer, Arrival, Held,
 use Rattle.gtp_machine.specs.Input.{Input, Commanded, Control_came, User_came, Moves_on, Control_message, Resend, Give_up, Forget, DropReason, Effect, dropped, datagrams}
 use Rattle.gtp_machine.specs.Recovery.{Judges, Weighs, Hears, peer_restarted}
 use Rattle.gtp_machine.specs.Move.{Forgets}
-use Rattle.gtp_machine.specs.Answer.{making, Repeats, IsNew, ControlStep, answered}
-use Rattle.gtp_machine.specs.Serving.{BearerAsked, ServingTakes, ServingReads}
+use Rattle.gtp_machine.specs.Answer.{making, Repeats, IsNew, TakesReading, ControlStep, answered}
+use Rattle.gtp_machine.specs.Serving.{BearerAsked, ServingTakes}
 use Rattle.gtp_machine.specs.Config.{template_for}
 use Rattle.gtp_machine.proofs.Basics.Templates.{goes}
-use Rattle.gtp_machine.specs.Packet.{session_cause, session_response, made_session, session_made, SessionAsked, PacketTakes, PacketReads}
-use Rattle.gtp_machine.specs.Once.{Takes, Makes, NeverForgets, IsOnce, ActsOnce, ActsOnceInTime, HeldUntilForgotten}
-use Rattle.gtp_machine.specs.Determined.{HeldOnce, ReachedHoldsOnce}
+use Rattle.gtp_machine.specs.Packet.{session_cause, session_response, made_session, session_made, SessionAsked, PacketTakes}
+use Rattle.gtp_machine.specs.Once.{TookRequest, Makes, NeverForgets, SecondAddsNothing, ActsOnce, ActsOnceInTime, HeldUntilForgotten}
+use Rattle.gtp_machine.specs.Determined.{OneAnswerPerRequest, ReachedHoldsOneAnswer}
 use Rattle.gtp_machine.proofs.Basics.FiniteMaps.{Among-left, Among-right, Among-last, Among-one_more}
 use Rattle.gtp_machine.proofs.Changes.Shrinking.{Shrunk-finished, Shrinks-restart}
 use Rattle.gtp_machine.proofs.Requests.Holding.{held_in, Keeps, Adds, command_held, user_held, control_held}
@@ -27,7 +27,7 @@ use Rattle.gtp_machine.proofs.Changes.Forgetting.{leaves}
 -- what a step does with the answers that are held
 pub record HeldStep (old : Node) (e : Effect) : Type 0 where
   pub stays : (h : Held) → Among h old.held → Among h e.node.held ⊎ Among h.request e.out.forgot
-  pub once : HeldOnce old → HeldOnce e.node
+  pub once : OneAnswerPerRequest old → OneAnswerPerRequest e.node
 
 keeps : (old : Node) (e : Effect) → Keeps old e → HeldStep old e
 keeps old e same = record {
@@ -44,13 +44,13 @@ adds request old e is_new a = record {
     added : Held
     added = record { request = request; answer = a.answer }
 
-    one_of : HeldOnce old → (g h : Held) → Among g old.held ⊎ (g ≡ added) → Among h old.held ⊎ (h ≡ added) → g.request ≡ h.request → g.answer ≡ h.answer
+    one_of : OneAnswerPerRequest old → (g h : Held) → Among g old.held ⊎ (g ≡ added) → Among h old.held ⊎ (h ≡ added) → g.request ≡ h.request → g.answer ≡ h.answer
     one_of o g h (inr g_is) (inr h_is) same = ap (λ (k : Held). k.answer) (g_is ∙ sym h_is)
     one_of o g h (inr g_is) (inl h_in) same = absurd (is_new h h_in (sym same ∙ ap (λ (k : Held). k.request) g_is))
     one_of o g h (inl g_in) (inr h_is) same = absurd (is_new g g_in (same ∙ ap (λ (k : Held). k.request) h_is))
     one_of o g h (inl g_in) (inl h_in) same = o.once g h g_in h_in same
 
-    both : HeldOnce old → (g h : Held) → Among g (old.held ++ (added ∷ [])) → Among h (old.held ++ (added ∷ [])) → g.request ≡ h.request → g.answer ≡ h.answer
+    both : OneAnswerPerRequest old → (g h : Held) → Among g (old.held ++ (added ∷ [])) → Among h (old.held ++ (added ∷ [])) → g.request ≡ h.request → g.answer ≡ h.answer
     both o g h g_in h_in same = one_of o g h (Among-one_more g added old.held g_in) (Among-one_more h added old.held h_in) same
 
 forgets : (request : Arrival) (old : Node) (e : Effect) → Forgets old request e → HeldStep old e
@@ -67,8 +67,8 @@ step_held role old (Moves_on (Resend number)) e r = keeps old e (ap held_in r.gi
 step_held role old (Moves_on (Give_up number)) e r = keeps old e (ap held_in r.gives ∙ (Shrunk-finished old number r.at.pending.session r.at.pending.bearer).held)
 step_held role old (Moves_on (Forget request)) e r = forgets request old e r
 
-reached_once : (role : Role) (old : Node) (log : List Done) (new : Node) → HeldOnce old → Steps role old log new → HeldOnce new
-reached_once role old [] new o is = subst HeldOnce (sym is) o
+reached_once : (role : Role) (old : Node) (log : List Done) (new : Node) → OneAnswerPerRequest old → Steps role old log new → OneAnswerPerRequest new
+reached_once role old [] new o is = subst OneAnswerPerRequest (sym is) o
 reached_once role old (d ∷ log) new o s = reached_once role d.effect.node log new ((step_held role old d.input d.effect s.1).once o) s.2
 
 -- what is held stays until it is given up
@@ -178,8 +178,8 @@ control Reads request old e responds (inr (peer, inr r)) = responds r.1
 
 -- what a step on a create request does
 on_request : (role : Role) (request : Arrival) (m : Message) → Makes role m → (old : Node) (e : Effect) → Step role old (Control_came request (Control_message m)) e → Responds request old e
-on_request Serving request (Create_bearer_request q) makes old e r = control (ServingReads (Control_message (Create_bearer_request q))) request old e (λ rows. ⊎_elim (λ f. quiet request old e _ f.1) (λ t. heard request (ServingTakes request (Create_bearer_request q)) (bearer_asked request q) old None e t.1) rows) r
-on_request Packet request (Create_session_request q) makes old e r = control (PacketReads (Control_message (Create_session_request q))) request old e (λ rows. ⊎_elim (λ f. quiet request old e _ f.1) (λ t. heard request (PacketTakes request (Create_session_request q)) (session_asked request q) old q.recovery e t.1) rows) r
+on_request Serving request (Create_bearer_request q) makes old e r = control (TakesReading Serving ServingTakes (Control_message (Create_bearer_request q))) request old e (λ rows. ⊎_elim (λ f. quiet request old e _ f.1) (λ t. heard request (ServingTakes request (Create_bearer_request q)) (bearer_asked request q) old None e t.1) rows) r
+on_request Packet request (Create_session_request q) makes old e r = control (TakesReading Packet PacketTakes (Control_message (Create_session_request q))) request old e (λ rows. ⊎_elim (λ f. quiet request old e _ f.1) (λ t. heard request (PacketTakes request (Create_session_request q)) (session_asked request q) old q.recovery e t.1) rows) r
 on_request Serving request _ makes old e r = absurd makes
 on_request Packet request _ makes old e r = absurd makes
 
@@ -195,7 +195,7 @@ pub record IsAgain (old : Node) (e : Effect) (a : List Message) : Type 0 where
   pub same : e.node ≡ old
   pub sends : (b : List Message) → Among b (datagrams e.out.sent) → b ≡ a
 
-again : (Reads : Arrival → Node → Effect → Type 0) (request : Arrival) (a : List Message) (old : Node) (e : Effect) → HeldOnce old → Among (record { request = request; answer = a }) old.held → ControlStep Reads request old e → IsAgain old e a
+again : (Reads : Arrival → Node → Effect → Type 0) (request : Arrival) (a : List Message) (old : Node) (e : Effect) → OneAnswerPerRequest old → Among (record { request = request; answer = a }) old.held → ControlStep Reads request old e → IsAgain old e a
 again Reads request a old e o held (inl f) = record { same = ap (λ (x : Effect). x.node) f.1; sends = λ b among. absurd (subst (Among b) (ap (λ (x : Effect). datagrams x.out.sent) f.1) among) }
 again Reads request a old e o held (inr (peer, inl r)) = record {
   same = ap (λ (x : Effect). x.node) r.gives;
@@ -203,14 +203,14 @@ again Reads request a old e o held (inr (peer, inl r)) = record {
 }
 again Reads request a old e o held (inr (peer, inr r)) = absurd (r.0 (record { request = request; answer = a }) held refl)
 
-step_again : (role : Role) (request : Arrival) (m : Message) (a : List Message) (old : Node) (e : Effect) → HeldOnce old → Among (record { request = request; answer = a }) old.held → Step role old (Control_came request (Control_message m)) e → IsAgain old e a
-step_again Serving request m a old e o held r = again (ServingReads (Control_message m)) request a old e o held r
-step_again Packet request m a old e o held r = again (PacketReads (Control_message m)) request a old e o held r
+step_again : (role : Role) (request : Arrival) (m : Message) (a : List Message) (old : Node) (e : Effect) → OneAnswerPerRequest old → Among (record { request = request; answer = a }) old.held → Step role old (Control_came request (Control_message m)) e → IsAgain old e a
+step_again Serving request m a old e o held r = again (TakesReading Serving ServingTakes (Control_message m)) request a old e o held r
+step_again Packet request m a old e o held r = again (TakesReading Packet PacketTakes (Control_message m)) request a old e o held r
 
-fresh_once : (config : Config) (counter : ℕ) → HeldOnce (fresh_node config counter)
+fresh_once : (config : Config) (counter : ℕ) → OneAnswerPerRequest (fresh_node config counter)
 fresh_once config counter = record { once = λ g h none. absurd none }
 
-pub reached_holds_once : ReachedHoldsOnce
+pub reached_holds_once : ReachedHoldsOneAnswer
 reached_holds_once role config counter log node steps = reached_once role (fresh_node config counter) log node (fresh_once config counter) steps
 
 -- what is there is not absent
@@ -232,19 +232,19 @@ acts_once role request message first second t = ⊎_elim quietly answered_so res
     l : Last role first.effect.node t.between second
     l = last_step role first.effect.node t.between second t.finish t.steps.2
 
-    start_once : HeldOnce t.start
+    start_once : OneAnswerPerRequest t.start
     start_once = reached_once role (fresh_node t.config t.counter) t.before t.start (fresh_once t.config t.counter) t.reached
 
-    mid_once : HeldOnce l.mid
+    mid_once : OneAnswerPerRequest l.mid
     mid_once = reached_once role first.effect.node t.between l.mid ((step_held role t.start first.input first.effect t.steps.1).once start_once) l.until
 
-    quietly : IsQuiet t.start first.effect → IsOnce first second
+    quietly : IsQuiet t.start first.effect → SecondAddsNothing first second
     quietly q = record {
       one_context = λ x y. let was = q.none_comes x.key x.bearer x.comes in there_not (get t.start.bearers x.key) was.0 (ap (λ (n : Node). get n.bearers x.key) (sym first_before) ∙ x.none) was.1;
       one_answer = λ a b a_in b_in. absurd (subst (Among a) q.silent a_in);
     }
 
-    answered_so : IsAnswered request first.effect → IsOnce first second
+    answered_so : IsAnswered request first.effect → SecondAddsNothing first second
     answered_so is =
         let held = held_through role request is.answer first.effect.node t.between l.mid is.held t.kept l.until in
         let g = step_again role request message is.answer l.mid second.effect mid_once held (subst (λ i. Step role l.mid i second.effect) t.second_takes l.step) in
@@ -268,7 +268,7 @@ steps_until role old (x ∷ xs) d ys new s =
     (r.0, (s.0, s.1, r.1))
 
 -- two steps of one start, with no giving up between them
-pub acts_once_from : (role : Role) (request : Arrival) (message : Message) (first second : Done) (config : Config) (counter : ℕ) (before between after : List Done) (finish : Node) → Makes role message → Steps role (fresh_node config counter) (before ++ (first ∷ (between ++ (second ∷ after)))) finish → Takes first request message → Takes second request message → NeverForgets between request → IsOnce first second
+pub acts_once_from : (role : Role) (request : Arrival) (message : Message) (first second : Done) (config : Config) (counter : ℕ) (before between after : List Done) (finish : Node) → Makes role message → Steps role (fresh_node config counter) (before ++ (first ∷ (between ++ (second ∷ after)))) finish → TookRequest first request message → TookRequest second request message → NeverForgets between request → SecondAddsNothing first second
 acts_once_from role request message first second config counter before between after finish makes steps first_takes second_takes kept =
     let from = steps_after role (fresh_node config counter) before (first ∷ (between ++ (second ∷ after))) finish steps in
     let until = steps_until role first.effect.node between second after finish from.2.2 in

@@ -8,19 +8,20 @@ use Rattle.gtp_values.specs.declared.qos.Qos.{Qos}
 use Rattle.gtp_machine.specs.Element.{cause_of}
 use Rattle.gtp_machine.specs.Message.{Message, DeleteBearerRequest, Delete_bearer_response, Packet_data, End_marker, Error_indication, recovery_of}
 use Rattle.gtp_machine.specs.Node.{Role, Serving, Packet, Session, PendingRequest, Arrival, Held, Node, written}
-use Rattle.gtp_machine.specs.Input.{Command, Create_session, Delete_session, Create_bearer, Delete_bearer, Release_session, Mark_end, Send_echo, Send_user, RequestKind, FaultyRequest, ControlReading, Control_message, Faulty, Control_fault, Control_came, UserReading, User_message, Extension_needed, User_fault, Outcome, Effect, messages, datagrams}
+use Rattle.gtp_machine.specs.Input.{Command, Create_session, Delete_session, Create_bearer, Delete_bearer, Release_session, Mark_end, Send_echo, Send_user, ControlReading, Control_message, Faulty, Control_fault, Control_came, UserReading, User_message, Extension_needed, User_fault, Outcome, Effect, messages, datagrams}
 use Rattle.gtp_machine.specs.Recovery.{Judges, Weighs, Hears}
 use Rattle.gtp_machine.specs.Response.{EchoAnswered, finishing}
 use Rattle.gtp_machine.specs.User.{PacketCame, EndCame, ErrorCame, UserTaken, UserRead, UserStep}
 use Rattle.gtp_machine.specs.Step.{Step}
 use Rattle.gtp_machine.specs.Answer.{IsNew, TakesReading, ControlStep}
+use Rattle.gtp_machine.specs.MessageType.{answers_type}
 use Rattle.gtp_machine.specs.Command.{SessionBegun, SessionDeleted, BearerBegun, BearerDeleted, SessionReleased, EndMarked, EchoBegun, PacketSent, CommandStep}
-use Rattle.gtp_machine.specs.Serving.{SessionAnswered, DeletionAnswered, BearerAsked, RemovalTaken, RemovalAsked, removal_cause, ServingTakes, ServingFaulted}
+use Rattle.gtp_machine.specs.Serving.{SessionAnswered, DeletionAnswered, BearerAsked, RemovalTaken, RemovalAsked, removal_cause, ServingTakes}
 use Rattle.gtp_machine.specs.Config.{template_for}
 use Rattle.gtp_machine.proofs.Basics.Templates.{goes}
-use Rattle.gtp_machine.specs.Packet.{session_cause, session_response, made_session, session_made, SessionAsked, DeletionAsked, BearerAnswered, RemovalAnswered, PacketTakes, PacketFaulted}
+use Rattle.gtp_machine.specs.Packet.{session_cause, session_response, made_session, session_made, SessionAsked, DeletionAsked, BearerAnswered, RemovalAnswered, PacketTakes}
 use Rattle.gtp_machine.proofs.Changes.Shrinking.{Shrunk-finished, removes_each}
-use Rattle.gtp_machine.proofs.Basics.Kinds.{creates, is_create_answer, LeavesNode, serving_faulted, packet_faulted, by_serving, by_packet}
+use Rattle.gtp_machine.proofs.Basics.Kinds.{creates, is_create_answer, faulted_leaves, by_serving, by_packet}
 
 -- what is held after a step
 abbrev pub held_in : Effect → List Held
@@ -308,19 +309,19 @@ module _ (role : Role) (Takes : Arrival → Message → Node → Effect → Type
   pub heard : (m : Message) → Hears (Takes request m) old (recovery_of m) e → Answers request (creates role m) old e
   heard m r = heard_answers request (creates role m) (Takes request m) (λ mid f. rows request mid f m) old (recovery_of m) e r
 
-module _ (role : Role) (takes : Message → Bool) (Takes : Arrival → Message → Node → Effect → Type 0) (Faulted : Arrival → FaultyRequest → RequestKind → Node → Effect → Type 0)
-    (rows : (request : Arrival) (old : Node) (e : Effect) (m : Message) → Takes request m old e → Answers request (creates role m) old e) (faulted : LeavesNode Faulted) (request : Arrival) (old : Node) (e : Effect) where
-  reads : (reading : ControlReading) → TakesReading takes Takes Faulted reading request old e → Holds request old e
+module _ (role : Role) (Takes : Arrival → Message → Node → Effect → Type 0)
+    (rows : (request : Arrival) (old : Node) (e : Effect) (m : Message) → Takes request m old e → Answers request (creates role m) old e) (request : Arrival) (old : Node) (e : Effect) where
+  reads : (reading : ControlReading) → TakesReading role Takes reading request old e → Holds request old e
   reads (Control_message m) (inl f) = inl (ap held_in f.1)
   reads (Control_message m) (inr (kind, r)) = holds request (creates role m) old e (heard role Takes rows request old e m r)
-  reads (Faulty f) r = inl (ap (λ (n : Node). n.held) (faulted request f f.kind old e r))
+  reads (Faulty f) r = inl (ap (λ (n : Node). n.held) (faulted_leaves (answers_type role f.kind) request f old e r))
   reads (Control_fault fault) r = inl (ap held_in r)
 
-  control : (reading : ControlReading) → ControlStep (TakesReading takes Takes Faulted reading) request old e → Keeps old e ⊎ (IsNew old request × Adds request old e)
+  control : (reading : ControlReading) → ControlStep (TakesReading role Takes reading) request old e → Keeps old e ⊎ (IsNew old request × Adds request old e)
   control reading (inl f) = inl (ap held_in f.1)
   control reading (inr (peer, inl r)) = inl (ap held_in r.gives)
   control reading (inr (peer, inr r)) = ⊎_elim (λ same. inl same) (λ a. inr (r.0, a)) (reads reading r.1)
 
 pub control_held : (role : Role) (request : Arrival) (reading : ControlReading) (old : Node) (e : Effect) → Step role old (Control_came request reading) e → Keeps old e ⊎ (IsNew old request × Adds request old e)
-control_held Serving request reading old e r = control Serving _ ServingTakes ServingFaulted serving_answers serving_faulted request old e reading r
-control_held Packet request reading old e r = control Packet _ PacketTakes PacketFaulted packet_answers packet_faulted request old e reading r
+control_held Serving request reading old e r = control Serving ServingTakes serving_answers request old e reading r
+control_held Packet request reading old e r = control Packet PacketTakes packet_answers request old e reading r

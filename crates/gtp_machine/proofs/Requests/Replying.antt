@@ -5,14 +5,14 @@ use Rattle.gtp_values.specs.FiniteMap.{FiniteMap, Each, Among}
 use Rattle.gtp_values.proofs.Tests.{both}
 use Rattle.gtp_machine.specs.Message.{Message, Create_session_request, Create_bearer_request, recovery_of}
 use Rattle.gtp_machine.specs.Node.{Role, Serving, Packet, PendingRequest, Arrival, Held, Node}
-use Rattle.gtp_machine.specs.Input.{FaultyRequest, RequestKind, Control_message, Control_fault, Control_came, Move, Resend, Give_up, Forget, Out, Effect, messages, datagrams}
+use Rattle.gtp_machine.specs.Input.{Control_message, Control_fault, Control_came, Move, Resend, Give_up, Forget, Out, Effect, messages, datagrams}
 use Rattle.gtp_machine.specs.Recovery.{Hears}
 use Rattle.gtp_machine.specs.Move.{MoveStep}
 use Rattle.gtp_machine.specs.Tick.{TickStep, ticked}
 use Rattle.gtp_machine.specs.Step.{Step}
 use Rattle.gtp_machine.specs.Answer.{TakesReading, ControlStep}
-use Rattle.gtp_machine.specs.Serving.{ServingTakes, serving_takes, ServingFaulted, ServingReads}
-use Rattle.gtp_machine.specs.Packet.{PacketTakes, packet_takes, PacketFaulted, PacketReads}
+use Rattle.gtp_machine.specs.Serving.{ServingTakes}
+use Rattle.gtp_machine.specs.Packet.{PacketTakes}
 use Rattle.gtp_machine.specs.Laws.{CreateAsked}
 use Rattle.gtp_machine.proofs.Basics.FiniteMaps.{Among-one_more}
 use Rattle.gtp_machine.proofs.Basics.Kinds.{creates, is_create_answer}
@@ -72,10 +72,10 @@ packet_asked : (m : Message) → creates Packet m ≡ true → (request : Arriva
 packet_asked (Create_session_request q) is request old e heard = heard
 packet_asked m is request old e heard = absurd (cc is)
 
-module _ (role : Role) (takes : Message → Bool) (Takes : Arrival → Message → Node → Effect → Type 0) (Faulted : Arrival → FaultyRequest → RequestKind → Node → Effect → Type 0)
+module _ (role : Role) (Takes : Arrival → Message → Node → Effect → Type 0)
     (rows : (request : Arrival) (old : Node) (e : Effect) (m : Message) → Takes request m old e → Answers request (creates role m) old e)
     (asked : (m : Message) → creates role m ≡ true → (request : Arrival) (old : Node) (e : Effect) → Hears (Takes request m) old (recovery_of m) e → CreateAsked role m request old e) where
-  replies : (m : Message) (request : Arrival) (old : Node) (e : Effect) → TakesReading takes Takes Faulted (Control_message m) request old e → Replies role m request old e
+  replies : (m : Message) (request : Arrival) (old : Node) (e : Effect) → TakesReading role Takes (Control_message m) request old e → Replies role m request old e
   replies m request old e (inl f) = inl (lesser_calm old e (ap seen_in f.1))
   replies m request old e (inr (kind, r)) = answered role m request old e (creates role m) (λ is. asked m is request old e r) (heard role Takes rows request old e m r)
 
@@ -87,13 +87,13 @@ module _ (Reads : Arrival → Node → Effect → Type 0) (request : Arrival) (o
 
 -- a message of the control plane comes
 pub message_replies : (role : Role) (m : Message) (request : Arrival) (old : Node) (e : Effect) → Step role old (Control_came request (Control_message m)) e → Replies role m request old e
-message_replies Serving m request old e r = control (ServingReads (Control_message m)) request old e (IsReplied Serving m request old e) (replies Serving serving_takes ServingTakes ServingFaulted serving_answers serving_asked m request old e) r
-message_replies Packet m request old e r = control (PacketReads (Control_message m)) request old e (IsReplied Packet m request old e) (replies Packet packet_takes PacketTakes PacketFaulted packet_answers packet_asked m request old e) r
+message_replies Serving m request old e r = control (TakesReading Serving ServingTakes (Control_message m)) request old e (IsReplied Serving m request old e) (replies Serving ServingTakes serving_answers serving_asked m request old e) r
+message_replies Packet m request old e r = control (TakesReading Packet PacketTakes (Control_message m)) request old e (IsReplied Packet m request old e) (replies Packet PacketTakes packet_answers packet_asked m request old e) r
 
 -- what reads as no message comes
 pub fault_replies : (role : Role) (fault : ℕ) (request : Arrival) (old : Node) (e : Effect) → Step role old (Control_came request (Control_fault fault)) e → IsLesser old e ⊎ (IsRepeated request old e ⊎ ⊥)
-fault_replies Serving fault request old e r = control (ServingReads (Control_fault fault)) request old e ⊥ (λ f. inl (lesser_calm old e (ap seen_in f))) r
-fault_replies Packet fault request old e r = control (PacketReads (Control_fault fault)) request old e ⊥ (λ f. inl (lesser_calm old e (ap seen_in f))) r
+fault_replies Serving fault request old e r = control (TakesReading Serving ServingTakes (Control_fault fault)) request old e ⊥ (λ f. inl (lesser_calm old e (ap seen_in f))) r
+fault_replies Packet fault request old e r = control (TakesReading Packet PacketTakes (Control_fault fault)) request old e ⊥ (λ f. inl (lesser_calm old e (ap seen_in f))) r
 
 -- no pending request is such a response
 abbrev pub AllAsk : FiniteMap PendingRequest → Type 0

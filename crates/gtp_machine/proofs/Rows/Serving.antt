@@ -3,15 +3,15 @@ use Rattle.std.proofs.Common.{◌≡◌, ◌≢◌, ◌⊎◌, inl, inr, ⊎_eli
 use Rattle.std.proofs.lemmas.Bool.{cases_eq}
 use Rattle.std.specs.FinMap.{get, insert, remove}
 use Rattle.gtp_values.specs.FiniteMap.{Each, Among}
-use Rattle.gtp_machine.specs.Element.{IsAccepting, cause_of}
+use Rattle.gtp_machine.specs.Element.{IsAccepting}
 use Rattle.gtp_machine.specs.Message.{CreateSessionRequest, CreateSessionResponse, DeleteSessionResponse, CreateBearerRequest, GivenBearer, CreateBearerResponse, DeleteBearerRequest, DeleteBearerResponse, Message, Create_session_request, Create_session_response, Create_bearer_request, Create_bearer_response, Delete_bearer_response, Packet_data, Owns, recovery_of, first_given}
 use Rattle.gtp_machine.specs.Node.{Serving, Packet, Pending, Active, Closing, Session, Bearer, PendingRequest, Arrival, Held, Node, holding, written}
-use Rattle.gtp_machine.specs.Input.{Came_to, Specification, Of_create_bearer, Begun, Opened, Effect}
+use Rattle.gtp_machine.specs.Input.{Came_to, Specification, Begun, Opened, Effect}
 use Rattle.gtp_machine.specs.Choice.{IsFree, HasPending, HasSession, counter_of}
 use Rattle.gtp_machine.specs.Removal.{without_session}
 use Rattle.gtp_machine.specs.Command.{session_request, pending_session, pending_bearer, session_begun, BeginsSession, SessionBegun}
-use Rattle.gtp_machine.specs.Answer.{answered, refusing}
-use Rattle.gtp_machine.specs.Serving.{FitsSession, DescribesSession, opened_session, opened_bearer, OpensSession, SessionAnswered, DeletionAnswered, bearer_response, granted_bearer, MakesBearer, no_resources, BearerAsked, RemovalTaken, RemovalAsked, ServingTakes, removal_cause}
+use Rattle.gtp_machine.specs.Answer.{answered}
+use Rattle.gtp_machine.specs.Serving.{FitsSession, DescribesSession, opened_session, opened_bearer, OpensSession, SessionAnswered, DeletionAnswered, bearer_response, granted_bearer, MakesBearer, no_resources, bearer_refused, BearerAsked, RemovalTaken, RemovalAsked, ServingTakes, removal_cause}
 use Rattle.gtp_machine.specs.World.{Sent, HasSent, signed}
 use Rattle.gtp_machine.proofs.Basics.FiniteMaps.{Each-insert, Each-remove, found-remove, get-insert_same, get-insert_other, Among-left, Among-last}
 use Rattle.gtp_machine.proofs.Origins.Drawing.{Draws-nothing, Draws-new, one_more_drawn, two_more_drawn, TellsStart, IsProper, by_before, by_now}
@@ -316,7 +316,7 @@ module _ (history : List Sent) (taken : Arrival → Message → Type 0) (serving
         answers x new here y t (inr none) gives = absurd none
 
     -- a refusal of a Create Bearer Request with no bearer context
-    refuses : (request : Arrival) (q : CreateBearerRequest) (header cause : ℕ) (e : Effect) → e ≡ answered request (refusing Of_create_bearer header q.number (cause_of cause) old.counter) cause old → Took Serving history taken old e
+    refuses : (request : Arrival) (q : CreateBearerRequest) (header cause : ℕ) (e : Effect) → e ≡ bearer_refused request q header cause old → Took Serving history taken old e
     refuses request q header cause e gives = gives_answer Serving history taken old knows request _ cause old e gives (Shrunk-itself old) refl (λ t none. none_some t none) (λ c e. cc e)
         (record { user = λ c is low high. absurd (impossible c is) })
       where

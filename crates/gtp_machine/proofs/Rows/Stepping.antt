@@ -1,14 +1,14 @@
 -- A step of a gateway, whatever it takes, leaves what both know.
-use Rattle.std.proofs.Common.{◌≡◌, ℕ, Bool, true, List, Some, ap}
+use Rattle.std.proofs.Common.{◌≡◌, ℕ, List, Some, ap}
 use Rattle.gtp_values.specs.declared.qos.Qos.{Qos}
 use Rattle.gtp_machine.specs.Step.{Step}
-use Rattle.gtp_machine.specs.Message.{Message, Other_control, Owns, recovery_of}
+use Rattle.gtp_machine.specs.Message.{Message, Owns, recovery_of}
 use Rattle.gtp_machine.specs.Node.{Role, Serving, Packet, Arrival, Node}
-use Rattle.gtp_machine.specs.Input.{Command, Create_session, Delete_session, Create_bearer, Delete_bearer, Release_session, Mark_end, Send_echo, Send_user, Specification, ControlReading, Control_message, FaultyRequest, RequestKind, Input, Commanded, Control_came, User_came, Moves_on, Effect}
+use Rattle.gtp_machine.specs.Input.{Command, Create_session, Delete_session, Create_bearer, Delete_bearer, Release_session, Mark_end, Send_echo, Send_user, Specification, ControlReading, Control_message, Input, Commanded, Control_came, User_came, Moves_on, Effect}
 use Rattle.gtp_machine.specs.Choice.{counter_of}
 use Rattle.gtp_machine.specs.Answer.{IsNew, TakesReading, ControlStep}
-use Rattle.gtp_machine.specs.Serving.{ServingTakes, ServingFaulted}
-use Rattle.gtp_machine.specs.Packet.{PacketTakes, PacketFaulted}
+use Rattle.gtp_machine.specs.Serving.{ServingTakes}
+use Rattle.gtp_machine.specs.Packet.{PacketTakes}
 use Rattle.gtp_machine.specs.Command.{SessionBegun, BearerBegun, CommandStep}
 use Rattle.gtp_machine.specs.World.{other, Sent, HasSent}
 use Rattle.gtp_machine.proofs.Origins.Drawing.{TellsStart, IsProper}
@@ -43,15 +43,15 @@ module _ (history : List Sent) (serving_once : Once history Serving) (packet_onc
   bearer_begun_by Packet unowned knows taken session tft qos e r = bearer_begun_here history taken serving_once packet_once old knows unowned session tft qos e r
 
   -- a datagram of the control plane
-  module _ (role : Role) (unowned : NothingOwns history role old) (knows : Knows role history old) (takes : Message → Bool) (Takes : Arrival → Message → Node → Effect → Type 0) (Faulted : Arrival → FaultyRequest → RequestKind → Node → Effect → Type 0) (foreign : (kind : ℕ) → takes (Other_control kind) ≡ true → ⊥) (request : Arrival) (reading : ControlReading)
+  module _ (role : Role) (unowned : NothingOwns history role old) (knows : Knows role history old) (Takes : Arrival → Message → Node → Effect → Type 0) (request : Arrival) (reading : ControlReading)
       (rows : (mid : Node) → Knows role history mid → NothingOwns history role mid → (m : Message) (e : Effect) → HasSent history (other role) m → Taken old (Control_came request reading) request m → ((c : ℕ) → recovery_of m ≡ Some c → mid.known ≡ Some c) → Takes request m mid e → Took role history (Taken old (Control_came request reading)) mid e) where
-    reading_came : (e : Effect) → ControlCarried role history old reading → ControlStep (TakesReading takes Takes Faulted reading) request old e → After role history (Taken old (Control_came request reading)) old e
-    reading_came e came r = control_came role history (Taken old (Control_came request reading)) serving_once packet_once old knows takes Takes Faulted foreign request (λ m came is mid from mid_knows told e r. rows mid mid_knows (NothingOwns-from history role old mid from unowned) m e came is told r) reading e came (λ new m is. (ap (λ k. Control_came request k) is, new)) r
+    reading_came : (e : Effect) → ControlCarried role history old reading → ControlStep (TakesReading role Takes reading) request old e → After role history (Taken old (Control_came request reading)) old e
+    reading_came e came r = control_came role history (Taken old (Control_came request reading)) serving_once packet_once old knows Takes request (λ m came is mid from mid_knows told e r. rows mid mid_knows (NothingOwns-from history role old mid from unowned) m e came is told r) reading e came (λ new m is. (ap (λ k. Control_came request k) is, new)) r
 
   control_taken : (role : Role) → NothingOwns history role old → ((m : Message) (t : ℕ) → HasSent history (other role) m → TellsStart m → Owns m t → recovery_of m ≡ Some (counter_of t)) → ((m : Message) → HasSent history (other role) m → IsProper m) → Knows role history old
       → (request : Arrival) (reading : ControlReading) (e : Effect) → ControlCarried role history old reading → Step role old (Control_came request reading) e → After role history (Taken old (Control_came request reading)) old e
-  control_taken Serving unowned dated proper knows request reading e came r = reading_came Serving unowned knows _ ServingTakes ServingFaulted (λ kind is. absurd (cc is)) request reading (λ mid mid_knows mid_unowned. serving_taken history (Taken old (Control_came request reading)) serving_once packet_once mid mid_knows dated proper mid_unowned request) e came r
-  control_taken Packet unowned dated proper knows request reading e came r = reading_came Packet unowned knows _ PacketTakes PacketFaulted (λ kind is. absurd (cc is)) request reading (λ mid mid_knows mid_unowned. packet_taken history (Taken old (Control_came request reading)) serving_once packet_once mid mid_knows dated proper mid_unowned request) e came r
+  control_taken Serving unowned dated proper knows request reading e came r = reading_came Serving unowned knows ServingTakes request reading (λ mid mid_knows mid_unowned. serving_taken history (Taken old (Control_came request reading)) serving_once packet_once mid mid_knows dated proper mid_unowned request) e came r
+  control_taken Packet unowned dated proper knows request reading e came r = reading_came Packet unowned knows PacketTakes request reading (λ mid mid_knows mid_unowned. packet_taken history (Taken old (Control_came request reading)) serving_once packet_once mid mid_knows dated proper mid_unowned request) e came r
 
   module _ (role : Role) (unowned : NothingOwns history role old) (dated : (m : Message) (t : ℕ) → HasSent history (other role) m → TellsStart m → Owns m t → recovery_of m ≡ Some (counter_of t)) (proper : (m : Message) → HasSent history (other role) m → IsProper m) (knows : Knows role history old) where
     commanded : (taken : Arrival → Message → Type 0) (command : Command) (e : Effect) → CommandStep role command old e → After role history taken old e

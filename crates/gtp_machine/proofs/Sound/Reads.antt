@@ -1,7 +1,6 @@
 -- What is read from octets names the F-TEIDs that its table asks for.
 use Rattle.std.proofs.Common.{◌≡◌, inl, inr, ℕ, ◌≤◌, ◌<◌, Bool, true, false, ◌&&◌, List, [], ◌∷◌, map, drop, Option, Some, None, Result, Ok, Err, refl, sym, ◌∙◌, ap, subst, arith, if◌then◌else◌}
 use Rattle.std.proofs.lemmas.Bool.Decides.{nat_tests}
-use Rattle.std.specs.Prelude.{◌==◌}
 use Rattle.std.proofs.lemmas.Bool.{and_from}
 use Rattle.gtp_values.specs.Cause.{is_accepting_value}
 use Rattle.gtp_values.specs.FiniteMap.{Among}
@@ -27,16 +26,18 @@ use Rattle.gtp_v2.specs.declared.fault.V2Fault.{V2Fault}
 use Rattle.gtp_v2.specs.declared.fault.V2Fault.TheVariants as faults
 use Rattle.gtp_v2.proofs.Told.{message_decided}
 use Rattle.gtp_v2.proofs.Pairs.{datagram_decided}
+use Rattle.gtp_machine.specs.declared.message_type.MessageType.TheVariants as types
+use Rattle.gtp_machine.specs.MessageType.{type_at}
 use Rattle.gtp_machine.specs.Element.{IsAccepting, cause_of, teid_in}
 use Rattle.gtp_machine.specs.Message.{CreatedBearer, GivenBearer, Message}
 use Rattle.gtp_machine.specs.Node.{Arrival, written}
-use Rattle.gtp_machine.specs.Input.{Control_came, ControlReading, Control_message, RequestKind, Defect, Too_short, Out_of_range}
-use Rattle.gtp_machine.specs.Decoded.{row_in, contexts_in, end_in, first_in, cause_at, row, values_in, groups_in, created, given, session_request_in, bearer_request_in, message_in, message_of}
-use Rattle.gtp_machine.specs.Reading.{control_fault, control_reading_of, control_reading, element_fault, defect_in, request_kind, missing_in, DatagramReading, Alone, Both, announces, messages_read, datagram_fault, pair_reading_of, IsDatagramReadOf, taken_as}
+use Rattle.gtp_machine.specs.Input.{Control_came, ControlReading, Control_message, MessageType, Defect, Too_short, Out_of_range}
+use Rattle.gtp_machine.specs.Decoded.{row_in, contexts_in, end_in, first_in, cause_at, row, values_in, groups_in, created, given, session_request_in, bearer_request_in, message_by, message_in, message_of}
+use Rattle.gtp_machine.specs.Reading.{control_fault, control_reading_of, control_reading, element_fault, defect_in, request_type, missing_in, DatagramReading, Alone, Both, announces, messages_read, datagram_fault, pair_reading_of, IsDatagramReadOf, taken_as}
 use Rattle.gtp_machine.specs.Sound.{IsWhole, IsWellFormed, ReadsWhole, PairReadsWhole, TakenWhole}
 use Rattle.gtp_machine.proofs.Octets.Datagrams.{datagram_by_grammar}
 use Rattle.gtp_machine.proofs.Octets.Readings.{typed_lines}
-use Rattle.gtp_values.proofs.Tests.{same_number}
+use Rattle.gtp_machine.proofs.Basics.Types.{type_kind}
 
 is_accepting : (value : ℕ) → 16 ≤ value → value < 64 → is_accepting_value value ≡ true
 is_accepting value low high = grind (arith, nat_tests)
@@ -186,26 +187,20 @@ bearer_request_whole : (header number : ℕ) (f : List Field) (contexts : List (
 bearer_request_whole header number f [] = tt
 bearer_request_whole header number f (first ∷ further) = tt
 
--- one of two messages, by a test
-either : (b : Bool) (x y : Message) → (b ≡ true → IsWhole x) → IsWhole y → IsWhole (if b then x else y)
-either true x y this other = this refl
-either false x y this other = other
-
 -- what octets spell is whole
 fields_whole : (octets : List ℕ) (m : MessageValue) (f : List Field) → m.content ≡ Fields f → IsMessage octets m → IsWhole (message_in m.kind (written m.teid) m.seq f)
-fields_whole octets m f says is =
-    either (m.kind == 1) _ _ (λ e. tt) (either (m.kind == 2) _ _ (λ e. tt) (either (m.kind == 32) _ _ (λ e. session_request_whole (written m.teid) m.seq f _) (either (m.kind == 33) _ _ session (either (m.kind == 36) _ _ (λ e. tt) (either (m.kind == 37) _ _ (λ e. tt)
-    (either (m.kind == 95) _ _ (λ e. bearer_request_whole (written m.teid) m.seq f _) (either (m.kind == 96) _ _ bearer (either (m.kind == 99) _ _ (λ e. tt) (either (m.kind == 100) _ _ (λ e. tt) tt)))))))))
+fields_whole octets m f says is = by (type_at m.kind) refl
   where
-    session : (m.kind == 33) ≡ true → IsWhole (message_in 33 (written m.teid) m.seq f)
-    session e =
-        let lines = typed_lines 33 create_session_response octets m f (λ h content kind c. subst (λ k. CarriesBy (table_of k) h content) kind c) (same_number m.kind 33 e) says is in
+    by : (t : Option MessageType) → type_at m.kind ≡ t → IsWhole (message_by t m.kind (written m.teid) m.seq f)
+    by (Some types.CreateSessionRequest) at = session_request_whole (written m.teid) m.seq f _
+    by (Some types.CreateSessionResponse) at =
+        let lines = typed_lines 33 create_session_response octets m f (λ h content kind c. subst (λ k. CarriesBy (table_of k) h content) kind c) (type_kind m.kind types.CreateSessionResponse at) says is in
         session_whole (written m.teid) m.seq lines.0 f lines.1
-
-    bearer : (m.kind == 96) ≡ true → IsWhole (message_in 96 (written m.teid) m.seq f)
-    bearer e =
-        let lines = typed_lines 96 create_bearer_response octets m f (λ h content kind c. subst (λ k. CarriesBy (table_of k) h content) kind c) (same_number m.kind 96 e) says is in
+    by (Some types.CreateBearerRequest) at = bearer_request_whole (written m.teid) m.seq f _
+    by (Some types.CreateBearerResponse) at =
+        let lines = typed_lines 96 create_bearer_response octets m f (λ h content kind c. subst (λ k. CarriesBy (table_of k) h content) kind c) (type_kind m.kind types.CreateBearerResponse at) says is in
         bearer_whole (written m.teid) m.seq lines.0 f lines.1
+    by t at = tt
 
 message_whole : (octets : List ℕ) (m : MessageValue) → IsMessage octets m → IsWhole (message_of m)
 message_whole octets m is = by_content m.content refl
@@ -214,14 +209,14 @@ message_whole octets m is = by_content m.content refl
     by_content (Fields f) says = subst (λ (k : Content). IsWhole (message_of (record m { content = k }))) (sym says) (fields_whole octets m f says is)
     by_content (Raw rest) says = subst (λ (k : Content). IsWhole (message_of (record m { content = k }))) (sym says) tt
 
-defect_read : (request : Arrival) (kind : Option RequestKind) (head : Head) (defect : Defect) (element instance : ℕ) → IsWellFormed (Control_came request (defect_in kind head defect element instance))
+defect_read : (request : Arrival) (kind : Option MessageType) (head : Head) (defect : Defect) (element instance : ℕ) → IsWellFormed (Control_came request (defect_in kind head defect element instance))
 defect_read request None head defect element instance = tt
 defect_read request (Some kind) head defect element instance = tt
 
 element_read : (request : Arrival) (head : Head) (fault : IeFault) → IsWellFormed (Control_came request (element_fault head fault))
 element_read request head (elements.Truncated at) = tt
-element_read request head (elements.ShortValue kind instance at) = defect_read request (request_kind head.kind) head Too_short kind instance
-element_read request head (elements.BadValue kind instance at) = defect_read request (request_kind head.kind) head Out_of_range kind instance
+element_read request head (elements.ShortValue kind instance at) = defect_read request (request_type head.kind) head Too_short kind instance
+element_read request head (elements.BadValue kind instance at) = defect_read request (request_type head.kind) head Out_of_range kind instance
 element_read request head elements.Memory = tt
 element_read request head elements.TooLong = tt
 
@@ -232,7 +227,7 @@ fault_read request (faults.Version version) = tt
 fault_read request (faults.BadPiggyback at) = tt
 fault_read request (faults.Length stated held) = tt
 fault_read request (faults.FlagT kind) = tt
-fault_read request (faults.Missing kind instance conditional head) = defect_read request (request_kind head.kind) head (missing_in conditional) kind instance
+fault_read request (faults.Missing kind instance conditional head) = defect_read request (request_type head.kind) head (missing_in conditional) kind instance
 fault_read request (faults.Element fault head) = element_read request head fault
 fault_read request faults.Memory = tt
 fault_read request faults.TooLong = tt

@@ -13,7 +13,7 @@ use Rattle.gtp_machine.specs.Step.{Done, Steps}
 use Rattle.gtp_machine.specs.Element.{IsAccepting}
 use Rattle.gtp_machine.specs.Message.{Echo, CreateSessionRequest, CreateSessionResponse, DeleteSessionRequest, DeleteSessionResponse, CreateBearerRequest, CreateBearerResponse, DeleteBearerRequest, RemovedBearer, DeleteBearerResponse, Message, Create_session_response, Create_bearer_request, Create_bearer_response, Packet_data, End_marker, Error_indication, recovery_of, first_created, first_given, first_identity}
 use Rattle.gtp_machine.specs.Node.{Role, Serving, Packet, Pending, Active, Closing, Default, Dedicated, Session, Bearer, Arrival, Held, Node, holding, fresh_node}
-use Rattle.gtp_machine.specs.Input.{Specification, ControlReading, Control_message, Faulty, Control_fault, RequestKind, FaultyRequest, UserReading, User_message, Extension_needed, User_fault, Command, Create_session, Delete_session, Create_bearer, Delete_bearer, Release_session, Mark_end, Send_echo, Send_user, Move, Resend, Give_up, Forget, Commanded, Control_came, User_came, Moves_on, Effect, Came_to, Begun, says}
+use Rattle.gtp_machine.specs.Input.{Specification, ControlReading, Control_message, Faulty, Control_fault, UserReading, User_message, Extension_needed, User_fault, Command, Create_session, Delete_session, Create_bearer, Delete_bearer, Release_session, Mark_end, Send_echo, Send_user, Move, Resend, Give_up, Forget, Commanded, Control_came, User_came, Moves_on, Effect, Came_to, Begun, says}
 use Rattle.gtp_machine.specs.Choice.{IsFreeNumber, HasPending, IsIdentity}
 use Rattle.gtp_machine.specs.Removal.{without, finished, without_session, without_bearer, session_closing, closing_session, is_opened}
 use Rattle.gtp_machine.specs.Recovery.{peer_restarted, Judges, Weighs, Hears}
@@ -22,10 +22,11 @@ use Rattle.gtp_machine.specs.Response.{EchoAnswered}
 use Rattle.gtp_machine.specs.User.{UserTaken, UserStep, ended_bearer, default_among}
 use Rattle.gtp_machine.specs.Command.{asks, session_request, pending_session, pending_bearer, session_begun, BeginsSession, bearer_request, bearer_asked as begun_bearer, pending_dedicated, BeginsBearer, ClosesBearer, CommandStep}
 use Rattle.gtp_machine.specs.Answer.{TakesReading, ControlStep}
-use Rattle.gtp_machine.specs.Serving.{FitsSession, DescribesSession, opened_session, opened_bearer, OpensSession, SessionAnswered, DeletionAnswered, granted_bearer, BearerAsked, RemovesEach, RemovalTaken, RemovalAsked, ServingTakes, ServingFaulted}
+use Rattle.gtp_machine.specs.MessageType.{answers_type}
+use Rattle.gtp_machine.specs.Serving.{FitsSession, DescribesSession, opened_session, opened_bearer, OpensSession, SessionAnswered, DeletionAnswered, granted_bearer, BearerAsked, RemovesEach, RemovalTaken, RemovalAsked, ServingTakes}
 use Rattle.gtp_machine.specs.Config.{control_end, template_for}
 use Rattle.gtp_machine.proofs.Basics.Templates.{goes}
-use Rattle.gtp_machine.specs.Packet.{session_cause, session_response, made_session, made_bearer, session_made, SessionAsked, DeletionAsked, FitsBearer, DescribesBearer, CanOpen, opened_dedicated, OpensBearer, BearerAnswered, RemovalAnswered, PacketTakes, PacketFaulted}
+use Rattle.gtp_machine.specs.Packet.{session_cause, session_response, made_session, made_bearer, session_made, SessionAsked, DeletionAsked, FitsBearer, DescribesBearer, CanOpen, opened_dedicated, OpensBearer, BearerAnswered, RemovalAnswered, PacketTakes}
 use Rattle.gtp_machine.specs.Sound.{At, IsInState, IsBearerOf, DeletesSession, IsSound, IsWhole, IsWellFormed, AreWellFormed, StaysSound, ReachedIsSound}
 use Rattle.gtp_machine.proofs.Basics.FiniteMaps.{get-insert_same}
 use Rattle.gtp_machine.proofs.Sound.Parts.{at_here, no_deletion}
@@ -33,7 +34,7 @@ use Rattle.gtp_machine.proofs.Sound.Changes.{fresh, without_sound, without_sessi
 use Rattle.gtp_machine.proofs.Changes.Forgetting.{leaves}
 use Rattle.std.proofs.lemmas.Option.{same_Some as some_is}
 use Rattle.gtp_values.proofs.Outcomes.{none_some}
-use Rattle.gtp_machine.proofs.Basics.Kinds.{LeavesNode, serving_faulted, packet_faulted, by_serving, by_packet}
+use Rattle.gtp_machine.proofs.Basics.Kinds.{faulted_leaves, by_serving, by_packet}
 use Rattle.gtp_machine.proofs.Basics.Facts.{one_value, pending_active}
 
 module _ (role : Role) where
@@ -364,23 +365,23 @@ module _ (role : Role) (Takes : Node → Effect → Type 0) (takes : (node : Nod
   hears (Some counter) e r = by_row role e _ r.2 (weighs counter old.known r.0 r.1)
 
 -- and so does what was read, at either gateway
-module _ (role : Role) (takes : Message → Bool) (Takes : Arrival → Message → Node → Effect → Type 0) (Faulted : Arrival → FaultyRequest → RequestKind → Node → Effect → Type 0)
-    (rows : (node : Node) → IsSound role node → (request : Arrival) (m : Message) → IsWhole m → (e : Effect) → Takes request m node e → IsSound role e.node) (faulted : LeavesNode Faulted) (old : Node) (sound : IsSound role old) (request : Arrival) where
-  reads : (reading : ControlReading) → IsWellFormed (Control_came request reading) → (e : Effect) → TakesReading takes Takes Faulted reading request old e → IsSound role e.node
+module _ (role : Role) (Takes : Arrival → Message → Node → Effect → Type 0)
+    (rows : (node : Node) → IsSound role node → (request : Arrival) (m : Message) → IsWhole m → (e : Effect) → Takes request m node e → IsSound role e.node) (old : Node) (sound : IsSound role old) (request : Arrival) where
+  reads : (reading : ControlReading) → IsWellFormed (Control_came request reading) → (e : Effect) → TakesReading role Takes reading request old e → IsSound role e.node
   reads (Control_message m) whole e (inl f) = by_row role e _ f.1 sound
   reads (Control_message m) whole e (inr (taken, r)) = hears role (Takes request m) (λ node s. rows node s request m whole) old sound (recovery_of m) e r
-  reads (Faulty f) whole e r = subst (λ n. IsSound role n) (sym (faulted request f f.kind old e r)) sound
+  reads (Faulty f) whole e r = subst (λ n. IsSound role n) (sym (faulted_leaves (answers_type role f.kind) request f old e r)) sound
   reads (Control_fault fault) whole e r = by_row role e _ r sound
 
-  control : (reading : ControlReading) → IsWellFormed (Control_came request reading) → (e : Effect) → ControlStep (TakesReading takes Takes Faulted reading) request old e → IsSound role e.node
+  control : (reading : ControlReading) → IsWellFormed (Control_came request reading) → (e : Effect) → ControlStep (TakesReading role Takes reading) request old e → IsSound role e.node
   control reading whole e (inl f) = by_row role e _ f.1 sound
   control reading whole e (inr (peer, inl r)) = by_row role e _ r.gives sound
   control reading whole e (inr (peer, inr r)) = reads reading whole e r.1
 
 pub stays_sound : StaysSound
 stays_sound role old (Commanded c) e sound read r = command old role sound c read e r
-stays_sound Serving old (Control_came request reading) e sound read r = control Serving _ ServingTakes ServingFaulted serving_takes serving_faulted old sound request reading read e r
-stays_sound Packet old (Control_came request reading) e sound read r = control Packet _ PacketTakes PacketFaulted packet_takes packet_faulted old sound request reading read e r
+stays_sound Serving old (Control_came request reading) e sound read r = control Serving ServingTakes serving_takes old sound request reading read e r
+stays_sound Packet old (Control_came request reading) e sound read r = control Packet PacketTakes packet_takes old sound request reading read e r
 stays_sound role old (User_came source reading) e sound read r = user_step old role sound source reading e r
 stays_sound role old (Moves_on move) e sound read r = moves old role sound move e r
 

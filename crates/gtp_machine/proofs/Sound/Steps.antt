@@ -1,5 +1,5 @@
 -- Whatever comes to a sound node, there is an effect.
-use Rattle.std.proofs.Common.{◌≡◌, ◌≢◌, inl, inr, ⊎_elim, ℕ, ◌+◌, ◌≤◌, ◌<◌, Bool, List, [], ◌∷◌, length, Option, Some, None, refl, sym, ◌∙◌, ap, arith}
+use Rattle.std.proofs.Common.{◌≡◌, ◌≢◌, inl, inr, ⊎_elim, ℕ, ◌+◌, ◌≤◌, ◌<◌, Bool, true, false, List, [], ◌∷◌, length, Option, Some, None, refl, sym, ◌∙◌, ap, arith}
 use Rattle.std.specs.Prelude.{IsTrue, is_some, ◌||◌}
 use Rattle.std.specs.FinMap.{get, len}
 use Rattle.gtp_values.specs.Counter.{age_of}
@@ -9,7 +9,7 @@ use Rattle.gtp_values.specs.declared.address.Endpoint.{Endpoint}
 use Rattle.gtp_machine.specs.Ordered.{Unless}
 use Rattle.gtp_machine.specs.Message.{Echo, CreateSessionRequest, CreateSessionResponse, CreateBearerRequest, CreateBearerResponse, DeleteBearerRequest, RemovedBearer, Message, Packet_data, End_marker, Error_indication, recovery_of}
 use Rattle.gtp_machine.specs.Node.{Role, Serving, Packet, Session, Arrival, Held, Node}
-use Rattle.gtp_machine.specs.Input.{ControlReading, Control_message, Faulty, Control_fault, FaultyRequest, RequestKind, Of_create_session, Of_delete_session, Of_create_bearer, Of_delete_bearer, UserReading, User_message, Extension_needed, User_fault, Command, Create_session, Delete_session, Create_bearer, Delete_bearer, Release_session, Mark_end, Send_echo, Send_user, Move, Resend, Give_up, Forget, Commanded, Control_came, User_came, Moves_on, Effect}
+use Rattle.gtp_machine.specs.Input.{ControlReading, Control_message, Faulty, Control_fault, FaultyRequest, UserReading, User_message, Extension_needed, User_fault, Command, Create_session, Delete_session, Create_bearer, Delete_bearer, Release_session, Mark_end, Send_echo, Send_user, Move, Resend, Give_up, Forget, Commanded, Control_came, User_came, Moves_on, Effect}
 use Rattle.gtp_tables.specs.declared.pool.IpVersion.{IpVersion}
 use Rattle.gtp_tables.specs.declared.pool.IpVersion.TheVariants.{V4, V6}
 use Rattle.gtp_machine.specs.Choice.{IsFree, IsFreeNumber, HasFreeAddress, AsksFor, IsPart, CanGive, HasBearer}
@@ -19,10 +19,11 @@ use Rattle.gtp_machine.specs.Move.{MoveStep, AreLeft}
 use Rattle.gtp_machine.specs.Response.{EchoAnswered}
 use Rattle.gtp_machine.specs.User.{UserTaken, UserRead}
 use Rattle.gtp_machine.specs.Command.{NamesBearer, CommandStep}
-use Rattle.gtp_machine.specs.Answer.{IsNew, TakesReading, ControlStep}
-use Rattle.gtp_machine.specs.Serving.{SessionAnswered, BearerAsked, RemovesEach, RemovalTaken, RemovalAsked, ServingTakes, ServingFaulted}
+use Rattle.gtp_machine.specs.Answer.{IsNew, Faulted, TakesReading, ControlStep}
+use Rattle.gtp_machine.specs.MessageType.{answers_type}
+use Rattle.gtp_machine.specs.Serving.{SessionAnswered, BearerAsked, RemovesEach, RemovalTaken, RemovalAsked, ServingTakes}
 use Rattle.gtp_machine.specs.Config.{Template, template_for}
-use Rattle.gtp_machine.specs.Packet.{AnswersWith, SessionAsked, BearerAnswered, PacketTakes, PacketFaulted}
+use Rattle.gtp_machine.specs.Packet.{AnswersWith, SessionAsked, BearerAnswered, PacketTakes}
 use Rattle.gtp_machine.specs.Sound.{IsSound, CanMove, IsNotEmpty, AlwaysSteps}
 use Rattle.gtp_machine.proofs.Sound.Changes.{known_sound, is_session, is_bearer}
 use Rattle.gtp_machine.proofs.Sound.Rows.{restarted_sound}
@@ -208,27 +209,19 @@ module _ (role : Role) (Takes : Node → Effect → Type 0) (takes : (node : Nod
   hears None = takes old sound
   hears (Some counter) = λ none. weighs counter old.known (λ e r. none _ (e, r, refl))
 
-serving_faulted : (request : Arrival) (f : FaultyRequest) (kind : RequestKind) (old : Node) → IsNotEmpty (λ e. ServingFaulted request f kind old e)
-serving_faulted request f Of_create_session old = gives _
-serving_faulted request f Of_delete_session old = gives _
-serving_faulted request f Of_create_bearer old = gives _
-serving_faulted request f Of_delete_bearer old = gives _
+faulted_gives : (answered : Bool) (request : Arrival) (f : FaultyRequest) (old : Node) → IsNotEmpty (λ e. Faulted answered request f old e)
+faulted_gives true request f old = gives _
+faulted_gives false request f old = gives _
 
-packet_faulted : (request : Arrival) (f : FaultyRequest) (kind : RequestKind) (old : Node) → IsNotEmpty (λ e. PacketFaulted request f kind old e)
-packet_faulted request f Of_create_session old = gives _
-packet_faulted request f Of_delete_session old = gives _
-packet_faulted request f Of_create_bearer old = gives _
-packet_faulted request f Of_delete_bearer old = gives _
-
-module _ (role : Role) (takes : Message → Bool) (Takes : Arrival → Message → Node → Effect → Type 0) (Faulted : Arrival → FaultyRequest → RequestKind → Node → Effect → Type 0)
-    (rows : (node : Node) → IsSound role node → (request : Arrival) (m : Message) → IsNotEmpty (λ e. Takes request m node e)) (faulted : (request : Arrival) (f : FaultyRequest) (kind : RequestKind) (old : Node) → IsNotEmpty (λ e. Faulted request f kind old e)) (old : Node) (sound : IsSound role old) (request : Arrival) where
-  reads : (reading : ControlReading) → IsNotEmpty (λ e. TakesReading takes Takes Faulted reading request old e)
+module _ (role : Role) (Takes : Arrival → Message → Node → Effect → Type 0)
+    (rows : (node : Node) → IsSound role node → (request : Arrival) (m : Message) → IsNotEmpty (λ e. Takes request m node e)) (old : Node) (sound : IsSound role old) (request : Arrival) where
+  reads : (reading : ControlReading) → IsNotEmpty (λ e. TakesReading role Takes reading request old e)
   reads (Control_message m) = tries _ _ _ (gives _) (λ taken. hears role (Takes request m) (λ node s. rows node s request m) old sound (recovery_of m))
-  reads (Faulty f) = faulted request f f.kind old
+  reads (Faulty f) = faulted_gives (answers_type role f.kind) request f old
   reads (Control_fault fault) = gives _
 
   -- an answer that is held is sent, and else the datagram is read
-  control : (reading : ControlReading) → IsNotEmpty (λ e. ControlStep (TakesReading takes Takes Faulted reading) request old e)
+  control : (reading : ControlReading) → IsNotEmpty (λ e. ControlStep (TakesReading role Takes reading) request old e)
   control reading = tries _ _ _ (gives _) (λ peer none.
       let new : IsNew old request = λ held stands same. none _ (inl (record { held = held; stands = stands; same = same; gives = refl })) in
       reads reading (λ e r. none e (inr (new, r))))
@@ -247,7 +240,7 @@ moves old (Forget request) held none = some_left request old.held (λ rest left.
 
 pub always_steps : AlwaysSteps
 always_steps role old (Commanded c) sound can = command old role sound c
-always_steps Serving old (Control_came request reading) sound can = control Serving _ ServingTakes ServingFaulted serving_takes serving_faulted old sound request reading
-always_steps Packet old (Control_came request reading) sound can = control Packet _ PacketTakes PacketFaulted packet_takes packet_faulted old sound request reading
+always_steps Serving old (Control_came request reading) sound can = control Serving ServingTakes serving_takes old sound request reading
+always_steps Packet old (Control_came request reading) sound can = control Packet PacketTakes packet_takes old sound request reading
 always_steps role old (User_came source reading) sound can = tries _ _ _ (gives _) (λ peer. user_read old role sound source reading)
 always_steps role old (Moves_on move) sound can = moves old move can

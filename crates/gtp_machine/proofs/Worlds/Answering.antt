@@ -22,7 +22,7 @@ use Rattle.gtp_machine.specs.Serving.{granted_bearer, BearerAsked}
 use Rattle.gtp_machine.specs.Command.{pending_dedicated}
 use Rattle.gtp_machine.specs.Packet.{session_cause, session_response, made_session, made_bearer, session_made, session_refused, SessionAsked}
 use Rattle.gtp_machine.specs.World.{World, SentDatagram, other, side_of, signed, with_side, with_steps, noted, Note, Moves, MovesTwice, TicksOn, Delivers, late_once, come_from, arrival, first_came, second_came, fault_of_cut, delivered_on, cut_on, restarted, Event, Does, Tick, Deliver, Cut, Restart, Happens, Run, start}
-use Rattle.gtp_machine.specs.Laws.{OfEachRun, Moment, ComesLast, Gave, Brings, GoesBackTo, IsMadeFor, IsGrantedFor, AnswersSession, AnswersBearer, ResponsesGoBack}
+use Rattle.gtp_machine.specs.Laws.{OfEachRun, Moment, ComesLast, IssuedAnswer, BringsOctets, AnswersRequest, IsMadeFor, IsGrantedFor, AnswersSessionRequest, AnswersBearerRequest, EachResponseAnswers}
 use Rattle.gtp_machine.proofs.Basics.FiniteMaps.{get-insert_same, get-insert_other, Among-one_more, among_at}
 use Rattle.gtp_machine.proofs.Basics.Datagrams.{IsFew}
 use Rattle.gtp_machine.proofs.Basics.Templates.{goes as goes_out}
@@ -152,14 +152,14 @@ until_now first events last m = let long : length events ≡ length m.earlier + 
 -- a datagram that is held, and begins with this answer, was given at some moment, for the request for which it is held
 record IsHeldFor (first : World) (events : List Event) (w : World) (role : Role) (h : Held) (answer : Message) : Type 0 where
   pub request : Message
-  pub gave : Gave first events w role request answer
-  pub same : arrival (side_of gave.moment.before (other role)).node.config.own request ≡ h.request
-  pub whole : h.answer ≡ answer ∷ gave.more
+  pub issued : IssuedAnswer first events w role request answer
+  pub same : arrival (side_of issued.moment.before (other role)).node.config.own request ≡ h.request
+  pub whole : h.answer ≡ answer ∷ issued.more
 
 -- a datagram that was sent, and begins with this response, goes back to a request
 record IsBacked (first : World) (events : List Event) (w : World) (number : ℕ) (role : Role) (answer : Message) : Type 0 where
   pub request : Message
-  pub back : GoesBackTo first events w number role request answer
+  pub back : AnswersRequest first events w number role request answer
 
 -- each datagram that was sent, and each that is held, goes back to a request where it begins with such a response
 record Backs (first : World) (events : List Event) (w : World) : Type 0 where
@@ -186,16 +186,16 @@ module _ (first : World) (done : List Event) (mid : World) (reached : Run first 
     are = ap (λ k. k ++ event ∷ []) m.are ∙ append_assoc m.earlier (m.event ∷ m.later) (event ∷ []);
   }
 
-  abbrev gave_later : (role : Role) (request answer : Message) → Gave first done mid role request answer → Gave first events new role request answer
+  abbrev gave_later : (role : Role) (request answer : Message) → IssuedAnswer first done mid role request answer → IssuedAnswer first events new role request answer
   gave_later role request answer g = record { moment = moment_later g.moment; number = g.number; came = g.came; datagram = g.datagram; sent = g.sent; at = g.at; comes = g.comes; effect = g.effect; asked = g.asked; becomes = g.becomes; more = g.more; says = g.says }
 
   held_later : (role : Role) (h : Held) (m : Message) → IsHeldFor first done mid role h m → IsHeldFor first events new role h m
-  held_later role h m f = record { request = f.request; gave = gave_later role f.request m f.gave; same = f.same; whole = f.whole }
+  held_later role h m f = record { request = f.request; issued = gave_later role f.request m f.issued; same = f.same; whole = f.whole }
 
   backed_later : (number : ℕ) (role : Role) (m : Message) → IsBacked first done mid number role m → IsBacked first events new number role m
   backed_later number role m b = record {
     request = b.request;
-    back = record { gave = gave_later role b.request m b.back.gave; moment = moment_later b.back.moment; again = b.back.again; sent = b.back.sent; place = b.back.place; since = b.back.since };
+    back = record { issued = gave_later role b.request m b.back.issued; moment = moment_later b.back.moment; again = b.back.again; sent = b.back.sent; place = b.back.place; since = b.back.since };
   }
 
   -- nothing is sent, and nothing comes to be held
@@ -239,7 +239,7 @@ module _ (first : World) (done : List Event) (mid : World) (reached : Run first 
   said_now : (role : Role) (e : Effect) (answer : List Message) → Grown mid role e new → datagrams e.out.sent ≡ answer ∷ [] → new.datagrams ≡ mid.datagrams ++ signed role (answer ∷ [])
   said_now role e answer g says = g.list ∙ ap (λ (l : List (List Message)). mid.datagrams ++ signed role l) says
 
-  repeated : (role : Role) (request : Arrival) (e : Effect) → Grown mid role e new → Brings mid event role request → IsRepeated request (side_of mid role).node e → Backs first events new
+  repeated : (role : Role) (request : Arrival) (e : Effect) → Grown mid role e new → BringsOctets mid event role request → IsRepeated request (side_of mid role).node e → Backs first events new
   repeated role request e g brings r = grows role e g
       (λ k by m more at is.
       let one = one_said role e r.held.answer r.says k (record { role = by; what = m ∷ more }) at in
@@ -252,18 +252,18 @@ module _ (first : World) (done : List Event) (mid : World) (reached : Run first 
           record {
             request = f.request;
             back = record {
-              gave = gave_later role f.request m f.gave;
+              issued = gave_later role f.request m f.issued;
               moment = now;
-              again = subst (Brings mid event role) (sym (f.same ∙ r.same)) brings;
-              sent = said_now role e (m ∷ f.gave.more) g (r.says ∙ ap (λ (l : List Message). l ∷ []) f.whole);
+              again = subst (BringsOctets mid event role) (sym (f.same ∙ r.same)) brings;
+              sent = said_now role e (m ∷ f.issued.more) g (r.says ∙ ap (λ (l : List Message). l ∷ []) f.whole);
               place = omega (arith, zero_is);
-              since = until_now first done mid f.gave.moment;
+              since = until_now first done mid f.issued.moment;
             };
           }
 
   -- the last message of a datagram is a request that is answered now, by the gateway as it takes that
   replied : (role : Role) (number : ℕ) (datagram : List Message) (m : Message) (at : Node) (e : Effect) → event ≡ Deliver number → slice_get mid.datagrams number ≡ Some (record { role = other role; what = datagram }) → ComesLast role (side_of mid (other role)).node.config.own (side_of mid role).node datagram m at → at.held ≡ (side_of mid role).node.held
-      → Grown mid role e new → Brings mid event role (arrival (side_of mid (other role)).node.config.own m) → IsReplied role m (arrival (side_of mid (other role)).node.config.own m) at e → Backs first events new
+      → Grown mid role e new → BringsOctets mid event role (arrival (side_of mid (other role)).node.config.own m) → IsReplied role m (arrival (side_of mid (other role)).node.config.own m) at e → Backs first events new
   replied role number datagram m at e came sent comes same_held g brings r = grows role e g
       (λ k by n more found is.
       let one = one_said role e (r.answer ∷ r.more) r.says k (record { role = by; what = n ∷ more }) found in
@@ -273,17 +273,17 @@ module _ (first : World) (done : List Event) (mid : World) (reached : Run first 
       (λ was. held_later role h n (backs.held role h n more (subst (λ (hs : List Held). Among h hs) same_held was) whole is))
       (λ same.
       let answer = same_first r.answer n r.more more (sym (ap (λ (x : Held). x.answer) same) ∙ whole) in
-      subst (λ x. IsHeldFor first events new role x n) (sym same) (subst (λ a. IsHeldFor first events new role (record { request = arrival (side_of mid (other role)).node.config.own m; answer = r.answer ∷ r.more }) a) answer (record { request = m; gave = gave; same = refl; whole = refl })))
+      subst (λ x. IsHeldFor first events new role x n) (sym same) (subst (λ a. IsHeldFor first events new role (record { request = arrival (side_of mid (other role)).node.config.own m; answer = r.answer ∷ r.more }) a) answer (record { request = m; issued = issued; same = refl; whole = refl })))
       (Among-one_more h (record { request = arrival (side_of mid (other role)).node.config.own m; answer = r.answer ∷ r.more }) at.held (subst (λ (hs : List Held). Among h hs) r.held among)))
     where
-      gave : Gave first events new role m r.answer
-      gave = record { moment = now; number = number; came = came; datagram = datagram; sent = sent; at = at; comes = comes; effect = e; asked = r.asked; becomes = g.node; more = r.more; says = r.says }
+      issued : IssuedAnswer first events new role m r.answer
+      issued = record { moment = now; number = number; came = came; datagram = datagram; sent = sent; at = at; comes = comes; effect = e; asked = r.asked; becomes = g.node; more = r.more; says = r.says }
 
       backed : (k : ℕ) → k ≡ 0 → IsBacked first events new (length mid.datagrams + k) role r.answer
-      backed k zero_is = record { request = m; back = record { gave = gave; moment = now; again = brings; sent = said_now role e (r.answer ∷ r.more) g r.says; place = omega (arith, zero_is); since = omega arith } }
+      backed k zero_is = record { request = m; back = record { issued = issued; moment = now; again = brings; sent = said_now role e (r.answer ∷ r.more) g r.says; place = omega (arith, zero_is); since = omega arith } }
 
   -- a datagram of one message comes, by its plane
-  datagram : (role : Role) (number : ℕ) (m : Message) (plane : Plane) → event ≡ Deliver number → slice_get mid.datagrams number ≡ Some (record { role = other role; what = m ∷ [] }) → Brings mid event role (arrival (side_of mid (other role)).node.config.own m) → Took mid role (delivered_on plane (side_of mid (other role)).node.config.own (m ∷ [])) new → Backs first events new
+  datagram : (role : Role) (number : ℕ) (m : Message) (plane : Plane) → event ≡ Deliver number → slice_get mid.datagrams number ≡ Some (record { role = other role; what = m ∷ [] }) → BringsOctets mid event role (arrival (side_of mid (other role)).node.config.own m) → Took mid role (delivered_on plane (side_of mid (other role)).node.config.own (m ∷ [])) new → Backs first events new
   datagram role number m User came at brings t = lesser role t.effect t.grown (lesser_calm _ t.effect (user_calm role (user_end (side_of mid (other role)).node.config.own.user) (User_message m) (side_of mid role).node t.effect t.step))
   datagram role number m Control came at brings t = ⊎_elim
       (λ l. lesser role t.effect t.grown l)
@@ -291,14 +291,14 @@ module _ (first : World) (done : List Event) (mid : World) (reached : Run first 
       (message_replies role m (arrival (side_of mid (other role)).node.config.own m) (side_of mid role).node t.effect t.step)
 
   -- a pair comes as a whole
-  whole_pair : (role : Role) (a : CreateSessionResponse) (r : CreateBearerRequest) → Brings mid event role (come_from (side_of mid (other role)).node.config.own (spelled_all (Create_session_response a ∷ Create_bearer_request r ∷ []))) → TookWhole mid role a r new → Backs first events new
+  whole_pair : (role : Role) (a : CreateSessionResponse) (r : CreateBearerRequest) → BringsOctets mid event role (come_from (side_of mid (other role)).node.config.own (spelled_all (Create_session_response a ∷ Create_bearer_request r ∷ []))) → TookWhole mid role a r new → Backs first events new
   whole_pair role a r brings t = ⊎_elim
       (λ mute. lesser role t.effect t.grown (mute_lesser (side_of mid role).node t.effect mute))
       (λ again. repeated role _ t.effect t.grown brings (record { held = again.held; stands = again.stands; same = again.same; says = ap (λ (f : Effect). datagrams f.out.sent) again.gives; stays = ap (λ (f : Effect). f.node.held) again.gives }))
       (foreign role _ 0 (side_of mid role).node t.effect t.step)
 
   -- the messages of a pair come, one after the other: the first gets nothing, since no answer is held for octets that announce a message
-  both_messages : (held_of : HeldOfSent mid) (number : ℕ) (a : CreateSessionResponse) (r : CreateBearerRequest) → event ≡ Deliver number → slice_get mid.datagrams number ≡ Some (record { role = Packet; what = Create_session_response a ∷ Create_bearer_request r ∷ [] }) → Brings mid event Serving (arrival mid.packet.node.config.own (Create_bearer_request r)) → TookBoth mid a r new → Backs first events new
+  both_messages : (held_of : HeldOfSent mid) (number : ℕ) (a : CreateSessionResponse) (r : CreateBearerRequest) → event ≡ Deliver number → slice_get mid.datagrams number ≡ Some (record { role = Packet; what = Create_session_response a ∷ Create_bearer_request r ∷ [] }) → BringsOctets mid event Serving (arrival mid.packet.node.config.own (Create_bearer_request r)) → TookBoth mid a r new → Backs first events new
   both_messages held_of number a r came at brings t = ⊎_elim
       taken
       (λ again.
@@ -320,7 +320,7 @@ module _ (first : World) (done : List Event) (mid : World) (reached : Run first 
           (message_replies Serving (Create_bearer_request r) (arrival mid.packet.node.config.own (Create_bearer_request r)) t.effect.node t.next t.follows)
 
   -- first octets of a datagram come, by its plane
-  cut : (role : Role) (whole : List Message) (count : ℕ) (plane : Plane) → Brings mid event role (come_from (side_of mid (other role)).node.config.own (take count (spelled_all whole))) → Took mid role (cut_on plane (side_of mid (other role)).node.config.own whole count) new → Backs first events new
+  cut : (role : Role) (whole : List Message) (count : ℕ) (plane : Plane) → BringsOctets mid event role (come_from (side_of mid (other role)).node.config.own (take count (spelled_all whole))) → Took mid role (cut_on plane (side_of mid (other role)).node.config.own whole count) new → Backs first events new
   cut role whole count User brings t = lesser role t.effect t.grown (lesser_calm _ t.effect (user_calm role (user_end (side_of mid (other role)).node.config.own.user) (User_fault (user_cut_fault count)) (side_of mid role).node t.effect t.step))
   cut role whole count Control brings t = ⊎_elim
       (λ l. lesser role t.effect t.grown l)
@@ -543,17 +543,17 @@ module _ (request : Arrival) (q : CreateSessionRequest) (a : CreateSessionRespon
   heard old (Some c) e says r = subst (λ k. NamesSession request q k a) (sym r.2) (with_heard r.0 _ _ (weighed old c old.known r.0 (sym (ap (λ (k : Effect). datagrams k.out.sent) r.2) ∙ says) r.1))
 
 module _ (first : World) (events : List Event) (last : World) (number : ℕ) where
-  session_back : (a : CreateSessionResponse) (m : Message) → GoesBackTo first events last number Packet m (Create_session_response a) → AnswersSession first events last number a
+  session_back : (a : CreateSessionResponse) (m : Message) → AnswersRequest first events last number Packet m (Create_session_response a) → AnswersSessionRequest first events last number a
   session_back a (Create_session_request q) b =
-      let n = heard _ q a b.gave.more _ q.recovery b.gave.effect b.gave.says b.gave.asked in
+      let n = heard _ q a b.issued.more _ q.recovery b.issued.effect b.issued.says b.issued.asked in
       record { request = q; back = b; numbered = n.number; header = n.header; made = n.made; accepted = n.accepted; refused = n.refused }
-  session_back a m b = absurd b.gave.asked
+  session_back a m b = absurd b.issued.asked
 
-  bearer_back : (x : CreateBearerResponse) (m : Message) → GoesBackTo first events last number Serving m (Create_bearer_response x) → AnswersBearer first events last number x
+  bearer_back : (x : CreateBearerResponse) (m : Message) → AnswersRequest first events last number Serving m (Create_bearer_response x) → AnswersBearerRequest first events last number x
   bearer_back x (Create_bearer_request r) b =
-      let n = bearer_named _ r b.gave.effect x b.gave.more b.gave.says _ b.gave.asked in
+      let n = bearer_named _ r b.issued.effect x b.issued.more b.issued.says _ b.issued.asked in
       record { request = r; back = b; numbered = n.number; returned = n.returned; made = n.made; accepted = n.accepted; refused = n.refused }
-  bearer_back x m b = absurd b.gave.asked
+  bearer_back x m b = absurd b.issued.asked
 
 -- a datagram that has such a response begins with it
 begins_with : (datagram : List Message) (m : Message) → IsFew datagram → Among m datagram → is_create_answer m ≡ true → (more : List Message) × (datagram ≡ m ∷ more)
@@ -565,7 +565,7 @@ begins_with (n ∷ k ∷ []) m few (inr (inl same)) is = absurd (false_true (ap 
 begins_with (n ∷ k ∷ []) m few (inr (inr none)) is = absurd none
 begins_with (n ∷ k ∷ l ∷ rest) m few among is = absurd few
 
-pub each_response : OfEachRun ResponsesGoBack
+pub each_response : OfEachRun EachResponseAnswers
 each_response serving packet sc pc events w r = record {
   sessions = λ number datagram a at has. let k = backed number Packet datagram (Create_session_response a) at has refl in session_back _ events w number a k.request k.back;
   bearers = λ number datagram x at has. let k = backed number Serving datagram (Create_bearer_response x) at has refl in bearer_back _ events w number x k.request k.back;

@@ -8,10 +8,10 @@ use Rattle.gtp_machine.specs.Input.{Move, Input, Commanded, Control_came, Moves_
 use Rattle.gtp_machine.specs.Move.{MoveStep}
 use Rattle.gtp_machine.specs.Tick.{TickStep, ticked}
 use Rattle.gtp_machine.specs.Step.{Step, Done, Steps, tick_steps}
-use Rattle.gtp_machine.specs.Once.{Makes, Takes}
+use Rattle.gtp_machine.specs.Once.{Makes, TookRequest}
 use Rattle.gtp_machine.specs.Spelling.{datagram_plane, spelled_all}
 use Rattle.gtp_machine.specs.World.{World, Side, Note, Event, Does, Tick, Deliver, Cut, Restart, Happens, Delivers, Moves, ComesTo, come_from, first_came, second_came, note_of_both, Run, other, side_of, with_side, steps_of, with_steps, logged, stepped, moved, noted, late_once, arrival, delivered_on, IsLateOn, HasSent, restarted, begun, start, quiet_note, No_such_datagram, Cut_too_long, Restarts_used}
-use Rattle.gtp_machine.specs.Laws.{Always, StepsAreKept, EachActsOnce}
+use Rattle.gtp_machine.specs.Laws.{Always, StepsAreKept, EachRequestActsOnce}
 use Rattle.gtp_machine.proofs.Basics.FiniteMaps.{Among-left, Among-right, Among-one_more}
 use Rattle.gtp_machine.proofs.Requests.ActsOnce.{acts_once_from, acts_once_in_time}
 use Rattle.gtp_machine.proofs.Worlds.Ticking.{side_twice, side_nothing, move_quiet}
@@ -54,7 +54,7 @@ pub record AreStepsOf (role : Role) (side : Side) (steps : List Done) : Type 0 w
   pub same : side.node.config ≡ config
   pub reach : Steps role (fresh_node config ((side.first + side.restarts) % 256)) steps side.node
   pub forgets : (done : Done) (a : Arrival) → Among done steps → Among a done.effect.out.forgot → Among a side.forgotten
-  pub late : (front back : List Done) (done earlier : Done) (request : Arrival) (message : Message) → creates role message ≡ true → steps ≡ front ++ (done ∷ back) → Takes done request message → Among earlier front → Among request earlier.effect.out.forgot → Among request side.came_late
+  pub late : (front back : List Done) (done earlier : Done) (request : Arrival) (message : Message) → creates role message ≡ true → steps ≡ front ++ (done ∷ back) → TookRequest done request message → Among earlier front → Among request earlier.effect.out.forgot → Among request side.came_late
 
 pushed : (role : Role) (side : Side) (steps : List Done) → AreStepsOf role side steps → (done : Done) → done.before ≡ side.node → done.effect.node.config ≡ side.node.config → Step role side.node done.input done.effect → ((a : Arrival) (m : Message) → creates role m ≡ true → done.input ≡ Control_came a (Control_message m) → Among a side.forgotten → Among a side.came_late) → AreStepsOf role (stepped side done.effect) (steps ++ (done ∷ []))
 pushed role side steps are done before stays step marked = record {
@@ -63,7 +63,7 @@ pushed role side steps are done before stays step marked = record {
   reach = steps_push role _ steps side.node done are.reach before step;
   forgets = λ d a among gone. ⊎_elim (λ was. Among-left a side.forgotten done.effect.out.forgot (are.forgets d a was gone)) (λ is. Among-right a side.forgotten done.effect.out.forgot (subst (λ (k : Done). Among a k.effect.out.forgot) is gone)) (Among-one_more d done steps among);
   late = λ front back d earlier request message create split takes among gone. ⊎_elim
-      (λ is. marked request message create (subst (λ (k : Done). Takes k request message) (sym is.1) takes) (are.forgets earlier request (subst (λ k. Among earlier k) (sym is.0) among) gone))
+      (λ is. marked request message create (subst (λ (k : Done). TookRequest k request message) (sym is.1) takes) (are.forgets earlier request (subst (λ k. Among earlier k) (sym is.0) among) gone))
       (λ was. are.late front was.0 d earlier request message create was.1 takes among gone)
       (last_split steps front back done d split);
 }
@@ -230,7 +230,7 @@ pub always_kept : Always StepsAreKept
 always_kept serving packet sc pc events w r role = let are = kept_in serving packet sc pc events w r role in
     subst (λ config. Steps role (fresh_node config (((side_of w role).first + (side_of w role).restarts) % 256)) (steps_of w role) (side_of w role).node) (sym are.same) are.reach
 
-pub always_acts_once : Always EachActsOnce
+pub always_acts_once : Always EachRequestActsOnce
 always_acts_once serving packet sc pc events w r role request message first second two makes first_takes second_takes cond =
     let are = kept_in serving packet sc pc events w r role in
     let steps = subst (λ k. Steps role (fresh_node are.config (((side_of w role).first + (side_of w role).restarts) % 256)) k (side_of w role).node) two.are are.reach in

@@ -10,7 +10,7 @@ use Rattle.gtp_machine.specs.Answer.{IsNew}
 use Rattle.gtp_machine.specs.Spelling.{datagram_plane}
 use Rattle.gtp_machine.specs.World.{with_steps, steps_of, logged, World, other, Side, By, HasBy, Sent, SentDatagram, HasSent, signed, flat, side_of, with_side, stepped, moved, Note, noted, Moves, Event, Does, Tick, Deliver, Cut, Restart, Happens, Delivers, ComesTo, arrival, first_came, second_came, late_once, delivered_on, cut_on, IsLateOn, restarted, Run, begun, start}
 use Rattle.gtp_machine.specs.Tick.{TickStep, ticked}
-use Rattle.gtp_machine.specs.Laws.{EachNamesBack}
+use Rattle.gtp_machine.specs.Laws.{EachNamedTeidWasDrawn}
 use Rattle.gtp_machine.specs.Safety.{EachOwed}
 use Rattle.gtp_machine.proofs.Basics.FiniteMaps.{Each-empty, found-empty, among_at, Among-cases}
 use Rattle.gtp_machine.proofs.Basics.Datagrams.{IsFew, IsSentWhole, EachFew, flat_grows, few_grows, sent_whole}
@@ -50,7 +50,7 @@ pub record Invariant (own : Addresses) (w : World) : Type 0 where
   pub once : w.late ≡ 0 → AnsweredOnce w.history
   pub packets : (role : Role) → Packets w.history w.handed role
   pub owed : EachOwed w.late w.handed w.accepted
-  pub named : EachNamesBack w.history
+  pub named : EachNamedTeidWasDrawn w.history
   pub kept : flat w.datagrams ≡ w.history
   pub few : EachFew w.datagrams
 

@@ -7,8 +7,8 @@ use Rattle.gtp_machine.specs.Node.{Role, Serving, Packet, Pending, Active, Sessi
 use Rattle.gtp_machine.specs.Config.{Addresses}
 use Rattle.gtp_machine.specs.Choice.{counter_of}
 use Rattle.gtp_machine.specs.World.{World, Side, Sent, HasSent, side_of}
-use Rattle.gtp_machine.specs.Safety.{Agree, SessionsAgree, MutualBearers, AgreeBearers, BearersAgree, IsOver, NoneOver, EachOwed}
-use Rattle.gtp_machine.specs.Laws.{Always, MessagesOfDatagrams, OneMessage, OwnsOn, PlanesApart, GoesBack, EachGoesBack, NamesGoBack, IsOfStart, NoneAhead, IsLatestHeard, KnownIsLatest, BearersOnce, EachOpened, EachClosesWhole, MadeOnce}
+use Rattle.gtp_machine.specs.Safety.{Agree, SessionsAgree, MutualBearers, AgreeBearers, BearersAgree, OutlivesRestart, NoneOutlivesRestart, EachOwed}
+use Rattle.gtp_machine.specs.Laws.{Always, MessagesOfDatagrams, OneMessage, OwnsOn, PlanesApart, TeidsWereDrawn, ContextTeidsWereDrawn, NamedTeidsWereDrawn, IsOfStart, NoneAhead, IsLatestHeard, KnownIsLatest, OneResponsePerBearerRequest, EachOpened, EachClosesWhole, OneContextPerRequest}
 use Rattle.gtp_machine.proofs.Origins.Drawing.{Drawing}
 use Rattle.gtp_machine.proofs.Origins.Contexts.{IsAskedWith, IsGranted, IsMadeWith, IsWanted}
 use Rattle.gtp_machine.proofs.Origins.Entries.{Once, same_request, same_user_request, same_answer, same_user_answer, same_bearer_answer, answer_not_request}
@@ -86,7 +86,7 @@ module _ (own : Addresses) (w : World) (inv : Invariant own w) where
         at.origin
 
   -- the TEIDs of a session go back to messages
-  session_goes_back : (role : Role) (t : ℕ) (s : Session) → get (side_of w role).node.sessions t ≡ Some s → GoesBack Control w.history role t s.remote
+  session_goes_back : (role : Role) (t : ℕ) (s : Session) → get (side_of w role).node.sessions t ≡ Some s → TeidsWereDrawn Control w.history role t s.remote
   session_goes_back Serving t s stands =
       let asked = inv.serving.knows.contexts.sessions_asked t s stands in
       record {
@@ -100,7 +100,7 @@ module _ (own : Addresses) (w : World) (inv : Invariant own w) where
         there = λ r e. record { message = Create_session_request made.request; sent = made.asked; owns = one_value s.remote r made.request.control.teid e made.remote };
       }
 
-  pub bearer_goes_back : (role : Role) (t : ℕ) (b : Bearer) → get (side_of w role).node.bearers t ≡ Some b → GoesBack User w.history role t b.remote
+  pub bearer_goes_back : (role : Role) (t : ℕ) (b : Bearer) → get (side_of w role).node.bearers t ≡ Some b → TeidsWereDrawn User w.history role t b.remote
   bearer_goes_back Serving t b stands =
       ⊎_elim
       (λ o. record {
@@ -125,10 +125,10 @@ module _ (own : Addresses) (w : World) (inv : Invariant own w) where
       (inv.packet.knows.contexts.bearers_made t b stands).origin
 
 -- no session of a gateway is over
-none_over : (history : List Sent) (role : Role) (side peer : Side) → SideInvariant history role side peer → peer.restarts ≤ 127 → (t : ℕ) (s : Session) → get side.node.sessions t ≡ Some s → IsOver side.seen s → ⊥
+none_over : (history : List Sent) (role : Role) (side peer : Side) → SideInvariant history role side peer → peer.restarts ≤ 127 → (t : ℕ) (s : Session) → get side.node.sessions t ≡ Some s → OutlivesRestart side.seen s → ⊥
 none_over history role side peer inv few t s stands over =
     let k = counter_of over.remote in
-    none_later peer few side.seen k over.counter (inv.hearing.latest k ((inv.knows.standing t s stands).current over.remote over.has)) over.was_heard over.is_later
+    none_later peer few side.seen k over.counter (inv.hearing.latest k ((inv.knows.standing t s stands).current over.remote over.has)) over.was_heard over.heard_is_later
 
 drawn_of_start : (side : Side) (role : Role) (history : List Sent) → Drawing side role history → (m : Message) (t : ℕ) → HasSent history role m → Owns m t → IsOfStart side (counter_of t)
 drawn_of_start side role history drawing m t has owns = ⊎_elim
@@ -149,7 +149,7 @@ always_sessions serving packet sc pc events w r = sessions_agree packet.own w (a
 pub always_bearers : Always (λ w. BearersAgree w.serving.node w.packet.node)
 always_bearers serving packet sc pc events w r c d b e m = bearers_agree packet.own w (always serving packet sc pc events w r) c d b e m
 
-pub always_none_over : Always (λ w. (role : Role) → NoneOver (side_of w role).node (side_of w role).seen)
+pub always_none_over : Always (λ w. (role : Role) → NoneOutlivesRestart (side_of w role).node (side_of w role).seen)
 always_none_over serving packet sc pc events w r Serving t s = let inv = always serving packet sc pc events w r in none_over w.history Serving w.serving w.packet inv.serving inv.packet.draws.few t s
 always_none_over serving packet sc pc events w r Packet t s = let inv = always serving packet sc pc events w r in none_over w.history Packet w.packet w.serving inv.packet inv.serving.draws.few t s
 
@@ -163,7 +163,7 @@ pub always_one_message : Always OneMessage
 always_one_message serving packet sc pc events w r Serving = (always serving packet sc pc events w r).serving.draws.once
 always_one_message serving packet sc pc events w r Packet = (always serving packet sc pc events w r).packet.draws.once
 
-pub always_names_back : Always NamesGoBack
+pub always_names_back : Always NamedTeidsWereDrawn
 always_names_back serving packet sc pc events w r = (always serving packet sc pc events w r).named
 
 -- what a gateway draws for the control plane it does not draw for the user plane
@@ -176,7 +176,7 @@ pub always_planes_apart : Always PlanesApart
 always_planes_apart serving packet sc pc events w r Serving = planes_apart w.serving Serving w.history (always serving packet sc pc events w r).serving.draws
 always_planes_apart serving packet sc pc events w r Packet = planes_apart w.packet Packet w.history (always serving packet sc pc events w r).packet.draws
 
-pub always_goes_back : Always EachGoesBack
+pub always_goes_back : Always ContextTeidsWereDrawn
 always_goes_back serving packet sc pc events w r = let inv = always serving packet sc pc events w r in record { sessions = session_goes_back packet.own w inv; bearers = bearer_goes_back packet.own w inv }
 
 pub always_none_ahead : Always NoneAhead
@@ -197,7 +197,7 @@ pub always_known : Always KnownIsLatest
 always_known serving packet sc pc events w r Serving = let inv = always serving packet sc pc events w r in latest_heard w.packet w.serving.node.known w.serving.seen inv.packet.draws.few inv.serving.hearing
 always_known serving packet sc pc events w r Packet = let inv = always serving packet sc pc events w r in latest_heard w.serving w.packet.node.known w.packet.seen inv.serving.draws.few inv.packet.hearing
 
-pub always_once : Always BearersOnce
+pub always_once : Always OneResponsePerBearerRequest
 always_once serving packet sc pc events w r = (always serving packet sc pc events w r).once
 
 pub always_opened : Always EachOpened
@@ -222,6 +222,6 @@ pub always_closes_whole : Always EachClosesWhole
 always_closes_whole serving packet sc pc events w r Serving = (always serving packet sc pc events w r).serving.knows.closed
 always_closes_whole serving packet sc pc events w r Packet = (always serving packet sc pc events w r).packet.knows.closed
 
-pub always_made_once : Always MadeOnce
+pub always_made_once : Always OneContextPerRequest
 always_made_once serving packet sc pc events w r Serving = (always serving packet sc pc events w r).serving.making.once
 always_made_once serving packet sc pc events w r Packet = (always serving packet sc pc events w r).packet.making.once

@@ -15,7 +15,7 @@ use Rattle.gtp_machine.specs.Move.{MoveStep}
 use Rattle.gtp_machine.specs.Spelling.{Datagram}
 use Rattle.gtp_machine.specs.Step.{Step, Done, Steps}
 use Rattle.gtp_machine.specs.Tick.{TickStep}
-use Rattle.gtp_machine.specs.Determined.{HeldOnce}
+use Rattle.gtp_machine.specs.Determined.{OneAnswerPerRequest}
 use Rattle.gtp_machine.specs.World.{EventOutcome, By, Event, Does, Tick, Deliver, Cut, Restart, other}
 use Rattle.gtp_machine.proofs.Determined.Alike.{Fits}
 use Rattle.gtp_machine.proofs.Requests.ActsOnce.{reached_holds_once}
@@ -45,7 +45,7 @@ pub record Lasts (s : Station) : Type 0 where
 pub lasts_fits : (s : Station) → Lasts s → Fits s.node
 lasts_fits s l = placed_fits s.node (reached_placed s.role l.config l.counter l.log s.node l.steps)
 
-pub lasts_once : (s : Station) → Lasts s → HeldOnce s.node
+pub lasts_once : (s : Station) → Lasts s → OneAnswerPerRequest s.node
 lasts_once s l = reached_holds_once s.role l.config l.counter l.log s.node l.steps
 
 -- the TEID that a request brings was drawn, where it waits
@@ -62,7 +62,7 @@ steps_push role start [] old input e is step = (is, subst (λ n. Step role n inp
 steps_push role start (done ∷ log) old input e steps step = (steps.0, steps.1, steps_push role done.effect.node log old input e steps.2 step)
 
 -- after a step, what a step needs to be determined stands again
-pub mid_ready : (s : Station) → Lasts s → (input : Input) (e : Effect) → Step s.role s.node input e → Fits e.node × HeldOnce e.node
+pub mid_ready : (s : Station) → Lasts s → (input : Input) (e : Effect) → Step s.role s.node input e → Fits e.node × OneAnswerPerRequest e.node
 mid_ready s l input e step =
     let steps = steps_push s.role (fresh_node l.config l.counter) l.log s.node input e l.steps step in
     (placed_fits e.node (reached_placed s.role l.config l.counter _ e.node steps), reached_holds_once s.role l.config l.counter _ e.node steps)

@@ -1,5 +1,5 @@
 -- What a step needs of a node to be determined stands in each node that is reached, whatever was commanded.
-use Rattle.std.proofs.Common.{◌≡◌, ◌≢◌, inl, inr, ⊎_elim, ℕ, Bool, false, eqb, List, [], ◌∷◌, Option, Some, None, refl, sym, ◌∙◌, ap, subst}
+use Rattle.std.proofs.Common.{◌≡◌, ◌≢◌, inl, inr, ⊎_elim, ℕ, false, eqb, List, [], ◌∷◌, Option, Some, None, refl, sym, ◌∙◌, ap, subst}
 use Rattle.std.proofs.lemmas.Option.{same_Some}
 use Rattle.std.specs.FinMap.{get, insert, remove}
 use Rattle.gtp_values.specs.Counter.{age_of}
@@ -10,13 +10,14 @@ use Rattle.gtp_values.specs.declared.qos.Qos.{Qos}
 use Rattle.gtp_values.specs.FiniteMap.{FiniteMap, Each, Among}
 use Rattle.gtp_values.proofs.Outcomes.{none_some}
 use Rattle.gtp_tables.specs.Index.{names}
+use Rattle.gtp_machine.specs.MessageType.{answers_type}
 use Rattle.gtp_machine.specs.Config.{Template, Config, template_for}
 use Rattle.gtp_machine.specs.Element.{PdnAddress}
 use Rattle.gtp_machine.specs.Message.{Echo, CreateSessionRequest, CreateSessionResponse, DeleteSessionRequest, DeleteSessionResponse, CreateBearerRequest, CreateBearerResponse, DeleteBearerRequest, DeleteBearerResponse, Message, Echo_request, Echo_response, Create_session_request, Create_session_response, Delete_session_request, Delete_session_response, Create_bearer_request, Create_bearer_response, Delete_bearer_request, Delete_bearer_response, Packet_data, End_marker, Error_indication, User_echo_request, recovery_of, first_identity}
 use Rattle.gtp_machine.specs.declared.role.Role.{Role}
 use Rattle.gtp_machine.specs.declared.role.Role.TheVariants.{Serving, Packet}
 use Rattle.gtp_machine.specs.Node.{Active, Closing, Session, Bearer, PendingRequest, Arrival, Held, Node, fresh_node}
-use Rattle.gtp_machine.specs.Input.{Specification, Command, Create_session, Delete_session, Create_bearer, Delete_bearer, Release_session, Mark_end, Send_echo, Send_user, Move, Resend, Give_up, Forget, ControlReading, Control_message, Faulty, Control_fault, RequestKind, FaultyRequest, UserReading, User_message, Extension_needed, User_fault, Input, Commanded, Control_came, User_came, Moves_on, Effect}
+use Rattle.gtp_machine.specs.Input.{Specification, Command, Create_session, Delete_session, Create_bearer, Delete_bearer, Release_session, Mark_end, Send_echo, Send_user, Move, Resend, Give_up, Forget, ControlReading, Control_message, Faulty, Control_fault, UserReading, User_message, Extension_needed, User_fault, Input, Commanded, Control_came, User_came, Moves_on, Effect}
 use Rattle.gtp_machine.specs.Choice.{IsFree, HasSession, HasBearer, HasPending}
 use Rattle.gtp_machine.specs.Ordered.{Unless}
 use Rattle.gtp_machine.specs.Removal.{finished, without_session, session_closing, is_opened}
@@ -25,13 +26,13 @@ use Rattle.gtp_machine.specs.Response.{EchoAnswered}
 use Rattle.gtp_machine.specs.Recovery.{peer_restarted, Judges, Weighs, Hears}
 use Rattle.gtp_machine.specs.Command.{session_request, pending_session, pending_bearer, pending_dedicated, bearer_request, bearer_asked as node_asked, BeginsSession, ClosesSession, ReleasesSession, BeginsBearer, NamesBearer, ClosesBearer, SendsEcho, SendsPacket, CommandStep}
 use Rattle.gtp_machine.specs.Answer.{TakesReading, ControlStep}
-use Rattle.gtp_machine.specs.Serving.{opened_session, opened_bearer, OpensSession, SessionAnswered, DeletionAnswered, granted_bearer, MakesBearer, BearerAsked, RemovesBearers, RemovalTaken, RemovalAsked, ServingTakes, ServingFaulted}
-use Rattle.gtp_machine.specs.Packet.{made_session, made_bearer, AnswersWith, MakesSession, SessionAsked, DeletionAsked, FitsBearer, DescribesBearer, CanOpen, opened_dedicated, OpensBearer, BearerAnswered, RemovalAnswered, PacketTakes, PacketFaulted}
+use Rattle.gtp_machine.specs.Serving.{opened_session, opened_bearer, OpensSession, SessionAnswered, DeletionAnswered, granted_bearer, MakesBearer, BearerAsked, RemovesBearers, RemovalTaken, RemovalAsked, ServingTakes}
+use Rattle.gtp_machine.specs.Packet.{made_session, made_bearer, AnswersWith, MakesSession, SessionAsked, DeletionAsked, FitsBearer, DescribesBearer, CanOpen, opened_dedicated, OpensBearer, BearerAnswered, RemovalAnswered, PacketTakes}
 use Rattle.gtp_machine.specs.User.{Accepts, ended_bearer, default_among, EndCame, UserTaken, UserRead, UserStep}
 use Rattle.gtp_machine.specs.Sound.{AreApart}
 use Rattle.gtp_machine.specs.Step.{Step, Done, Steps}
 use Rattle.gtp_machine.proofs.Basics.FiniteMaps.{found-insert, found-remove, found-empty}
-use Rattle.gtp_machine.proofs.Basics.Kinds.{LeavesNode, serving_faulted, packet_faulted}
+use Rattle.gtp_machine.proofs.Basics.Kinds.{faulted_leaves}
 use Rattle.gtp_machine.proofs.Changes.Shrinking.{Shrunk, Shrunk-without, Shrunk-finished, Shrunk-bearer, Shrunk-closing, closing_same, ended_same, removes_each}
 use Rattle.gtp_machine.proofs.Determined.Alike.{Fits}
 use Rattle.gtp_machine.proofs.Determined.Witnesses.{apart_left}
@@ -475,22 +476,22 @@ module _ (Takes : Node → Effect → Type 0) (takes : (node : Node) → IsPlace
   hears None e r = takes old p e r
   hears (Some counter) e (x, taken, is) = says (weighs counter old.known x taken) e is
 
-module _ (takes : Message → Bool) (Takes : Arrival → Message → Node → Effect → Type 0) (Faulted : Arrival → FaultyRequest → RequestKind → Node → Effect → Type 0) (request : Arrival)
-    (rows : (m : Message) (node : Node) → IsPlaced node → Leaves (Takes request m node)) (faulted : LeavesNode Faulted) (old : Node) (p : IsPlaced old) where
-  reads : (reading : ControlReading) → Leaves (TakesReading takes Takes Faulted reading request old)
+module _ (role : Role) (Takes : Arrival → Message → Node → Effect → Type 0) (request : Arrival)
+    (rows : (m : Message) (node : Node) → IsPlaced node → Leaves (Takes request m node)) (old : Node) (p : IsPlaced old) where
+  reads : (reading : ControlReading) → Leaves (TakesReading role Takes reading request old)
   reads (Control_message m) e r = unless (says p) (λ taken. hears (Takes request m) (rows m) old p (recovery_of m)) e r
-  reads (Faulty f) e r = subst (λ n. IsPlaced n) (sym (faulted request f f.kind old e r)) p
+  reads (Faulty f) e r = subst (λ n. IsPlaced n) (sym (faulted_leaves (answers_type role f.kind) request f old e r)) p
   reads (Control_fault fault) e r = says p e r
 
-  control : (reading : ControlReading) → Leaves (ControlStep (TakesReading takes Takes Faulted reading) request old)
+  control : (reading : ControlReading) → Leaves (ControlStep (TakesReading role Takes reading) request old)
   control reading = unless (says p) (λ peer e r. ⊎_elim (λ again. says p e again.gives) (λ new. reads reading e new.1) r)
 
 -- ---- all together
 
 step_placed : (role : Role) (old : Node) (input : Input) → IsPlaced old → Leaves (Step role old input)
 step_placed role old (Commanded c) p = command old p role c
-step_placed Serving old (Control_came request reading) p = control _ ServingTakes ServingFaulted request (λ m node s. serving_takes node s request m) serving_faulted old p reading
-step_placed Packet old (Control_came request reading) p = control _ PacketTakes PacketFaulted request (λ m node s. packet_takes node s request m) packet_faulted old p reading
+step_placed Serving old (Control_came request reading) p = control Serving ServingTakes request (λ m node s. serving_takes node s request m) old p reading
+step_placed Packet old (Control_came request reading) p = control Packet PacketTakes request (λ m node s. packet_takes node s request m) old p reading
 step_placed role old (User_came source reading) p = user_step old p role source reading
 step_placed role old (Moves_on m) p = move old p m
 

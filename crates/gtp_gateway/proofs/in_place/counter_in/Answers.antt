@@ -1,9 +1,11 @@
-use Rattle.std.proofs.Common.{◌∙◌}
-use Rattle.gtp_gateway.proofs.InPlace.{tells_else, counter_read}
+use Rattle.std.proofs.Common.{sym, ◌∙◌}
+use Rattle.gtp_gateway.proofs.InPlace.{counter_read, none_read}
 use Rattle.gtp_gateway.proofs.in_place.counter_in.Goals as goal
 
-pub returns-in_default : goal.returns-in_default
-returns-in_default c =
-    let p = c.args.procedure in
-    let tells = tells_else p c.in_default.not-DeletionAsked c.in_default.not-BearerAsked c.in_default.not-RemovalAsked in
-    c.counter_of.ensures ∙ counter_read c.requires.spelled.0 c.args.view.now.message p c.value.result c.requires.spelled.1 c.requires.taken tells c.value.ensures.row
+pub returns-then-has_counter : goal.returns-then-has_counter
+returns-then-has_counter c =
+    c.counter_of.ensures
+    ∙ counter_read c.requires.spelled.0 c.args.view.now.message c.args.message_type c.value.result c.requires.spelled.1 c.requires.taken (sym c.has_counter.ensures ∙ c.if-has_counter.true) c.value.ensures.row
+
+pub returns-else-has_counter : goal.returns-else-has_counter
+returns-else-has_counter c = sym (none_read c.args.view.now.message c.args.message_type c.requires.taken (sym c.has_counter.ensures ∙ c.if-has_counter.false))

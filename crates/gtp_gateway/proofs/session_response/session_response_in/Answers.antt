@@ -2,14 +2,15 @@ use Rattle.std.proofs.Common.{ℕ, [], ◌∷◌, Some, sym, ◌∙◌, ap}
 use Rattle.gtp_machine.specs.Decoded.{row_in, contexts_in}
 use Rattle.gtp_machine.specs.Element.{address_of, teid_in}
 use Rattle.gtp_v2.specs.Viewed.{always_has}
-use Rattle.gtp_gateway.specs.declared.procedure.Procedure.TheVariants.{SessionAnswered}
+use Rattle.gtp_machine.specs.declared.message_type.MessageType.TheVariants as types
+use Rattle.gtp_machine.proofs.Basics.Types.{type_kind}
 use Rattle.gtp_gateway.proofs.ByProcedure.{cause_is}
-use Rattle.gtp_gateway.proofs.InPlace.{type_is, reads_so, row_so, session_answered}
+use Rattle.gtp_gateway.proofs.InPlace.{reads_so, row_so, session_answered}
 use Rattle.gtp_gateway.proofs.SessionAnswers.{created_others, created_contexts, created_only, end_is, paa_is}
 use Rattle.gtp_gateway.proofs.session_response.session_response_in.Goals as goal
 
 pub response_in-requires : goal.response_in-requires
-response_in-requires c = ap (λ (k : ℕ). always_has k 2 0) (type_is c.args.view.now.message.kind SessionAnswered c.requires.of)
+response_in-requires c = ap (λ (k : ℕ). always_has k 2 0) (type_kind c.args.view.now.message.kind types.CreateSessionResponse c.requires.of)
 
 pub only_context_in-requires : goal.only_context_in-requires
 only_context_in-requires c = (created_others, _, created_contexts c.requires.spelled.0 c.args.view.now.message c.requires.spelled.1 c.requires.of)
@@ -18,7 +19,7 @@ pub returns : goal.returns
 unfolding row_in contexts_in
 returns c =
     let m = c.args.view.now.message in
-    let a = session_answered c.requires.spelled.0 m (type_is m.kind SessionAnswered c.requires.of) c.requires.spelled.1 in
+    let a = session_answered c.requires.spelled.0 m (type_kind m.kind types.CreateSessionResponse c.requires.of) c.requires.spelled.1 in
     let r = c.response_in in
     record {
       response = _;

@@ -1,6 +1,6 @@
 use Rattle.std.proofs.Common.{subst}
 use Rattle.gtp_reliable.specs.Pending.{AreDistinct}
-use Rattle.gtp_machine.specs.Determined.{HeldOnce}
+use Rattle.gtp_machine.specs.Determined.{OneAnswerPerRequest}
 use Rattle.gtp_gateway.specs.Station.{Station, IsTied, IsWhole, station_of}
 use Rattle.gtp_gateway.proofs.Determined.{held_once}
 use Rattle.gtp_gateway.proofs.GoingOn.{tied_of}
@@ -13,7 +13,7 @@ pub returns-clause-tied : goal.returns-clause-tied
 returns-clause-tied c = subst IsTied c.self.view_is (tied_of c.self.inside.parts)
 
 pub returns-clause-once : goal.returns-clause-once
-returns-clause-once c = subst (λ (s : Station). HeldOnce s.node) c.self.view_is (held_once (station_of c.self.inside.parts) (tied_of c.self.inside.parts) c.is_full-held_full.ensures.always.apart)
+returns-clause-once c = subst (λ (s : Station). OneAnswerPerRequest s.node) c.self.view_is (held_once (station_of c.self.inside.parts) (tied_of c.self.inside.parts) c.is_full-held_full.ensures.always.apart)
 
 pub returns-clause-distinct : goal.returns-clause-distinct
 returns-clause-distinct c = subst (λ (s : Station). AreDistinct s.timing.waiting) c.self.view_is c.is_full-pending_full.ensures.always.distinct

@@ -8,7 +8,7 @@ use Rattle.gtp_machine.specs.Reading.{control_message}
 use Rattle.gtp_machine.specs.Spelling.{datagram_of}
 use Rattle.gtp_machine.specs.declared.outcome.Outcome.TheVariants.{Answered}
 use Rattle.gtp_gateway.specs.declared.control_step.ControlStep.{ControlStep}
-use Rattle.gtp_gateway.specs.Faulty.{kind_of, defect_of, fault_of, IsFaultEffect}
+use Rattle.gtp_gateway.specs.Faulty.{defect_of, fault_of, IsFaultEffect}
 use Rattle.gtp_gateway.specs.Parts.{node_of}
 use Rattle.gtp_gateway.specs.Sent.{ReadsBack}
 use Rattle.gtp_gateway.specs.Station.{station_of}
@@ -24,14 +24,14 @@ returns-clause-taken c = λ request from peer new.
     let f = c.args.faulty.now in
     let fault = fault_of f in
     let cause = defect_cause (defect_of f.defect) in
-    let m : Message = refusing (kind_of f.kind) (faulty_header node (kind_of f.kind) fault) f.seq (cause_at cause f.element f.instance) node.counter in
-    let said : control_message c.in_ok-message.message ≡ m = c.in_ok-message.ensures.says ∙ (λ i. refusing (kind_of f.kind) (c.faulty_header-header.ensures i) f.seq ((c.fault_cause-cause.ensures ∙ ap (λ n. cause_at n f.element f.instance) c.cause.ensures) i) (c.counter-counter.ensures i)) in
+    let m : Message = refusing f.kind (faulty_header node f.kind fault) f.seq (cause_at cause f.element f.instance) node.counter in
+    let said : control_message c.in_ok-message.message ≡ m = c.in_ok-message.ensures.says ∙ (λ i. refusing f.kind (c.faulty_header-header.ensures i) f.seq ((c.fault_cause-cause.ensures ∙ ap (λ n. cause_at n f.element f.instance) c.cause.ensures) i) (c.counter-counter.ensures i)) in
     let sent = c.in_ok-out.ensures.sent ∙ (λ i. datagram_of node.config (record { destination = sym from i; messages = said i ∷ [] })) in
     let shown : c.sent.result ≡ record { out = Some c.in_ok-out.out; report = plain_report (Answered cause) } = c.sent.ensures ∙ ap (λ n. record { out = Some c.in_ok-out.out; report = plain_report (Answered n) }) c.cause-2.ensures in
     subst (λ (s : ControlStep). IsFaultEffect request (Faulty fault) old s) (sym shown)
     (record {
       effect = faulted request fault node;
-      takes = fault_answered node request fault old.role f.kind refl c.requires (ap (λ (e : Endpoint). e.ip) from ∙ peer) new;
+      takes = fault_answered node request fault old.role c.requires (ap (λ (e : Endpoint). e.ip) from ∙ peer) new;
       tells = record { sent = one_sent node.config _ _ sent (subst (λ m. ReadsBack (m ∷ [])) said c.in_ok-out.ensures.back); outcome = refl; alone = refl; heard = refl; restart = refl; made = refl; all = refl };
       stays = refl;
     })

@@ -1,9 +1,9 @@
+use Rattle.gtp_machine.specs.declared.message_type.MessageType.TheVariants as types
 use Rattle.std.proofs.Common.{◌≡◌, ℕ, ◌∷◌, [], Option, Some, true, false, inl, inr, refl, sym, ◌∙◌, ap, subst}
 use Rattle.std.specs.FinMap.{get, insert}
 use Rattle.gtp_machine.specs.Answer.{refusing}
 use Rattle.gtp_machine.specs.Choice.{HasFreeIdentity, IsFreeIdentity}
 use Rattle.gtp_machine.specs.Element.{cause_of, tunnel_end}
-use Rattle.gtp_machine.specs.Input.{Of_create_bearer}
 use Rattle.gtp_machine.specs.Message.{Create_bearer_response}
 use Rattle.std.specs.Prelude.{is_some}
 use Rattle.gtp_machine.specs.Node.{Session, Bearer, Dedicated, Active}
@@ -36,7 +36,7 @@ returns-then-not-request-clause-judged c = λ node stands. record {
           yes c.is_open.ensures c.if-not-is_open.false,
           inl (
             no says.alone c.if-not-request.true,
-            λ i. answering false request (refusing Of_create_bearer (c.written_teid-header.ensures i) q.number (cause_of 94) old.counter ∷ []) 94 old,
+            λ i. answering false request (refusing types.CreateBearerRequest (c.written_teid-header.ensures i) q.number (cause_of 94) old.counter ∷ []) 94 old,
           ),
         ),
       );
@@ -55,7 +55,7 @@ returns-then-not-is_default-clause-judged c = λ node stands. record {
             yes says.alone c.if-not-request.false,
             inl (
               λ linked. no c.is_default.ensures c.if-not-is_default.true (sym says.linked ∙ linked),
-              λ i. answering false request (refusing Of_create_bearer (c.written_teid-header.ensures i) q.number (cause_of 64) old.counter ∷ []) 64 old,
+              λ i. answering false request (refusing types.CreateBearerRequest (c.written_teid-header.ensures i) q.number (cause_of 64) old.counter ∷ []) 64 old,
             ),
           ),
         ),

@@ -13,12 +13,12 @@ use Rattle.gtp_machine.specs.declared.role.Role.TheVariants.{Serving, Packet}
 use Rattle.gtp_machine.specs.declared.outcome.DropReason.TheVariants.{Unexpected}
 use Rattle.gtp_gateway.specs.declared.control_step.ControlStep.{ControlStep}
 use Rattle.gtp_values.specs.declared.address.Endpoint.{Endpoint}
-use Rattle.gtp_gateway.specs.declared.procedure.Procedure.TheVariants.{SessionAnswered, BearerAsked}
+use Rattle.gtp_machine.specs.declared.message_type.MessageType.TheVariants as types
 use Rattle.gtp_gateway.specs.GoesOn.{GoesOn}
 use Rattle.gtp_gateway.specs.Faulty.{reading_of}
 use Rattle.gtp_gateway.specs.Needing.{StepSendsOrOpens}
 use Rattle.gtp_gateway.specs.Parts.{arrival_of}
-use Rattle.gtp_gateway.specs.Procedure.{procedure_at, HasNot, takes_by}
+use Rattle.gtp_machine.specs.MessageType.{type_at, takes_some, takes_message}
 use Rattle.gtp_gateway.specs.Station.{Station, station_of}
 use Rattle.gtp_gateway.specs.Taken.{IsEntered, IsTaken, IsNoPair}
 use Rattle.gtp_gateway.proofs.Columns.{yes, no}
@@ -32,7 +32,7 @@ use Rattle.gtp_gateway.proofs.SentBack.{none_sent}
 use Rattle.gtp_gateway.proofs.parts.Parts.receive_control.Goals as goal
 
 -- no gateway takes a message of a type that is none
-none_takes : (role : Role) → takes_by role (Other_control 0) ≡ true → ⊥
+none_takes : (role : Role) → takes_message role (Other_control 0) ≡ true → ⊥
 none_takes Serving taken = let never : true ≡ false = sym taken in cc
 none_takes Packet taken = let never : true ≡ false = sym taken in cc
 
@@ -77,13 +77,13 @@ returns-in-Err-clause-memory c =
     )) c.take_flaw.ensures.memory
 
 -- two messages that are no pair
-no_such_pair : (source : Endpoint) (octets : List ℕ) (old : Station) (first second : Viewed) (back : List ℕ) → LieIn octets first (Some second) back → ((old.role ≡ Serving) × (procedure_at first.message.kind ≡ Some SessionAnswered) × (procedure_at second.message.kind ≡ Some BearerAsked) → ⊥) → IsNoPair source octets old
+no_such_pair : (source : Endpoint) (octets : List ℕ) (old : Station) (first second : Viewed) (back : List ℕ) → LieIn octets first (Some second) back → ((old.role ≡ Serving) × (type_at first.message.kind ≡ Some types.CreateSessionResponse) × (type_at second.message.kind ≡ Some types.CreateBearerRequest) → ⊥) → IsNoPair source octets old
 no_such_pair source octets old first second back lie not pair =
     let are = pair_viewed source octets old first second back lie pair in
     not (pair.by, answer_kind pair.answer first.message are.answer, request_kind pair.asked second.message are.asked)
 
 -- the pair that the gateway takes
-the_pair : (source : Endpoint) (octets : List ℕ) (old : Station) (first second : Viewed) (back : List ℕ) → LieIn octets first (Some second) back → old.role ≡ Serving → source.ip ≡ old.node.config.peer.control → procedure_at first.message.kind ≡ Some SessionAnswered → procedure_at second.message.kind ≡ Some BearerAsked
+the_pair : (source : Endpoint) (octets : List ℕ) (old : Station) (first second : Viewed) (back : List ℕ) → LieIn octets first (Some second) back → old.role ≡ Serving → source.ip ≡ old.node.config.peer.control → type_at first.message.kind ≡ Some types.CreateSessionResponse → type_at second.message.kind ≡ Some types.CreateBearerRequest
     → TakesPair old.role old.node.config (arrival_of source octets) (datagram_reading octets)
 the_pair source octets old first second back (front, announced, in_front, in_back) serving peer is_answer is_request =
     let a = answer_of front first.message in_front.spelled is_answer in
@@ -182,8 +182,8 @@ returns-in-Some-clause-memory c =
     let pair = the_pair source octets old first second back lie are.0 fresh.peer are.1 are.2 in
     on_err_weaker c.take_pair.result (λ needs. inr (pair, needs octets lie pair.answer pair.asked (pair_viewed source octets old first second back lie pair))) c.take_pair.ensures.memory
 
-pub returns-in-Some-procedure_for-clause-taken : goal.returns-in-Some-procedure_for-clause-taken
-returns-in-Some-procedure_for-clause-taken c =
+pub returns-in-Some-type_for-clause-taken : goal.returns-in-Some-type_for-clause-taken
+returns-in-Some-type_for-clause-taken c =
     let old = station_of c.args.self.now in
     let octets = c.args.octets.now in
     let view = c.in-Ok.view in
@@ -199,7 +199,7 @@ returns-in-None-clause-taken c =
     let m = view.message.message in
     let alone = lies_one octets view.message view.second view.back (sym c.second.ensures ∙ c.in_default.is) c.in-Ok.ensures.lie in
     let fresh = subst (IsEntered source octets old c.args.self.now.held.pairs) c.in-New.is c.in_ok-step.ensures.entered in
-    let none : takes_by old.role (message_of m) ≡ false = not_taken old.role m (subst (λ (k : ℕ). HasNot old.role (procedure_at k)) (c.kind.ensures ∙ ap (λ (v : Viewed). v.message.kind) c.message-message.ensures) c.in-None.ensures.none) in
+    let none : takes_message old.role (message_of m) ≡ false = not_taken old.role m (subst (λ (k : ℕ). takes_some old.role (type_at k) ≡ false) (c.kind.ensures ∙ ap (λ (v : Viewed). v.message.kind) c.message-message.ensures) c.in-None.ensures.none) in
     let effect : Effect = dropped old.node Unexpected in
     inl (
       alone_no_pair source octets old _ (one_reads octets m alone.spelled),

@@ -1,7 +1,7 @@
+use Rattle.gtp_machine.specs.declared.message_type.MessageType.TheVariants as types
 use Rattle.std.proofs.Common.{◌≡◌, ◌∙◌, ap, subst, [], ◌∷◌}
 use Rattle.gtp_machine.specs.Answer.{refusing}
 use Rattle.gtp_machine.specs.Config.{control_end}
-use Rattle.gtp_machine.specs.Input.{Of_create_session}
 use Rattle.gtp_machine.specs.Message.{Message, Control}
 use Rattle.gtp_machine.specs.Node.{holding}
 use Rattle.gtp_machine.specs.Reading.{control_message}
@@ -20,8 +20,8 @@ pub returns-clause-refused : goal.returns-clause-refused
 returns-clause-refused c =
     let old = station_of c.args.self.now in
     let ready = c.in_ok-ready.ensures in
-    let m : Message = refusing Of_create_session c.args.request.now.control.teid c.args.request.now.seq c.args.cause old.node.counter in
-    let said : control_message c.in_ok-message.message ≡ m = c.in_ok-message.ensures.says ∙ (λ i. refusing Of_create_session (c.teid-header.ensures i) c.args.request.now.seq c.args.cause (c.counter-counter.ensures i)) in
+    let m : Message = refusing types.CreateSessionRequest c.args.request.now.control.teid c.args.request.now.seq c.args.cause old.node.counter in
+    let said : control_message c.in_ok-message.message ≡ m = c.in_ok-message.ensures.says ∙ (λ i. refusing types.CreateSessionRequest (c.teid-header.ensures i) c.args.request.now.seq c.args.cause (c.counter-counter.ensures i)) in
     let same : station_of c.ready_answer.new.self ≡ old = c.ready_answer.ensures.same in
     let config : c.hear.new.self.config.config ≡ old.node.config = ap (λ (s : Settings). s.config) c.hear.ensures.config ∙ ap (λ (s : Station). s.node.config) same in
     record {

@@ -1,4 +1,4 @@
-use Rattle.std.proofs.Common.{refl, sym, ◌∙◌, ap, subst}
+use Rattle.std.proofs.Common.{sym, ◌∙◌, ap, subst}
 use Rattle.gtp_values.specs.declared.address.Endpoint.{Endpoint}
 use Rattle.gtp_machine.specs.Answer.{fault_number}
 use Rattle.gtp_gateway.specs.declared.faulty.Flaw.{Flaw}
@@ -18,17 +18,17 @@ returns-in-Plain-clause-taken c = λ request from peer new.
     (subst (λ (f : Flaw). IsFaultEffect request (reading_of f) old (dropped_for c.in-Plain.number)) (sym c.in-Plain.is)
     (drops_for request _ old c.in-Plain.number (fault_dropped old.role old.node request c.in-Plain.number (ap (λ (e : Endpoint). e.ip) from ∙ peer) new)))
 
-pub returns-else-answers-clause-taken : goal.returns-else-answers-clause-taken
-returns-else-answers-clause-taken c = λ request from peer new.
+pub returns-else-is_answered_by-clause-taken : goal.returns-else-is_answered_by-clause-taken
+returns-else-is_answered_by-clause-taken c = λ request from peer new.
     let old = station_of c.args.self.now in
     let f = c.in-Faulty.faulty in
-    subst (λ (s : ControlStep). IsFaultEffect request (reading_of c.args.flaw.now) old s) (sym (c.undecodable-else-answers.ensures ∙ ap dropped_for c.number.ensures))
+    subst (λ (s : ControlStep). IsFaultEffect request (reading_of c.args.flaw.now) old s) (sym (c.undecodable-else-is_answered_by.ensures ∙ ap dropped_for c.number.ensures))
     (subst (λ (g : Flaw). IsFaultEffect request (reading_of g) old (dropped_for (fault_number (defect_of f.defect)))) (sym c.in-Faulty.is)
-    (drops_for request _ old (fault_number (defect_of f.defect)) (fault_unanswered old.node request (fault_of f) old.role f.kind refl (sym c.answers.ensures ∙ c.if-answers.false) (ap (λ (e : Endpoint). e.ip) from ∙ peer) new)))
+    (drops_for request _ old (fault_number (defect_of f.defect)) (fault_unanswered old.node request (fault_of f) old.role (sym c.is_answered_by.ensures ∙ c.if-is_answered_by.false) (ap (λ (e : Endpoint). e.ip) from ∙ peer) new)))
 
-pub returns-then-answers-clause-memory : goal.returns-then-answers-clause-memory
-returns-then-answers-clause-memory c = on_err c.answer_fault.result (λ request from peer.
+pub returns-then-is_answered_by-clause-memory : goal.returns-then-is_answered_by-clause-memory
+returns-then-is_answered_by-clause-memory c = on_err c.answer_fault.result (λ request from peer.
     let old = station_of c.args.self.now in
     let f = c.in-Faulty.faulty in
     subst (λ (g : Flaw). StepSendsOrOpens request (reading_of g) old) (sym c.in-Faulty.is)
-    (fault_needs request (fault_of f) old f.kind (ap (λ (e : Endpoint). e.ip) from ∙ peer) refl (sym c.answers.ensures ∙ c.if-answers.true)))
+    (fault_needs request (fault_of f) old (ap (λ (e : Endpoint). e.ip) from ∙ peer) (sym c.is_answered_by.ensures ∙ c.if-is_answered_by.true)))

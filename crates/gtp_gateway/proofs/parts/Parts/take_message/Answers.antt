@@ -8,7 +8,7 @@ use Rattle.gtp_gateway.specs.declared.hearing.Heard.{Heard}
 use Rattle.gtp_gateway.specs.declared.control_step.ControlStep.{ControlStep}
 use Rattle.gtp_gateway.specs.Hearing.{weighed_by, node_heard, IsEarlier, report_heard}
 use Rattle.gtp_gateway.specs.Parts.{arrival_of}
-use Rattle.gtp_gateway.specs.Procedure.{TakesBy}
+use Rattle.gtp_machine.specs.Step.{TakesBy}
 use Rattle.gtp_gateway.specs.Row.{IsHeardRow}
 use Rattle.gtp_gateway.specs.Station.{station_of}
 use Rattle.gtp_gateway.specs.Taken.{plain_report, IsTaken}
@@ -31,7 +31,7 @@ returns-then-is_earlier-clause-taken c =
     let shown : c.hearing.result ≡ record { out = None; report = report_heard (weighed_by recovery old.node.known) (plain_report (Dropped OldCounter)) } =
     c.hearing.ensures ∙ (λ i. record { out = (c.dropped.ensures i).out; report = report_heard (is i) (c.dropped.ensures i).report }) in
     subst (λ (s : ControlStep). IsTaken c.args.source octets old s old) (sym shown)
-    (early_taken c.args.source octets old (message_of m) recovery c.requires.fresh.peer c.requires.fresh.new (sym (reads_message octets m c.requires.spelled)) (is_taken old.role octets m c.args.procedure c.requires.spelled c.requires.of c.requires.has) c.counter_in.ensures early)
+    (early_taken c.args.source octets old (message_of m) recovery c.requires.fresh.peer c.requires.fresh.new (sym (reads_message octets m c.requires.spelled)) (is_taken old.role octets m c.args.message_type c.requires.spelled c.requires.of c.requires.has) c.counter_in.ensures early)
 
 pub returns-clause-taken : goal.returns-clause-taken
 returns-clause-taken c =
@@ -47,7 +47,7 @@ returns-clause-taken c =
     let shown : c.hearing-2.result ≡ record step { report = report_heard (weighed_by recovery old.node.known) step.report } =
     c.hearing-2.ensures ∙ (λ i. record step { report = report_heard (is i) step.report }) in
     subst (λ (s : ControlStep). IsTaken c.args.source octets old s new) (sym shown)
-    (row_taken c.args.source octets old (message_of m) recovery step new c.requires.fresh.peer c.requires.fresh.new (sym (reads_message octets m c.requires.spelled)) (is_taken old.role octets m c.args.procedure c.requires.spelled c.requires.of c.requires.has) c.counter_in.ensures on row)
+    (row_taken c.args.source octets old (message_of m) recovery step new c.requires.fresh.peer c.requires.fresh.new (sym (reads_message octets m c.requires.spelled)) (is_taken old.role octets m c.args.message_type c.requires.spelled c.requires.of c.requires.has) c.counter_in.ensures on row)
 
 pub returns-in_err-step-clause-memory : goal.returns-in_err-step-clause-memory
 returns-in_err-step-clause-memory c =
@@ -60,4 +60,4 @@ returns-in_err-step-clause-memory c =
     let on = λ (early : IsEarlier (weighed_by recovery old.node.known)). no c.is_earlier.ensures c.if-is_earlier.false (subst IsEarlier (sym is) early) in
     let needs : AlwaysSendsOrOpens (TakesBy old.role request (message_of m)) (node_heard (weighed_by recovery old.node.known) old.node) = subst (λ (h : Heard). AlwaysSendsOrOpens (TakesBy old.role request (message_of m)) (node_heard h old.node)) is c.in_err-step.ensures.memory in
     on_err c.from_residual.result (subst (λ (r : ControlReading). StepSendsOrOpens request r old) (reads_message octets m c.requires.spelled)
-    (message_needs request old (message_of m) recovery c.requires.fresh.peer (is_taken old.role octets m c.args.procedure c.requires.spelled c.requires.of c.requires.has) c.counter_in.ensures on needs))
+    (message_needs request old (message_of m) recovery c.requires.fresh.peer (is_taken old.role octets m c.args.message_type c.requires.spelled c.requires.of c.requires.has) c.counter_in.ensures on needs))
