@@ -5,8 +5,8 @@ use Rattle.std.specs.VecDeque.{deque_len}
 use Rattle.gtp_machine.specs.Input.{Command, Commanded, refused}
 use Rattle.gtp_machine.specs.Step.{Step as MachineStep}
 use Rattle.gtp_machine.specs.declared.outcome.Refusal.{Refusal}
-use Rattle.gtp_gateway.specs.Begun.{IsDone, IsRefusedWhere}
-use Rattle.gtp_gateway.specs.Station.{Station}
+use Rattle.gtp_gateway.specs.command.Command.{IsCarriedOut, IsRefusedWhere}
+use Rattle.gtp_gateway.specs.GatewayState.{GatewayState}
 use Rattle.gtp_gateway.specs.declared.fault.CommandFault.{CommandFault}
 use Rattle.gtp_gateway.specs.declared.fault.CommandFault.TheVariants.{Refused}
 use Rattle.gtp_gateway.specs.declared.sent.Begun.{Begun}
@@ -18,13 +18,13 @@ use Rattle.gtp_c.specs.declared.told.Told.{Told}
 
 -- from before the room was made on
 module _ (command : Command) (old mid new : Desk) (told : Told) (kept : Keeps old mid) where
-  pub has_begun : (after : Station) (r : Result Begun CommandFault) → IfOk r (λ b. IsDone command mid.gateway b after) → IfOk r (λ b. IsTimed command mid.gateway b after) → new.gateway ≡ after
+  pub has_begun : (after : GatewayState) (r : Result Begun CommandFault) → IfOk r (λ b. IsCarriedOut command mid.gateway b after) → IfOk r (λ b. IsTimed command mid.gateway b after) → new.gateway ≡ after
       → IsOkAnd r (λ b. new.waiting.items ≡ mid.waiting.items ++ b.out ∷ []) → IsOkAnd r (λ b. told ≡ begun_told (begun_number command) b (deque_len new.waiting)) → HasBegun command told old new
   has_begun after (Ok b) done timed same waits tells =
       record {
         begun = b;
-        done = subst (λ (g : Station). IsDone command g b new.gateway) kept.0 (subst (λ (g : Station). IsDone command mid.gateway b g) (sym same) done);
-        timed = subst (λ (g : Station). IsTimed command g b new.gateway) kept.0 (subst (λ (g : Station). IsTimed command mid.gateway b g) (sym same) timed);
+        done = subst (λ (g : GatewayState). IsCarriedOut command g b new.gateway) kept.0 (subst (λ (g : GatewayState). IsCarriedOut command mid.gateway b g) (sym same) done);
+        timed = subst (λ (g : GatewayState). IsTimed command g b new.gateway) kept.0 (subst (λ (g : GatewayState). IsTimed command mid.gateway b g) (sym same) timed);
         waiting = waits ∙ ap (λ (xs : List Sent). xs ++ b.out ∷ []) kept.1;
         tells = tells;
       }
@@ -35,7 +35,7 @@ module _ (command : Command) (old mid new : Desk) (told : Told) (kept : Keeps ol
   is_refused r refuses w =
       record {
         why = w.0;
-        refuses = subst (λ (g : Station). MachineStep g.role g.node (Commanded command) (refused g.node w.0)) kept.0 ((refuses w.0).0 w.1);
+        refuses = subst (λ (g : GatewayState). MachineStep g.role g.node (Commanded command) (refused g.node w.0)) kept.0 ((refuses w.0).0 w.1);
         tells = w.2;
       }
 

@@ -6,9 +6,9 @@ use Rattle.gtp_values.specs.Plmn.{Network}
 use Rattle.gtp_values.specs.declared.qos.Qos.{Qos}
 use Rattle.gtp_values.specs.declared.qos.Rates.{Rates}
 use Rattle.gtp_tables.specs.declared.context.Subscriber.{Subscriber}
-use Rattle.gtp_gateway.specs.declared.session.SessionSpec.{SessionSpec}
+use Rattle.gtp_gateway.specs.declared.command.create_session.SessionSpec.{SessionSpec}
 use Rattle.gtp_machine.specs.Input.{Create_session}
-use Rattle.gtp_gateway.specs.Specified.{specification}
+use Rattle.gtp_gateway.specs.command.CreateSession.{specification}
 use Rattle.gtp_c.specs.Steps.{HasBegun, IsRefused}
 use Rattle.gtp_c.specs.declared.desk.Desk.{Desk}
 use Rattle.gtp_c.specs.declared.told.Told.{Told}

@@ -3,7 +3,7 @@ use Rattle.std.specs.Prelude.{◌≡◌, ◌⊎◌, ℕ, List, [], Some}
 use Rattle.gtp_machine.specs.declared.role.Role.{Role}
 use Rattle.gtp_machine.specs.declared.role.Role.TheVariants.{Serving, Packet}
 use Rattle.gtp_gateway.specs.Settings.{Settings, settings_of}
-use Rattle.gtp_gateway.specs.Station.{Station, starting}
+use Rattle.gtp_gateway.specs.GatewayState.{GatewayState, starting}
 use Rattle.gtp_gateway.specs.declared.config.Addresses.{Addresses}
 use Rattle.gtp_gateway.specs.declared.config.Timers.{Timers}
 use Rattle.gtp_tables.specs.declared.pool.Pools.{Pools}
@@ -39,7 +39,7 @@ pub record IsConfigured (s : Setup) (names : List (List ℕ)) (settings : Settin
   pub all : settings ≡ settings_of own peer names (pools_at s) (timers_at s)
 
 -- a gateway that has just started, of C's role, settings and restart counter, with the access points of the text
-pub record IsStarted (s : Setup) (text : List ℕ) (g : Station) : Type 0 where
+pub record IsStarted (s : Setup) (text : List ℕ) (g : GatewayState) : Type 0 where
   pub role : Role
   pub is_role : role_at role ≡ s.role
   pub names : List (List ℕ)

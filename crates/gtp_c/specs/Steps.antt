@@ -6,11 +6,11 @@ use Rattle.gtp_machine.specs.Input.{Command, Mark_end, Send_user, Commanded, ref
 use Rattle.gtp_machine.specs.Message.{Plane}
 use Rattle.gtp_machine.specs.Step.{Step as MachineStep}
 use Rattle.gtp_machine.specs.declared.outcome.Refusal.{Refusal}
-use Rattle.gtp_gateway.specs.Begun.{IsDone, AsksNext}
-use Rattle.gtp_gateway.specs.Choosing.{ChoosesLowest}
-use Rattle.gtp_gateway.specs.Received.{IsReceived, KeepsTiming}
-use Rattle.gtp_gateway.specs.Station.{Station}
-use Rattle.gtp_gateway.specs.Ticked.{IsTicked, CountsOn}
+use Rattle.gtp_gateway.specs.command.Command.{IsCarriedOut, SendsRequestNext}
+use Rattle.gtp_gateway.specs.receive.Choosing.{ChoosesLowest}
+use Rattle.gtp_gateway.specs.receive.Received.{IsReceived, QueuesAfterReceive}
+use Rattle.gtp_gateway.specs.GatewayState.{GatewayState}
+use Rattle.gtp_gateway.specs.Tick.{IsTicked, QueuesAfterTick}
 use Rattle.gtp_gateway.specs.declared.sent.Begun.{Begun}
 use Rattle.gtp_gateway.specs.declared.sent.Sent.{Sent}
 use Rattle.gtp_gateway.specs.declared.step.Step.{Step}
@@ -30,7 +30,7 @@ Keeps old new = (new.gateway ≡ old.gateway) × (new.waiting.items ≡ old.wait
 pub record HasReceived (plane : Plane) (source : Endpoint) (octets : List ℕ) (told : Told) (old new : Desk) : Type 0 where
   pub step : Step
   pub received : IsReceived plane source octets old.gateway step new.gateway
-  pub timing : KeepsTiming plane source octets step old.gateway new.gateway
+  pub queues : QueuesAfterReceive plane source octets step old.gateway new.gateway
   pub choices : ChoosesLowest step.report.made old.gateway.role old.gateway.node new.gateway.node
   pub waiting : new.waiting.items ≡ old.waiting.items ++ option_to_list step.out
   pub tells : told ≡ step_told step (deque_len new.waiting)
@@ -50,15 +50,15 @@ begun_number (Send_user bearer payload) = 2
 begun_number command = 1
 
 -- what ticks go by, after a command: its request waits from now on, and a packet or an End Marker changes nothing
-abbrev pub IsTimed : Command → Station → Begun → Station → Type 0
-IsTimed (Mark_end bearer) old begun new = new.timing ≡ old.timing
-IsTimed (Send_user bearer payload) old begun new = new.timing ≡ old.timing
-IsTimed command old begun new = AsksNext old begun new
+abbrev pub IsTimed : Command → GatewayState → Begun → GatewayState → Type 0
+IsTimed (Mark_end bearer) old begun new = new.queues ≡ old.queues
+IsTimed (Send_user bearer payload) old begun new = new.queues ≡ old.queues
+IsTimed command old begun new = SendsRequestNext old begun new
 
 -- a command was carried out: that is a step of the machine, what it sends waits behind all that waited, and what it came to is told
 pub record HasBegun (command : Command) (told : Told) (old new : Desk) : Type 0 where
   pub begun : Begun
-  pub done : IsDone command old.gateway begun new.gateway
+  pub done : IsCarriedOut command old.gateway begun new.gateway
   pub timed : IsTimed command old.gateway begun new.gateway
   pub waiting : new.waiting.items ≡ old.waiting.items ++ begun.out ∷ []
   pub tells : told ≡ begun_told (begun_number command) begun (deque_len new.waiting)
@@ -73,7 +73,7 @@ pub record IsRefused (command : Command) (told : Told) (old new : Desk) : Type 0
 pub record HasTicked (told : Told) (old new : Desk) : Type 0 where
   pub ticked : Ticked
   pub is_ticked : IsTicked old.gateway ticked new.gateway
-  pub counts : CountsOn old.gateway new.gateway
+  pub counts : QueuesAfterTick old.gateway new.gateway
   pub waiting : new.waiting.items ≡ old.waiting.items ++ ticked.resent.items
   pub tells : told ≡ tick_told (length ticked.gave_up.items) (length ticked.forgotten.items) (deque_len new.waiting)
 

@@ -2,7 +2,7 @@
 
 ghost use Rattle.std.specs.Prelude.{◌≡◌, ◌≢◌, ◌+◌, ◌≤◌, ◌++◌, [], ◌∷◌, Err, IsOkAnd, OnOk};
 ghost use Rattle.std.specs.VecDeque.{deque_len, deque_capacity};
-ghost use Rattle.gtp_gateway.specs.Specified.{specification};
+ghost use Rattle.gtp_gateway.specs.command.CreateSession.{specification};
 ghost use Rattle.gtp_gateway.specs.declared.fault.CommandFault.TheVariants.{Refused};
 ghost use Rattle.gtp_machine.specs.Input.{Create_session, Delete_session, Create_bearer, Delete_bearer};
 ghost use Rattle.gtp_machine.specs.Input.{Release_session, Mark_end, Send_echo, Send_user};

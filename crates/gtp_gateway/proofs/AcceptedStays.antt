@@ -10,9 +10,9 @@ use Rattle.gtp_machine.specs.Node.{Node}
 use Rattle.gtp_machine.specs.Reading.{user_reading}
 use Rattle.gtp_machine.specs.User.{PacketCame, EndCame, ErrorCame, UserTaken, UserRead, UserStep}
 use Rattle.gtp_machine.specs.declared.outcome.Outcome.TheVariants.{Accepted, Broken, Ended}
-use Rattle.gtp_gateway.specs.Station.{Station}
+use Rattle.gtp_gateway.specs.GatewayState.{GatewayState}
 use Rattle.gtp_gateway.specs.declared.step.Step.{Step}
-use Rattle.gtp_gateway.specs.UserTaken.{IsUserTaken}
+use Rattle.gtp_gateway.specs.user.Receive.{IsUserTaken}
 
 ended_not : Came_to Ended ≡ Came_to Accepted → ⊥
 ended_not is = cc
@@ -60,9 +60,9 @@ module _ (old : Node) where
   step_leaves role source reading e (inr (peer, r)) = read role source reading e r
 
 -- where a packet was accepted, the gateway is as before
-pub accepted_stays : (source : Endpoint) (octets : List ℕ) (old : Station) (step : Step) (new : Station) → IsUserTaken source octets old step new → IsSome step.accepted → new ≡ old
+pub accepted_stays : (source : Endpoint) (octets : List ℕ) (old : GatewayState) (step : Step) (new : GatewayState) → IsUserTaken source octets old step new → IsSome step.accepted → new ≡ old
 accepted_stays source octets old step new taken some =
     let accepted = taken.tells.packet.1 some in
     let node = taken.becomes ∙ step_leaves old.node old.role source (user_reading octets) taken.effect taken.takes (sym taken.tells.outcome ∙ ap (λ o. Came_to o) accepted) in
-    let timing = taken.same (λ broken. broken_not (ap (λ o. Came_to o) (sym broken ∙ accepted))) in
-    λ i. record { role = taken.role i; node = node i; timing = timing i }
+    let queues = taken.same (λ broken. broken_not (ap (λ o. Came_to o) (sym broken ∙ accepted))) in
+    λ i. record { role = taken.role i; node = node i; queues = queues i }

@@ -6,7 +6,7 @@ use Rattle.gtp_values.specs.FiniteMap.{Among}
 use Rattle.gtp_reliable.specs.Held.{HeldPair, IsHeld, HasAnswer}
 use Rattle.gtp_machine.specs.Node.{Arrival, Held}
 use Rattle.gtp_gateway.specs.Parts.{arrival_of, held_of}
-use Rattle.gtp_gateway.specs.Spelled.{messages_in}
+use Rattle.gtp_gateway.specs.messages.Spelled.{messages_in}
 
 -- one more answer
 pub held_push : (ps : List HeldPair) (p : HeldPair) (h : Held) → held_of p ≡ h → map held_of (ps ++ p ∷ []) ≡ map held_of ps ++ (h ∷ [])

@@ -24,12 +24,12 @@ use Rattle.gtp_machine.specs.declared.message_type.MessageType.{MessageType}
 use Rattle.gtp_machine.specs.declared.message_type.MessageType.TheVariants as types
 use Rattle.gtp_machine.proofs.Basics.Types.{type_kind}
 use Rattle.gtp_machine.specs.declared.role.Role.TheVariants.{Serving, Packet}
-use Rattle.gtp_gateway.specs.declared.deletion.DeletionRequest.{DeletionRequest}
-use Rattle.gtp_gateway.specs.declared.hearing.Heard.{Heard}
-use Rattle.gtp_gateway.specs.Asked.{ReadsDeletion, deletion_by}
-use Rattle.gtp_gateway.specs.Hearing.{node_heard}
-use Rattle.gtp_gateway.specs.Row.{IsWeighed}
-use Rattle.gtp_gateway.specs.Station.{Station}
+use Rattle.gtp_gateway.specs.declared.receive.delete_session_request.DeleteRequest.{DeleteRequest}
+use Rattle.gtp_gateway.specs.declared.receive.restart_counter.Heard.{Heard}
+use Rattle.gtp_gateway.specs.receive.DeleteSessionRequest.{ReadsDeleteSession, delete_session_by}
+use Rattle.gtp_gateway.specs.receive.RestartCounter.{node_heard}
+use Rattle.gtp_gateway.specs.receive.Row.{IsWeighed}
+use Rattle.gtp_gateway.specs.GatewayState.{GatewayState}
 use Rattle.gtp_machine.specs.MessageType.{type_at, takes_type, takes_message, type_row}
 use Rattle.gtp_machine.specs.Step.{TakesBy}
 use Rattle.gtp_gateway.proofs.InPlace.{says_by, Says, reads_so, row_so, its_row, echo_asked, echo_answered, session_asked, session_answered, bearer_asked, bearer_answered}
@@ -62,7 +62,7 @@ linked_is [] (Some e) is = absurd cc
 linked_is (v ∷ vs) None is = absurd cc
 linked_is (v ∷ vs) (Some e) is = let same : v ≡ OfEbi e = cc in ap number_of same
 
-pub deletion_request_is : (octets : List ℕ) (m : MessageValue) (r : DeletionRequest) → IsMessage octets m → type_at m.kind ≡ Some types.DeleteSessionRequest → ReadsDeletion m r → message_of m ≡ Delete_session_request (deletion_by r)
+pub deletion_request_is : (octets : List ℕ) (m : MessageValue) (r : DeleteRequest) → IsMessage octets m → type_at m.kind ≡ Some types.DeleteSessionRequest → ReadsDeleteSession m r → message_of m ≡ Delete_session_request (delete_session_by r)
 unfolding row_in
 deletion_request_is octets m r is at reads =
     let of = type_kind m.kind types.DeleteSessionRequest at in
@@ -79,7 +79,7 @@ pub takes_session_request : (role : Role) (request : Arrival) (q : CreateSession
 takes_session_request role request q m has_it is n e takes = at_taker (λ r k. TakesBy r request k n e) Packet role m (Create_session_request q) has_it is takes
 
 -- the message tells no counter, and so nothing was heard
-pub unheard : (heard : Heard) (m : Message) (s : Station) → IsWeighed heard m s → recovery_of m ≡ None → s.node ≡ node_heard heard s.node
+pub unheard : (heard : Heard) (m : Message) (s : GatewayState) → IsWeighed heard m s → recovery_of m ≡ None → s.node ≡ node_heard heard s.node
 unheard heard m s (None, tells, is) none = ap (λ (h : Heard). node_heard h s.node) (sym is)
 unheard heard m s (Some counter, tells, is) none = absurd (let no : Some counter.0 ≡ None = tells ∙ none in cc)
 

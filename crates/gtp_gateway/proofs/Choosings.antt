@@ -11,18 +11,18 @@ use Rattle.gtp_tables.specs.Free.{IsLowestFree, IsLowestPart, IsLowestGiven}
 use Rattle.gtp_tables.specs.Part.{part_in}
 use Rattle.gtp_machine.specs.Choice.{asked_by}
 use Rattle.gtp_machine.specs.Node.{Session, Node}
-use Rattle.gtp_gateway.specs.declared.granting.BearerAnswer.{BearerAnswer}
-use Rattle.gtp_gateway.specs.declared.granting.BearerAnswer.TheVariants.{Refused, NoResources, Granted}
-use Rattle.gtp_gateway.specs.declared.granting.BearerRequest.{BearerRequest}
-use Rattle.gtp_gateway.specs.declared.hearing.Heard.{Heard}
-use Rattle.gtp_gateway.specs.declared.session_grant.Grant.{Grant}
-use Rattle.gtp_gateway.specs.declared.session_request.SessionRequest.{SessionRequest}
-use Rattle.gtp_gateway.specs.Change.{changed_by}
-use Rattle.gtp_gateway.specs.Choosing.{MakesLowestSession, MakesLowestBearer}
-use Rattle.gtp_gateway.specs.Grant.{Chooses, session_of}
-use Rattle.gtp_gateway.specs.Granting.{IsChosen, is_granted, change_for, granted_to}
-use Rattle.gtp_gateway.specs.Hearing.{node_heard}
-use Rattle.gtp_gateway.proofs.SessionGrants.{still_above, none_above}
+use Rattle.gtp_gateway.specs.declared.receive.create_bearer_request.judge.CreateBearerAnswer.{CreateBearerAnswer}
+use Rattle.gtp_gateway.specs.declared.receive.create_bearer_request.judge.CreateBearerAnswer.TheVariants.{Refused, NoResources, Granted}
+use Rattle.gtp_gateway.specs.declared.receive.create_bearer_request.BearerRequest.{BearerRequest}
+use Rattle.gtp_gateway.specs.declared.receive.restart_counter.Heard.{Heard}
+use Rattle.gtp_gateway.specs.declared.receive.create_session_request.judge.SessionGrant.{SessionGrant}
+use Rattle.gtp_gateway.specs.declared.receive.create_session_request.read.SessionRequest.{SessionRequest}
+use Rattle.gtp_gateway.specs.tables.Change.{changed_by}
+use Rattle.gtp_gateway.specs.receive.Choosing.{MakesLowestSession, MakesLowestBearer}
+use Rattle.gtp_gateway.specs.receive.CreateSessionRequest.{ChoosesSession, session_granted}
+use Rattle.gtp_gateway.specs.receive.CreateBearerRequest.{IsChosen, is_granted, change_for, granted_to}
+use Rattle.gtp_gateway.specs.receive.RestartCounter.{node_heard}
+use Rattle.gtp_gateway.proofs.CreateSessionRequests.{still_above, none_above}
 
 -- what is not so is not made
 pub unmade : {A : Type 0} (made : Bool) → made ≡ false → made ≡ true → A
@@ -37,10 +37,10 @@ each_lowest : (sessions : FiniteMap Session) (pools : Pools) (asked : Asked) (ad
 each_lowest sessions pools asked address lowest V4 part is = lowest_part sessions pools asked V4 address.v4 part lowest.v4 is
 each_lowest sessions pools asked address lowest V6 part is = lowest_part sessions pools asked V6 address.v6 part lowest.v6 is
 
-pub lowest_session : (identity pdn : ℕ) (r : SessionRequest) (g : Grant) (heard : Heard) (old new : Node) → Chooses identity pdn g heard old → new.sessions ≡ insert (node_heard heard old).sessions g.drawn.control.0 (session_of r g) → MakesLowestSession old new
+pub lowest_session : (identity pdn : ℕ) (r : SessionRequest) (g : SessionGrant) (heard : Heard) (old new : Node) → ChoosesSession identity pdn g heard old → new.sessions ≡ insert (node_heard heard old).sessions g.drawn.control.0 (session_granted r g) → MakesLowestSession old new
 lowest_session identity pdn r g heard old new chosen is = record {
   teid = g.drawn.control.0;
-  session = session_of r g;
+  session = session_granted r g;
   others = (node_heard heard old).sessions;
   address = g.address;
   sessions = is;
@@ -50,7 +50,7 @@ lowest_session identity pdn r g heard old new chosen is = record {
   lowest = each_lowest (node_heard heard old).sessions old.config.pools (asked_by pdn) g.address chosen.lowest;
 }
 
-pub lowest_bearer : (r : BearerRequest) (a : BearerAnswer) (old new : Node) → IsChosen r.header.0 a old → new.bearers ≡ (changed_by (change_for r a) old).bearers → is_granted a ≡ true → MakesLowestBearer old new
+pub lowest_bearer : (r : BearerRequest) (a : CreateBearerAnswer) (old new : Node) → IsChosen r.header.0 a old → new.bearers ≡ (changed_by (change_for r a) old).bearers → is_granted a ≡ true → MakesLowestBearer old new
 lowest_bearer r (Refused cause) old new chosen is granted = absurd cc
 lowest_bearer r NoResources old new chosen is granted = absurd cc
 lowest_bearer r (Granted g) old new chosen is granted = record {

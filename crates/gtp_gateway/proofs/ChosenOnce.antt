@@ -15,8 +15,8 @@ use Rattle.gtp_reliable.specs.Waiting.{Waiting}
 use Rattle.gtp_machine.specs.Node.{Session, Bearer, Node}
 use Rattle.gtp_machine.proofs.Basics.FiniteMaps.{found-insert, get-insert_same, get-insert_other}
 use Rattle.gtp_machine.proofs.Determined.Alike.{ComesBeside}
-use Rattle.gtp_gateway.specs.declared.purpose.Purpose.{Purpose}
-use Rattle.gtp_gateway.specs.Choosing.{MakesLowestSession, MakesLowestBearer}
+use Rattle.gtp_gateway.specs.declared.command.purpose.Purpose.{Purpose}
+use Rattle.gtp_gateway.specs.receive.Choosing.{MakesLowestSession, MakesLowestBearer}
 
 -- ---- the lowest is one
 

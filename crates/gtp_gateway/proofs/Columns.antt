@@ -20,7 +20,7 @@ use Rattle.gtp_machine.proofs.Basics.Facts.{one_value}
 use Rattle.gtp_gateway.specs.declared.fault.CommandFault.{CommandFault}
 use Rattle.gtp_gateway.specs.declared.fault.CommandFault.TheVariants as faults
 use Rattle.gtp_gateway.specs.declared.sent.Begun.{Begun}
-use Rattle.gtp_gateway.specs.Station.{Station, IsWhole}
+use Rattle.gtp_gateway.specs.GatewayState.{GatewayState, IsSoundState}
 use Rattle.gtp_gateway.proofs.Refusals.{same_reason}
 
 -- what a test answers
@@ -117,7 +117,7 @@ goes_session old r Rest t s reason why stands rest =
     goes old r {P = HasSession old t} {Next = λ at. Rest at.session} reason why (record { session = s; stands = stands }) (λ at. subst (λ (x : Session). Told r why ↔ Rest x) (one_value (get old.sessions t) s at.session stands at.stands) rest)
 
 -- the session of a bearer of a sound gateway stands
-pub session_stands : (s : Station) (t : ℕ) (b : Bearer) → IsWhole s → get s.node.bearers t ≡ Some b → HasSession s.node b.session
+pub session_stands : (s : GatewayState) (t : ℕ) (b : Bearer) → IsSoundState s → get s.node.bearers t ≡ Some b → HasSession s.node b.session
 session_stands s t b whole stands = by (get s.node.sessions b.session) refl
   where
     none : IsSound s.role s.node → get s.node.sessions b.session ≡ None → ⊥

@@ -8,21 +8,21 @@ use Rattle.gtp_machine.specs.Sound.{IsSound, IsWellFormed}
 use Rattle.gtp_machine.proofs.Sound.Rows.{stays_sound}
 use Rattle.gtp_gateway.specs.declared.fault.CommandFault.{CommandFault}
 use Rattle.gtp_gateway.specs.declared.sent.Begun.{Begun}
-use Rattle.gtp_gateway.specs.Begun.{outcome_by, IsDone, IsAsked}
+use Rattle.gtp_gateway.specs.command.Command.{outcome_by, IsCarriedOut, IsAsked}
 use Rattle.gtp_machine.specs.declared.outcome.Outcome.TheVariants as outcomes
 use Rattle.gtp_machine.specs.Choice.{HasPendingRoom}
 use Rattle.gtp_machine.specs.Step.{Step}
-use Rattle.gtp_gateway.specs.Station.{Station, IsWhole}
+use Rattle.gtp_gateway.specs.GatewayState.{GatewayState, IsSoundState}
 
 -- what a command leaves is sound: it was a step, or changed nothing
-pub command_sound : (command : Command) (r : Result Begun CommandFault) (old new : Station) → IsWellFormed (Commanded command) → IfOk r (λ begun. IsDone command old begun new) → OnErr r (new ≡ old) → IsWhole old → IsWhole new
+pub command_sound : (command : Command) (r : Result Begun CommandFault) (old new : GatewayState) → IsWellFormed (Commanded command) → IfOk r (λ begun. IsCarriedOut command old begun new) → OnErr r (new ≡ old) → IsSoundState old → IsSoundState new
 command_sound command (Ok begun) old new formed done same whole =
     ∥∥₁_elim whole ∥∥₁_prop (λ before. merely (subst (λ r. IsSound r new.node) (sym done.role) (subst (IsSound old.role) (sym done.becomes) (stays_sound old.role old.node (Commanded command) done.effect before formed done.step))))
-command_sound command (Err fault) old new formed done same whole = subst IsWhole (sym same) whole
+command_sound command (Err fault) old new formed done same whole = subst IsSoundState (sym same) whole
 
 -- a request that was sent by the last rule of its command was sent by the command
-pub done_by : (command : Command) (Asks : Effect → Type 0) (r : Result Begun CommandFault) (old new : Station) → ((teid : Option ℕ) → outcomes.Begun teid ≡ outcome_by command teid) → ((e : Effect) → HasPendingRoom old.node → Asks e → Step old.role old.node (Commanded command) e)
-    → IfOk r (λ begun. IsAsked Asks old begun new) → IfOk r (λ begun. IsDone command old begun new)
+pub done_by : (command : Command) (Asks : Effect → Type 0) (r : Result Begun CommandFault) (old new : GatewayState) → ((teid : Option ℕ) → outcomes.Begun teid ≡ outcome_by command teid) → ((e : Effect) → HasPendingRoom old.node → Asks e → Step old.role old.node (Commanded command) e)
+    → IfOk r (λ begun. IsAsked Asks old begun new) → IfOk r (λ begun. IsCarriedOut command old begun new)
 done_by command Asks (Ok begun) old new comes step asked =
     record {
       effect = asked.effect;

@@ -10,17 +10,17 @@ use Rattle.gtp_machine.specs.Node as nodes
 use Rattle.gtp_machine.specs.Node.{Bearer}
 use Rattle.gtp_machine.specs.Sound.{IsSound}
 use Rattle.gtp_machine.specs.declared.outcome.Refusal.{Refusal}
-use Rattle.gtp_gateway.specs.declared.bearer.Dedicated.{Dedicated}
+use Rattle.gtp_gateway.specs.declared.command.delete_bearer.Dedicated.{Dedicated}
 use Rattle.gtp_gateway.specs.declared.fault.CommandFault.{CommandFault}
 use Rattle.gtp_gateway.specs.declared.sent.Begun.{Begun}
 use Rattle.std.proofs.Common.{Result}
 use Rattle.gtp_values.proofs.Tests.{unequal, same_number}
 use Rattle.gtp_machine.proofs.Basics.Facts.{one_value}
-use Rattle.gtp_gateway.specs.Dedicated.{IsDedicated}
-use Rattle.gtp_gateway.specs.Station.{Station, IsWhole}
+use Rattle.gtp_gateway.specs.command.DeleteBearer.{IsDedicated}
+use Rattle.gtp_gateway.specs.GatewayState.{GatewayState, IsSoundState}
 use Rattle.gtp_gateway.proofs.Columns.{Told, goes}
 
-module _ (s : Station) (whole : IsWhole s) (session identity : ℕ) where
+module _ (s : GatewayState) (whole : IsSoundState s) (session identity : ℕ) where
   -- two bearers of the session with the identity stand under one TEID
   pub one_named : (t k : ℕ) (b d : Bearer) → get s.node.bearers t ≡ Some b → b.session ≡ session → b.identity ≡ Some identity → get s.node.bearers k ≡ Some d → d.session ≡ session → d.identity ≡ Some identity → t ≡ k
   one_named t k b d b_stands b_of b_has d_stands d_of d_has = by (t == k) refl

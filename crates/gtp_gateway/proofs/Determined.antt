@@ -25,11 +25,11 @@ use Rattle.gtp_machine.proofs.Determined.Alike.{Fits, sound_fits, WaitsBeside, P
 use Rattle.gtp_machine.proofs.Determined.Commands.{packet_sent, end_marked}
 use Rattle.gtp_machine.proofs.Determined.Steps.{step_done}
 use Rattle.gtp_machine.proofs.Determined.Ticks.{one_tick}
-use Rattle.gtp_gateway.specs.declared.purpose.Purpose.{Purpose}
+use Rattle.gtp_gateway.specs.declared.command.purpose.Purpose.{Purpose}
 use Rattle.gtp_gateway.specs.declared.sent.Begun.{Begun}
 use Rattle.gtp_gateway.specs.declared.step.Accepted.{Accepted}
 use Rattle.gtp_gateway.specs.declared.step.Step.{Step}
-use Rattle.gtp_gateway.specs.Choosing.{MakesLowestSession, MakesLowestBearer, MakesLowest, ChoosesLowest}
+use Rattle.gtp_gateway.specs.receive.Choosing.{MakesLowestSession, MakesLowestBearer, MakesLowest, ChoosesLowest}
 use Rattle.gtp_machine.specs.Reading.{Both, datagram_reading}
 use Rattle.gtp_machine.specs.Step.{Step as MachineStep, TakesPair}
 use Rattle.gtp_machine.specs.Serving.{SessionAnswered}
@@ -46,17 +46,17 @@ use Rattle.gtp_machine.proofs.Requests.Opening.{IsMute, opening, same_drawn, sam
 use Rattle.gtp_machine.proofs.Sound.Rows.{stays_sound}
 use Rattle.gtp_machine.proofs.Sound.Reads.{pair_reads_whole}
 use Rattle.std.proofs.lemmas.Grind.{merely}
-use Rattle.gtp_gateway.specs.GoesOn.{GoesOn}
-use Rattle.gtp_gateway.specs.Pair.{first_part, second_part}
-use Rattle.gtp_gateway.specs.Begun.{outcome_by, IsDone, AsksNext}
+use Rattle.gtp_gateway.specs.receive.Queues.{QueuesAfterMessage}
+use Rattle.gtp_gateway.specs.receive.TwoMessages.{first_part, second_part}
+use Rattle.gtp_gateway.specs.command.Command.{outcome_by, IsCarriedOut, SendsRequestNext}
 use Rattle.gtp_gateway.specs.Determined.{packet_of, AreOneStep, ReceivesOne, WaitsNext, MeetsCommand, BeginsOne, TicksOne}
 use Rattle.gtp_gateway.specs.Parts.{arrival_of, held_of, pending_of, pending_in}
-use Rattle.gtp_gateway.specs.Received.{coming, IsReceivedOnce, IsReceived, AreReceived, ControlGoesOn, first_comes, second_comes}
-use Rattle.gtp_gateway.specs.Sent.{datagram_by}
-use Rattle.gtp_gateway.specs.Station.{Timing, Station, IsTied, IsWhole}
-use Rattle.gtp_gateway.specs.Taken.{made_for}
-use Rattle.gtp_gateway.specs.Ticked.{due_in}
-use Rattle.gtp_gateway.specs.UserTaken.{AreEntries}
+use Rattle.gtp_gateway.specs.receive.Received.{coming, IsReceivedOnce, IsReceived, AreReceived, QueuesAfterControl, first_comes, second_comes}
+use Rattle.gtp_gateway.specs.messages.Sent.{datagram_by}
+use Rattle.gtp_gateway.specs.GatewayState.{Queues, GatewayState, NodeMatchesQueues, IsSoundState}
+use Rattle.gtp_gateway.specs.receive.Taken.{made_for}
+use Rattle.gtp_gateway.specs.Tick.{due_in}
+use Rattle.gtp_gateway.specs.user.Receive.{AreEntries}
 use Rattle.gtp_gateway.proofs.Answers.{none_held}
 use Rattle.gtp_gateway.proofs.ChosenOnce.{one_lowest_address, one_lowest_identity, lowest_address, lowest_identity, one_drawn, one_next}
 use Rattle.gtp_gateway.proofs.LeftAlike.{KeepsOnce, number_begun, left_by, one_left, left_ticked, left_goes}
@@ -64,7 +64,7 @@ use Rattle.gtp_gateway.proofs.Requests.{pending_push}
 
 -- ---- what is asked of a gateway
 
-pub whole_fits : (s : Station) → IsWhole s → Fits s.node
+pub whole_fits : (s : GatewayState) → IsSoundState s → Fits s.node
 whole_fits s whole = record {
   apart = ∥∥₁_elim whole (hlevel ℕ_set) (λ sound. (sound_fits s.role s.node sound).apart);
   sessions = ∥∥₁_elim whole (hlevel) (λ sound. (sound_fits s.role s.node sound).sessions);
@@ -78,9 +78,9 @@ same_answer (p ∷ ps) apart g h (inl g_is) (inr there) same = absurd (none_held
 same_answer (p ∷ ps) apart g h (inr there) (inl h_is) same = absurd (none_held ps p.source p.request apart.0 g there (same ∙ ap (λ (k : Held). k.request) h_is))
 same_answer (p ∷ ps) apart g h (inr g_in) (inr h_in) same = same_answer ps apart.1 g h g_in h_in same
 
-pub held_once : (s : Station) → IsTied s → AreApart s.timing.held → OneAnswerPerRequest s.node
+pub held_once : (s : GatewayState) → NodeMatchesQueues s → AreApart s.queues.held → OneAnswerPerRequest s.node
 held_once s tied apart = record {
-  once = λ g h g_in h_in. same_answer s.timing.held apart g h (subst (Among g) tied.held g_in) (subst (Among h) tied.held h_in);
+  once = λ g h g_in h_in. same_answer s.queues.held apart g h (subst (Among g) tied.held g_in) (subst (Among h) tied.held h_in);
 }
 
 -- ---- what is told
@@ -124,12 +124,12 @@ same_packet node (Some a) (Some b) entries (m, of_a, is_a) (n, of_b, is_b) =
 -- ---- a datagram
 
 -- the clauses hold of a datagram that was received as a whole
-record MeetsOnce (plane : Plane) (source : Endpoint) (octets : List ℕ) (old : Station) (step : Step) (new : Station) : Type 0 where
+record MeetsOnce (plane : Plane) (source : Endpoint) (octets : List ℕ) (old : GatewayState) (step : Step) (new : GatewayState) : Type 0 where
   received : IsReceivedOnce plane source octets old step new
-  timing : KeepsOnce plane source octets step old new
+  queues : KeepsOnce plane source octets step old new
   choices : ChoosesLowest step.report.made old.role old.node new.node
 
-keeps_tied : (plane : Plane) (source : Endpoint) (octets : List ℕ) (step : Step) (old new : Station) → KeepsOnce plane source octets step old new → IsTied new
+keeps_tied : (plane : Plane) (source : Endpoint) (octets : List ℕ) (step : Step) (old new : GatewayState) → KeepsOnce plane source octets step old new → NodeMatchesQueues new
 keeps_tied Control source octets step old new goes = goes.tied
 keeps_tied User source octets step old new keeps = keeps.2
 
@@ -137,16 +137,16 @@ no_command : (plane : Plane) (source : Endpoint) (octets : List ℕ) (command : 
 no_command Control source octets command e = cc
 no_command User source octets command e = cc
 
-tied_draws : (new : Station) (node : Node) → new.node ≡ node → IsTied new → node.drawn ≡ drawn_up_to node.counter (length node.drawn)
+tied_draws : (new : GatewayState) (node : Node) → new.node ≡ node → NodeMatchesQueues new → node.drawn ≡ drawn_up_to node.counter (length node.drawn)
 tied_draws new node is tied = subst (λ (k : Node). k.drawn ≡ drawn_up_to k.counter (length k.drawn)) is tied.drawn
 
 -- the requests for bearers that two answers begin have one number
-number_wanted : (plane : Plane) (source : Endpoint) (octets : List ℕ) (old : Station) → IsWhole old → IsTied old → AreDistinct old.timing.waiting → (step other : Step) (new left : Station) → KeepsOnce plane source octets step old new → KeepsOnce plane source octets other old left → (request : Arrival) (reading : ControlReading) → coming plane source octets ≡ Control_came request reading → (others : FiniteMap PendingRequest) (m n : ℕ) (p q : PendingRequest) → WaitsBeside old.node.drawn new.node.pending others m p → WaitsBeside old.node.drawn left.node.pending others n q → m ≡ n
+number_wanted : (plane : Plane) (source : Endpoint) (octets : List ℕ) (old : GatewayState) → IsSoundState old → NodeMatchesQueues old → AreDistinct old.queues.waiting → (step other : Step) (new left : GatewayState) → KeepsOnce plane source octets step old new → KeepsOnce plane source octets other old left → (request : Arrival) (reading : ControlReading) → coming plane source octets ≡ Control_came request reading → (others : FiniteMap PendingRequest) (m n : ℕ) (p q : PendingRequest) → WaitsBeside old.node.drawn new.node.pending others m p → WaitsBeside old.node.drawn left.node.pending others n q → m ≡ n
 number_wanted Control source octets old whole tied apart step other new left goes also request reading is others m n p q waits too = number_begun old whole tied apart source octets new left others m n p q goes also waits too
 number_wanted User source octets old whole tied apart step other new left goes also request reading is others m n p q waits too = absurd cc
 
-module _ (plane : Plane) (source : Endpoint) (octets : List ℕ) (old : Station) (whole : IsWhole old) (once : OneAnswerPerRequest old.node) (tied : IsTied old) (apart : AreDistinct old.timing.waiting) where
-  module _ (step other : Step) (new left : Station) (m : MeetsOnce plane source octets old step new) (n : MeetsOnce plane source octets old other left) where
+module _ (plane : Plane) (source : Endpoint) (octets : List ℕ) (old : GatewayState) (whole : IsSoundState old) (once : OneAnswerPerRequest old.node) (tied : NodeMatchesQueues old) (apart : AreDistinct old.queues.waiting) where
+  module _ (step other : Step) (new left : GatewayState) (m : MeetsOnce plane source octets old step new) (n : MeetsOnce plane source octets old other left) where
     abbrev e : Effect
     e = m.received.effect
 
@@ -159,8 +159,8 @@ module _ (plane : Plane) (source : Endpoint) (octets : List ℕ) (old : Station)
     picked : PickAlike old.role old.node (coming plane source octets) e f
     picked = record {
       drawn = one_drawn e.node f.node
-          (tied_draws new e.node m.received.becomes (keeps_tied plane source octets step old new m.timing))
-          (tied_draws left f.node n.received.becomes (keeps_tied plane source octets other old left n.timing))
+          (tied_draws new e.node m.received.becomes (keeps_tied plane source octets step old new m.queues))
+          (tied_draws left f.node n.received.becomes (keeps_tied plane source octets other old left n.queues))
           both.tell.counter both.tell.draws;
       addresses = λ request reading is packet made others t a b x y version p q in_one in_other.
           let first = lowest_address old.node e.node others t a (subst (λ k. MakesLowestSession old.node k) m.received.becomes (subst (λ r. MakesLowest r old.node new.node) packet (made_lowest made))) x version p in_one in
@@ -172,7 +172,7 @@ module _ (plane : Plane) (source : Endpoint) (octets : List ℕ) (old : Station)
           first.1 ∙ (ap (λ k. Some k) (one_lowest_identity others a.session first.0 second.0 first.2 (subst (λ k. IsLowestUnused others k second.0) (sym session) second.2)) ∙ sym second.1);
       numbers = λ command is. absurd (no_command plane source octets command is);
       wanted = λ request reading is packet made others number another p q waits too.
-          number_wanted plane source octets old whole tied apart step other new left m.timing n.timing request reading is others number another p q
+          number_wanted plane source octets old whole tied apart step other new left m.queues n.queues request reading is others number another p q
           (subst (λ (k : Node). WaitsBeside old.node.drawn k.pending others number p) (sym m.received.becomes) waits)
           (subst (λ (k : Node). WaitsBeside old.node.drawn k.pending others another q) (sym n.received.becomes) too);
     }
@@ -196,7 +196,7 @@ module _ (plane : Plane) (source : Endpoint) (octets : List ℕ) (old : Station)
           sent = tells.sent.octets ∙ (ap (λ (k : Effect). map (datagram_of old.node.config) k.out.sent) same ∙ sym also.sent.octets);
           report = λ i. record { outcome = outcome i; second = (tells.alone ∙ sym also.alone) i; heard = heard i; restart = restart i; made = made i };
           accepted = same_packet old.node step.accepted other.accepted f.out.accepted (subst (λ k. AreEntries old.node step.accepted k) (ap (λ (k : Effect). k.out.accepted) same) tells.accepted) also.accepted;
-          leaves = left_by plane source octets step other old new left apart (m.received.role ∙ sym n.received.role) (m.received.becomes ∙ (ap (λ (k : Effect). k.node) same ∙ sym n.received.becomes)) m.timing n.timing;
+          leaves = left_by plane source octets step other old new left apart (m.received.role ∙ sym n.received.role) (m.received.becomes ∙ (ap (λ (k : Effect). k.node) same ∙ sym n.received.becomes)) m.queues n.queues;
         }
 
 -- ---- a pair
@@ -244,8 +244,8 @@ opening_bearer request a old e t (inr (peer, inl r)) none = ap (λ (x : Effect).
 opening_bearer request a old e t (inr (peer, inr (new, inl f))) none = ap (λ (x : Effect). get x.node.bearers t) f.1 ∙ none
 opening_bearer request a old e t (inr (peer, inr (new, inr (kind, r)))) none = heard_bearer a old a.recovery e t r none
 
-module _ (source : Endpoint) (octets : List ℕ) (old : Station) (whole : IsWhole old) (once : OneAnswerPerRequest old.node) (apart : AreDistinct old.timing.waiting) (serving : old.role ≡ Serving) (a : CreateSessionResponse) (q : CreateBearerRequest) (step other : Step) (new left : Station)
-    (m : AreReceived source octets a q old step new) (n : AreReceived source octets a q old other left) (goes : GoesOn source (second_part octets) old new) (also_goes : GoesOn source (second_part octets) old left) (between : IsWhole (record old { node = m.first.node })) (chooses : ChoosesLowest step.report.made old.role old.node new.node) (also_chooses : ChoosesLowest other.report.made old.role old.node left.node) where
+module _ (source : Endpoint) (octets : List ℕ) (old : GatewayState) (whole : IsSoundState old) (once : OneAnswerPerRequest old.node) (apart : AreDistinct old.queues.waiting) (serving : old.role ≡ Serving) (a : CreateSessionResponse) (q : CreateBearerRequest) (step other : Step) (new left : GatewayState)
+    (m : AreReceived source octets a q old step new) (n : AreReceived source octets a q old other left) (goes : QueuesAfterMessage source (second_part octets) old new) (also_goes : QueuesAfterMessage source (second_part octets) old left) (between : IsSoundState (record old { node = m.first.node })) (chooses : ChoosesLowest step.report.made old.role old.node new.node) (also_chooses : ChoosesLowest other.report.made old.role old.node left.node) where
   abbrev first_input : Input
   first_input = first_comes source octets a
 
@@ -282,7 +282,7 @@ module _ (source : Endpoint) (octets : List ℕ) (old : Station) (whole : IsWhol
   both_second : Alike old.role mid second_input m.second n.second
   both_second = step_done old.role mid second_input (whole_fits (record old { node = mid }) between) mid_once m.second n.second m.follows follows_too
 
-  lowest_then : (k : Station) (e : Effect) → k.node ≡ e.node → MakesLowestBearer old.node k.node → MakesLowestBearer mid e.node
+  lowest_then : (k : GatewayState) (e : Effect) → k.node ≡ e.node → MakesLowestBearer old.node k.node → MakesLowestBearer mid e.node
   lowest_then k e becomes makes =
       let there = subst (λ (x : Node). MakesLowestBearer old.node x) becomes makes in
       record {
@@ -335,15 +335,15 @@ module _ (source : Endpoint) (octets : List ℕ) (old : Station) (whole : IsWhol
 one_of_both : (a b : CreateSessionResponse) (q r : CreateBearerRequest) → Both (Create_session_response a) (Create_bearer_request q) ≡ Both (Create_session_response b) (Create_bearer_request r) → (a ≡ b) × (q ≡ r)
 one_of_both a b q r is = (cc is, cc is)
 
-between_sound : (source : Endpoint) (octets : List ℕ) (old : Station) → IsWhole old → (pair : TakesPair old.role old.node.config (arrival_of source octets) (datagram_reading octets)) → (e : Effect) → MachineStep old.role old.node (first_comes source octets pair.answer) e → IsWhole (record old { node = e.node })
+between_sound : (source : Endpoint) (octets : List ℕ) (old : GatewayState) → IsSoundState old → (pair : TakesPair old.role old.node.config (arrival_of source octets) (datagram_reading octets)) → (e : Effect) → MachineStep old.role old.node (first_comes source octets pair.answer) e → IsSoundState (record old { node = e.node })
 between_sound source octets old whole pair e takes =
     ∥∥₁_elim whole ∥∥₁_prop (λ before. merely (stays_sound old.role old.node (first_comes source octets pair.answer) e before (pair_reads_whole octets (Create_session_response pair.answer) (Create_bearer_request pair.asked) (sym pair.is)).0 takes))
 
 -- a datagram of the control plane: as a whole, or message by message
-control_one : (source : Endpoint) (octets : List ℕ) (old : Station) → IsWhole old → OneAnswerPerRequest old.node → IsTied old → AreDistinct old.timing.waiting → (step other : Step) (new left : Station) → IsReceived Control source octets old step new → ControlGoesOn source octets old new → ChoosesLowest step.report.made old.role old.node new.node → IsReceived Control source octets old other left → ControlGoesOn source octets old left
+control_one : (source : Endpoint) (octets : List ℕ) (old : GatewayState) → IsSoundState old → OneAnswerPerRequest old.node → NodeMatchesQueues old → AreDistinct old.queues.waiting → (step other : Step) (new left : GatewayState) → IsReceived Control source octets old step new → QueuesAfterControl source octets old new → ChoosesLowest step.report.made old.role old.node new.node → IsReceived Control source octets old other left → QueuesAfterControl source octets old left
     → ChoosesLowest other.report.made old.role old.node left.node → AreOneStep step other new left
 control_one source octets old whole once tied apart step other new left (inl m) (inl goes) chooses (inl n) (inl also) too =
-    one_step Control source octets old whole once tied apart step other new left (record { received = m.1; timing = goes.1; choices = chooses }) (record { received = n.1; timing = also.1; choices = too })
+    one_step Control source octets old whole once tied apart step other new left (record { received = m.1; queues = goes.1; choices = chooses }) (record { received = n.1; queues = also.1; choices = too })
 control_one source octets old whole once tied apart step other new left (inr (pair, m)) (inr (x, goes)) chooses (inr (given, n)) (inr (y, also)) too =
     let same = one_of_both given.answer pair.answer given.asked pair.asked (sym given.is ∙ pair.is) in
     one_pair source octets old whole once apart pair.by pair.answer pair.asked step other new left m
@@ -356,18 +356,18 @@ control_one source octets old whole once tied apart step other new left (inl m) 
 control_one source octets old whole once tied apart step other new left (inr m) (inr goes) chooses (inl n) also too = absurd (n.0 m.0)
 control_one source octets old whole once tied apart step other new left (inr m) (inr goes) chooses (inr n) (inl also) too = absurd (also.0 n.0)
 
-pub receives_one : (old : Station) → IsWhole old → OneAnswerPerRequest old.node → IsTied old → AreDistinct old.timing.waiting → ReceivesOne old
-receives_one old whole once tied apart Control source octets step other new left m n = control_one source octets old whole once tied apart step other new left m.received m.timing m.choices n.received n.timing n.choices
-receives_one old whole once tied apart User source octets step other new left m n = one_step User source octets old whole once tied apart step other new left (record { received = m.received; timing = m.timing; choices = m.choices }) (record { received = n.received; timing = n.timing; choices = n.choices })
+pub receives_one : (old : GatewayState) → IsSoundState old → OneAnswerPerRequest old.node → NodeMatchesQueues old → AreDistinct old.queues.waiting → ReceivesOne old
+receives_one old whole once tied apart Control source octets step other new left m n = control_one source octets old whole once tied apart step other new left m.received m.queues m.choices n.received n.queues n.choices
+receives_one old whole once tied apart User source octets step other new left m n = one_step User source octets old whole once tied apart step other new left (record { received = m.received; queues = m.queues; choices = m.choices }) (record { received = n.received; queues = n.queues; choices = n.choices })
 
 -- ---- a command
 
 -- the request that was begun waits beside the others
-begun_waits : (old : Station) (begun : Begun) (new : Station) → IsTied old → (next : AsksNext old begun new) → (p : PendingRequest) × (new.node.pending ≡ insert old.node.pending next.number p)
+begun_waits : (old : GatewayState) (begun : Begun) (new : GatewayState) → NodeMatchesQueues old → (next : SendsRequestNext old begun new) → (p : PendingRequest) × (new.node.pending ≡ insert old.node.pending next.number p)
 begun_waits old begun new tied next =
     let w : Waiting Purpose = just_sent next.number begun.out.to begun.out.octets.items next.purpose in (
       (pending_of w).1,
-      next.tied.pending ∙ (ap (λ (t : Timing). pending_in t.waiting) next.timing ∙ (pending_push old.timing.waiting w (pending_of w).1 next.free.free refl ∙ ap (λ (k : FiniteMap PendingRequest). insert k next.number (pending_of w).1) (sym tied.pending))),
+      next.tied.pending ∙ (ap (λ (t : Queues). pending_in t.waiting) next.queues ∙ (pending_push old.queues.waiting w (pending_of w).1 next.free.free refl ∙ ap (λ (k : FiniteMap PendingRequest). insert k next.number (pending_of w).1) (sym tied.pending))),
     )
 
 waits_too : (old one other : Node) (m n : ℕ) (p q : PendingRequest) → one.pending ≡ insert old.pending m p → other.pending ≡ insert old.pending n q → m ≡ n → (number : ℕ) → get old.pending number ≡ None → HasPending one number → HasPending other number
@@ -382,13 +382,13 @@ waits_too old one other m n p q is_one is_other same number free waits = ⊎_eli
 same_begun : (a b : Option Teid) → ◌≡◌ {A = Outcome} (outcomes.Begun (option_map (λ (t : Teid). t.0) a)) (outcomes.Begun (option_map (λ (t : Teid). t.0) b)) → a ≡ b
 same_begun a b e = let same : option_map (λ (t : Teid). t.0) a ≡ option_map (λ (t : Teid). t.0) b = cc in same_teid a b same
 
-one_teid : (command : Command) (old : Station) (begun other : Begun) (new left : Station) → WaitsNext command old begun new → WaitsNext command old other left → outcome_by command (option_map (λ t. t.0) begun.teid) ≡ outcome_by command (option_map (λ t. t.0) other.teid) → begun.teid ≡ other.teid
+one_teid : (command : Command) (old : GatewayState) (begun other : Begun) (new left : GatewayState) → WaitsNext command old begun new → WaitsNext command old other left → outcome_by command (option_map (λ t. t.0) begun.teid) ≡ outcome_by command (option_map (λ t. t.0) other.teid) → begun.teid ≡ other.teid
 one_teid (Mark_end bearer) old begun other new left m n e = m.0 ∙ sym n.0
 one_teid (Send_user bearer payload) old begun other new left m n e = m.0 ∙ sym n.0
 one_teid command old begun other new left m n e = same_begun begun.teid other.teid e
 
-module _ (old : Station) (whole : IsWhole old) (once : OneAnswerPerRequest old.node) (tied : IsTied old) where
-  asks_one : (command : Command) (begun other : Begun) (new left : Station) (m : IsDone command old begun new) (n : IsDone command old other left) → AsksNext old begun new → AsksNext old other left → m.effect ≡ n.effect
+module _ (old : GatewayState) (whole : IsSoundState old) (once : OneAnswerPerRequest old.node) (tied : NodeMatchesQueues old) where
+  asks_one : (command : Command) (begun other : Begun) (new left : GatewayState) (m : IsCarriedOut command old begun new) (n : IsCarriedOut command old other left) → SendsRequestNext old begun new → SendsRequestNext old other left → m.effect ≡ n.effect
   asks_one command begun other new left m n next also =
       let both = step_done old.role old.node (Commanded command) (whole_fits old whole) once m.effect n.effect m.step n.step in
       let first = begun_waits old begun new tied next in
@@ -401,13 +401,13 @@ module _ (old : Station) (whole : IsWhole old) (once : OneAnswerPerRequest old.n
         numbers = λ c is. waits_too old.node m.effect.node n.effect.node next.number also.number first.0 second.0
             (ap (λ (k : Node). k.pending) (sym m.becomes) ∙ first.1)
             (ap (λ (k : Node). k.pending) (sym n.becomes) ∙ second.1)
-            (one_next old.timing.next old.timing.waiting next.number also.number next.free also.free);
+            (one_next old.queues.next old.queues.waiting next.number also.number next.free also.free);
       })
     where
       not_control : (request : Arrival) (reading : ControlReading) → Commanded command ≡ Control_came request reading → ⊥
       not_control request reading e = cc
 
-  one_effect : (command : Command) (begun other : Begun) (new left : Station) (m : MeetsCommand command old begun new) (n : MeetsCommand command old other left) → m.done.effect ≡ n.done.effect
+  one_effect : (command : Command) (begun other : Begun) (new left : GatewayState) (m : MeetsCommand command old begun new) (n : MeetsCommand command old other left) → m.done.effect ≡ n.done.effect
   one_effect (Mark_end bearer) begun other new left m n = end_marked old.role bearer old.node m.done.effect n.done.effect m.done.step n.done.step
   one_effect (Send_user bearer payload) begun other new left m n = packet_sent old.role bearer old.node payload m.done.effect n.done.effect m.done.step n.done.step
   one_effect command begun other new left m n = asks_one command begun other new left m.done n.done m.next n.next
@@ -425,9 +425,9 @@ module _ (old : Station) (whole : IsWhole old) (once : OneAnswerPerRequest old.n
 
 -- ---- a tick
 
-pub ticks_one : (old : Station) → AreDistinct old.timing.waiting → TicksOne old
+pub ticks_one : (old : GatewayState) → AreDistinct old.queues.waiting → TicksOne old
 ticks_one old apart ticked other new left m n =
-    let both = one_tick old.node (due_in old.timing) m.passed.out n.passed.out new.node left.node m.passed.ticks n.passed.ticks in
+    let both = one_tick old.node (due_in old.queues) m.passed.out n.passed.out new.node left.node m.passed.ticks n.passed.ticks in
     let tells = m.passed.tells in
     let also = n.passed.tells in
     record {

@@ -10,7 +10,7 @@ use Rattle.gtp_reliable.specs.Waiting.{Waiting}
 use Rattle.gtp_reliable.specs.Pending.{is_pending, AreDistinct}
 use Rattle.gtp_machine.specs.Node.{PendingRequest}
 use Rattle.gtp_machine.proofs.Basics.Counting.{tied}
-use Rattle.gtp_gateway.specs.declared.purpose.Purpose.{Purpose}
+use Rattle.gtp_gateway.specs.declared.command.purpose.Purpose.{Purpose}
 use Rattle.gtp_gateway.specs.Parts.{pending_of, pending_in}
 use Rattle.gtp_gateway.proofs.Requests.{not_found}
 

@@ -18,34 +18,34 @@ use Rattle.gtp_machine.specs.Serving.{SessionAnswered}
 use Rattle.gtp_machine.specs.Step.{Step as MachineStep}
 use Rattle.gtp_machine.proofs.Changes.Shrinking.{Shrunk-finished}
 use Rattle.gtp_machine.proofs.Determined.Responses.{session_answered}
-use Rattle.gtp_gateway.specs.declared.hearing.Heard.{Heard}
-use Rattle.gtp_gateway.specs.declared.hearing.Heard.TheVariants as heards
+use Rattle.gtp_gateway.specs.declared.receive.restart_counter.Heard.{Heard}
+use Rattle.gtp_gateway.specs.declared.receive.restart_counter.Heard.TheVariants as heards
 use Rattle.gtp_machine.specs.declared.message_type.MessageType.TheVariants as types
-use Rattle.gtp_gateway.specs.declared.session_response.SessionResponse.{SessionResponse}
-use Rattle.gtp_gateway.specs.declared.settle.Verdict.{Verdict}
-use Rattle.gtp_gateway.specs.Hearing.{weighed_by, node_heard, IsEarlier, told_in, later_in}
-use Rattle.gtp_gateway.specs.Needing.{StepSendsOrOpens}
-use Rattle.gtp_gateway.specs.Pairing.{node_settled}
+use Rattle.gtp_gateway.specs.declared.receive.create_session_response.SessionResponse.{SessionResponse}
+use Rattle.gtp_gateway.specs.declared.tables.opening.ResponseVerdict.{ResponseVerdict}
+use Rattle.gtp_gateway.specs.receive.RestartCounter.{weighed_by, node_heard, IsEarlier, told_in, later_in}
+use Rattle.gtp_gateway.specs.receive.Allocations.{StepSendsOrOpens}
+use Rattle.gtp_gateway.specs.receive.Piggybacked.{node_after_first}
 use Rattle.gtp_gateway.specs.Parts.{arrival_of}
 use Rattle.gtp_machine.specs.MessageType.{takes_type, takes_message}
 use Rattle.gtp_machine.specs.Step.{TakesBy}
-use Rattle.gtp_gateway.specs.SessionAnswer.{SaysSession, JudgesAnswer}
-use Rattle.gtp_gateway.specs.Settled.{outcome_by, effect_by}
-use Rattle.gtp_gateway.specs.Station.{Station}
-use Rattle.gtp_gateway.proofs.Needing.{needs_session_response, message_needs}
-use Rattle.gtp_gateway.proofs.Needing as needing
+use Rattle.gtp_gateway.specs.receive.CreateSessionResponse.{SaysCreateSessionResponse, JudgesAnswer}
+use Rattle.gtp_gateway.specs.tables.Opening.{outcome_by, effect_by}
+use Rattle.gtp_gateway.specs.GatewayState.{GatewayState}
+use Rattle.gtp_gateway.proofs.Allocations.{needs_session_response, message_needs}
+use Rattle.gtp_gateway.proofs.Allocations as needing
 use Rattle.gtp_gateway.proofs.Rows.{told, hears, hears_early, message_taken, told_node}
-use Rattle.gtp_gateway.proofs.Weighing.{told_is, later_is}
+use Rattle.gtp_gateway.proofs.RestartCounters.{told_is, later_is}
 
 -- ---- what is told of it
 
-pub record FirstTells (heard : Heard) (v : Verdict) (e : Effect) : Type 0 where
+pub record FirstTells (heard : Heard) (v : ResponseVerdict) (e : Effect) : Type 0 where
   pub outcome : Came_to (outcome_by v) ≡ e.outcome
   pub heard_is : option_map (λ (c : Counter). c.0) (told_in heard) ≡ e.out.heard
   pub later : option_map (λ (c : Counter). c.0) (later_in heard) ≡ e.out.learned
   pub all : e.out ≡ record nothing { heard = e.out.heard; learned = e.out.learned }
 
-first_told : (recovery : Option Counter) (known : Option ℕ) (v : Verdict) (number : ℕ) (n : Node) → FirstTells (weighed_by recovery known) v (told recovery known (effect_by v number n))
+first_told : (recovery : Option Counter) (known : Option ℕ) (v : ResponseVerdict) (number : ℕ) (n : Node) → FirstTells (weighed_by recovery known) v (told recovery known (effect_by v number n))
 first_told None known v number n = record { outcome = refl; heard_is = refl; later = refl; all = refl }
 first_told (Some counter) known v number n = record { outcome = refl; heard_is = told_is known counter; later = later_is known counter; all = refl }
 
@@ -102,8 +102,8 @@ one_heard Takes one old (Some counter) e f (x, weighs_x, is_x) (y, weighs_y, is_
 
 -- ---- the step
 
-module _ (source : Endpoint) (octets : List ℕ) (old : Station) (serving : old.role ≡ Serving) (peer : source.ip ≡ old.node.config.peer.control) (fresh : IsNew old.node (arrival_of source octets)) (a : CreateSessionResponse) (recovery : Option Counter) (counted : option_map (λ (c : Counter). c.0) recovery ≡ a.recovery)
-    (r : SessionResponse) (v : Verdict) (j : JudgesAnswer r (weighed_by recovery old.node.known) old.node v) (says : SaysSession r a) where
+module _ (source : Endpoint) (octets : List ℕ) (old : GatewayState) (serving : old.role ≡ Serving) (peer : source.ip ≡ old.node.config.peer.control) (fresh : IsNew old.node (arrival_of source octets)) (a : CreateSessionResponse) (recovery : Option Counter) (counted : option_map (λ (c : Counter). c.0) recovery ≡ a.recovery)
+    (r : SessionResponse) (v : ResponseVerdict) (j : JudgesAnswer r (weighed_by recovery old.node.known) old.node v) (says : SaysCreateSessionResponse r a) where
   abbrev request : Arrival
   request = arrival_of source octets
 
@@ -129,7 +129,7 @@ module _ (source : Endpoint) (octets : List ℕ) (old : Station) (serving : old.
   by_counter (inr on) = hears (SessionAnswered a) old.node recovery (effect_by v a.number left) on (j.judged on a says)
   by_counter (inl early) =
       let is : effect_by v a.number left ≡ dropped old.node OldCounter =
-      ap (λ (w : Verdict). effect_by w a.number left) (j.early early) ∙ (λ i. record { out = nothing; outcome = Came_to (Dropped OldCounter); node = earlier_changes_none heard old.node early i }) in
+      ap (λ (w : ResponseVerdict). effect_by w a.number left) (j.early early) ∙ (λ i. record { out = nothing; outcome = Came_to (Dropped OldCounter); node = earlier_changes_none heard old.node early i }) in
       subst (λ (e : Effect). Hears (SessionAnswered a) old.node (option_map (λ (c : Counter). c.0) recovery) (told recovery old.node.known e)) (sym is) (hears_early (SessionAnswered a) old.node recovery early)
 
   heard_first : Hears (TakesBy old.role request message) old.node (recovery_of message) first_effect
@@ -140,7 +140,7 @@ module _ (source : Endpoint) (octets : List ℕ) (old : Station) (serving : old.
   pub first_step : MachineStep old.role old.node (Control_came request (Control_message message)) first_effect
   first_step = message_taken old.role old.node request message first_effect peer fresh takes_it heard_first
 
-  pub first_node : first_effect.node ≡ node_settled heard v a.number old.node
+  pub first_node : first_effect.node ≡ node_after_first heard v a.number old.node
   first_node = told_node recovery old.node.known (effect_by v a.number left)
 
   pub first_tells : FirstTells heard v first_effect

@@ -10,8 +10,8 @@ use Rattle.gtp_machine.specs.Input.{Ticked, Forget, Out, nothing}
 use Rattle.gtp_machine.specs.Move.{AreLeft}
 use Rattle.gtp_machine.specs.Tick.{TickStep}
 use Rattle.gtp_gateway.specs.Parts.{arrival_of, held_of}
-use Rattle.gtp_gateway.specs.Spelled.{IsKept, AreAnswered}
-use Rattle.gtp_gateway.specs.Ticked.{asked_by}
+use Rattle.gtp_gateway.specs.messages.Spelled.{IsKept, AreAnswered}
+use Rattle.gtp_gateway.specs.Tick.{asked_by}
 use Rattle.gtp_gateway.proofs.Answers.{none_held}
 
 -- the requests that are forgotten

@@ -25,7 +25,7 @@ use Rattle.gtp_machine.specs.declared.message_type.MessageType.{MessageType}
 use Rattle.gtp_machine.specs.declared.message_type.MessageType.TheVariants as types
 use Rattle.gtp_machine.specs.MessageType.{type_at, type_row}
 use Rattle.gtp_machine.proofs.Basics.Types.{type_kind}
-use Rattle.gtp_gateway.specs.Contexts.{HasCause}
+use Rattle.gtp_gateway.specs.receive.ResponseContext.{HasCause}
 use Rattle.gtp_gateway.proofs.ResponseContexts.{group_has, each_group}
 use Rattle.gtp_values.specs.FiniteMap.{Among}
 

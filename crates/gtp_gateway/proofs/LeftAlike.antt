@@ -16,9 +16,9 @@ use Rattle.gtp_machine.specs.Spelling.{spelled}
 use Rattle.gtp_machine.proofs.Basics.FiniteMaps.{found-insert, get-insert_same}
 use Rattle.gtp_machine.proofs.Determined.Alike.{WaitsBeside}
 use Rattle.gtp_machine.proofs.Determined.Steps.{drawn_before}
-use Rattle.gtp_gateway.specs.declared.purpose.Purpose.{Purpose}
+use Rattle.gtp_gateway.specs.declared.command.purpose.Purpose.{Purpose}
 use Rattle.gtp_gateway.specs.Determined.{held_as, waits_as, AreLeftAlike, WaitsNext}
-use Rattle.gtp_gateway.specs.GoesOn.{Beginning, held_with, begun_with, IsNext, IsNewFor, IsNew, waiting_on, GoesOn}
+use Rattle.gtp_gateway.specs.receive.Queues.{Beginning, held_with, begun_with, IsNext, IsNewFor, IsNew, waiting_on, QueuesAfterMessage}
 use Rattle.gtp_gateway.specs.Parts.{held_of, pending_of, pending_in}
 use Rattle.gtp_gateway.proofs.Requests.{none_pending, pending_push, found_before, of_found}
 use Rattle.gtp_reliable.specs.declared.waiting.NextTick.{NextTick}
@@ -27,13 +27,13 @@ use Rattle.gtp_machine.specs.Message.{Plane, Control, User}
 use Rattle.gtp_machine.specs.Input.{Command, Mark_end, Send_user}
 use Rattle.gtp_gateway.specs.declared.sent.Begun.{Begun}
 use Rattle.gtp_gateway.specs.declared.step.Step.{Step}
-use Rattle.gtp_gateway.specs.Begun.{AsksNext}
-use Rattle.gtp_gateway.specs.Received.{KeepsTiming}
-use Rattle.gtp_gateway.specs.Sent.{datagram_by}
-use Rattle.gtp_gateway.specs.Spelled.{message_in}
-use Rattle.gtp_gateway.specs.Station.{Timing, Station, IsTied, IsWhole}
-use Rattle.gtp_gateway.specs.Ticked.{CountsOn}
-use Rattle.gtp_gateway.proofs.GoingOn.{on_goes}
+use Rattle.gtp_gateway.specs.command.Command.{SendsRequestNext}
+use Rattle.gtp_gateway.specs.receive.Received.{QueuesAfterReceive}
+use Rattle.gtp_gateway.specs.messages.Sent.{datagram_by}
+use Rattle.gtp_gateway.specs.messages.Spelled.{message_in}
+use Rattle.gtp_gateway.specs.GatewayState.{Queues, GatewayState, NodeMatchesQueues, IsSoundState}
+use Rattle.gtp_gateway.specs.Tick.{QueuesAfterTick}
+use Rattle.gtp_gateway.proofs.QueuesAfter.{on_goes}
 use Rattle.gtp_gateway.proofs.ChosenOnce.{same_beside, one_next}
 
 -- a list with what an option holds before it, where a test is true
@@ -119,11 +119,11 @@ same_held source octets (Some a) None ps e = absurd (longer ps (just_kept source
 abbrev begins : Beginning → Waiting Purpose
 begins b = just_sent b.number b.to b.octets b.purpose
 
-module _ (old : Station) (apart : AreDistinct old.timing.waiting) where
+module _ (old : GatewayState) (apart : AreDistinct old.queues.waiting) where
   abbrev ws : List (Waiting Purpose)
-  ws = old.timing.waiting
+  ws = old.queues.waiting
 
-  pushed : (stays : Waiting Purpose → Bool) (b : Beginning) → IsNextFree old.timing.next (filter stays ws) b.number → pending_in (filter stays ws ++ (begins b ∷ [])) ≡ insert (pending_in (filter stays ws)) b.number (pending_of (begins b)).1
+  pushed : (stays : Waiting Purpose → Bool) (b : Beginning) → IsNextFree old.queues.next (filter stays ws) b.number → pending_in (filter stays ws ++ (begins b ∷ [])) ≡ insert (pending_in (filter stays ws)) b.number (pending_of (begins b)).1
   pushed stays b next = pending_push (filter stays ws) (begins b) (pending_of (begins b)).1 next.free refl
 
   -- a new request did not wait
@@ -131,12 +131,12 @@ module _ (old : Station) (apart : AreDistinct old.timing.waiting) where
   not_before stays b n is_new found = of_found (λ p. p.request ≢ message_in b.octets) ws n (pending_of (begins b)).1 is_new.other (found_before stays ws n (pending_of (begins b)).1 apart found) refl
 
   -- none was begun where none was
-  none_begun : (stays keeps : Waiting Purpose → Bool) (b : Beginning) → IsNextFree old.timing.next (filter stays ws) b.number → IsNewFor b old → pending_in (filter stays ws ++ (begins b ∷ [])) ≡ pending_in (filter keeps ws) → ⊥
+  none_begun : (stays keeps : Waiting Purpose → Bool) (b : Beginning) → IsNextFree old.queues.next (filter stays ws) b.number → IsNewFor b old → pending_in (filter stays ws ++ (begins b ∷ [])) ≡ pending_in (filter keeps ws) → ⊥
   none_begun stays keeps b next is_new same =
       not_before keeps b b.number is_new (ap (λ (k : FiniteMap PendingRequest). get k b.number) (sym same ∙ pushed stays b next) ∙ get-insert_same (pending_in (filter stays ws)) b.number (pending_of (begins b)).1)
 
   -- the same request was begun, and the same ones stay
-  one_begun : (stays keeps : Waiting Purpose → Bool) (a b : Beginning) → IsNextFree old.timing.next (filter stays ws) a.number → IsNextFree old.timing.next (filter keeps ws) b.number → IsNewFor a old
+  one_begun : (stays keeps : Waiting Purpose → Bool) (a b : Beginning) → IsNextFree old.queues.next (filter stays ws) a.number → IsNextFree old.queues.next (filter keeps ws) b.number → IsNewFor a old
       → insert (pending_in (filter stays ws)) a.number (pending_of (begins a)).1 ≡ insert (pending_in (filter keeps ws)) b.number (pending_of (begins b)).1
       → (a.number ≡ b.number) × ((pending_of (begins a)).1 ≡ (pending_of (begins b)).1) × (filter stays ws ≡ filter keeps ws)
   one_begun stays keeps a b next other is_new same = ⊎_elim
@@ -157,126 +157,126 @@ module _ (old : Station) (apart : AreDistinct old.timing.waiting) where
       λ i. record { seq = number i; to = to i; octets = octets i; purpose = tt; waited = 0; resent = 0 }
 
 -- the request for a new bearer that waits after a datagram was begun with it
-module _ (old : Station) (whole : IsWhole old) (tied : IsTied old) (apart : AreDistinct old.timing.waiting) where
+module _ (old : GatewayState) (whole : IsSoundState old) (tied : NodeMatchesQueues old) (apart : AreDistinct old.queues.waiting) where
   -- it did not wait before
-  no_request : {new others : FiniteMap PendingRequest} (n : ℕ) (p : PendingRequest) (stays : Waiting Purpose → Bool) → WaitsBeside old.node.drawn new others n p → get (pending_in (filter stays old.timing.waiting)) n ≡ Some p → ⊥
+  no_request : {new others : FiniteMap PendingRequest} (n : ℕ) (p : PendingRequest) (stays : Waiting Purpose → Bool) → WaitsBeside old.node.drawn new others n p → get (pending_in (filter stays old.queues.waiting)) n ≡ Some p → ⊥
   no_request n p stays waits found = ∥∥₁_elim whole (hlevel) (λ sound.
-      waits.undrawn (drawn_before old.role old.node sound n p waits.request (ap (λ (k : FiniteMap PendingRequest). get k n) tied.pending ∙ found_before stays old.timing.waiting n p apart found) waits.asked))
+      waits.undrawn (drawn_before old.role old.node sound n p waits.request (ap (λ (k : FiniteMap PendingRequest). get k n) tied.pending ∙ found_before stays old.queues.waiting n p apart found) waits.asked))
 
   -- so it has the next free number beside those that stay
   pub record IsBegunAmong (others : FiniteMap PendingRequest) (n : ℕ) : Type 0 where
     pub stays : Waiting Purpose → Bool
-    pub next : IsNextFree old.timing.next (filter stays old.timing.waiting) n
-    pub beside : pending_in (filter stays old.timing.waiting) ≡ others
+    pub next : IsNextFree old.queues.next (filter stays old.queues.waiting) n
+    pub beside : pending_in (filter stays old.queues.waiting) ≡ others
 
-  begun_among : (source : Endpoint) (octets : List ℕ) (new : Station) (others : FiniteMap PendingRequest) (n : ℕ) (p : PendingRequest) → GoesOn source octets old new → WaitsBeside old.node.drawn new.node.pending others n p → IsBegunAmong others n
+  begun_among : (source : Endpoint) (octets : List ℕ) (new : GatewayState) (others : FiniteMap PendingRequest) (n : ℕ) (p : PendingRequest) → QueuesAfterMessage source octets old new → WaitsBeside old.node.drawn new.node.pending others n p → IsBegunAmong others n
   begun_among source octets new others n p goes waits = by goes.begun goes.next left
     where
-      left : pending_in (begun_with goes.begun (waiting_on goes.stays old.timing)).waiting ≡ insert others n p
-      left = ap (λ (t : Timing). pending_in t.waiting) (sym goes.timing) ∙ (sym goes.tied.pending ∙ waits.is)
+      left : pending_in (begun_with goes.begun (waiting_on goes.stays old.queues)).waiting ≡ insert others n p
+      left = ap (λ (t : Queues). pending_in t.waiting) (sym goes.queues) ∙ (sym goes.tied.pending ∙ waits.is)
 
-      by : (x : Option Beginning) → IsNext x (waiting_on goes.stays old.timing) → pending_in (begun_with x (waiting_on goes.stays old.timing)).waiting ≡ insert others n p → IsBegunAmong others n
+      by : (x : Option Beginning) → IsNext x (waiting_on goes.stays old.queues) → pending_in (begun_with x (waiting_on goes.stays old.queues)).waiting ≡ insert others n p → IsBegunAmong others n
       by None next is = absurd (no_request n p goes.stays waits (ap (λ (k : FiniteMap PendingRequest). get k n) is ∙ get-insert_same others n p))
       by (Some b) next is =
-          let stay : FiniteMap PendingRequest = pending_in (filter goes.stays old.timing.waiting) in
+          let stay : FiniteMap PendingRequest = pending_in (filter goes.stays old.queues.waiting) in
           let both : insert stay b.number (pending_of (begins b)).1 ≡ insert others n p = sym (pushed old apart goes.stays b next) ∙ is in
           ⊎_elim
           (λ here. record {
             stays = goes.stays;
-            next = subst (λ (k : ℕ). IsNextFree old.timing.next (filter goes.stays old.timing.waiting) k) (sym here.0) next;
-            beside = same_beside stay others n (pending_of (begins b)).1 p (ap (λ k. get stay k) here.0 ∙ none_pending (filter goes.stays old.timing.waiting) b.number next.free) waits.absent (ap (λ (k : ℕ). insert stay k (pending_of (begins b)).1) here.0 ∙ both);
+            next = subst (λ (k : ℕ). IsNextFree old.queues.next (filter goes.stays old.queues.waiting) k) (sym here.0) next;
+            beside = same_beside stay others n (pending_of (begins b)).1 p (ap (λ k. get stay k) here.0 ∙ none_pending (filter goes.stays old.queues.waiting) b.number next.free) waits.absent (ap (λ (k : ℕ). insert stay k (pending_of (begins b)).1) here.0 ∙ both);
           })
           (λ there. absurd (no_request n p goes.stays waits there.1))
           (found-insert stay b.number (pending_of (begins b)).1 n p (ap (λ (k : FiniteMap PendingRequest). get k n) both ∙ get-insert_same others n p))
 
-  pub number_begun : (source : Endpoint) (octets : List ℕ) (new left : Station) (others : FiniteMap PendingRequest) (m n : ℕ) (p q : PendingRequest) → GoesOn source octets old new → GoesOn source octets old left → WaitsBeside old.node.drawn new.node.pending others m p → WaitsBeside old.node.drawn left.node.pending others n q → m ≡ n
+  pub number_begun : (source : Endpoint) (octets : List ℕ) (new left : GatewayState) (others : FiniteMap PendingRequest) (m n : ℕ) (p q : PendingRequest) → QueuesAfterMessage source octets old new → QueuesAfterMessage source octets old left → WaitsBeside old.node.drawn new.node.pending others m p → WaitsBeside old.node.drawn left.node.pending others n q → m ≡ n
   number_begun source octets new left others m n p q goes also waits too =
       let one = begun_among source octets new others m p goes waits in
       let other = begun_among source octets left others n q also too in
-      let same = same_filter one.stays other.stays old.timing.waiting apart (one.beside ∙ sym other.beside) in
-      one_next old.timing.next (filter other.stays old.timing.waiting) m n (subst (λ (ws : List (Waiting Purpose)). IsNextFree old.timing.next ws m) same one.next) other.next
+      let same = same_filter one.stays other.stays old.queues.waiting apart (one.beside ∙ sym other.beside) in
+      one_next old.queues.next (filter other.stays old.queues.waiting) m n (subst (λ (ws : List (Waiting Purpose)). IsNextFree old.queues.next ws m) same one.next) other.next
 
 -- what ticks go by, after a datagram
-abbrev timing_after : Endpoint → List ℕ → Station → Option Beginning → (Waiting Purpose → Bool) → Option (List ℕ) → Timing
-timing_after source octets old begun stays answer = record (begun_with begun (waiting_on stays old.timing)) { held = held_with source octets answer old.timing.held }
+abbrev timing_after : Endpoint → List ℕ → GatewayState → Option Beginning → (Waiting Purpose → Bool) → Option (List ℕ) → Queues
+timing_after source octets old begun stays answer = record (begun_with begun (waiting_on stays old.queues)) { held = held_with source octets answer old.queues.held }
 
-module _ (source : Endpoint) (octets : List ℕ) (old new left : Station) (apart : AreDistinct old.timing.waiting) (role : new.role ≡ left.role) (node : new.node ≡ left.node) (m : GoesOn source octets old new) (n : GoesOn source octets old left) where
-  abbrev one : Option Beginning → Timing
+module _ (source : Endpoint) (octets : List ℕ) (old new left : GatewayState) (apart : AreDistinct old.queues.waiting) (role : new.role ≡ left.role) (node : new.node ≡ left.node) (m : QueuesAfterMessage source octets old new) (n : QueuesAfterMessage source octets old left) where
+  abbrev one : Option Beginning → Queues
   one begun = timing_after source octets old begun m.stays m.answer
 
-  abbrev two : Option Beginning → Timing
+  abbrev two : Option Beginning → Queues
   two begun = timing_after source octets old begun n.stays n.answer
 
-  pending_alike : (x y : Option Beginning) → new.timing ≡ one x → left.timing ≡ two y → pending_in (one x).waiting ≡ pending_in (two y).waiting
-  pending_alike x y p q = ap (λ (t : Timing). pending_in t.waiting) (sym p) ∙ (sym m.tied.pending ∙ (ap (λ (k : Node). k.pending) node ∙ (n.tied.pending ∙ ap (λ (t : Timing). pending_in t.waiting) q)))
+  pending_alike : (x y : Option Beginning) → new.queues ≡ one x → left.queues ≡ two y → pending_in (one x).waiting ≡ pending_in (two y).waiting
+  pending_alike x y p q = ap (λ (t : Queues). pending_in t.waiting) (sym p) ∙ (sym m.tied.pending ∙ (ap (λ (k : Node). k.pending) node ∙ (n.tied.pending ∙ ap (λ (t : Queues). pending_in t.waiting) q)))
 
-  held_alike : (x y : Option Beginning) → new.timing ≡ one x → left.timing ≡ two y → map held_of (held_with source octets m.answer old.timing.held) ≡ map held_of (held_with source octets n.answer old.timing.held)
-  held_alike x y p q = ap (λ (t : Timing). map held_of t.held) (sym p) ∙ (sym m.tied.held ∙ (ap (λ (k : Node). k.held) node ∙ (n.tied.held ∙ ap (λ (t : Timing). map held_of t.held) q)))
+  held_alike : (x y : Option Beginning) → new.queues ≡ one x → left.queues ≡ two y → map held_of (held_with source octets m.answer old.queues.held) ≡ map held_of (held_with source octets n.answer old.queues.held)
+  held_alike x y p q = ap (λ (t : Queues). map held_of t.held) (sym p) ∙ (sym m.tied.held ∙ (ap (λ (k : Node). k.held) node ∙ (n.tied.held ∙ ap (λ (t : Queues). map held_of t.held) q)))
 
-  alike : (x y : Option Beginning) → new.timing ≡ one x → left.timing ≡ two y → (one x).timers ≡ (two y).timers → (one x).next ≡ (two y).next → map waits_as (one x).waiting ≡ map waits_as (two y).waiting → AreLeftAlike new left
+  alike : (x y : Option Beginning) → new.queues ≡ one x → left.queues ≡ two y → (one x).timers ≡ (two y).timers → (one x).next ≡ (two y).next → map waits_as (one x).waiting ≡ map waits_as (two y).waiting → AreLeftAlike new left
   alike x y p q timers next waiting = record {
     role = role;
     node = node;
-    timers = ap (λ (t : Timing). t.timers) p ∙ (timers ∙ sym (ap (λ (t : Timing). t.timers) q));
-    next = ap (λ (t : Timing). t.next) p ∙ (next ∙ sym (ap (λ (t : Timing). t.next) q));
-    waiting = ap (λ (t : Timing). map waits_as t.waiting) p ∙ (waiting ∙ sym (ap (λ (t : Timing). map waits_as t.waiting) q));
-    held = ap (λ (t : Timing). map held_as t.held) p ∙ (same_held source octets m.answer n.answer old.timing.held (held_alike x y p q) ∙ sym (ap (λ (t : Timing). map held_as t.held) q));
+    timers = ap (λ (t : Queues). t.timers) p ∙ (timers ∙ sym (ap (λ (t : Queues). t.timers) q));
+    next = ap (λ (t : Queues). t.next) p ∙ (next ∙ sym (ap (λ (t : Queues). t.next) q));
+    waiting = ap (λ (t : Queues). map waits_as t.waiting) p ∙ (waiting ∙ sym (ap (λ (t : Queues). map waits_as t.waiting) q));
+    held = ap (λ (t : Queues). map held_as t.held) p ∙ (same_held source octets m.answer n.answer old.queues.held (held_alike x y p q) ∙ sym (ap (λ (t : Queues). map held_as t.held) q));
   }
 
-  by_begun : (x y : Option Beginning) → IsNext x (waiting_on m.stays old.timing) → IsNext y (waiting_on n.stays old.timing) → IsNew x old → IsNew y old → new.timing ≡ one x → left.timing ≡ two y → AreLeftAlike new left
-  by_begun None None i j v w p q = alike None None p q refl refl (ap (map waits_as) (same_filter m.stays n.stays old.timing.waiting apart (pending_alike None None p q)))
+  by_begun : (x y : Option Beginning) → IsNext x (waiting_on m.stays old.queues) → IsNext y (waiting_on n.stays old.queues) → IsNew x old → IsNew y old → new.queues ≡ one x → left.queues ≡ two y → AreLeftAlike new left
+  by_begun None None i j v w p q = alike None None p q refl refl (ap (map waits_as) (same_filter m.stays n.stays old.queues.waiting apart (pending_alike None None p q)))
   by_begun None (Some b) i j v w p q = absurd (none_begun old apart n.stays m.stays b j w (sym (pending_alike None (Some b) p q)))
   by_begun (Some a) None i j v w p q = absurd (none_begun old apart m.stays n.stays a i v (pending_alike (Some a) None p q))
   by_begun (Some a) (Some b) i j v w p q =
       let same = one_begun old apart m.stays n.stays a b i j v (sym (pushed old apart m.stays a i) ∙ (pending_alike (Some a) (Some b) p q ∙ pushed old apart n.stays b j)) in
       let begun = same_begins old apart a b v w same.0 (ap (λ (k : PendingRequest). k.request) same.1) in
       alike (Some a) (Some b) p q refl (ap number_after same.0)
-      (map_push waits_as (filter m.stays old.timing.waiting) (begins a)
+      (map_push waits_as (filter m.stays old.queues.waiting) (begins a)
       ∙ ((λ i. map waits_as (same.2 i) ++ (begun i ∷ []))
-      ∙ sym (map_push waits_as (filter n.stays old.timing.waiting) (begins b))))
+      ∙ sym (map_push waits_as (filter n.stays old.queues.waiting) (begins b))))
 
   pub left_goes : AreLeftAlike new left
-  left_goes = by_begun m.begun n.begun m.next n.next m.new_one n.new_one m.timing n.timing
+  left_goes = by_begun m.begun n.begun m.next n.next m.new_one n.new_one m.queues n.queues
 
 -- what ticks go by after a datagram that was received as a whole
-abbrev pub KeepsOnce : Plane → Endpoint → List ℕ → Step → Station → Station → Type 0
-KeepsOnce Control source octets step old new = GoesOn source octets old new
-KeepsOnce User source octets step old new = KeepsTiming User source octets step old new
+abbrev pub KeepsOnce : Plane → Endpoint → List ℕ → Step → GatewayState → GatewayState → Type 0
+KeepsOnce Control source octets step old new = QueuesAfterMessage source octets old new
+KeepsOnce User source octets step old new = QueuesAfterReceive User source octets step old new
 
-pub left_by : (plane : Plane) (source : Endpoint) (octets : List ℕ) (step other : Step) (old new left : Station) → AreDistinct old.timing.waiting → new.role ≡ left.role → new.node ≡ left.node → KeepsOnce plane source octets step old new → KeepsOnce plane source octets other old left → AreLeftAlike new left
+pub left_by : (plane : Plane) (source : Endpoint) (octets : List ℕ) (step other : Step) (old new left : GatewayState) → AreDistinct old.queues.waiting → new.role ≡ left.role → new.node ≡ left.node → KeepsOnce plane source octets step old new → KeepsOnce plane source octets other old left → AreLeftAlike new left
 left_by Control source octets step other old new left apart role node m n = left_goes source octets old new left apart role node m n
 left_by User source octets step other old new left apart role node m n = left_goes source octets old new left apart role node (on_goes source octets old new m.1 m.2) (on_goes source octets old left n.1 n.2)
 
 -- ---- after a command
 
-left_stays : (old new left : Station) → new.role ≡ left.role → new.node ≡ left.node → new.timing ≡ old.timing → left.timing ≡ old.timing → AreLeftAlike new left
+left_stays : (old new left : GatewayState) → new.role ≡ left.role → new.node ≡ left.node → new.queues ≡ old.queues → left.queues ≡ old.queues → AreLeftAlike new left
 left_stays old new left role node m n =
-    let same : new.timing ≡ left.timing = m ∙ sym n in
+    let same : new.queues ≡ left.queues = m ∙ sym n in
     record {
       role = role;
       node = node;
-      timers = ap (λ (t : Timing). t.timers) same;
-      next = ap (λ (t : Timing). t.next) same;
-      waiting = ap (λ (t : Timing). map waits_as t.waiting) same;
-      held = ap (λ (t : Timing). map held_as t.held) same;
+      timers = ap (λ (t : Queues). t.timers) same;
+      next = ap (λ (t : Queues). t.next) same;
+      waiting = ap (λ (t : Queues). map waits_as t.waiting) same;
+      held = ap (λ (t : Queues). map held_as t.held) same;
     }
 
-left_asked : (old : Station) (begun other : Begun) (new left : Station) → new.role ≡ left.role → new.node ≡ left.node → datagram_by begun.out ≡ datagram_by other.out → AsksNext old begun new → AsksNext old other left → AreLeftAlike new left
+left_asked : (old : GatewayState) (begun other : Begun) (new left : GatewayState) → new.role ≡ left.role → new.node ≡ left.node → datagram_by begun.out ≡ datagram_by other.out → SendsRequestNext old begun new → SendsRequestNext old other left → AreLeftAlike new left
 left_asked old begun other new left role node sent m n =
-    let number : m.number ≡ n.number = one_next old.timing.next old.timing.waiting m.number n.number m.free n.free in
+    let number : m.number ≡ n.number = one_next old.queues.next old.queues.waiting m.number n.number m.free n.free in
     let first : Waiting Purpose = just_sent m.number begun.out.to begun.out.octets.items m.purpose in
     let second : Waiting Purpose = just_sent n.number other.out.to other.out.octets.items n.purpose in
     let same : waits_as first ≡ waits_as second = λ i. record { seq = number i; to = (sent i).to; octets = (sent i).octets; purpose = tt; waited = 0; resent = 0 } in
     record {
       role = role;
       node = node;
-      timers = ap (λ (t : Timing). t.timers) m.timing ∙ sym (ap (λ (t : Timing). t.timers) n.timing);
-      next = ap (λ (t : Timing). t.next) m.timing ∙ (ap number_after number ∙ sym (ap (λ (t : Timing). t.next) n.timing));
-      waiting = ap (λ (t : Timing). map waits_as t.waiting) m.timing ∙ (map_push waits_as old.timing.waiting first ∙ (ap (λ k. map waits_as old.timing.waiting ++ (k ∷ [])) same ∙ (sym (map_push waits_as old.timing.waiting second) ∙ sym (ap (λ (t : Timing). map waits_as t.waiting) n.timing))));
-      held = ap (λ (t : Timing). map held_as t.held) m.timing ∙ sym (ap (λ (t : Timing). map held_as t.held) n.timing);
+      timers = ap (λ (t : Queues). t.timers) m.queues ∙ sym (ap (λ (t : Queues). t.timers) n.queues);
+      next = ap (λ (t : Queues). t.next) m.queues ∙ (ap number_after number ∙ sym (ap (λ (t : Queues). t.next) n.queues));
+      waiting = ap (λ (t : Queues). map waits_as t.waiting) m.queues ∙ (map_push waits_as old.queues.waiting first ∙ (ap (λ k. map waits_as old.queues.waiting ++ (k ∷ [])) same ∙ (sym (map_push waits_as old.queues.waiting second) ∙ sym (ap (λ (t : Queues). map waits_as t.waiting) n.queues))));
+      held = ap (λ (t : Queues). map held_as t.held) m.queues ∙ sym (ap (λ (t : Queues). map held_as t.held) n.queues);
     }
 
-pub one_left : (command : Command) (old : Station) (begun other : Begun) (new left : Station) → new.role ≡ left.role → new.node ≡ left.node → datagram_by begun.out ≡ datagram_by other.out → WaitsNext command old begun new → WaitsNext command old other left → AreLeftAlike new left
+pub one_left : (command : Command) (old : GatewayState) (begun other : Begun) (new left : GatewayState) → new.role ≡ left.role → new.node ≡ left.node → datagram_by begun.out ≡ datagram_by other.out → WaitsNext command old begun new → WaitsNext command old other left → AreLeftAlike new left
 one_left (Mark_end bearer) old begun other new left role node sent m n = left_stays old new left role node m.1 n.1
 one_left (Send_user bearer payload) old begun other new left role node sent m n = left_stays old new left role node m.1 n.1
 one_left command old begun other new left role node sent m n = left_asked old begun other new left role node sent m n
@@ -291,16 +291,16 @@ numbered_later t3 n3 w v is = by_tick (next_tick t3 n3 w) is
     by_tick SentAgain e = cc
     by_tick GivenUp e = cc
 
-pub left_ticked : (old new left : Station) → AreDistinct old.timing.waiting → new.role ≡ left.role → new.node ≡ left.node → CountsOn old new → CountsOn old left → AreLeftAlike new left
+pub left_ticked : (old new left : GatewayState) → AreDistinct old.queues.waiting → new.role ≡ left.role → new.node ≡ left.node → QueuesAfterTick old new → QueuesAfterTick old left → AreLeftAlike new left
 left_ticked old new left apart role node m n =
-    let later : Waiting Purpose → Option (Waiting Purpose) = after_tick old.timing.timers.t3 old.timing.timers.n3 in
-    let pending : pending_in (filter_map later (filter m.stays old.timing.waiting)) ≡ pending_in (filter_map later (filter n.stays old.timing.waiting)) =
-    ap (λ (t : Timing). pending_in t.waiting) (sym m.timing) ∙ (sym m.tied.pending ∙ (ap (λ (k : Node). k.pending) node ∙ (n.tied.pending ∙ ap (λ (t : Timing). pending_in t.waiting) n.timing))) in
+    let later : Waiting Purpose → Option (Waiting Purpose) = after_tick old.queues.timers.t3 old.queues.timers.n3 in
+    let pending : pending_in (filter_map later (filter m.stays old.queues.waiting)) ≡ pending_in (filter_map later (filter n.stays old.queues.waiting)) =
+    ap (λ (t : Queues). pending_in t.waiting) (sym m.queues) ∙ (sym m.tied.pending ∙ (ap (λ (k : Node). k.pending) node ∙ (n.tied.pending ∙ ap (λ (t : Queues). pending_in t.waiting) n.queues))) in
     record {
       role = role;
       node = node;
-      timers = ap (λ (t : Timing). t.timers) m.timing ∙ sym (ap (λ (t : Timing). t.timers) n.timing);
-      next = ap (λ (t : Timing). t.next) m.timing ∙ sym (ap (λ (t : Timing). t.next) n.timing);
-      waiting = ap (λ (t : Timing). map waits_as t.waiting) m.timing ∙ (ap (map waits_as) (same_staying later (numbered_later old.timing.timers.t3 old.timing.timers.n3) m.stays n.stays old.timing.waiting apart pending) ∙ sym (ap (λ (t : Timing). map waits_as t.waiting) n.timing));
-      held = ap (λ (t : Timing). map held_as t.held) m.timing ∙ sym (ap (λ (t : Timing). map held_as t.held) n.timing);
+      timers = ap (λ (t : Queues). t.timers) m.queues ∙ sym (ap (λ (t : Queues). t.timers) n.queues);
+      next = ap (λ (t : Queues). t.next) m.queues ∙ sym (ap (λ (t : Queues). t.next) n.queues);
+      waiting = ap (λ (t : Queues). map waits_as t.waiting) m.queues ∙ (ap (map waits_as) (same_staying later (numbered_later old.queues.timers.t3 old.queues.timers.n3) m.stays n.stays old.queues.waiting apart pending) ∙ sym (ap (λ (t : Queues). map waits_as t.waiting) n.queues));
+      held = ap (λ (t : Queues). map held_as t.held) m.queues ∙ sym (ap (λ (t : Queues). map held_as t.held) n.queues);
     }

@@ -17,10 +17,10 @@ use Rattle.gtp_machine.specs.Reading.{control_message, user_message, Alone, Both
 use Rattle.gtp_machine.specs.Spelling.{spelled_on, spelled, spelled_all, plain_user}
 use Rattle.gtp_machine.proofs.Octets.ByGrammar.{decoded_reads, user_decoded_reads}
 use Rattle.gtp_machine.proofs.Octets.Datagrams.{message_reads_alone, datagram_by_grammar}
-use Rattle.gtp_gateway.specs.Own.{IsOwn, IsUserOwn}
-use Rattle.gtp_gateway.specs.Pair.{first_length}
-use Rattle.gtp_gateway.specs.Sent.{ReadsBackOn, ReadsBack}
-use Rattle.gtp_gateway.specs.Spelled.{message_read, message_in, those_read, messages_in, LieApart, AreSpelled, AreSpelledAll}
+use Rattle.gtp_gateway.specs.messages.Own.{IsOwn, IsUserOwn}
+use Rattle.gtp_gateway.specs.receive.TwoMessages.{first_length}
+use Rattle.gtp_gateway.specs.messages.Sent.{ReadsBackOn, ReadsBack}
+use Rattle.gtp_gateway.specs.messages.Spelled.{message_read, message_in, those_read, messages_in, LieApart, AreSpelled, AreSpelledAll}
 
 pub own_spelled : (m : decoded.Message) → IsOwn m → canonical_encoding (message_value m) ≡ spelled (control_message m)
 own_spelled m own = ap canonical_encoding own.says ∙ sym (ap (λ p. spelled_on p (control_message m)) own.control)

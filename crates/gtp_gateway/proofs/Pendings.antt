@@ -18,13 +18,16 @@ use Rattle.gtp_machine.specs.Node.{PendingRequest}
 use Rattle.gtp_machine.specs.Response.{IsEcho}
 use Rattle.gtp_machine.specs.Serving.{FitsDeletion}
 use Rattle.gtp_machine.specs.Packet.{FitsRemoval}
-use Rattle.gtp_gateway.specs.declared.purpose.Purpose.{Purpose}
-use Rattle.gtp_gateway.specs.declared.purpose.Purpose.TheVariants.{Echo, DeleteSession, ReleaseSession, DeleteBearer}
-use Rattle.gtp_gateway.specs.declared.response.Response.{Response}
-use Rattle.gtp_gateway.specs.Asking.{about}
+use Rattle.gtp_gateway.specs.declared.command.purpose.Purpose.{Purpose}
+use Rattle.gtp_gateway.specs.declared.command.purpose.Purpose.TheVariants.{Echo, DeleteSession, ReleaseSession, DeleteBearer}
+use Rattle.gtp_gateway.specs.declared.receive.response.Response.{Response}
+use Rattle.gtp_gateway.specs.command.SendRequest.{about}
 use Rattle.gtp_gateway.specs.Parts.{pending_of, pending_in}
-use Rattle.gtp_gateway.specs.Response.{FitsEcho, Names, FitsDeletionOf, FitsRemovalOf}
-use Rattle.gtp_gateway.specs.Spelled.{message_in, is_for, IsAsked, AreAsked}
+use Rattle.gtp_gateway.specs.receive.Echo.{FitsEcho}
+use Rattle.gtp_gateway.specs.receive.Response.{Names}
+use Rattle.gtp_gateway.specs.receive.DeleteSessionResponse.{FitsDeleteSessionOf}
+use Rattle.gtp_gateway.specs.receive.DeleteBearerResponse.{FitsDeleteBearerOf}
+use Rattle.gtp_gateway.specs.messages.Spelled.{message_in, is_for, IsAsked, AreAsked}
 
 -- a request for the purpose waits under the number
 pub record Waits (ws : List (Waiting Purpose)) (n : ℕ) (purpose : Purpose) : Type 0 where
@@ -116,23 +119,23 @@ pub names_there : (session header asked : ℕ) (cause : Cause) (named : Bool) (r
 names_there session header asked cause named r told at of (inl same) = inl (ap (λ (t : ℕ). one t) (same ∙ sym at))
 names_there session header asked cause named r told at of (inr (zero, unknown, is)) = inr (at ∙ zero, ap (λ (c : Cause). c.value) of ∙ unknown, named_some named asked told is)
 
-pub deletion_there : (purpose : Purpose) (m : Message) (r : Response) (d : DeleteSessionResponse) → is_for purpose m ≡ true → d.header ≡ r.header.0 → d.cause ≡ r.cause → FitsDeletionOf purpose r → FitsDeletion (about purpose m) d
+pub deletion_there : (purpose : Purpose) (m : Message) (r : Response) (d : DeleteSessionResponse) → is_for purpose m ≡ true → d.header ≡ r.header.0 → d.cause ≡ r.cause → FitsDeleteSessionOf purpose r → FitsDeletion (about purpose m) d
 deletion_there (DeleteSession session named) (Delete_session_request q) r d meant at of names = record { request = q; asked = refl; named = names_there session.0 d.header q.header d.cause named r meant at of names }
 deletion_there (DeleteSession session named) m r d meant at of names = absurd cc
 deletion_there purpose m r d meant at of names = absurd names
 
-pub deletion_here : (purpose : Purpose) (m : Message) (r : Response) (d : DeleteSessionResponse) → is_for purpose m ≡ true → d.header ≡ r.header.0 → d.cause ≡ r.cause → FitsDeletion (about purpose m) d → FitsDeletionOf purpose r
+pub deletion_here : (purpose : Purpose) (m : Message) (r : Response) (d : DeleteSessionResponse) → is_for purpose m ≡ true → d.header ≡ r.header.0 → d.cause ≡ r.cause → FitsDeletion (about purpose m) d → FitsDeleteSessionOf purpose r
 deletion_here (DeleteSession session named) (Delete_session_request q) r d meant at of fits = names_here session.0 d.header q.header d.cause named r meant at of fits.named
 deletion_here purpose m r d meant at of fits = absurd (let asked = fits.asked in cc)
 
-pub removal_there : (purpose : Purpose) (m : Message) (r : Response) (d : DeleteBearerResponse) → is_for purpose m ≡ true → d.header ≡ r.header.0 → d.cause ≡ r.cause → FitsRemovalOf purpose r → FitsRemoval (about purpose m) d
+pub removal_there : (purpose : Purpose) (m : Message) (r : Response) (d : DeleteBearerResponse) → is_for purpose m ≡ true → d.header ≡ r.header.0 → d.cause ≡ r.cause → FitsDeleteBearerOf purpose r → FitsRemoval (about purpose m) d
 removal_there (ReleaseSession session named) (Delete_bearer_request q) r d meant at of names = record { request = q; asked = refl; named = names_there session.0 d.header q.header d.cause named r meant at of names }
 removal_there (ReleaseSession session named) m r d meant at of names = absurd cc
 removal_there (DeleteBearer session bearer named) (Delete_bearer_request q) r d meant at of names = record { request = q; asked = refl; named = names_there session.0 d.header q.header d.cause named r meant at of names }
 removal_there (DeleteBearer session bearer named) m r d meant at of names = absurd cc
 removal_there purpose m r d meant at of names = absurd names
 
-pub removal_here : (purpose : Purpose) (m : Message) (r : Response) (d : DeleteBearerResponse) → is_for purpose m ≡ true → d.header ≡ r.header.0 → d.cause ≡ r.cause → FitsRemoval (about purpose m) d → FitsRemovalOf purpose r
+pub removal_here : (purpose : Purpose) (m : Message) (r : Response) (d : DeleteBearerResponse) → is_for purpose m ≡ true → d.header ≡ r.header.0 → d.cause ≡ r.cause → FitsRemoval (about purpose m) d → FitsDeleteBearerOf purpose r
 removal_here (ReleaseSession session named) (Delete_bearer_request q) r d meant at of fits = names_here session.0 d.header q.header d.cause named r meant at of fits.named
 removal_here (DeleteBearer session bearer named) (Delete_bearer_request q) r d meant at of fits = names_here session.0 d.header q.header d.cause named r meant at of fits.named
 removal_here purpose m r d meant at of fits = absurd (let asked = fits.asked in cc)

@@ -17,7 +17,7 @@ use Rattle.gtp_machine.proofs.Octets.Faults.{IsFault, fault_is}
 use Rattle.gtp_machine.specs.declared.message_type.MessageType.TheVariants as types
 use Rattle.gtp_machine.specs.declared.message_type.MessageType.{MessageType}
 use Rattle.gtp_machine.specs.MessageType.{type_at}
-use Rattle.gtp_gateway.specs.Spelled as kept
+use Rattle.gtp_gateway.specs.messages.Spelled as kept
 
 abbrev IsControl : Message → Type 0
 IsControl m = plane_of m ≡ Control

@@ -13,15 +13,15 @@ use Rattle.gtp_machine.proofs.Sound.Rows.{stays_sound}
 use Rattle.gtp_machine.proofs.Sound.Reads.{taken_whole, pair_reads_whole}
 use Rattle.gtp_gateway.specs.declared.step.Report.{Report}
 use Rattle.gtp_gateway.specs.declared.step.Step.{Step}
-use Rattle.gtp_gateway.specs.declared.control_step.ControlStep.{ControlStep}
+use Rattle.gtp_gateway.specs.declared.step.ControlStep.{ControlStep}
 use Rattle.gtp_gateway.specs.Parts.{arrival_of}
-use Rattle.gtp_gateway.specs.Received.{coming, of_control, first_comes, second_comes, IsReceivedOnce, AreReceived, IsReceived, IsControlTaken, KeepsTiming}
-use Rattle.gtp_gateway.specs.Station.{Station, IsTied, IsWhole}
-use Rattle.gtp_gateway.specs.Taken.{made_for, IsTaken}
-use Rattle.gtp_gateway.specs.UserTaken.{IsUserTaken}
+use Rattle.gtp_gateway.specs.receive.Received.{coming, of_control, first_comes, second_comes, IsReceivedOnce, AreReceived, IsReceived, IsControlTaken, QueuesAfterReceive}
+use Rattle.gtp_gateway.specs.GatewayState.{GatewayState, NodeMatchesQueues, IsSoundState}
+use Rattle.gtp_gateway.specs.receive.Taken.{made_for, IsTaken}
+use Rattle.gtp_gateway.specs.user.Receive.{IsUserTaken}
 use Rattle.gtp_gateway.proofs.AcceptedStays.{accepted_stays}
 
-once_received : (source : Endpoint) (octets : List ℕ) (old : Station) (step : ControlStep) (new : Station) → IsTaken source octets old step new → IsReceivedOnce Control source octets old (of_control step) new
+once_received : (source : Endpoint) (octets : List ℕ) (old : GatewayState) (step : ControlStep) (new : GatewayState) → IsTaken source octets old step new → IsReceivedOnce Control source octets old (of_control step) new
 once_received source octets old step new taken =
     let t = taken.tells in
     record {
@@ -32,11 +32,11 @@ once_received source octets old step new taken =
       role = taken.role;
     }
 
-pub control_received : (source : Endpoint) (octets : List ℕ) (old : Station) (step : ControlStep) (new : Station) → IsControlTaken source octets old step new → IsReceived Control source octets old (of_control step) new
+pub control_received : (source : Endpoint) (octets : List ℕ) (old : GatewayState) (step : ControlStep) (new : GatewayState) → IsControlTaken source octets old step new → IsReceived Control source octets old (of_control step) new
 control_received source octets old step new (inl (none, taken)) = inl (none, once_received source octets old step new taken)
 control_received source octets old step new (inr both) = inr both
 
-user_received : (source : Endpoint) (octets : List ℕ) (old : Station) (step : Step) (new : Station) → IsUserTaken source octets old step new → IsReceived User source octets old step new
+user_received : (source : Endpoint) (octets : List ℕ) (old : GatewayState) (step : Step) (new : GatewayState) → IsUserTaken source octets old step new → IsReceived User source octets old step new
 user_received source octets old step new taken =
     let t = taken.tells in
     let e = taken.effect in
@@ -58,15 +58,15 @@ user_received source octets old step new taken =
     }
 
 -- what is promised of a step that tells what this one tells, on the plane that is the user plane
-module _ (plane : Plane) (source : Endpoint) (octets : List ℕ) (old new : Station) (step given : Step) (is : plane ≡ User) (same : step ≡ given) (taken : IsUserTaken source octets old given new) where
+module _ (plane : Plane) (source : Endpoint) (octets : List ℕ) (old new : GatewayState) (step given : Step) (is : plane ≡ User) (same : step ≡ given) (taken : IsUserTaken source octets old given new) where
   as_taken : IsUserTaken source octets old step new
   as_taken = subst (λ (s : Step). IsUserTaken source octets old s new) (sym same) taken
 
   pub as_received : IsReceived plane source octets old step new
   as_received = subst (λ (p : Plane). IsReceived p source octets old step new) (sym is) (user_received source octets old step new as_taken)
 
-  pub as_timed : IsTied new → KeepsTiming plane source octets step old new
-  as_timed tied = subst (λ (p : Plane). KeepsTiming p source octets step old new) (sym is) (as_taken.same, as_taken.waits, tied)
+  pub as_timed : NodeMatchesQueues new → QueuesAfterReceive plane source octets step old new
+  as_timed tied = subst (λ (p : Plane). QueuesAfterReceive p source octets step old new) (sym is) (as_taken.same, as_taken.waits, tied)
 
   pub as_stays : IsSome step.accepted → new ≡ old
   as_stays = accepted_stays source octets old step new as_taken
@@ -76,25 +76,25 @@ formed Control source octets = taken_whole (arrival_of source octets) (datagram_
 formed User source octets = tt
 
 -- a step of the machine leaves a sound node
-step_sound : (old new : Station) (input : Input) (e : Effect) → IsWellFormed input → MachineStep old.role old.node input e → new.node ≡ e.node → new.role ≡ old.role → IsSound old.role old.node → IsSound new.role new.node
+step_sound : (old new : GatewayState) (input : Input) (e : Effect) → IsWellFormed input → MachineStep old.role old.node input e → new.node ≡ e.node → new.role ≡ old.role → IsSound old.role old.node → IsSound new.role new.node
 step_sound old new input e is_formed takes becomes role before = subst (λ r. IsSound r new.node) (sym role) (subst (IsSound old.role) (sym becomes) (stays_sound old.role old.node input e before is_formed takes))
 
-once_sound : (plane : Plane) (source : Endpoint) (octets : List ℕ) (step : Step) (old new : Station) → IsReceivedOnce plane source octets old step new → IsSound old.role old.node → IsSound new.role new.node
+once_sound : (plane : Plane) (source : Endpoint) (octets : List ℕ) (step : Step) (old new : GatewayState) → IsReceivedOnce plane source octets old step new → IsSound old.role old.node → IsSound new.role new.node
 once_sound plane source octets step old new taken = step_sound old new (coming plane source octets) taken.effect (formed plane source octets) taken.takes taken.becomes taken.role
 
 -- so do two
-both_sound : (source : Endpoint) (octets : List ℕ) (step : Step) (old new : Station) (pair : TakesPair old.role old.node.config (arrival_of source octets) (datagram_reading octets)) → AreReceived source octets pair.answer pair.asked old step new → IsSound old.role old.node → IsSound new.role new.node
+both_sound : (source : Endpoint) (octets : List ℕ) (step : Step) (old new : GatewayState) (pair : TakesPair old.role old.node.config (arrival_of source octets) (datagram_reading octets)) → AreReceived source octets pair.answer pair.asked old step new → IsSound old.role old.node → IsSound new.role new.node
 both_sound source octets step old new pair taken before =
     let whole = pair_reads_whole octets (Create_session_response pair.answer) (Create_bearer_request pair.asked) (sym pair.is) in
     let between = stays_sound old.role old.node (first_comes source octets pair.answer) taken.first before whole.0 taken.takes in
     step_sound (record old { node = taken.first.node }) new (second_comes source octets pair.asked) taken.second whole.1 taken.follows taken.becomes taken.role between
 
-leaves_sound : (plane : Plane) (source : Endpoint) (octets : List ℕ) (step : Step) (old new : Station) → IsReceived plane source octets old step new → IsSound old.role old.node → IsSound new.role new.node
+leaves_sound : (plane : Plane) (source : Endpoint) (octets : List ℕ) (step : Step) (old new : GatewayState) → IsReceived plane source octets old step new → IsSound old.role old.node → IsSound new.role new.node
 leaves_sound Control source octets step old new (inl (none, taken)) = once_sound Control source octets step old new taken
 leaves_sound Control source octets step old new (inr (pair, taken)) = both_sound source octets step old new pair taken
 leaves_sound User source octets step old new taken = once_sound User source octets step old new taken
 
 -- what a datagram leaves is sound: it was one step or two, or changed nothing
-pub received_sound : {E : Type 0} (plane : Plane) (source : Endpoint) (octets : List ℕ) (r : Result Step E) (old new : Station) → IfOk r (λ step. IsReceived plane source octets old step new) → OnErr r (new ≡ old) → IsWhole old → IsWhole new
+pub received_sound : {E : Type 0} (plane : Plane) (source : Endpoint) (octets : List ℕ) (r : Result Step E) (old new : GatewayState) → IfOk r (λ step. IsReceived plane source octets old step new) → OnErr r (new ≡ old) → IsSoundState old → IsSoundState new
 received_sound plane source octets (Ok step) old new taken same whole = ∥∥₁_elim whole ∥∥₁_prop (λ before. merely (leaves_sound plane source octets step old new taken before))
-received_sound plane source octets (Err fault) old new taken same whole = subst IsWhole (sym same) whole
+received_sound plane source octets (Err fault) old new taken same whole = subst IsSoundState (sym same) whole

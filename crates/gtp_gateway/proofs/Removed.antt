@@ -9,7 +9,7 @@ use Rattle.gtp_values.specs.FiniteMap.{FiniteMap, kept}
 use Rattle.gtp_tables.proofs.Kept.{passing, get_kept}
 use Rattle.gtp_reliable.specs.Waiting.{Waiting}
 use Rattle.gtp_machine.specs.Node.{PendingRequest}
-use Rattle.gtp_gateway.specs.declared.purpose.Purpose.{Purpose}
+use Rattle.gtp_gateway.specs.declared.command.purpose.Purpose.{Purpose}
 use Rattle.gtp_gateway.specs.Parts.{pending_of, pending_in}
 
 -- an entry passes each test that is true of all

@@ -15,7 +15,7 @@ use Rattle.gtp_tables.proofs.Rows.{turned}
 use Rattle.gtp_reliable.specs.Waiting.{Waiting}
 use Rattle.gtp_reliable.specs.Pending.{is_pending, AreDistinct, IsNextFree}
 use Rattle.gtp_machine.specs.Node.{PendingRequest}
-use Rattle.gtp_gateway.specs.declared.purpose.Purpose.{Purpose}
+use Rattle.gtp_gateway.specs.declared.command.purpose.Purpose.{Purpose}
 use Rattle.gtp_gateway.specs.Parts.{pending_of, pending_in}
 
 pub not_found : (ws : List (Waiting Purpose)) (n : ℕ) → is_pending n ws ≡ false → find nat_cmp n (map pending_of ws) ≡ None

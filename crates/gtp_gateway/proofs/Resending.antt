@@ -21,12 +21,12 @@ use Rattle.gtp_machine.specs.Node.{PendingRequest, Node}
 use Rattle.gtp_machine.specs.Spelling.{datagram_of, spelled}
 use Rattle.gtp_machine.specs.Tick.{TickStep, joined}
 use Rattle.gtp_machine.proofs.Basics.Counting.{tied}
-use Rattle.gtp_gateway.specs.declared.purpose.Purpose.{Purpose}
-use Rattle.gtp_gateway.specs.declared.purpose.Purpose.TheVariants.{Echo, CreateSession, DeleteSession, ReleaseSession, CreateBearer, DeleteBearer}
+use Rattle.gtp_gateway.specs.declared.command.purpose.Purpose.{Purpose}
+use Rattle.gtp_gateway.specs.declared.command.purpose.Purpose.TheVariants.{Echo, CreateSession, DeleteSession, ReleaseSession, CreateBearer, DeleteBearer}
 use Rattle.gtp_gateway.specs.Parts.{pending_of, pending_in}
-use Rattle.gtp_gateway.specs.Sent.{ReadsBack, SendingReads}
-use Rattle.gtp_gateway.specs.Spelled.{message_in, is_for, IsAsked, AreAsked}
-use Rattle.gtp_gateway.specs.Ticked.{datagram_again}
+use Rattle.gtp_gateway.specs.messages.Sent.{ReadsBack, SendingReads}
+use Rattle.gtp_gateway.specs.messages.Spelled.{message_in, is_for, IsAsked, AreAsked}
+use Rattle.gtp_gateway.specs.Tick.{datagram_again}
 use Rattle.gtp_gateway.proofs.Requests.{not_found}
 use Rattle.gtp_gateway.proofs.Taking.{kept_back}
 

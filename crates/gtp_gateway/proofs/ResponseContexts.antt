@@ -7,7 +7,7 @@ use Rattle.gtp_values.specs.FiniteMap.{Among}
 use Rattle.gtp_values.specs.Decides.{First_and_others}
 use Rattle.gtp_v2.specs.Grammar.{One, EachIs}
 use Rattle.gtp_v2.specs.Viewed.{optional_at}
-use Rattle.gtp_gateway.specs.Contexts.{context_values, HasCause}
+use Rattle.gtp_gateway.specs.receive.ResponseContext.{context_values, HasCause}
 
 -- what a bearer context has by its rows
 abbrev Group : Type 0

@@ -17,20 +17,20 @@ use Rattle.gtp_machine.specs.declared.outcome.DropReason.TheVariants.{OldCounter
 use Rattle.gtp_machine.specs.declared.outcome.Outcome.{Outcome}
 use Rattle.gtp_machine.specs.declared.outcome.Outcome.TheVariants.{Dropped, Answered}
 use Rattle.gtp_gateway.specs.declared.sent.Sent.{Sent}
-use Rattle.gtp_gateway.specs.declared.control_step.ControlStep.{ControlStep}
-use Rattle.gtp_gateway.specs.Answering.{answering}
-use Rattle.gtp_gateway.specs.Sent.{datagram_by, ReadsBack, AreSent}
-use Rattle.gtp_gateway.specs.Row.{TellsRow, IsRow, IsHeardRow}
-use Rattle.gtp_gateway.specs.Station.{Station}
-use Rattle.gtp_gateway.specs.Taken.{plain_report, datagrams, Tells, IsTaken}
-use Rattle.gtp_gateway.specs.Hearing.{weighed_by, node_heard, IsEarlier, report_heard, effect_heard}
+use Rattle.gtp_gateway.specs.declared.step.ControlStep.{ControlStep}
+use Rattle.gtp_gateway.specs.receive.Answer.{answering}
+use Rattle.gtp_gateway.specs.messages.Sent.{datagram_by, ReadsBack, AreSent}
+use Rattle.gtp_gateway.specs.receive.Row.{TellsRow, IsRow, IsHeardRow}
+use Rattle.gtp_gateway.specs.GatewayState.{GatewayState}
+use Rattle.gtp_gateway.specs.receive.Taken.{plain_report, datagrams, Tells, IsTaken}
+use Rattle.gtp_gateway.specs.receive.RestartCounter.{weighed_by, node_heard, IsEarlier, report_heard, effect_heard}
 use Rattle.gtp_machine.specs.MessageType.{takes_message}
 use Rattle.gtp_machine.specs.Step.{TakesBy}
 use Rattle.gtp_gateway.specs.Parts.{arrival_of}
 use Rattle.gtp_gateway.proofs.SentBack.{none_sent, one_sent}
-use Rattle.gtp_gateway.proofs.Weighing.{told_is, later_is, hears_on, hears_old, config_stays}
+use Rattle.gtp_gateway.proofs.RestartCounters.{told_is, later_is, hears_on, hears_old, config_stays}
 
-pub drops : (Takes : Node → Effect → Type 0) (request : Arrival) (s : Station) (step : ControlStep) (why : DropReason) → step ≡ record { out = None; report = plain_report (Dropped why) } → Takes s.node (dropped s.node why) → IsRow Takes request s.role s.node step s
+pub drops : (Takes : Node → Effect → Type 0) (request : Arrival) (s : GatewayState) (step : ControlStep) (why : DropReason) → step ≡ record { out = None; report = plain_report (Dropped why) } → Takes s.node (dropped s.node why) → IsRow Takes request s.role s.node step s
 drops Takes request s step why is takes =
     subst (λ (t : ControlStep). IsRow Takes request s.role s.node t s) (sym is)
     (record {
@@ -41,7 +41,7 @@ drops Takes request s step why is takes =
       role_stays = refl;
     })
 
-pub ends : (Takes : Node → Effect → Type 0) (request : Arrival) (old new : Station) (step : ControlStep) (outcome : Outcome) (node : Node) → step ≡ record { out = None; report = plain_report outcome } → new.node ≡ node → new.role ≡ old.role → Takes old.node (record { out = nothing; outcome = Came_to outcome; node = node }) → IsRow Takes request old.role old.node step new
+pub ends : (Takes : Node → Effect → Type 0) (request : Arrival) (old new : GatewayState) (step : ControlStep) (outcome : Outcome) (node : Node) → step ≡ record { out = None; report = plain_report outcome } → new.node ≡ node → new.role ≡ old.role → Takes old.node (record { out = nothing; outcome = Came_to outcome; node = node }) → IsRow Takes request old.role old.node step new
 ends Takes request old new step outcome node is becomes role takes =
     subst (λ (t : ControlStep). IsRow Takes request old.role old.node t new) (sym is)
     (record {
@@ -53,7 +53,7 @@ ends Takes request old new step outcome node is becomes role takes =
     })
 
 -- an answer that is held, for a request for which a context may have been made
-pub answers_made : (Takes : Node → Effect → Type 0) (request : Arrival) (old new : Station) (step : ControlStep) (sent : Sent) (answer : List Message) (cause : ℕ) (made : Bool) (node : Node) → step ≡ record { out = Some sent; report = record (plain_report (Answered cause)) { made = made } } → datagram_by sent ≡ datagram_of old.node.config (record { destination = request.source; messages = answer }) → ReadsBack answer → new.node ≡ holding request answer node → new.role ≡ old.role
+pub answers_made : (Takes : Node → Effect → Type 0) (request : Arrival) (old new : GatewayState) (step : ControlStep) (sent : Sent) (answer : List Message) (cause : ℕ) (made : Bool) (node : Node) → step ≡ record { out = Some sent; report = record (plain_report (Answered cause)) { made = made } } → datagram_by sent ≡ datagram_of old.node.config (record { destination = request.source; messages = answer }) → ReadsBack answer → new.node ≡ holding request answer node → new.role ≡ old.role
     → Takes old.node (answering made request answer cause node) → IsRow Takes request old.role old.node step new
 answers_made Takes request old new step sent answer cause made node is goes back becomes role takes =
     subst (λ (t : ControlStep). IsRow Takes request old.role old.node t new) (sym is)
@@ -66,12 +66,12 @@ answers_made Takes request old new step sent answer cause made node is goes back
     })
 
 -- the same, where none was made
-pub answers : (Takes : Node → Effect → Type 0) (request : Arrival) (old new : Station) (step : ControlStep) (sent : Sent) (m : Message) (cause : ℕ) (node : Node) → step ≡ record { out = Some sent; report = plain_report (Answered cause) } → datagram_by sent ≡ datagram_of old.node.config (record { destination = request.source; messages = m ∷ [] }) → ReadsBack (m ∷ []) → new.node ≡ holding request (m ∷ []) node → new.role ≡ old.role → Takes old.node (answered request m cause node)
+pub answers : (Takes : Node → Effect → Type 0) (request : Arrival) (old new : GatewayState) (step : ControlStep) (sent : Sent) (m : Message) (cause : ℕ) (node : Node) → step ≡ record { out = Some sent; report = plain_report (Answered cause) } → datagram_by sent ≡ datagram_of old.node.config (record { destination = request.source; messages = m ∷ [] }) → ReadsBack (m ∷ []) → new.node ≡ holding request (m ∷ []) node → new.role ≡ old.role → Takes old.node (answered request m cause node)
     → IsRow Takes request old.role old.node step new
 answers Takes request old new step sent m cause node is goes back becomes role takes = answers_made Takes request old new step sent (m ∷ []) cause false node is goes back becomes role takes
 
 -- a row of one kind, at a gateway that has heard the counter, as a row of another
-pub as_row : (T U : Node → Effect → Type 0) (request : Arrival) (role there : Role) (old heard : Node) (step : ControlStep) (new : Station) → there ≡ role → heard ≡ old → ((node : Node) (e : Effect) → T node e → U node e) → IsRow T request there heard step new → IsRow U request role old step new
+pub as_row : (T U : Node → Effect → Type 0) (request : Arrival) (role there : Role) (old heard : Node) (step : ControlStep) (new : GatewayState) → there ≡ role → heard ≡ old → ((node : Node) (e : Effect) → T node e → U node e) → IsRow T request there heard step new → IsRow U request role old step new
 as_row T U request role there old heard step new same_role same each row =
     subst (λ (r : Role). IsRow U request r old step new) same_role
     (subst (λ (n : Node). IsRow U request there n step new) same
@@ -100,7 +100,7 @@ message_taken role old request m e peer new takes hears = inr (peer, inr (new, i
 pub message_left : (role : Role) (old : Node) (request : Arrival) (m : Message) → request.source.ip ≡ old.config.peer.control → IsNew old request → (takes_message role m ≡ true → ⊥) → MachineStep role old (Control_came request (Control_message m)) (dropped old Unexpected)
 message_left role old request m peer new not = inr (peer, inr (new, inl (not, refl)))
 
-tells_heard : (config : Config) (request : Arrival) (old : Station) (step : ControlStep) (recovery : Option Counter) (e : Effect) → config ≡ old.node.config → TellsRow config request step e → Tells old request (record step { report = report_heard (weighed_by recovery old.node.known) step.report }) (told recovery old.node.known e)
+tells_heard : (config : Config) (request : Arrival) (old : GatewayState) (step : ControlStep) (recovery : Option Counter) (e : Effect) → config ≡ old.node.config → TellsRow config request step e → Tells old request (record step { report = report_heard (weighed_by recovery old.node.known) step.report }) (told recovery old.node.known e)
 tells_heard config request old step None e same tells =
     record {
       sent = subst (λ (c : Config). AreSent c (datagrams step.out) e.out.sent) same tells.sent;
@@ -127,7 +127,7 @@ told_node None known e = refl
 told_node (Some counter) known e = refl
 
 -- a row, once the counter was heard, is a step on what the octets read as
-pub row_taken : (source : Endpoint) (octets : List ℕ) (old : Station) (m : Message) (recovery : Option Counter) (step : ControlStep) (new : Station) → source.ip ≡ old.node.config.peer.control → IsNew old.node (arrival_of source octets) → taken_as (datagram_reading octets) ≡ Control_message m → takes_message old.role m ≡ true
+pub row_taken : (source : Endpoint) (octets : List ℕ) (old : GatewayState) (m : Message) (recovery : Option Counter) (step : ControlStep) (new : GatewayState) → source.ip ≡ old.node.config.peer.control → IsNew old.node (arrival_of source octets) → taken_as (datagram_reading octets) ≡ Control_message m → takes_message old.role m ≡ true
     → option_map (λ (c : Counter). c.0) recovery ≡ recovery_of m → (IsEarlier (weighed_by recovery old.node.known) → ⊥) → IsHeardRow (arrival_of source octets) m (weighed_by recovery old.node.known) old step new
     → IsTaken source octets old (record step { report = report_heard (weighed_by recovery old.node.known) step.report }) new
 row_taken source octets old m recovery step new peer fresh reads takes counter on row =
@@ -143,7 +143,7 @@ row_taken source octets old m recovery step new peer fresh reads takes counter o
     }
 
 -- a message with a counter of an earlier start is dropped
-pub early_taken : (source : Endpoint) (octets : List ℕ) (old : Station) (m : Message) (recovery : Option Counter) → source.ip ≡ old.node.config.peer.control → IsNew old.node (arrival_of source octets) → taken_as (datagram_reading octets) ≡ Control_message m → takes_message old.role m ≡ true
+pub early_taken : (source : Endpoint) (octets : List ℕ) (old : GatewayState) (m : Message) (recovery : Option Counter) → source.ip ≡ old.node.config.peer.control → IsNew old.node (arrival_of source octets) → taken_as (datagram_reading octets) ≡ Control_message m → takes_message old.role m ≡ true
     → option_map (λ (c : Counter). c.0) recovery ≡ recovery_of m → IsEarlier (weighed_by recovery old.node.known)
     → IsTaken source octets old (record { out = None; report = report_heard (weighed_by recovery old.node.known) (plain_report (Dropped OldCounter)) }) old
 early_taken source octets old m recovery peer fresh reads takes counter early =

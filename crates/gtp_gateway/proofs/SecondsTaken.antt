@@ -1,4 +1,4 @@
--- The second message of a pair, taken by a gateway that has settled the first.
+-- The second message of a pair, taken by a gateway that has applied the first.
 use Rattle.std.proofs.Common.{◌≡◌, inl, inr, ℕ, Bool, true, List, [], ◌∷◌, map, Option, Some, None, option_map, refl, sym, ◌∙◌, ap, subst}
 use Rattle.gtp_values.specs.FiniteMap.{Among}
 use Rattle.gtp_values.specs.declared.address.Endpoint.{Endpoint}
@@ -16,27 +16,27 @@ use Rattle.gtp_machine.specs.Input.{Came_to, ControlReading, Control_message, no
 use Rattle.gtp_machine.specs.Message.{Message, CreateBearerRequest, Create_bearer_request}
 use Rattle.gtp_machine.specs.Node.{Session, Arrival, Held, Node}
 use Rattle.gtp_machine.specs.Serving.{BearerJudged, BearerAsked}
-use Rattle.gtp_gateway.specs.declared.control_step.ControlStep.{ControlStep}
-use Rattle.gtp_gateway.specs.declared.granting.BearerAnswer.{BearerAnswer}
-use Rattle.gtp_gateway.specs.declared.granting.BearerAnswer.TheVariants.{Refused, NoResources, Granted}
-use Rattle.gtp_gateway.specs.declared.granting.BearerRequest.{BearerRequest}
+use Rattle.gtp_gateway.specs.declared.step.ControlStep.{ControlStep}
+use Rattle.gtp_gateway.specs.declared.receive.create_bearer_request.judge.CreateBearerAnswer.{CreateBearerAnswer}
+use Rattle.gtp_gateway.specs.declared.receive.create_bearer_request.judge.CreateBearerAnswer.TheVariants.{Refused, NoResources, Granted}
+use Rattle.gtp_gateway.specs.declared.receive.create_bearer_request.BearerRequest.{BearerRequest}
 use Rattle.gtp_machine.specs.declared.message_type.MessageType.TheVariants as types
 use Rattle.gtp_gateway.specs.declared.sent.Sent.{Sent}
-use Rattle.gtp_gateway.specs.Answering.{answering}
-use Rattle.gtp_gateway.specs.Choosing.{MakesLowestBearer}
-use Rattle.gtp_gateway.specs.Granting.{IsChosen, bearer_answer, change_for, granted_to, is_granted, CanGive}
-use Rattle.gtp_gateway.specs.Change.{changed_by}
-use Rattle.gtp_gateway.specs.Needing.{StepSendsOrOpens}
+use Rattle.gtp_gateway.specs.receive.Answer.{answering}
+use Rattle.gtp_gateway.specs.receive.Choosing.{MakesLowestBearer}
+use Rattle.gtp_gateway.specs.receive.CreateBearerRequest.{IsChosen, bearer_answer, change_for, granted_to, is_granted, CanGive}
+use Rattle.gtp_gateway.specs.tables.Change.{changed_by}
+use Rattle.gtp_gateway.specs.receive.Allocations.{StepSendsOrOpens}
 use Rattle.gtp_gateway.specs.Parts.{arrival_of, held_of}
 use Rattle.gtp_machine.specs.MessageType.{takes_type, takes_message}
-use Rattle.gtp_gateway.specs.Row.{IsRow}
-use Rattle.gtp_gateway.specs.Sent.{datagram_by, AreSent}
-use Rattle.gtp_gateway.specs.Station.{Station}
-use Rattle.gtp_gateway.specs.Taken.{plain_report, IsTakenAs, IsSentAgain}
-use Rattle.gtp_gateway.proofs.Grants.{takes_bearer_request}
-use Rattle.gtp_gateway.proofs.Needing.{needs_bearer, message_needs, repeated_needs, bearer_asked}
+use Rattle.gtp_gateway.specs.receive.Row.{IsRow}
+use Rattle.gtp_gateway.specs.messages.Sent.{datagram_by, AreSent}
+use Rattle.gtp_gateway.specs.GatewayState.{GatewayState}
+use Rattle.gtp_gateway.specs.receive.Taken.{plain_report, IsTakenAs, IsSentAgain}
+use Rattle.gtp_gateway.proofs.CreateBearerRequests.{takes_bearer_request}
+use Rattle.gtp_gateway.proofs.Allocations.{needs_bearer, message_needs, repeated_needs, bearer_asked}
 use Rattle.gtp_gateway.proofs.Rows.{ends, message_taken}
-use Rattle.gtp_gateway.proofs.SessionGrants.{none_above}
+use Rattle.gtp_gateway.proofs.CreateSessionRequests.{none_above}
 use Rattle.gtp_gateway.proofs.Taking.{by_role}
 
 -- ---- an answer that is held
@@ -55,7 +55,7 @@ again_there source octets old node sent held config is = record {
   again = subst (λ (c : Config). AreSent c (datagram_by sent ∷ []) (record { destination = source; messages = is.held.answer } ∷ [])) (sym config) is.again;
 }
 
-pub repeated_taken : (reading : ControlReading) (source : Endpoint) (octets : List ℕ) (old new : Station) (sent : Sent) (step : ControlStep) → source.ip ≡ old.node.config.peer.control → IsSentAgain source octets old.node sent → step ≡ record { out = Some sent; report = plain_report Repeated } → new.node ≡ old.node → new.role ≡ old.role
+pub repeated_taken : (reading : ControlReading) (source : Endpoint) (octets : List ℕ) (old new : GatewayState) (sent : Sent) (step : ControlStep) → source.ip ≡ old.node.config.peer.control → IsSentAgain source octets old.node sent → step ≡ record { out = Some sent; report = plain_report Repeated } → new.node ≡ old.node → new.role ≡ old.role
     → IsTakenAs reading source octets old step new
 repeated_taken reading source octets old new sent step peer again is becomes role =
     let effect : Effect = record { out = says_all source again.held.answer; outcome = Came_to Repeated; node = old.node } in
@@ -70,7 +70,7 @@ repeated_taken reading source octets old new sent step peer again is becomes rol
 
 -- ---- a request that is taken by its row
 
-module _ (source : Endpoint) (octets : List ℕ) (q : CreateBearerRequest) (old : Station) (serving : old.role ≡ Serving) (peer : source.ip ≡ old.node.config.peer.control) where
+module _ (source : Endpoint) (octets : List ℕ) (q : CreateBearerRequest) (old : GatewayState) (serving : old.role ≡ Serving) (peer : source.ip ≡ old.node.config.peer.control) where
   abbrev request : Arrival
   request = arrival_of source octets
 
@@ -83,7 +83,7 @@ module _ (source : Endpoint) (octets : List ℕ) (q : CreateBearerRequest) (old 
   takes_it : takes_message old.role message ≡ true
   takes_it = ap (λ (r : Role). takes_message r message) serving
 
-  pub row_is_taken : IsNew old.node request → (step : ControlStep) (new : Station) → IsRow (BearerAsked request q) request old.role old.node step new → IsTakenAs (Control_message message) source octets old step new
+  pub row_is_taken : IsNew old.node request → (step : ControlStep) (new : GatewayState) → IsRow (BearerAsked request q) request old.role old.node step new → IsTakenAs (Control_message message) source octets old step new
   row_is_taken fresh step new row =
       let t = row.tells in
       record {
@@ -103,7 +103,7 @@ module _ (source : Endpoint) (octets : List ℕ) (q : CreateBearerRequest) (old 
       }
 
   -- it is dropped
-  pub drop_is_taken : IsNew old.node request → (step : ControlStep) (new : Station) (outcome : Outcome) → step ≡ record { out = None; report = plain_report outcome } → new.node ≡ old.node → new.role ≡ old.role → BearerAsked request q old.node (record { out = nothing; outcome = Came_to outcome; node = old.node })
+  pub drop_is_taken : IsNew old.node request → (step : ControlStep) (new : GatewayState) (outcome : Outcome) → step ≡ record { out = None; report = plain_report outcome } → new.node ≡ old.node → new.role ≡ old.role → BearerAsked request q old.node (record { out = nothing; outcome = Came_to outcome; node = old.node })
       → IsTakenAs (Control_message message) source octets old step new
   drop_is_taken fresh step new outcome is becomes role takes = row_is_taken fresh step new (ends (BearerAsked request q) request old new step outcome old.node is becomes role takes)
 
@@ -120,19 +120,19 @@ module _ (source : Endpoint) (octets : List ℕ) (q : CreateBearerRequest) (old 
 -- ---- what is answered
 
 -- the answer is the same at any gateway with this counter and these settings
-pub same_answer : (a : BearerAnswer) (header : ℕ) (q : CreateBearerRequest) (old node : Node) → node.counter ≡ old.counter → node.config ≡ old.config → bearer_answer a header q old ≡ bearer_answer a header q node
+pub same_answer : (a : CreateBearerAnswer) (header : ℕ) (q : CreateBearerRequest) (old node : Node) → node.counter ≡ old.counter → node.config ≡ old.config → bearer_answer a header q old ≡ bearer_answer a header q node
 same_answer (Refused cause) header q old node counter config = λ i. refusing types.CreateBearerRequest header q.number (cause_of cause) (sym counter i)
 same_answer NoResources header q old node counter config = λ i. bearer_answer NoResources header q (record node { counter = sym counter i })
 same_answer (Granted g) header q old node counter config = λ i. bearer_answer (Granted g) header q (record node { counter = sym counter i; config = sym config i })
 
 -- what is granted changes no settings
-pub change_config : (r : BearerRequest) (a : BearerAnswer) (n : Node) → (changed_by (change_for r a) n).config ≡ n.config
+pub change_config : (r : BearerRequest) (a : CreateBearerAnswer) (n : Node) → (changed_by (change_for r a) n).config ≡ n.config
 change_config r (Refused cause) n = refl
 change_config r NoResources n = refl
 change_config r (Granted g) n = refl
 
 -- the bearer that is granted has the lowest identity
-pub lowest_second : (r : BearerRequest) (a : BearerAnswer) (found : Option Session) (old settled new : Node) → CanGive found a old → IsChosen r.header.0 a settled → new.bearers ≡ (changed_by (change_for r a) settled).bearers → is_granted a ≡ true → MakesLowestBearer old new
+pub lowest_second : (r : BearerRequest) (a : CreateBearerAnswer) (found : Option Session) (old settled new : Node) → CanGive found a old → IsChosen r.header.0 a settled → new.bearers ≡ (changed_by (change_for r a) settled).bearers → is_granted a ≡ true → MakesLowestBearer old new
 lowest_second r (Refused cause) found old settled new can chosen is granted = absurd cc
 lowest_second r NoResources found old settled new can chosen is granted = absurd cc
 lowest_second r (Granted g) found old settled new can chosen is granted = record {

@@ -4,7 +4,7 @@ use Rattle.std.proofs.lemmas.List.Elements.{All-nil, All-cons}
 use Rattle.gtp_machine.specs.Config.{Config}
 use Rattle.gtp_machine.specs.Input.{Sending}
 use Rattle.gtp_machine.specs.Spelling.{Datagram, datagram_of}
-use Rattle.gtp_gateway.specs.Sent.{ReadsBack, SendingReads, AreSent}
+use Rattle.gtp_gateway.specs.messages.Sent.{ReadsBack, SendingReads, AreSent}
 
 -- nothing is sent
 pub none_sent : (config : Config) → AreSent config [] []

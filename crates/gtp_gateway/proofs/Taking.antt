@@ -13,8 +13,8 @@ use Rattle.gtp_machine.specs.Reading.{Alone, DatagramReads, reading_of}
 use Rattle.gtp_machine.specs.Spelling.{datagram_plane, spelled_all}
 use Rattle.gtp_machine.specs.Step.{Step, TakesBy}
 use Rattle.gtp_machine.proofs.Octets.Datagrams.{message_reads_alone}
-use Rattle.gtp_gateway.specs.Sent.{ReadsBackOn, ReadsBack}
-use Rattle.gtp_gateway.specs.Spelled.{message_in, those_read, messages_in, LieApart, AreSpelled, AreSpelledAll, IsKept, AreAnswered}
+use Rattle.gtp_gateway.specs.messages.Sent.{ReadsBackOn, ReadsBack}
+use Rattle.gtp_gateway.specs.messages.Spelled.{message_in, those_read, messages_in, LieApart, AreSpelled, AreSpelledAll, IsKept, AreAnswered}
 
 -- before a datagram is read, both gateways take the same steps
 pub by_role : (role : Role) (old : Node) (request : Arrival) (reading : ControlReading) (e : Effect) → ((Reads : Arrival → Node → Effect → Type 0) → ControlStep Reads request old e) → Step role old (Control_came request reading) e

@@ -9,7 +9,7 @@ use Rattle.gtp_values.proofs.Tests.{itself}
 use Rattle.gtp_values.specs.FiniteMap.{Among}
 use Rattle.gtp_machine.specs.Config as machine
 use Rattle.gtp_machine.specs.Config.{template_for}
-use Rattle.gtp_gateway.specs.declared.config.Template.{Template}
+use Rattle.gtp_gateway.specs.declared.config.access_points.Template.{Template}
 use Rattle.gtp_gateway.specs.Settings.{template_of, templates_in, in_order, IsPlaceOf}
 
 -- ---- names

@@ -13,20 +13,20 @@ use Rattle.gtp_machine.specs.Input.{Came_to, UserReading, User_fault, nothing, E
 use Rattle.gtp_machine.specs.declared.outcome.DropReason.{DropReason}
 use Rattle.gtp_machine.specs.declared.outcome.Outcome.{Outcome}
 use Rattle.gtp_machine.specs.declared.outcome.Outcome.TheVariants.{Accepted, Broken, Dropped}
-use Rattle.gtp_gateway.specs.declared.purpose.Purpose.{Purpose}
+use Rattle.gtp_gateway.specs.declared.command.purpose.Purpose.{Purpose}
 use Rattle.gtp_gateway.specs.declared.step.Accepted as packets
 use Rattle.gtp_gateway.specs.declared.step.Report.{Report}
 use Rattle.gtp_gateway.specs.declared.step.Step.{Step}
-use Rattle.gtp_gateway.specs.declared.user_reply.Reply.{Reply}
-use Rattle.gtp_gateway.specs.declared.user_reply.Reply.TheVariants.{ErrorIndication, Notification, EchoResponse}
-use Rattle.gtp_gateway.specs.declared.user_receive.Judged.{Judged}
-use Rattle.gtp_gateway.specs.declared.user_receive.Judged.TheVariants as judged
+use Rattle.gtp_gateway.specs.declared.user.reply.Reply.{Reply}
+use Rattle.gtp_gateway.specs.declared.user.reply.Reply.TheVariants.{ErrorIndication, Notification, EchoResponse}
+use Rattle.gtp_gateway.specs.declared.user.receive.Judged.{Judged}
+use Rattle.gtp_gateway.specs.declared.user.receive.Judged.TheVariants as judged
 use Rattle.gtp_gateway.specs.Parts.{pending_in}
-use Rattle.gtp_gateway.specs.Replying.{sending_of, outcome_of, replied, IsReplyBy}
-use Rattle.gtp_gateway.specs.Sent.{AreSent}
-use Rattle.gtp_gateway.specs.Station.{Station}
-use Rattle.gtp_gateway.specs.Taken.{datagrams, plain_report}
-use Rattle.gtp_gateway.specs.UserTaken.{plain_step, accepted_step, AreEntries, WaitOn, IsTakenBy, IsJudgedBy, IsFaultJudged}
+use Rattle.gtp_gateway.specs.user.Reply.{sending_of, outcome_of, replied, IsReplyBy}
+use Rattle.gtp_gateway.specs.messages.Sent.{AreSent}
+use Rattle.gtp_gateway.specs.GatewayState.{GatewayState}
+use Rattle.gtp_gateway.specs.receive.Taken.{datagrams, plain_report}
+use Rattle.gtp_gateway.specs.user.Receive.{plain_step, accepted_step, AreEntries, RequestsWaitOn, IsTakenBy, IsJudgedBy, IsFaultJudged}
 use Rattle.gtp_gateway.proofs.SentBack.{none_sent}
 
 -- no bearer stands there
@@ -42,21 +42,21 @@ pub all_stay : (ws : List (Waiting Purpose)) → ws ≡ others (λ _. false) ws
 all_stay ws = sym (filter_all ws)
 
 -- what a gateway's pending requests are
-abbrev pub IsPendingIn : Station → Type 0
-IsPendingIn s = s.node.pending ≡ pending_in s.timing.waiting
+abbrev pub IsPendingIn : GatewayState → Type 0
+IsPendingIn s = s.node.pending ≡ pending_in s.queues.waiting
 
 -- all requests wait on
-pub all_wait : (old new : Station) → new.timing ≡ old.timing → IsPendingIn new → WaitOn old new
+pub all_wait : (old new : GatewayState) → new.queues ≡ old.queues → IsPendingIn new → RequestsWaitOn old new
 all_wait old new same pending =
     record {
       stays = λ _. true;
-      timing = same ∙ ap (λ (ws : List (Waiting Purpose)). record old.timing { waiting = ws }) (sym (filter_all old.timing.waiting));
+      queues = same ∙ ap (λ (ws : List (Waiting Purpose)). record old.queues { waiting = ws }) (sym (filter_all old.queues.waiting));
       pending = pending;
     }
 
-module _ (Takes : Node → Effect → Type 0) (old : Station) where
+module _ (Takes : Node → Effect → Type 0) (old : GatewayState) where
   -- nothing is told but an outcome, and no packet is accepted
-  pub plain : (outcome : Outcome) (node : Node) (new : Station) → (outcome ≡ Accepted → ⊥) → Takes old.node (record { out = nothing; outcome = Came_to outcome; node = node }) → new.node ≡ node → new.role ≡ old.role → (outcome ≢ Broken → new.timing ≡ old.timing) → WaitOn old new → IsTakenBy Takes old (plain_step outcome) new
+  pub plain : (outcome : Outcome) (node : Node) (new : GatewayState) → (outcome ≡ Accepted → ⊥) → Takes old.node (record { out = nothing; outcome = Came_to outcome; node = node }) → new.node ≡ node → new.role ≡ old.role → (outcome ≢ Broken → new.queues ≡ old.queues) → RequestsWaitOn old new → IsTakenBy Takes old (plain_step outcome) new
   plain outcome node new other takes becomes role same waits =
       record {
         effect = record { out = nothing; outcome = Came_to outcome; node = node };
@@ -76,23 +76,23 @@ module _ (Takes : Node → Effect → Type 0) (old : Station) where
   drops pending why takes = plain (Dropped why) old.node old (not_accepted why) takes refl refl (λ _. refl) (all_wait old old refl pending)
 
   -- the reply is sent, and nothing changes
-  pub replies : (reply : Reply) (step : Step) (new : Station) → IsPendingIn new → Takes old.node (replied reply old.node) → new ≡ old → IsReplyBy reply new.node.config step → IsTakenBy Takes old step new
+  pub replies : (reply : Reply) (step : Step) (new : GatewayState) → IsPendingIn new → Takes old.node (replied reply old.node) → new ≡ old → IsReplyBy reply new.node.config step → IsTakenBy Takes old step new
   replies reply step new pending takes same sends =
       record {
         effect = replied reply old.node;
         takes = takes;
         tells = record {
-          sent = subst (λ (s : Station). AreSent s.node.config (datagrams step.out) (sending_of reply s.node.config ∷ [])) same sends.sent;
+          sent = subst (λ (s : GatewayState). AreSent s.node.config (datagrams step.out) (sending_of reply s.node.config ∷ [])) same sends.sent;
           outcome = ap (λ (r : Report). Came_to r.outcome) sends.report;
           report = sends.report ∙ ap plain_report (sym (ap (λ (r : Report). r.outcome) sends.report));
           accepted = subst (λ (o : Option packets.Accepted). AreEntries old.node o []) (sym sends.none) refl;
           packet = (λ is. absurd (not_taken reply (sym (ap (λ (r : Report). r.outcome) sends.report) ∙ is)), λ some. absurd (none_some step.accepted sends.none some));
           all = refl;
         };
-        becomes = ap (λ (s : Station). s.node) same;
-        role = ap (λ (s : Station). s.role) same;
-        same = λ _. ap (λ (s : Station). s.timing) same;
-        waits = all_wait old new (ap (λ (s : Station). s.timing) same) pending;
+        becomes = ap (λ (s : GatewayState). s.node) same;
+        role = ap (λ (s : GatewayState). s.role) same;
+        same = λ _. ap (λ (s : GatewayState). s.queues) same;
+        waits = all_wait old new (ap (λ (s : GatewayState). s.queues) same) pending;
       }
     where
       not_taken : (r : Reply) → outcome_of r ≡ Accepted → ⊥
@@ -105,16 +105,16 @@ module _ (Takes : Node → Effect → Type 0) (old : Station) where
       none_some (Some p) is some = cc
 
 -- what takes a datagram by one relation takes it by a wider one
-taken_wider : (Takes Wider : Node → Effect → Type 0) (old new : Station) (step : Step) → ((e : Effect) → Takes old.node e → Wider old.node e) → IsTakenBy Takes old step new → IsTakenBy Wider old step new
+taken_wider : (Takes Wider : Node → Effect → Type 0) (old new : GatewayState) (step : Step) → ((e : Effect) → Takes old.node e → Wider old.node e) → IsTakenBy Takes old step new → IsTakenBy Wider old step new
 taken_wider Takes Wider old new step wider taken = record { effect = taken.effect; takes = wider taken.effect taken.takes; tells = taken.tells; becomes = taken.becomes; role = taken.role; same = taken.same; waits = taken.waits }
 
-pub judged_wider : (Takes Wider : Node → Effect → Type 0) (old new : Station) (j : Judged) → ((e : Effect) → Takes old.node e → Wider old.node e) → IsJudgedBy Takes old j new → IsJudgedBy Wider old j new
+pub judged_wider : (Takes Wider : Node → Effect → Type 0) (old new : GatewayState) (j : Judged) → ((e : Effect) → Takes old.node e → Wider old.node e) → IsJudgedBy Takes old j new → IsJudgedBy Wider old j new
 judged_wider Takes Wider old new (judged.Accepted packet) wider taken = taken_wider Takes Wider old new (accepted_step packet) wider taken
 judged_wider Takes Wider old new (judged.Came outcome) wider taken = taken_wider Takes Wider old new (plain_step outcome) wider taken
 judged_wider Takes Wider old new (judged.Replies reply) wider (takes, same) = (wider (replied reply old.node) takes, same)
 
 -- a datagram at fault
-pub fault_judged : (source : Endpoint) (reading : UserReading) (old : Station) (j : Judged) → IsPendingIn old → IsFaultJudged reading j → IsJudgedBy (UserRead old.role source reading) old j old
+pub fault_judged : (source : Endpoint) (reading : UserReading) (old : GatewayState) (j : Judged) → IsPendingIn old → IsFaultJudged reading j → IsJudgedBy (UserRead old.role source reading) old j old
 fault_judged source reading old (judged.Accepted packet) pending is = absurd is
 fault_judged source reading old (judged.Came outcome) pending (number, is, shown) =
     subst (λ (o : Outcome). IsTakenBy (UserRead old.role source reading) old (plain_step o) old) (sym shown)

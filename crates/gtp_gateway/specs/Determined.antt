@@ -5,18 +5,18 @@ use Rattle.gtp_reliable.specs.Held.{HeldPair}
 use Rattle.gtp_reliable.specs.Waiting.{Waiting}
 use Rattle.gtp_machine.specs.Input.{Command, Mark_end, Send_user}
 use Rattle.gtp_machine.specs.Message.{Plane}
-use Rattle.gtp_gateway.specs.declared.purpose.Purpose.{Purpose}
+use Rattle.gtp_gateway.specs.declared.command.purpose.Purpose.{Purpose}
 use Rattle.gtp_gateway.specs.declared.sent.Begun.{Begun}
 use Rattle.gtp_gateway.specs.declared.step.Accepted.{Accepted}
 use Rattle.gtp_gateway.specs.declared.step.Step.{Step}
 use Rattle.gtp_gateway.specs.declared.tick.Ticked.{Ticked}
-use Rattle.gtp_gateway.specs.Begun.{IsDone, AsksNext}
-use Rattle.gtp_gateway.specs.Choosing.{ChoosesLowest}
-use Rattle.gtp_gateway.specs.Received.{IsReceived, KeepsTiming}
-use Rattle.gtp_gateway.specs.Sent.{datagram_by}
-use Rattle.gtp_gateway.specs.Station.{Station}
-use Rattle.gtp_gateway.specs.Taken.{datagrams}
-use Rattle.gtp_gateway.specs.Ticked.{IsTicked, CountsOn, arrivals_of}
+use Rattle.gtp_gateway.specs.command.Command.{IsCarriedOut, SendsRequestNext}
+use Rattle.gtp_gateway.specs.receive.Choosing.{ChoosesLowest}
+use Rattle.gtp_gateway.specs.receive.Received.{IsReceived, QueuesAfterReceive}
+use Rattle.gtp_gateway.specs.messages.Sent.{datagram_by}
+use Rattle.gtp_gateway.specs.GatewayState.{GatewayState}
+use Rattle.gtp_gateway.specs.receive.Taken.{datagrams}
+use Rattle.gtp_gateway.specs.Tick.{IsTicked, QueuesAfterTick, arrivals_of}
 
 -- a packet that was accepted: the TEID of its bearer, and its payload
 abbrev pub packet_of : Option Accepted → Option (ℕ × List ℕ)
@@ -31,64 +31,64 @@ abbrev pub held_as : HeldPair → HeldPair
 held_as p = record p { answer = [] }
 
 -- the same is left: the role, the node and what ticks go by
-pub record AreLeftAlike (new left : Station) : Type 0 where
+pub record AreLeftAlike (new left : GatewayState) : Type 0 where
   pub role : new.role ≡ left.role
   pub node : new.node ≡ left.node
-  pub timers : new.timing.timers ≡ left.timing.timers
-  pub next : new.timing.next ≡ left.timing.next
-  pub waiting : map waits_as new.timing.waiting ≡ map waits_as left.timing.waiting
-  pub held : map held_as new.timing.held ≡ map held_as left.timing.held
+  pub timers : new.queues.timers ≡ left.queues.timers
+  pub next : new.queues.next ≡ left.queues.next
+  pub waiting : map waits_as new.queues.waiting ≡ map waits_as left.queues.waiting
+  pub held : map held_as new.queues.held ≡ map held_as left.queues.held
 
 -- the clauses of `receive` hold of this answer, and of the gateway that it leaves
-pub record MeetsReceive (plane : Plane) (source : Endpoint) (octets : List ℕ) (old : Station) (step : Step) (new : Station) : Type 0 where
+pub record MeetsReceive (plane : Plane) (source : Endpoint) (octets : List ℕ) (old : GatewayState) (step : Step) (new : GatewayState) : Type 0 where
   pub received : IsReceived plane source octets old step new
-  pub timing : KeepsTiming plane source octets step old new
+  pub queues : QueuesAfterReceive plane source octets step old new
   pub choices : ChoosesLowest step.report.made old.role old.node new.node
 
 -- two answers are one: the same is sent and told, the same packet is accepted, and the same is left
-pub record AreOneStep (step other : Step) (new left : Station) : Type 0 where
+pub record AreOneStep (step other : Step) (new left : GatewayState) : Type 0 where
   pub sent : datagrams step.out ≡ datagrams other.out
   pub report : step.report ≡ other.report
   pub accepted : packet_of step.accepted ≡ packet_of other.accepted
   pub leaves : AreLeftAlike new left
 
 -- Whatever comes, the clauses of `receive` leave one answer.
-abbrev pub ReceivesOne : Station → Type 0
-ReceivesOne old = (plane : Plane) (source : Endpoint) (octets : List ℕ) (step other : Step) (new left : Station) → MeetsReceive plane source octets old step new → MeetsReceive plane source octets old other left → AreOneStep step other new left
+abbrev pub ReceivesOne : GatewayState → Type 0
+ReceivesOne old = (plane : Plane) (source : Endpoint) (octets : List ℕ) (step other : Step) (new left : GatewayState) → MeetsReceive plane source octets old step new → MeetsReceive plane source octets old other left → AreOneStep step other new left
 
 -- with a packet and an End Marker no context is told and no request waits, and with any other command a request waits under the next free number
-abbrev pub WaitsNext : Command → Station → Begun → Station → Type 0
-WaitsNext (Mark_end bearer) old begun new = (begun.teid ≡ None) × (new.timing ≡ old.timing)
-WaitsNext (Send_user bearer payload) old begun new = (begun.teid ≡ None) × (new.timing ≡ old.timing)
-WaitsNext command old begun new = AsksNext old begun new
+abbrev pub WaitsNext : Command → GatewayState → Begun → GatewayState → Type 0
+WaitsNext (Mark_end bearer) old begun new = (begun.teid ≡ None) × (new.queues ≡ old.queues)
+WaitsNext (Send_user bearer payload) old begun new = (begun.teid ≡ None) × (new.queues ≡ old.queues)
+WaitsNext command old begun new = SendsRequestNext old begun new
 
 -- the clauses of a command's call hold of this answer, and of the gateway that it leaves
-pub record MeetsCommand (command : Command) (old : Station) (begun : Begun) (new : Station) : Type 0 where
-  pub done : IsDone command old begun new
+pub record MeetsCommand (command : Command) (old : GatewayState) (begun : Begun) (new : GatewayState) : Type 0 where
+  pub done : IsCarriedOut command old begun new
   pub next : WaitsNext command old begun new
 
 -- two answers to a command are one: the same is sent, the same context is told, and the same is left
-pub record AreOneBegun (begun other : Begun) (new left : Station) : Type 0 where
+pub record AreOneBegun (begun other : Begun) (new left : GatewayState) : Type 0 where
   pub sent : datagram_by begun.out ≡ datagram_by other.out
   pub teid : begun.teid ≡ other.teid
   pub leaves : AreLeftAlike new left
 
 -- Whatever is commanded, the clauses leave one answer where it is carried out.
-abbrev pub BeginsOne : Station → Type 0
-BeginsOne old = (command : Command) (begun other : Begun) (new left : Station) → MeetsCommand command old begun new → MeetsCommand command old other left → AreOneBegun begun other new left
+abbrev pub BeginsOne : GatewayState → Type 0
+BeginsOne old = (command : Command) (begun other : Begun) (new left : GatewayState) → MeetsCommand command old begun new → MeetsCommand command old other left → AreOneBegun begun other new left
 
 -- the clauses of `tick` hold of this answer, and of the gateway that it leaves
-pub record MeetsTick (old : Station) (ticked : Ticked) (new : Station) : Type 0 where
+pub record MeetsTick (old : GatewayState) (ticked : Ticked) (new : GatewayState) : Type 0 where
   pub passed : IsTicked old ticked new
-  pub counts : CountsOn old new
+  pub counts : QueuesAfterTick old new
 
 -- two ticks are one: the same is sent again, given up and forgotten, and the same is left
-pub record AreOneTick (ticked other : Ticked) (new left : Station) : Type 0 where
+pub record AreOneTick (ticked other : Ticked) (new left : GatewayState) : Type 0 where
   pub resent : map datagram_by ticked.resent.items ≡ map datagram_by other.resent.items
   pub gave_up : ticked.gave_up.items ≡ other.gave_up.items
   pub forgotten : arrivals_of ticked.forgotten.items ≡ arrivals_of other.forgotten.items
   pub leaves : AreLeftAlike new left
 
 -- The clauses of `tick` leave one answer.
-abbrev pub TicksOne : Station → Type 0
-TicksOne old = (ticked other : Ticked) (new left : Station) → MeetsTick old ticked new → MeetsTick old other left → AreOneTick ticked other new left
+abbrev pub TicksOne : GatewayState → Type 0
+TicksOne old = (ticked other : Ticked) (new left : GatewayState) → MeetsTick old ticked new → MeetsTick old other left → AreOneTick ticked other new left

@@ -7,10 +7,10 @@ use Rattle.gtp_tables.specs.Drawn.{drawn_up_to}
 use Rattle.gtp_reliable.specs.Waiting.{Waiting}
 use Rattle.gtp_reliable.specs.Held.{HeldPair}
 use Rattle.gtp_machine.specs.Node.{PendingRequest, Arrival, Held, Node}
-use Rattle.gtp_gateway.specs.declared.purpose.Purpose.{Purpose}
-use Rattle.gtp_gateway.specs.declared.purpose.Purpose.TheVariants.{Echo, CreateSession, DeleteSession, ReleaseSession, CreateBearer, DeleteBearer}
+use Rattle.gtp_gateway.specs.declared.command.purpose.Purpose.{Purpose}
+use Rattle.gtp_gateway.specs.declared.command.purpose.Purpose.TheVariants.{Echo, CreateSession, DeleteSession, ReleaseSession, CreateBearer, DeleteBearer}
 use Rattle.gtp_gateway.specs.declared.parts.Parts.{Parts}
-use Rattle.gtp_gateway.specs.Spelled.{message_in, messages_in}
+use Rattle.gtp_gateway.specs.messages.Spelled.{message_in, messages_in}
 
 -- the session that a request is about
 abbrev pub session_of : Purpose → Option ℕ

@@ -7,7 +7,7 @@ use Rattle.gtp_reliable.specs.Pending.{AreLimits}
 use Rattle.gtp_reliable.specs.Held.{IsHold}
 use Rattle.gtp_machine.specs.Config as machine
 use Rattle.gtp_gateway.specs.declared.config.Addresses.{Addresses}
-use Rattle.gtp_gateway.specs.declared.config.Template.{Template}
+use Rattle.gtp_gateway.specs.declared.config.access_points.Template.{Template}
 use Rattle.gtp_gateway.specs.declared.config.Timers.{Timers}
 
 -- what the machine knows of it, and the times

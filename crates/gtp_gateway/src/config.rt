@@ -1,13 +1,15 @@
 //! The settings of a gateway.
 
-ghost use Rattle.std.specs.Prelude.{◌≡◌, ◌↔◌, ◌≤◌, IsTrue, IsOk, IfOk, IfErr, IfSome, IfNone, length};
+pub mod access_points;
+
+ghost use Rattle.std.specs.Prelude.{◌≡◌, ◌↔◌, IsTrue, IsOk, IfOk, IfErr};
 ghost use Rattle.gtp_values.specs.FiniteMap.{Among};
 ghost use Rattle.gtp_values.specs.declared.fault.ValueFault.TheVariants.{OutOfRange};
 ghost use Rattle.gtp_tables.specs.Pool.{ArePrefixes, no_prefixes};
 ghost use Rattle.gtp_machine.specs.Config.{template_for};
-ghost use Rattle.gtp_gateway.specs.Settings.{settings_of, with_prefixes, AreSettings};
-ghost use Rattle.gtp_gateway.specs.Settings.{template_by, templates_in, IsPlaceOf, with_template};
+ghost use Rattle.gtp_gateway.specs.Settings.{settings_of, with_prefixes, AreSettings, template_by, templates_in, with_template};
 
+use crate::config::access_points::{Template, place_of, template_at};
 use gtp_tables::{Pool, Pools, Prefixes};
 use gtp_values::{Apn, Ip, Memory, Qos, Tft, ValueFault};
 use std::alloc::Global;
@@ -47,13 +49,6 @@ impl Default for Timers {
     }
 }
 
-/// What the sessions of an access point get besides their default bearer: a dedicated bearer with this TFT and this QoS.
-#[derive(Clone, Copy, Debug, PartialEq, Eq)]
-pub struct Template {
-    pub tft: Tft,
-    pub qos: Qos,
-}
-
 /// The template of each access point, at its place.
 #[derive(Clone, Copy, Debug)]
 struct Templates {
@@ -81,39 +76,6 @@ impl Model for Config {
         (settings_of c.own c.peer c.access_points.items c.pools c.timers) };
 
     ghost invariant = { λ c. AreSettings c.access_points.items c.timers };
-}
-
-/// The place of the first of these access points that has the name.
-fn place_of(access_points: &[Apn], name: &Apn) -> Option<usize>
-    ensures some { IfSome result (λ place. IsPlaceOf name.now access_points.now place) }
-    ensures none { IfNone result (Among name.now access_points.now → ⊥) }
-{
-    for place in 0..access_points.len() {
-        if access_points[place] == *name {
-            return Some(place);
-        }
-    }
-    None
-}
-
-/// The first template that stands at the place of an access point with the name.
-fn template_at(
-    access_points: &[Apn],
-    templates: &[Option<Template>],
-    name: &Apn,
-) -> Option<Template>
-    requires { length access_points.now ≤ length templates.now }
-    ensures { template_by name.now result
-        ≡ template_for name.now (templates_in access_points.now templates.now) }
-{
-    for place in 0..access_points.len() {
-        if access_points[place] == *name {
-            if let Some(template) = templates[place] {
-                return Some(template);
-            }
-        }
-    }
-    None
 }
 
 impl Config {

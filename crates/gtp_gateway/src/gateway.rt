@@ -4,21 +4,21 @@ ghost use Rattle.std.specs.Prelude.{◌≡◌, ◌≤◌, None, length, IsOk, Is
 ghost use Rattle.std.specs.FinMap as map;
 ghost use Rattle.gtp_machine.specs.Input.{Create_session, Delete_session, Create_bearer, Delete_bearer, Release_session};
 ghost use Rattle.gtp_machine.specs.Input.{Mark_end, Send_echo, Send_user};
-ghost use Rattle.gtp_gateway.specs.Begun.{IsDone, IsRefusedWhere, AsksNext};
-ghost use Rattle.gtp_gateway.specs.Choosing.{ChoosesLowest};
-ghost use Rattle.gtp_gateway.specs.Specified.{specification};
+ghost use Rattle.gtp_gateway.specs.command.Command.{IsCarriedOut, IsRefusedWhere, SendsRequestNext};
+ghost use Rattle.gtp_gateway.specs.receive.Choosing.{ChoosesLowest};
+ghost use Rattle.gtp_gateway.specs.command.CreateSession.{specification};
 ghost use Rattle.gtp_reliable.specs.Pending.{AreDistinct};
 ghost use Rattle.gtp_machine.specs.Determined.{OneAnswerPerRequest};
-ghost use Rattle.gtp_gateway.specs.Station.{Station, starting, IsTied, IsWhole};
-ghost use Rattle.gtp_gateway.specs.Ticked.{IsIdle, ForgetsNone, IsTicked, CountsOn, arrivals_of, due_in};
-ghost use Rattle.gtp_gateway.specs.Received.{IsReceived, KeepsTiming, NeedsMemory};
+ghost use Rattle.gtp_gateway.specs.GatewayState.{GatewayState, starting, NodeMatchesQueues, IsSoundState};
+ghost use Rattle.gtp_gateway.specs.Tick.{IsIdle, ForgetsNone, IsTicked, QueuesAfterTick, arrivals_of, due_in};
+ghost use Rattle.gtp_gateway.specs.receive.Received.{IsReceived, QueuesAfterReceive, MayRunOut};
 
+use crate::command::create_session::SessionSpec;
 use crate::config::Config;
 use crate::fault::CommandFault;
 use crate::listing::{BearerList, SessionList};
 use crate::parts::Parts;
 use crate::sent::Begun;
-use crate::session::SessionSpec;
 use crate::step::Step;
 use crate::tick::Ticked;
 use gtp_machine::{Plane, Role};
@@ -39,17 +39,17 @@ pub struct Gateway {
 impl Model for Gateway {
     ghost use Rattle.std.specs.Coded.{codes};
     ghost use Rattle.gtp_machine.specs.Sound.{IsSound};
-    ghost use Rattle.gtp_gateway.specs.Codes.{table_code};
+    ghost use Rattle.gtp_gateway.specs.tables.Codes.{table_code};
     ghost use Rattle.gtp_gateway.specs.Parts.{node_of};
-    ghost use Rattle.gtp_gateway.specs.Station.{Station, station_of};
+    ghost use Rattle.gtp_gateway.specs.GatewayState.{GatewayState, state_of};
     ghost use Rattle.gtp_tables.specs.contracts.context.Session as session;
     ghost use Rattle.gtp_tables.specs.contracts.context.Bearer as bearer;
 
-    ghost Value = { Station };
+    ghost Value = { GatewayState };
 
     ghost coded = { Prim.hlevel (codes, table_code, session.the_row.coded, bearer.the_row.coded) };
 
-    ghost view = { λ g. station_of g.parts };
+    ghost view = { λ g. state_of g.parts };
 
     ghost invariant = { λ g. ∥ IsSound g.parts.role (node_of g.parts) ∥₁ };
 }
@@ -88,9 +88,9 @@ impl Gateway {
     /// if an allocation was refused.
     pub fn forgets(&self) -> Result<Vec<Request>, Memory>
         ensures forgets { IfOk result (λ requests.
-            arrivals_of requests.items ≡ (due_in self.now.timing).forgets) }
+            arrivals_of requests.items ≡ (due_in self.now.queues).forgets) }
         // It is answered if there is none, whatever else is due.
-        ensures quiet { ForgetsNone self.now.timing → IsOk result }
+        ensures quiet { ForgetsNone self.now.queues → IsOk result }
     {
         self.parts.held.due().map_err(|_| Memory)
     }
@@ -99,7 +99,7 @@ impl Gateway {
     pub fn sessions(&self) -> SessionList<'_>
         ensures sessions { result ≡ map.entries self.now.node.sessions }
         // What holds of a gateway at all times.
-        ensures always { IsTied self.now }
+        ensures always { NodeMatchesQueues self.now }
     {
         SessionList::of(&self.parts.sessions)
     }
@@ -114,8 +114,8 @@ impl Gateway {
     /// Sends an Echo Request (TS 29.274 7.1.1).
     pub fn echo(&mut self, alloc: Global) -> Result<Begun, CommandFault>
         // It is a step of the machine, which sends exactly this.
-        ensures done { IfOk result (λ begun. IsDone Send_echo self.old begun self.new) }
-        ensures next { IfOk result (λ begun. AsksNext self.old begun self.new) }
+        ensures done { IfOk result (λ begun. IsCarriedOut Send_echo self.old begun self.new) }
+        ensures next { IfOk result (λ begun. SendsRequestNext self.old begun self.new) }
         ensures refused { IsRefusedWhere Send_echo self.old result }
         ensures err { OnErr result (self.new ≡ self.old) }
     {
@@ -129,8 +129,8 @@ impl Gateway {
         spec: &SessionSpec,
     ) -> Result<Begun, CommandFault>
         ensures done { IfOk result (λ begun.
-            IsDone (Create_session (specification spec.now)) self.old begun self.new) }
-        ensures next { IfOk result (λ begun. AsksNext self.old begun self.new) }
+            IsCarriedOut (Create_session (specification spec.now)) self.old begun self.new) }
+        ensures next { IfOk result (λ begun. SendsRequestNext self.old begun self.new) }
         ensures refused { IsRefusedWhere (Create_session (specification spec.now)) self.old result }
         ensures err { OnErr result (self.new ≡ self.old) }
     {
@@ -140,8 +140,8 @@ impl Gateway {
     /// Sends a Delete Session Request for an active session (TS 29.274 7.2.9.1). A command of the serving gateway.
     pub fn delete_session(&mut self, alloc: Global, session: Teid) -> Result<Begun, CommandFault>
         ensures done { IfOk result (λ begun.
-            IsDone (Delete_session session.0) self.old begun self.new) }
-        ensures next { IfOk result (λ begun. AsksNext self.old begun self.new) }
+            IsCarriedOut (Delete_session session.0) self.old begun self.new) }
+        ensures next { IfOk result (λ begun. SendsRequestNext self.old begun self.new) }
         ensures refused { IsRefusedWhere (Delete_session session.0) self.old result }
         ensures err { OnErr result (self.new ≡ self.old) }
     {
@@ -158,8 +158,8 @@ impl Gateway {
         qos: &Qos,
     ) -> Result<Begun, CommandFault>
         ensures done { IfOk result (λ begun.
-            IsDone (Create_bearer session.0 tft.now qos.now) self.old begun self.new) }
-        ensures next { IfOk result (λ begun. AsksNext self.old begun self.new) }
+            IsCarriedOut (Create_bearer session.0 tft.now qos.now) self.old begun self.new) }
+        ensures next { IfOk result (λ begun. SendsRequestNext self.old begun self.new) }
         ensures refused { IsRefusedWhere (Create_bearer session.0 tft.now qos.now) self.old result }
         ensures err { OnErr result (self.new ≡ self.old) }
     {
@@ -175,8 +175,8 @@ impl Gateway {
         identity: Ebi,
     ) -> Result<Begun, CommandFault>
         ensures done { IfOk result (λ begun.
-            IsDone (Delete_bearer session.0 identity) self.old begun self.new) }
-        ensures next { IfOk result (λ begun. AsksNext self.old begun self.new) }
+            IsCarriedOut (Delete_bearer session.0 identity) self.old begun self.new) }
+        ensures next { IfOk result (λ begun. SendsRequestNext self.old begun self.new) }
         ensures refused { IsRefusedWhere (Delete_bearer session.0 identity) self.old result }
         ensures err { OnErr result (self.new ≡ self.old) }
     {
@@ -187,8 +187,8 @@ impl Gateway {
     /// (TS 29.274 7.2.9.2). A command of the packet gateway.
     pub fn release_session(&mut self, alloc: Global, session: Teid) -> Result<Begun, CommandFault>
         ensures done { IfOk result (λ begun.
-            IsDone (Release_session session.0) self.old begun self.new) }
-        ensures next { IfOk result (λ begun. AsksNext self.old begun self.new) }
+            IsCarriedOut (Release_session session.0) self.old begun self.new) }
+        ensures next { IfOk result (λ begun. SendsRequestNext self.old begun self.new) }
         ensures refused { IsRefusedWhere (Release_session session.0) self.old result }
         ensures err { OnErr result (self.new ≡ self.old) }
     {
@@ -197,10 +197,11 @@ impl Gateway {
 
     /// Sends an End Marker on a bearer (TS 29.281 7.3.2), once for each bearer. A command of the packet gateway.
     pub fn end_marker(&mut self, alloc: Global, bearer: Teid) -> Result<Begun, CommandFault>
-        ensures done { IfOk result (λ begun. IsDone (Mark_end bearer.0) self.old begun self.new) }
+        ensures done { IfOk result (λ begun.
+            IsCarriedOut (Mark_end bearer.0) self.old begun self.new) }
         // No request was sent, so there is no TEID of a context.
         ensures untold { IfOk result (λ begun. begun.teid ≡ None) }
-        ensures timing { self.new.timing ≡ self.old.timing }
+        ensures queues { self.new.queues ≡ self.old.queues }
         ensures refused { IsRefusedWhere (Mark_end bearer.0) self.old result }
         ensures err { OnErr result (self.new ≡ self.old) }
     {
@@ -215,7 +216,7 @@ impl Gateway {
         payload: &[u8],
     ) -> Result<Begun, CommandFault>
         ensures done { IfOk result (λ begun.
-            IsDone (Send_user bearer.0 payload.now) self.now begun self.now) }
+            IsCarriedOut (Send_user bearer.0 payload.now) self.now begun self.now) }
         // No request was sent, so there is no TEID of a context.
         ensures untold { IfOk result (λ begun. begun.teid ≡ None) }
         ensures refused { IsRefusedWhere (Send_user bearer.0 payload.now) self.now result }
@@ -236,8 +237,8 @@ impl Gateway {
         ensures received { IfOk result (λ step.
             IsReceived plane source octets.now self.old step self.new) }
         // What later ticks depend on.
-        ensures timing { IfOk result (λ step.
-            KeepsTiming plane source octets.now step self.old self.new) }
+        ensures queues { IfOk result (λ step.
+            QueuesAfterReceive plane source octets.now step self.old self.new) }
         // Of the free addresses and identities it takes the lowest.
         ensures choices { IfOk result (λ step.
             ChoosesLowest step.report.made self.old.role self.old.node self.new.node) }
@@ -245,7 +246,7 @@ impl Gateway {
         ensures packet { IfOk result (λ step. IsSome step.accepted → self.new ≡ self.old) }
         // Memory can run out only if something is sent, or on the control plane a context is opened: every other
         // datagram is processed whether or not there is memory.
-        ensures memory { IfErr result (λ _. NeedsMemory plane source octets.now self.old) }
+        ensures memory { IfErr result (λ _. MayRunOut plane source octets.now self.old) }
         ensures err { OnErr result (self.new ≡ self.old) }
     {
         self.parts.receive(alloc, source, plane, octets)
@@ -253,10 +254,10 @@ impl Gateway {
 
     /// What holds of a gateway at all times.
     pub(crate) fn stands(&self)
-        ensures whole { IsWhole self.now }
-        ensures tied { IsTied self.now }
+        ensures whole { IsSoundState self.now }
+        ensures tied { NodeMatchesQueues self.now }
         ensures once { OneAnswerPerRequest self.now.node }
-        ensures distinct { AreDistinct self.now.timing.waiting }
+        ensures distinct { AreDistinct self.now.queues.waiting }
     {
         let _held_full = self.parts.held.is_full();
         let _pending_full = self.parts.pending.is_full();
@@ -269,10 +270,10 @@ impl Gateway {
     pub fn tick(&mut self, alloc: Global) -> Result<Ticked, Memory>
         // It is the machine's tick, which sends and reports exactly this.
         ensures ticked { IfOk result (λ ticked. IsTicked self.old ticked self.new) }
-        ensures counts { OnOk result (CountsOn self.old self.new) }
+        ensures counts { OnOk result (QueuesAfterTick self.old self.new) }
         ensures few { IfOk result (λ ticked. length ticked.resent.items ≤ 256) }
         ensures few_forgotten { IfOk result (λ ticked. length ticked.forgotten.items ≤ 4096) }
-        ensures quiet { IsIdle self.old.timing → IsOk result }
+        ensures quiet { IsIdle self.old.queues → IsOk result }
         ensures err { OnErr result (self.new ≡ self.old) }
     {
         self.parts.tick(alloc)

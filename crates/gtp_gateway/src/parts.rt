@@ -1,10 +1,10 @@
 //! What a gateway keeps.
 
 ghost use Rattle.std.specs.Prelude.{◌≡◌, IfOk};
-ghost use Rattle.gtp_gateway.specs.Spelled.{AreAsked, AreAnswered};
+ghost use Rattle.gtp_gateway.specs.messages.Spelled.{AreAsked, AreAnswered};
 
+use crate::command::purpose::Purpose;
 use crate::config::Config;
-use crate::purpose::Purpose;
 use gtp_machine::Role;
 use gtp_reliable::{Held, Pending};
 use gtp_tables::{Bearers, Draws, Peer, Sessions};
@@ -29,7 +29,7 @@ pub struct Parts {
 }
 
 impl Parts {
-    ghost use Rattle.gtp_gateway.specs.Station.{station_of, starting};
+    ghost use Rattle.gtp_gateway.specs.GatewayState.{state_of, starting};
 
     /// What a gateway keeps that has just started with this restart counter.
     pub fn start(
@@ -38,7 +38,7 @@ impl Parts {
         config: &Config,
         counter: Counter,
     ) -> Result<Parts, Memory>
-        ensures { IfOk result (λ g. station_of g ≡ starting role config.now counter.0) }
+        ensures { IfOk result (λ g. state_of g ≡ starting role config.now counter.0) }
     {
         let timers = config.timers();
         Ok(Parts {

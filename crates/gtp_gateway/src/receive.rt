@@ -1,23 +1,41 @@
 //! Datagrams of the control plane, as they come in (TS 29.274 7.6, 7.7).
 
+pub mod answer;
+pub mod create_bearer_request;
+pub mod create_bearer_response;
+pub mod create_session_request;
+pub mod create_session_response;
+pub mod delete_bearer_request;
+pub mod delete_bearer_response;
+pub mod delete_session_request;
+pub mod delete_session_response;
+pub mod dispatch;
+pub mod echo;
+pub mod first_fault;
+pub mod invalid_request;
+pub mod piggybacked;
+pub mod recovery;
+pub mod response;
+pub mod response_context;
+pub mod restart_counter;
+
 ghost use Rattle.std.specs.Prelude.{◌≡◌, ◌↔◌, ℕ, false, IsTrue, Some, true, IfOk, IfErr, IfSome, IfNone, IsSome, OnOk, OnErr};
-ghost use Rattle.gtp_gateway.specs.Choosing.{ChoosesLowest, MadeNothing};
-ghost use Rattle.gtp_gateway.specs.Pair.{IsSecondAt};
+ghost use Rattle.gtp_gateway.specs.receive.Choosing.{ChoosesLowest, MadeNothing};
+ghost use Rattle.gtp_gateway.specs.receive.TwoMessages.{IsSecondAt};
 ghost use Rattle.gtp_gateway.specs.Parts.{node_of};
 ghost use Rattle.gtp_machine.specs.MessageType.{type_at, takes_type, takes_some};
-ghost use Rattle.gtp_gateway.specs.Station.{IsWhole, station_of};
-ghost use Rattle.gtp_gateway.specs.Received.{ControlGoesOn, ControlNeedsMemory, IsControlTaken, IsReceived, KeepsTiming, NeedsMemory};
-ghost use Rattle.gtp_gateway.specs.Taken.{IsEntered, IsSentAgain};
+ghost use Rattle.gtp_gateway.specs.GatewayState.{IsSoundState, state_of};
+ghost use Rattle.gtp_gateway.specs.receive.Received.{QueuesAfterControl, ControlMayRunOut, IsControlTaken, IsReceived, QueuesAfterReceive, MayRunOut};
+ghost use Rattle.gtp_gateway.specs.receive.Taken.{IsEntered, IsSentAgain};
 ghost use Rattle.gtp_machine.specs.Reading.{announces};
 ghost use Rattle.gtp_reliable.specs.Held.{IsHeld};
 
-use crate::ask::control_end_of;
-use crate::control_step::ControlStep;
-use crate::faulty::{announces_second, flaw_of};
+use crate::command::send_request::control_end_of;
 use crate::parts::Parts;
+use crate::receive::first_fault::{announces_second, flaw_of};
 use crate::sent::Sent;
-use crate::step::Step;
-use crate::user_receive::Judged;
+use crate::step::{ControlStep, Step};
+use crate::user::receive::Judged;
 use gtp_machine::{DropReason, MessageType, Outcome, Plane};
 use gtp_v2::view;
 use gtp_values::{Endpoint, Memory};
@@ -25,7 +43,7 @@ use std::alloc::Global;
 
 /// What is known of a datagram before it is read.
 #[derive(Drop)]
-pub enum Entrance {
+pub enum BeforeReading {
     /// It is from elsewhere, or a request that was answered before: this is what it comes to.
     Settled(ControlStep),
     /// It is from the peer, and no answer is held for it.
@@ -85,46 +103,51 @@ impl Parts {
 
     /// A datagram before it is read: first its source address is looked at, and then the answers
     /// that are held. Nothing changes.
-    pub fn enter(&self, alloc: Global, source: Endpoint, octets: &[u8]) -> Result<Entrance, Memory>
-        ensures entered { IfOk result (λ entrance. IsEntered source octets.now (station_of self.now)
+    pub fn before_reading(
+        &self,
+        alloc: Global,
+        source: Endpoint,
+        octets: &[u8],
+    ) -> Result<BeforeReading, Memory>
+        ensures entered { IfOk result (λ entrance. IsEntered source octets.now (state_of self.now)
             self.now.held.pairs entrance) }
         // An allocation is for the answer that is sent again.
         ensures memory { OnErr result
-            (ControlNeedsMemory source octets.now (station_of self.now)) }
+            (ControlMayRunOut source octets.now (state_of self.now)) }
         ensures unmade { IfOk result MadeNothing }
     {
         if !self.is_from_peer(source) {
-            return Ok(Entrance::Settled(ControlStep::dropped(DropReason::NotPeer)));
+            return Ok(BeforeReading::Settled(ControlStep::dropped(DropReason::NotPeer)));
         }
         match self.sent_again_to(alloc, source, octets)? {
-            Some(out) => Ok(Entrance::Settled(ControlStep::sent(out, Outcome::Repeated))),
-            None => Ok(Entrance::New),
+            Some(out) => Ok(BeforeReading::Settled(ControlStep::sent(out, Outcome::Repeated))),
+            None => Ok(BeforeReading::New),
         }
     }
 
     /// Takes a datagram of the control plane. Of two messages the pair that the gateway takes is done
     /// message by message, and any other is dropped as one, before a restart counter is heard.
-    #[tactic(auto, using(crate::proofs::GoingOn::tied_of, crate::proofs::GoingOn::on_goes, crate::proofs::GoingOn::same_goes, crate::proofs::GoingOn::given_goes, crate::proofs::GoingOn::answered_goes))]
+    #[tactic(auto, using(crate::proofs::QueuesAfter::tied_of, crate::proofs::QueuesAfter::on_goes, crate::proofs::QueuesAfter::same_goes, crate::proofs::QueuesAfter::given_goes, crate::proofs::QueuesAfter::answered_goes))]
     pub fn receive_control(
         &mut self,
         alloc: Global,
         source: Endpoint,
         octets: &[u8],
     ) -> Result<ControlStep, Memory>
-        requires whole { IsWhole (station_of self.old) }
+        requires whole { IsSoundState (state_of self.old) }
         ensures taken { IfOk result (λ step.
-            IsControlTaken source octets.now (station_of self.old) step (station_of self.new)) }
+            IsControlTaken source octets.now (state_of self.old) step (state_of self.new)) }
         ensures goes { OnOk result
-            (ControlGoesOn source octets.now (station_of self.old) (station_of self.new)) }
+            (QueuesAfterControl source octets.now (state_of self.old) (state_of self.new)) }
         ensures choices { IfOk result (λ step. ChoosesLowest step.report.made self.old.role
             (node_of self.old) (node_of self.new)) }
         ensures memory { OnErr result
-            (ControlNeedsMemory source octets.now (station_of self.old)) }
-        ensures err { OnErr result (station_of self.new ≡ station_of self.old) }
+            (ControlMayRunOut source octets.now (state_of self.old)) }
+        ensures err { OnErr result (state_of self.new ≡ state_of self.old) }
     {
-        match self.enter(alloc, source, octets)? {
-            Entrance::Settled(step) => return Ok(step),
-            Entrance::New => {}
+        match self.before_reading(alloc, source, octets)? {
+            BeforeReading::Settled(step) => return Ok(step),
+            BeforeReading::New => {}
         }
         let view = match view(octets) {
             Ok(view) => view,
@@ -153,18 +176,19 @@ impl Parts {
         plane: Plane,
         octets: &'a [u8],
     ) -> Result<Step<'a>, Memory>
-        requires whole { IsWhole (station_of self.old) }
+        requires whole { IsSoundState (state_of self.old) }
         ensures received { IfOk result (λ step.
-            IsReceived plane source octets.now (station_of self.old) step (station_of self.new)) }
-        ensures timing { IfOk result (λ step.
-            KeepsTiming plane source octets.now step (station_of self.old) (station_of self.new)) }
+            IsReceived plane source octets.now (state_of self.old) step (state_of self.new)) }
+        ensures queues { IfOk result (λ step.
+            QueuesAfterReceive plane source octets.now step
+            (state_of self.old) (state_of self.new)) }
         ensures choices { IfOk result (λ step. ChoosesLowest step.report.made self.old.role
             (node_of self.old) (node_of self.new)) }
         ensures packet { IfOk result (λ step.
-            IsSome step.accepted → station_of self.new ≡ station_of self.old) }
+            IsSome step.accepted → state_of self.new ≡ state_of self.old) }
         ensures memory { IfErr result (λ _.
-            NeedsMemory plane source octets.now (station_of self.old)) }
-        ensures err { OnErr result (station_of self.new ≡ station_of self.old) }
+            MayRunOut plane source octets.now (state_of self.old)) }
+        ensures err { OnErr result (state_of self.new ≡ state_of self.old) }
     {
         // Each arm returns by itself, so that its step is written once and not moved again.
         let reply = match plane {

@@ -4,15 +4,15 @@ ghost use Rattle.std.specs.Prelude.{◌≡◌, ◌+◌, ◌≤◌, [], map, leng
 ghost use Rattle.std.specs.Prelude.{IsOk, IfOk, OnOk, OnErr};
 ghost use Rattle.gtp_reliable.specs.Due.{message_of};
 ghost use Rattle.gtp_gateway.specs.Parts.{node_of};
-ghost use Rattle.gtp_gateway.specs.Sent.{datagram_by};
-ghost use Rattle.gtp_gateway.specs.Station.{station_of, timing_of};
-ghost use Rattle.gtp_gateway.specs.Ticked.{datagram_again, GivesUpOne, GivesUpEach};
-ghost use Rattle.gtp_gateway.specs.Ticked.{IsIdle, IsTicked, CountsOn};
-ghost use Rattle.gtp_gateway.specs.UserTaken.{WaitOn};
+ghost use Rattle.gtp_gateway.specs.messages.Sent.{datagram_by};
+ghost use Rattle.gtp_gateway.specs.GatewayState.{state_of, queues_of};
+ghost use Rattle.gtp_gateway.specs.Tick.{datagram_again, GivesUpOne, GivesUpEach};
+ghost use Rattle.gtp_gateway.specs.Tick.{IsIdle, IsTicked, QueuesAfterTick};
+ghost use Rattle.gtp_gateway.specs.user.Receive.{RequestsWaitOn};
 
-use crate::ask::control_end_of;
+use crate::command::purpose::Purpose;
+use crate::command::send_request::control_end_of;
 use crate::parts::Parts;
-use crate::purpose::Purpose;
 use crate::sent::Sent;
 use gtp_machine::Plane;
 use gtp_reliable::{Request, Resend};
@@ -61,7 +61,7 @@ impl Parts {
     /// whether it was. Allocates nothing.
     fn give_up(&mut self, seq: Seq) -> bool
         ensures node { GivesUpOne (node_of self.old) seq result (node_of self.new) }
-        ensures waits { WaitOn (station_of self.old) (station_of self.new) }
+        ensures waits { RequestsWaitOn (state_of self.old) (state_of self.new) }
         ensures role { self.new.role ≡ self.old.role }
     {
         let Some(purpose) = self.waiting(seq) else {
@@ -78,7 +78,7 @@ impl Parts {
         requires room { vec_len gave_up.old + length due.now ≤ vec_capacity gave_up.old }
         ensures each { GivesUpEach (node_of self.old) (map (λ g. g.0) due.now)
             gave_up.new.items (node_of self.new) }
-        ensures waits { WaitOn (station_of self.old) (station_of self.new) }
+        ensures waits { RequestsWaitOn (state_of self.old) (state_of self.new) }
         ensures role { self.new.role ≡ self.old.role }
     {
         for entry in due {
@@ -90,15 +90,15 @@ impl Parts {
     }
 
     /// A tick passes. All allocations come first, and what follows cannot fail.
-    #[tactic(auto, using(crate::proofs::GoingOn::tied_of))]
+    #[tactic(auto, using(crate::proofs::QueuesAfter::tied_of))]
     pub fn tick(&mut self, alloc: Global) -> Result<Ticked, Memory>
         ensures ticked { IfOk result (λ ticked.
-            IsTicked (station_of self.old) ticked (station_of self.new)) }
-        ensures counts { OnOk result (CountsOn (station_of self.old) (station_of self.new)) }
+            IsTicked (state_of self.old) ticked (state_of self.new)) }
+        ensures counts { OnOk result (QueuesAfterTick (state_of self.old) (state_of self.new)) }
         ensures few { IfOk result (λ ticked. length ticked.resent.items ≤ 256) }
         ensures few_forgotten { IfOk result (λ ticked. length ticked.forgotten.items ≤ 4096) }
-        ensures quiet { IsIdle (timing_of self.old) → IsOk result }
-        ensures err { OnErr result (station_of self.new ≡ station_of self.old) }
+        ensures quiet { IsIdle (queues_of self.old) → IsOk result }
+        ensures err { OnErr result (state_of self.new ≡ state_of self.old) }
     {
         let Ok(due) = self.pending.due() else {
             return Err(Memory);

@@ -4,7 +4,7 @@ ghost use Rattle.std.specs.Prelude.{◌≡◌, ◌+◌, ◌<◌, ◌^◌, ◌++�
 ghost use Rattle.std.specs.List.{flat_map, enumerate_from};
 ghost use Rattle.json.specs.Tree.{json_tokens};
 ghost use Rattle.gtp_reliable.specs.Forgotten.{question_of};
-ghost use Rattle.gtp_gateway.specs.Ticked.{asked_by, arrivals_of};
+ghost use Rattle.gtp_gateway.specs.Tick.{asked_by, arrivals_of};
 ghost use Rattle.gtp_world.specs.Events.{event_of};
 ghost use Rattle.gtp_world.specs.Kept.{outcome_of, sent_by, told_by};
 ghost use Rattle.gtp_outcomes.specs.Outcomes.{fault_word};

@@ -1,7 +1,7 @@
 //! What all scenarios have in common.
 
 ghost use Rattle.std.specs.Prelude.{◌≡◌};
-ghost use Rattle.gtp_gateway.specs.Specified.{specification};
+ghost use Rattle.gtp_gateway.specs.command.CreateSession.{specification};
 ghost use Rattle.gtp_scenario.specs.Events.{network, no_rates, qos, session_for};
 
 use gtp_gateway::{Ambr, PdnType, Plmn, Qos, Rat, Selection, SessionSpec, Subscriber};

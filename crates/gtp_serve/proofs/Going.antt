@@ -7,7 +7,7 @@ use Rattle.std.specs.Io.BufRead.{take_through, drop_through, DropsThrough}
 use Rattle.json.specs.Json.{Json}
 use Rattle.gtp_counted.specs.Lines.{BeginsWithLines}
 use Rattle.gtp_counted.proofs.Lines.{is_known, content, none_yet, one_more, held_some, both_parts}
-use Rattle.gtp_gateway.specs.Station.{Station}
+use Rattle.gtp_gateway.specs.GatewayState.{GatewayState}
 use Rattle.gtp_json.specs.Tree.{line_of}
 use Rattle.gtp_machine.specs.declared.role.Role.{Role}
 use Rattle.gtp_serve.specs.Answers.{Answers}
@@ -16,24 +16,24 @@ use Rattle.gtp_serve.specs.Replies.{word_json}
 use Rattle.gtp_serve.specs.Served.{AnswersAll, AreAnswered, AreFirstAnswered, IsAnswered, Known, IsStarted, HasNoHead, IsServed, IsFirstServed, started}
 
 -- what is answered to lines, and to one more
-answers_more : (a b c : Station) (lines : List (List ℕ)) (line text : List ℕ) (answer : Json) → AnswersAll a lines b text → Answers line b answer c → AnswersAll a (lines ++ line ∷ []) c (text ++ line_of answer)
+answers_more : (a b c : GatewayState) (lines : List (List ℕ)) (line text : List ℕ) (answer : Json) → AnswersAll a lines b text → Answers line b answer c → AnswersAll a (lines ++ line ∷ []) c (text ++ line_of answer)
 answers_more a b c [] line text answer (same, none) is =
     (c, answer, [], subst (λ s. Answers line s answer c) same is, (refl, refl), ap (λ l. l ++ line_of answer) none ∙ sym (append-nil (line_of answer)))
 answers_more a b c (first ∷ lines) line text answer (next, one, rest, said, all, whole) is =
     (next, one, rest ++ line_of answer, said, answers_more next b c lines line rest answer all is, ap (λ l. l ++ line_of answer) whole ∙ append_assoc (line_of one) rest (line_of answer))
 
 -- so far: where the octets were known, what is left is known, and the lines before it were answered
-abbrev pub Goes : Option (List ℕ) → Option (List ℕ) → Station → Station → Option (List ℕ) → Option (List ℕ) → Type 0
+abbrev pub Goes : Option (List ℕ) → Option (List ℕ) → GatewayState → GatewayState → Option (List ℕ) → Option (List ℕ) → Type 0
 Goes None left old new a b = Unit {0}
 Goes (Some octets) None old new a b = ⊥
 Goes (Some octets) (Some left) old new a b = AreAnswered octets left old new a b
 
-pub begins : (s : Station) (r w : Option (List ℕ)) → Goes r r s s w w
+pub begins : (s : GatewayState) (r w : Option (List ℕ)) → Goes r r s s w w
 begins s None w = tt
 begins s (Some xs) w = record { lines = []; text = []; begins = refl; answers = (refl, refl); written = none_yet w }
 
 -- what is answered to the octets that are held of a line is answered to the line
-answers_whole : (line : List ℕ) (old new : Station) (answer : Json) → Answers (take 1048577 line) old answer new → Answers line old answer new
+answers_whole : (line : List ℕ) (old new : GatewayState) (answer : Json) → Answers (take 1048577 line) old answer new → Answers line old answer new
 answers_whole line old new answer is = elim (cases_lt 1048576 (length line)) [
   | inl long ↦ too_long long is
   | inr fits ↦ subst (λ l. Answers l old answer new) (take_all 1048577 line (omega (arith, fits))) is
@@ -47,7 +47,7 @@ answers_whole line old new answer is = elim (cases_lt 1048576 (length line)) [
     too_long long (inr (fits, other)) = absurd (omega (arith, full long, fits))
 
 -- one line more, of which so much is held
-pub goes_on : (first old new : Option (List ℕ)) (begun before now : Station) (held : List ℕ) (a b c : Option (List ℕ))
+pub goes_on : (first old new : Option (List ℕ)) (begun before now : GatewayState) (held : List ℕ) (a b c : Option (List ℕ))
     → Goes first old begun before a b → IfSome old (λ xs. held ≡ take 1048577 (take_through 10 xs)) → DropsThrough old new 10 → 0 < length held
     → IsAnswered held before now b c → Goes first new begun now a c
 goes_on None old new begun before now held a b c so is drops some told = tt
@@ -65,19 +65,19 @@ goes_on (Some xs) (Some ys) (Some zs) begun before now held a b c so is drops so
     }
 
 -- nothing is left
-pub ends : (first old : Option (List ℕ)) (begun now : Station) (a b : Option (List ℕ)) → Goes first old begun now a b → IsAtEnd old → IfSome first (λ octets. AreAnswered octets [] begun now a b)
+pub ends : (first old : Option (List ℕ)) (begun now : GatewayState) (a b : Option (List ℕ)) → Goes first old begun now a b → IsAtEnd old → IfSome first (λ octets. AreAnswered octets [] begun now a b)
 ends None old begun now a b so over = tt
 ends (Some xs) None begun now a b so over = absurd so
 ends (Some xs) (Some ys) begun now a b so over = subst (λ l. AreAnswered xs l begun now a b) over so
 
 -- the first lines were answered
-pub first_answered : (first old : Option (List ℕ)) (begun now : Station) (a b : Option (List ℕ)) → Goes first old begun now a b → IfSome first (λ octets. AreFirstAnswered octets begun a b)
+pub first_answered : (first old : Option (List ℕ)) (begun now : GatewayState) (a b : Option (List ℕ)) → Goes first old begun now a b → IfSome first (λ octets. AreFirstAnswered octets begun a b)
 first_answered None old begun now a b so = tt
 first_answered (Some xs) None begun now a b so = absurd so
 first_answered (Some xs) (Some ys) begun now a b so = (ys, now, so)
 
 -- also where the last of them was not answered
-pub still_answered : (first old : Option (List ℕ)) (begun now : Station) (a b c : Option (List ℕ)) → Goes first old begun now a b → b ≡ c → IfSome first (λ octets. AreFirstAnswered octets begun a c)
+pub still_answered : (first old : Option (List ℕ)) (begun now : GatewayState) (a b c : Option (List ℕ)) → Goes first old begun now a b → b ≡ c → IfSome first (λ octets. AreFirstAnswered octets begun a c)
 still_answered first old begun now a b c so same = first_answered first old begun now a c (subst (λ w. Goes first old begun now a w) same so)
 
 -- ---- the first line
@@ -95,7 +95,7 @@ pub no_head : (old : Option (List ℕ)) (held : List ℕ) → IfSome old (λ xs.
 no_head None held is fits none = tt
 no_head (Some xs) held is fits none = inr (ap head_in (sym (whole_line xs held is fits)) ∙ none)
 
-pub has_started : (old new : Option (List ℕ)) (held : List ℕ) (head : Head) (station : Station) → IfSome old (λ xs. held ≡ take 1048577 (take_through 10 xs)) → DropsThrough old new 10 → length held ≤ 1048576
+pub has_started : (old new : Option (List ℕ)) (held : List ℕ) (head : Head) (station : GatewayState) → IfSome old (λ xs. held ≡ take 1048577 (take_through 10 xs)) → DropsThrough old new 10 → length held ≤ 1048576
     → head_in held ≡ Some head → station ≡ started head → Known (λ octets left. IsStarted octets left head.role station) old new
 has_started None new held head station is drops fits says starts = tt
 has_started (Some xs) None held head station is drops fits says starts = absurd (subst is_known (sym drops) tt)
@@ -112,7 +112,7 @@ has_started (Some xs) (Some ys) held head station is drops fits says starts =
 
 -- ---- all of it
 
-pub all_served : (a b c : Option (List ℕ)) (x y z : Option (List ℕ)) (role : Role) (new last : Station) → Known (λ octets left. IsStarted octets left role new) a b → Appends x y (line_of (word_json (codes "started")))
+pub all_served : (a b c : Option (List ℕ)) (x y z : Option (List ℕ)) (role : Role) (new last : GatewayState) → Known (λ octets left. IsStarted octets left role new) a b → Appends x y (line_of (word_json (codes "started")))
     → IfSome b (λ octets. AreAnswered octets [] new last y z) → IfSome a (λ octets. IsServed octets x z)
 all_served None b c x y z role new last begun told others = tt
 all_served (Some xs) None c x y z role new last begun told others = absurd begun
@@ -126,7 +126,7 @@ all_served (Some xs) (Some ys) c x y z role new last begun told others = record 
   others = subst (λ left. AreAnswered left [] (started begun.head) last y z) begun.rest (subst (λ s. AreAnswered ys [] s last y z) begun.starts others);
 }
 
-pub first_served : (a b : Option (List ℕ)) (x y z : Option (List ℕ)) (role : Role) (new : Station) → Known (λ octets left. IsStarted octets left role new) a b → Appends x y (line_of (word_json (codes "started")))
+pub first_served : (a b : Option (List ℕ)) (x y z : Option (List ℕ)) (role : Role) (new : GatewayState) → Known (λ octets left. IsStarted octets left role new) a b → Appends x y (line_of (word_json (codes "started")))
     → IfSome b (λ octets. AreFirstAnswered octets new y z) → IfSome a (λ octets. IsFirstServed octets x z)
 first_served None b x y z role new begun told others = tt
 first_served (Some xs) None x y z role new begun told others = absurd begun
@@ -144,7 +144,7 @@ none_served None x z same = tt
 none_served (Some xs) x z same = inl same
 
 -- what is left behind the first line is no longer
-pub long_whole : (a b : Option (List ℕ)) (role : Role) (new : Station) → Known (λ octets left. IsStarted octets left role new) a b → IfSome b (λ octets. 2 ^ 64 - 1 ≤ length octets) → IfSome a (λ octets. 2 ^ 64 - 1 ≤ length octets)
+pub long_whole : (a b : Option (List ℕ)) (role : Role) (new : GatewayState) → Known (λ octets left. IsStarted octets left role new) a b → IfSome b (λ octets. 2 ^ 64 - 1 ≤ length octets) → IfSome a (λ octets. 2 ^ 64 - 1 ≤ length octets)
 long_whole None b role new begun many = tt
 long_whole (Some xs) None role new begun many = absurd begun
 long_whole (Some xs) (Some ys) role new begun many = omega (arith, many, both_parts xs, ap length begun.rest)

@@ -9,10 +9,10 @@ use Rattle.gtp_machine.specs.declared.outcome.Outcome.{Outcome}
 use Rattle.gtp_machine.specs.declared.outcome.Outcome.TheVariants.{Refused}
 use Rattle.gtp_machine.specs.declared.outcome.Refusal.{Refusal}
 use Rattle.gtp_machine.specs.declared.role.Role.{Role}
-use Rattle.gtp_gateway.specs.Begun.{outcome_by}
-use Rattle.gtp_gateway.specs.Sent.{datagram_by}
-use Rattle.gtp_gateway.specs.Taken.{datagrams}
-use Rattle.gtp_gateway.specs.Ticked.{arrivals_of}
+use Rattle.gtp_gateway.specs.command.Command.{outcome_by}
+use Rattle.gtp_gateway.specs.messages.Sent.{datagram_by}
+use Rattle.gtp_gateway.specs.receive.Taken.{datagrams}
+use Rattle.gtp_gateway.specs.Tick.{arrivals_of}
 use Rattle.gtp_gateway.specs.declared.sent.Begun.{Begun}
 use Rattle.gtp_gateway.specs.declared.step.Accepted.{Accepted}
 use Rattle.gtp_gateway.specs.declared.step.Step.{Step}

@@ -4,7 +4,7 @@ use Rattle.std.specs.Io.BufRead.{take_through, drop_through}
 use Rattle.std.specs.Io.KnownBytes.{Appends}
 use Rattle.json.specs.Json.{Json}
 use Rattle.gtp_counted.specs.Lines.{BeginsWithLines}
-use Rattle.gtp_gateway.specs.Station.{Station, starting}
+use Rattle.gtp_gateway.specs.GatewayState.{GatewayState, starting}
 use Rattle.gtp_json.specs.Tree.{line_of}
 use Rattle.gtp_machine.specs.declared.role.Role.{Role}
 use Rattle.gtp_serve.specs.Answers.{Answers, most_octets}
@@ -12,12 +12,12 @@ use Rattle.gtp_serve.specs.Heads.{Head, head_in}
 use Rattle.gtp_serve.specs.Replies.{word_json}
 
 -- Lines are answered one after the other, each from where the one before it left the gateway; the text has the lines of all answers.
-abbrev pub AnswersAll : Station → List (List ℕ) → Station → List ℕ → Type 0
+abbrev pub AnswersAll : GatewayState → List (List ℕ) → GatewayState → List ℕ → Type 0
 AnswersAll old [] new text = (new ≡ old) × (text ≡ [])
-AnswersAll old (line ∷ lines) new text = (next : Station) × (answer : Json) × (rest : List ℕ) × Answers line old answer next × AnswersAll next lines new rest × (text ≡ line_of answer ++ rest)
+AnswersAll old (line ∷ lines) new text = (next : GatewayState) × (answer : Json) × (rest : List ℕ) × Answers line old answer next × AnswersAll next lines new rest × (text ≡ line_of answer ++ rest)
 
 -- The lines before the rest were answered, and nothing else was written.
-pub record AreAnswered (octets rest : List ℕ) (old new : Station) (before after : Option (List ℕ)) : Type 0 where
+pub record AreAnswered (octets rest : List ℕ) (old new : GatewayState) (before after : Option (List ℕ)) : Type 0 where
   pub lines : List (List ℕ)
   pub text : List ℕ
   pub begins : BeginsWithLines octets lines rest
@@ -25,15 +25,15 @@ pub record AreAnswered (octets rest : List ℕ) (old new : Station) (before afte
   pub written : Appends before after text
 
 -- the first lines were answered, and nothing else was written
-abbrev pub AreFirstAnswered : List ℕ → Station → Option (List ℕ) → Option (List ℕ) → Type 0
-AreFirstAnswered octets old before after = (rest : List ℕ) × (new : Station) × AreAnswered octets rest old new before after
+abbrev pub AreFirstAnswered : List ℕ → GatewayState → Option (List ℕ) → Option (List ℕ) → Type 0
+AreFirstAnswered octets old before after = (rest : List ℕ) × (new : GatewayState) × AreAnswered octets rest old new before after
 
 -- the gateway that a head says, as it starts
-abbrev pub started : Head → Station
+abbrev pub started : Head → GatewayState
 started head = starting head.role head.settings head.counter
 
 -- one line was answered
-abbrev pub IsAnswered : List ℕ → Station → Station → Option (List ℕ) → Option (List ℕ) → Type 0
+abbrev pub IsAnswered : List ℕ → GatewayState → GatewayState → Option (List ℕ) → Option (List ℕ) → Type 0
 IsAnswered line old new before after = (answer : Json) × Answers line old answer new × Appends before after (line_of answer)
 
 -- P of the octets that a reader has before and after, where they are known
@@ -43,7 +43,7 @@ Known P (Some octets) None = ⊥
 Known P (Some octets) (Some left) = P octets left
 
 -- The first line says a gateway, which starts.
-pub record IsStarted (octets left : List ℕ) (role : Role) (new : Station) : Type 0 where
+pub record IsStarted (octets left : List ℕ) (role : Role) (new : GatewayState) : Type 0 where
   pub head : Head
   pub fits : length (take_through 10 octets) ≤ most_octets
   pub says : head_in (take_through 10 octets) ≡ Some head
@@ -62,7 +62,7 @@ pub record IsServed (octets : List ℕ) (before after : Option (List ℕ)) : Typ
   pub says : head_in (take_through 10 octets) ≡ Some head
   pub between : Option (List ℕ)
   pub starts : Appends before between (line_of (word_json (codes "started")))
-  pub last : Station
+  pub last : GatewayState
   pub others : AreAnswered (drop_through 10 octets) [] (started head) last between after
 
 -- The gateway of the first line has started, which was told, and the first of the other lines were answered.

@@ -1,7 +1,7 @@
 -- What the program tells, as replies.
 use Rattle.std.specs.Prelude.{map, option_map}
-use Rattle.gtp_gateway.specs.Sent.{datagram_by}
-use Rattle.gtp_gateway.specs.Ticked.{arrivals_of}
+use Rattle.gtp_gateway.specs.messages.Sent.{datagram_by}
+use Rattle.gtp_gateway.specs.Tick.{arrivals_of}
 use Rattle.gtp_world.specs.Kept.{outcome_of}
 use Rattle.gtp_serve.specs.declared.reply.Told.{Told}
 use Rattle.gtp_serve.specs.Replies.{Reply, packet_of}

@@ -3,8 +3,8 @@
 ghost use Rattle.std.specs.Prelude.{◌≡◌, ◌++◌, true, OnOk, IfOk, map, option_map, codes};
 ghost use Rattle.std.specs.List.{flat_map};
 ghost use Rattle.json.specs.Tree.{json_tokens};
-ghost use Rattle.gtp_gateway.specs.Sent.{datagram_by};
-ghost use Rattle.gtp_gateway.specs.Taken.{datagrams};
+ghost use Rattle.gtp_gateway.specs.messages.Sent.{datagram_by};
+ghost use Rattle.gtp_gateway.specs.receive.Taken.{datagrams};
 ghost use Rattle.gtp_world.specs.Kept.{outcome_of};
 ghost use Rattle.gtp_world.specs.Commands.{command_of, is_command};
 ghost use Rattle.gtp_json.specs.Tree.{line_of, member, array_of};

@@ -12,7 +12,7 @@ use Rattle.gtp_machine.proofs.Basics.FiniteMaps.{Among-one_more}
 use Rattle.gtp_machine.proofs.Worlds.Safety.{always_made_once}
 use Rattle.gtp_reliable.specs.Forgotten.{question_of}
 use Rattle.gtp_reliable.specs.declared.held.Request.{Request}
-use Rattle.gtp_gateway.specs.Ticked.{asked_by, arrivals_of}
+use Rattle.gtp_gateway.specs.Tick.{asked_by, arrivals_of}
 use Rattle.gtp_world.specs.Kept.{oldest_first, Kept, half_in}
 use Rattle.gtp_world.specs.Views.{IsCount, IsMade, IsMadeOnce, as_it_came}
 use Rattle.gtp_world.proofs.Lists.{among_oldest}

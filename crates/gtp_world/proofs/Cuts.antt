@@ -15,8 +15,8 @@ use Rattle.gtp_machine.proofs.Octets.ByGrammar.{control_by_grammar, user_by_gram
 use Rattle.gtp_machine.proofs.Octets.Datagrams.{datagram_by_grammar, datagram_cuts_read}
 use Rattle.gtp_machine.proofs.Octets.Faults.{IsFault, fault_is}
 use Rattle.gtp_machine.proofs.Octets.Pairs.{pair_cuts_read}
-use Rattle.gtp_gateway.specs.Received.{coming}
-use Rattle.gtp_gateway.specs.Sent.{ReadsBackOn}
+use Rattle.gtp_gateway.specs.receive.Received.{coming}
+use Rattle.gtp_gateway.specs.messages.Sent.{ReadsBackOn}
 use Rattle.gtp_world.proofs.Pairs.{two, front_long}
 
 -- a fault is no message

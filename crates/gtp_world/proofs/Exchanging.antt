@@ -14,7 +14,7 @@ use Rattle.gtp_machine.proofs.Basics.FiniteMaps.{Among-cases}
 use Rattle.gtp_machine.proofs.Exchange.Made.{fair_exchange}
 use Rattle.gtp_machine.proofs.Worlds.Coming.{by_few}
 use Rattle.gtp_machine.proofs.Worlds.Runs.{always}
-use Rattle.gtp_gateway.specs.Sent.{ReadsBackOn, ReadsBack}
+use Rattle.gtp_gateway.specs.messages.Sent.{ReadsBackOn, ReadsBack}
 use Rattle.gtp_world.specs.Kept.{oldest_first, Told, Kept, outcomes_in}
 use Rattle.gtp_world.specs.Runs.{Setup, AreFacing, AreFor, told_in, StandsFor, IsRunOf, IsReached}
 use Rattle.gtp_world.specs.Stepped.{Comes, Follows}

@@ -18,10 +18,10 @@ use Rattle.gtp_machine.specs.World.{By, SentDatagram, World, Side, EventOutcome,
 use Rattle.gtp_machine.proofs.Worlds.Coming.{no_pair}
 use Rattle.gtp_machine.proofs.Worlds.Runs.{Run-push}
 use Rattle.gtp_gateway.specs.Parts.{arrival_of}
-use Rattle.gtp_gateway.specs.Received.{coming, first_comes, second_comes}
-use Rattle.gtp_gateway.specs.Sent.{SendingReads, ReadsBackOn}
-use Rattle.gtp_gateway.specs.Station.{Station}
-use Rattle.gtp_gateway.specs.Ticked.{due_in}
+use Rattle.gtp_gateway.specs.receive.Received.{coming, first_comes, second_comes}
+use Rattle.gtp_gateway.specs.messages.Sent.{SendingReads, ReadsBackOn}
+use Rattle.gtp_gateway.specs.GatewayState.{GatewayState}
+use Rattle.gtp_gateway.specs.Tick.{due_in}
 use Rattle.gtp_gateway.proofs.SentBack.{none_sent}
 use Rattle.gtp_world.specs.Kept.{Kept, half_in}
 use Rattle.gtp_world.specs.Last.{last_octets}
@@ -79,7 +79,7 @@ module _ (setup : Setup) (v : Kept) (w : World) (stands : StandsFor setup v w) (
   late_node true Serving a = refl
   late_node true Packet a = refl
 
-  takes_on : (role : Role) (late : Bool) (a : Arrival) (input there : Input) (Timed : List Datagram → EventOutcome → Station → Station → Type 0) (new : Kept) → input ≡ there → Takes v role input Timed late new → Moved setup (lates late w role a) role there new
+  takes_on : (role : Role) (late : Bool) (a : Arrival) (input there : Input) (Timed : List Datagram → EventOutcome → GatewayState → GatewayState → Type 0) (new : Kept) → input ≡ there → Takes v role input Timed late new → Moved setup (lates late w role a) role there new
   takes_on role late a input there Timed new is t =
       let old = lates late w role a in
       let steps : List Done = record { before = (side_of old role).node; input = there; effect = t.effect } ∷ [] in
@@ -115,7 +115,7 @@ module _ (setup : Setup) (v : Kept) (w : World) (stands : StandsFor setup v w) (
   ticks_on : (role : Role) (new : Kept) → TicksBy v role new → GoesOn setup w (Tick role) new
   ticks_on role new t =
       let half = half_stands setup v w stands role in
-      let due = subst (λ n. Ticks n (due_in (half_in v role).station.timing) t.out t.station.node) half.node t.ticks in
+      let due = subst (λ n. Ticks n (due_in (half_in v role).station.queues) t.out t.station.node) half.node t.ticks in
       let steps = tick_steps (side_of w role).node due.moves t.out t.station.node due.step in
       let next = world_after w role (ticked t.out t.station.node) Ticked steps in
       record {

@@ -5,7 +5,7 @@ use Rattle.std.proofs.Math.Seq.{take-suc}
 use Rattle.gtp_world.specs.Kept.{Told, told_by, entry_by, counted, late_among}
 use Rattle.gtp_reliable.specs.Forgotten.{question_of}
 use Rattle.gtp_reliable.specs.declared.held.Request.{Request}
-use Rattle.gtp_gateway.specs.Ticked.{asked_by, arrivals_of}
+use Rattle.gtp_gateway.specs.Tick.{asked_by, arrivals_of}
 use Rattle.gtp_world.specs.Sides.{entries}
 use Rattle.gtp_world.specs.declared.log.Entry.{Entry}
 use Rattle.gtp_world.specs.declared.log.Note.{Note}

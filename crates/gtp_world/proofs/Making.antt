@@ -16,9 +16,9 @@ use Rattle.gtp_machine.specs.declared.role.Role.{Role}
 use Rattle.gtp_machine.specs.declared.role.Role.TheVariants.{Serving, Packet}
 use Rattle.gtp_machine.proofs.Requests.Opening.{foreign, none_made}
 use Rattle.gtp_gateway.specs.Parts.{arrival_of}
-use Rattle.gtp_gateway.specs.Received.{IsReceivedOnce}
-use Rattle.gtp_gateway.specs.Station.{Station}
-use Rattle.gtp_gateway.specs.Taken.{made_for}
+use Rattle.gtp_gateway.specs.receive.Received.{IsReceivedOnce}
+use Rattle.gtp_gateway.specs.GatewayState.{GatewayState}
+use Rattle.gtp_gateway.specs.receive.Taken.{made_for}
 use Rattle.gtp_gateway.specs.declared.step.Step.{Step}
 use Rattle.gtp_world.specs.Last.{last_octets}
 use Rattle.gtp_world.proofs.Pairs.{one_announces_none, last_of}
@@ -93,7 +93,7 @@ announced_none role request octets old e h takes = by (datagram_reading octets) 
     by (Alone (Control_message m)) is step = (let both : false ≡ true = sym (one_announces_none octets m is) ∙ h in absurd cc)
     by (Alone (Faulty f)) is step = absurd (never_faulty (datagram_at octets) f (is ∙ ap (λ (b : Bool). cond b (pair_reading_of (datagram_at octets)) (Alone (control_reading octets))) h))
 
-pub made_last : (plane : Plane) (source : Endpoint) (octets : List ℕ) (old : Station) (step : Step) (new : Station) (r : IsReceivedOnce plane source octets old step new) → made_for (arrival_of source (last_octets octets)) step.report.made ≡ r.effect.out.made
+pub made_last : (plane : Plane) (source : Endpoint) (octets : List ℕ) (old : GatewayState) (step : Step) (new : GatewayState) (r : IsReceivedOnce plane source octets old step new) → made_for (arrival_of source (last_octets octets)) step.report.made ≡ r.effect.out.made
 made_last User source octets old step new r = any_request (arrival_of source octets) _ step.report.made r.effect.out.made r.tells.made (user_step old.node old.role source (user_reading octets) r.effect r.takes)
 made_last Control source octets old step new r = by (announces octets) refl
   where

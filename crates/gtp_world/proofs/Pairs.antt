@@ -13,10 +13,10 @@ use Rattle.gtp_machine.specs.Reading.{ControlReads, Alone, Both, announces, mess
 use Rattle.gtp_machine.specs.Spelling.{spelled, announcing, spelled_all, last_part}
 use Rattle.gtp_machine.proofs.Octets.ByGrammar.{control_by_grammar}
 use Rattle.gtp_machine.proofs.Octets.Datagrams.{datagram_by_grammar}
-use Rattle.gtp_gateway.specs.Pair.{first_length, first_part, second_part}
-use Rattle.gtp_gateway.proofs.Pairs.{none_announced}
-use Rattle.gtp_gateway.specs.Sent.{ReadsBackOn}
-use Rattle.gtp_gateway.specs.Spelled.{LieApart}
+use Rattle.gtp_gateway.specs.receive.TwoMessages.{first_length, first_part, second_part}
+use Rattle.gtp_gateway.proofs.TwoMessages.{none_announced}
+use Rattle.gtp_gateway.specs.messages.Sent.{ReadsBackOn}
+use Rattle.gtp_gateway.specs.messages.Spelled.{LieApart}
 use Rattle.gtp_world.specs.Last.{last_octets}
 
 -- ---- by the grammar

@@ -23,7 +23,7 @@ use Rattle.gtp_machine.proofs.Worlds.Coming.{by_few, ComesWhole, alone_comes, pe
 use Rattle.gtp_machine.proofs.Worlds.Logs.{always_acts_once}
 use Rattle.gtp_machine.proofs.Worlds.Runs.{always}
 use Rattle.gtp_gateway.specs.Parts.{arrival_of}
-use Rattle.gtp_gateway.specs.Sent.{ReadsBackOn}
+use Rattle.gtp_gateway.specs.messages.Sent.{ReadsBackOn}
 use Rattle.gtp_world.specs.Kept.{Kept}
 use Rattle.gtp_world.specs.Last.{last_octets}
 use Rattle.gtp_world.specs.Repeated.{HoldLast, IsSentBetween, NeverRestarts, IsAnsweredAgainAlike}

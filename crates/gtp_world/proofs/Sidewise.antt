@@ -9,8 +9,8 @@ use Rattle.gtp_machine.specs.declared.role.Role.{Role}
 use Rattle.gtp_machine.specs.declared.role.Role.TheVariants.{Serving, Packet}
 use Rattle.gtp_machine.specs.Spelling.{Datagram}
 use Rattle.gtp_machine.specs.World.{EventOutcome, Ticked, signed}
-use Rattle.gtp_gateway.specs.Station.{Station}
-use Rattle.gtp_gateway.specs.Sent.{datagram_by}
+use Rattle.gtp_gateway.specs.GatewayState.{GatewayState}
+use Rattle.gtp_gateway.specs.messages.Sent.{datagram_by}
 use Rattle.gtp_gateway.specs.declared.tick.Ticked.{Ticked as Tick}
 use Rattle.gtp_world.specs.Kept.{Half, Log, Kept, half_in, with_half, counted, half_of, log_of, kept_of}
 use Rattle.gtp_world.specs.Recorded.{log_of_came, log_of_tick}
@@ -22,7 +22,7 @@ use Rattle.gtp_world.specs.declared.side.Side.{Side}
 use Rattle.gtp_world.specs.declared.sides.Sides.{Sides}
 
 -- the log, after what came of an input
-came_log : (log : Log) (role : Role) (input : Input) (Timed : List Datagram → EventOutcome → Station → Station → Type 0) (old : Half) (came : Came) (new : Half) (late : Bool) (t : IsInput role input Timed old came new) → log_of_came log role came late ≡ log_after log role t.effect.out (sent_at old t.effect.out) t.effect.outcome late
+came_log : (log : Log) (role : Role) (input : Input) (Timed : List Datagram → EventOutcome → GatewayState → GatewayState → Type 0) (old : Half) (came : Came) (new : Half) (late : Bool) (t : IsInput role input Timed old came new) → log_of_came log role came late ≡ log_after log role t.effect.out (sent_at old t.effect.out) t.effect.outcome late
 came_log log role input Timed old came new late t =
     let out = t.effect.out in
     λ i. record {
@@ -33,7 +33,7 @@ came_log log role input Timed old came new late t =
       notes = log.notes ++ (record { outcome = t.tells.outcome i; second = t.tells.alone i; learned = t.tells.learned i; sent = length (t.tells.sent i); gave_up = sym t.tells.gave_up i; forgot = sym t.tells.forgot i } ∷ []);
     }
 
-pub takes_by : (v : Kept) (role : Role) (input : Input) (Timed : List Datagram → EventOutcome → Station → Station → Type 0) (came : Came) (half : Half) (log : Log) (late : Bool) (new : Kept) → IsInput role input Timed (half_in v role) came half → log ≡ log_of_came v.log role came late → new ≡ record (with_half v role half) { log = log } → Takes v role input Timed late new
+pub takes_by : (v : Kept) (role : Role) (input : Input) (Timed : List Datagram → EventOutcome → GatewayState → GatewayState → Type 0) (came : Came) (half : Half) (log : Log) (late : Bool) (new : Kept) → IsInput role input Timed (half_in v role) came half → log ≡ log_of_came v.log role came late → new ≡ record (with_half v role half) { log = log } → Takes v role input Timed late new
 takes_by v role input Timed came half log late new t is becomes =
     let logs = is ∙ came_log v.log role input Timed (half_in v role) came half late t in
     record {
@@ -132,7 +132,7 @@ at_packet old mid role side room is stands same =
     subst (λ r. IsAt old r (half_of old.packet) (half_of side) mid) (sym is)
     (record { was = refl; sides = λ settled. ap (λ (m : Sides). kept_of (record m { records = settled })) stands; log = ap (λ (m : Sides). log_of m.records) stands ∙ same })
 
-pub takes_at : (old mid : Sides) (role : Role) (input : Input) (Timed : List Datagram → EventOutcome → Station → Station → Type 0) (before after : Half) (came : Came) (settled : Records) (late : Bool) → IsAt old role before after mid → IsInput role input Timed before came after → log_of settled ≡ log_of_came (log_of mid.records) role came late → Takes (kept_of old) role input Timed late (kept_of (record mid { records = settled }))
+pub takes_at : (old mid : Sides) (role : Role) (input : Input) (Timed : List Datagram → EventOutcome → GatewayState → GatewayState → Type 0) (before after : Half) (came : Came) (settled : Records) (late : Bool) → IsAt old role before after mid → IsInput role input Timed before came after → log_of settled ≡ log_of_came (log_of mid.records) role came late → Takes (kept_of old) role input Timed late (kept_of (record mid { records = settled }))
 takes_at old mid role input Timed before after came settled late at t logs =
     takes_by (kept_of old) role input Timed came after (log_of settled) late _ (subst (λ h. IsInput role input Timed h came after) at.was t) (logs ∙ ap (λ l. log_of_came l role came late) at.log) (at.sides settled)
 

@@ -9,7 +9,7 @@ use Rattle.gtp_machine.specs.Spelling.{Datagram, datagram_of}
 use Rattle.gtp_machine.specs.Step.{Done}
 use Rattle.gtp_machine.specs.World as machine
 use Rattle.gtp_machine.specs.World.{By, World, Side, EventOutcome, Restarted, Note, note_of, note_of_both, outcome_in, quiet_note, noted, moved, stepped, with_heard, logged, with_steps, with_side, late_once, side_of, restarted, next_counter, signed}
-use Rattle.gtp_gateway.specs.Station.{Station}
+use Rattle.gtp_gateway.specs.GatewayState.{GatewayState}
 use Rattle.gtp_world.specs.Kept.{oldest_first, Half, Told, Kept, half_in, with_half, counted}
 use Rattle.gtp_world.specs.Runs.{Setup, config_in, AreFor, told_in, HalfStands, StandsFor}
 use Rattle.gtp_world.specs.Stepped.{half_after, told_of, told_of_both, log_moved, log_with, kept_after, kept_after_both, sent_at, AreReadable, passed_over, counter_after, half_restarted}
@@ -24,7 +24,7 @@ heard_after : (heard : Option ℕ) (half side : List ℕ) → half ≡ oldest_fi
 heard_after None half side is = append-nil half ∙ is
 heard_after (Some counter) half side is = ap (λ k. k ++ (counter ∷ [])) is
 
-half_stepped : (config : Config) (role : Role) (half : Half) (side : Side) (station : Station) (e : Effect) → HalfStands config role half side → station.node ≡ e.node → station.role ≡ half.station.role → HalfStands config role (half_after half station e.out) (stepped side e)
+half_stepped : (config : Config) (role : Role) (half : Half) (side : Side) (station : GatewayState) (e : Effect) → HalfStands config role half side → station.node ≡ e.node → station.role ≡ half.station.role → HalfStands config role (half_after half station e.out) (stepped side e)
 half_stepped config role half side station e stands node stays = record {
   set_up = stands.set_up;
   role = stays ∙ stands.role;
@@ -104,10 +104,10 @@ late_stands setup v w Packet a true stands = record {
 }
 
 -- what a step sends, hands in and accepts
-abbrev moved_kept : Kept → Role → Station → Config → Out → Kept
+abbrev moved_kept : Kept → Role → GatewayState → Config → Out → Kept
 moved_kept v role station config out = record (with_half v role (half_after (half_in v role) station out)) { log = log_moved v.log role out (map (datagram_of config) out.sent) }
 
-moved_stands : (setup : Setup) (v : Kept) (w : World) (role : Role) (station : Station) (config : Config) (e : Effect) → config ≡ config_in setup role → StandsFor setup v w → AreReadable e.out → station.node ≡ e.node → station.role ≡ (half_in v role).station.role → StandsFor setup (moved_kept v role station config e.out) (moved w role e)
+moved_stands : (setup : Setup) (v : Kept) (w : World) (role : Role) (station : GatewayState) (config : Config) (e : Effect) → config ≡ config_in setup role → StandsFor setup v w → AreReadable e.out → station.node ≡ e.node → station.role ≡ (half_in v role).station.role → StandsFor setup (moved_kept v role station config e.out) (moved w role e)
 moved_stands setup v w Serving station config e same stands read node stays = record {
   serving = half_stepped setup.serving.config Serving v.serving w.serving station e stands.serving node stays;
   packet = stands.packet;
@@ -137,7 +137,7 @@ kept_config : (setup : Setup) (v : Kept) (w : World) (role : Role) → (side_of 
 kept_config setup v w role same stands = ap (λ (n : Node). n.config) (half_stands setup v w stands role).node ∙ same
 
 -- after a step of a gateway
-pub after_step : (setup : Setup) (v : Kept) (w : World) (role : Role) (station : Station) (e : Effect) (outcome : EventOutcome) (late : Bool) (a : Arrival) (steps : List Done) → (side_of w role).node.config ≡ config_in setup role → StandsFor setup v w → AreReadable e.out → station.node ≡ e.node → station.role ≡ (half_in v role).station.role → StandsFor setup (kept_after v role station e.out (sent_at (half_in v role) e.out) outcome late) (world_after (lates late w role a) role e outcome steps)
+pub after_step : (setup : Setup) (v : Kept) (w : World) (role : Role) (station : GatewayState) (e : Effect) (outcome : EventOutcome) (late : Bool) (a : Arrival) (steps : List Done) → (side_of w role).node.config ≡ config_in setup role → StandsFor setup v w → AreReadable e.out → station.node ≡ e.node → station.role ≡ (half_in v role).station.role → StandsFor setup (kept_after v role station e.out (sent_at (half_in v role) e.out) outcome late) (world_after (lates late w role a) role e outcome steps)
 after_step setup v w Serving station e outcome late a steps same stands read node stays =
     let config = v.serving.station.node.config in
     let was = late_stands setup v w Serving a late stands in
@@ -150,11 +150,11 @@ after_step setup v w Packet station e outcome late a steps same stands read node
     (moved_stands setup _ (lates late w Packet a) Packet station config e (kept_config setup v w Packet same stands) was read node stays)
 
 -- a gateway between two steps
-abbrev between : Station → Effect → Station
+abbrev between : GatewayState → Effect → GatewayState
 between station e = record station { node = e.node }
 
 -- after a step of a gateway for each of two messages
-pub after_both : (setup : Setup) (v : Kept) (w : World) (role : Role) (station : Station) (first second : Effect) (late : Bool) (a : Arrival) (steps : List Done) → (side_of w role).node.config ≡ config_in setup role → StandsFor setup v w → AreReadable first.out → AreReadable second.out → station.node ≡ second.node → station.role ≡ (half_in v role).station.role → StandsFor setup (kept_after_both v role station first second (sent_at (half_in v role) first.out) (sent_at (half_in v role) second.out) late) (world_after_both (lates late w role a) role first second steps)
+pub after_both : (setup : Setup) (v : Kept) (w : World) (role : Role) (station : GatewayState) (first second : Effect) (late : Bool) (a : Arrival) (steps : List Done) → (side_of w role).node.config ≡ config_in setup role → StandsFor setup v w → AreReadable first.out → AreReadable second.out → station.node ≡ second.node → station.role ≡ (half_in v role).station.role → StandsFor setup (kept_after_both v role station first second (sent_at (half_in v role) first.out) (sent_at (half_in v role) second.out) late) (world_after_both (lates late w role a) role first second steps)
 after_both setup v w Serving station first second late a steps same stands read read_too node stays =
     let config = v.serving.station.node.config in
     let config_is = kept_config setup v w Serving same stands in

@@ -15,16 +15,16 @@ use Rattle.gtp_machine.specs.World.{By, EventOutcome, Came_to, signed, outcome_i
 use Rattle.gtp_machine.specs.declared.outcome.Outcome.{Outcome}
 use Rattle.gtp_machine.specs.declared.outcome.Outcome.TheVariants.{Begun as Asked, Refused, GoneOut}
 use Rattle.gtp_machine.specs.declared.outcome.Refusal.{Refusal}
-use Rattle.gtp_gateway.specs.Begun.{IsDone, AsksNext, outcome_by}
-use Rattle.gtp_gateway.specs.Choosing.{ChoosesLowest}
-use Rattle.gtp_gateway.specs.GoesOn.{GoesOn}
-use Rattle.gtp_gateway.specs.Pair.{second_part}
+use Rattle.gtp_gateway.specs.command.Command.{IsCarriedOut, SendsRequestNext, outcome_by}
+use Rattle.gtp_gateway.specs.receive.Choosing.{ChoosesLowest}
+use Rattle.gtp_gateway.specs.receive.Queues.{QueuesAfterMessage}
+use Rattle.gtp_gateway.specs.receive.TwoMessages.{second_part}
 use Rattle.gtp_gateway.specs.Parts.{arrival_of}
-use Rattle.gtp_gateway.specs.Received.{IsReceivedOnce, AreReceived, IsReceived, KeepsTiming, coming}
-use Rattle.gtp_gateway.specs.Sent.{datagram_by}
-use Rattle.gtp_gateway.specs.Station.{Station}
-use Rattle.gtp_gateway.specs.Taken.{made_for}
-use Rattle.gtp_gateway.specs.UserTaken.{AreEntries}
+use Rattle.gtp_gateway.specs.receive.Received.{IsReceivedOnce, AreReceived, IsReceived, QueuesAfterReceive, coming}
+use Rattle.gtp_gateway.specs.messages.Sent.{datagram_by}
+use Rattle.gtp_gateway.specs.GatewayState.{GatewayState}
+use Rattle.gtp_gateway.specs.receive.Taken.{made_for}
+use Rattle.gtp_gateway.specs.user.Receive.{AreEntries}
 use Rattle.gtp_gateway.specs.declared.sent.Begun.{Begun}
 use Rattle.gtp_gateway.specs.declared.step.Step.{Step}
 use Rattle.gtp_gateway.specs.declared.step.Accepted.{Accepted}
@@ -56,7 +56,7 @@ told node role (Send_user bearer payload) old teid entry e (inl refusal) outcome
 told node role (Send_user bearer payload) old teid entry e (inr hands) outcome is = is hands.at hands.sends.of ∙ ap (λ (k : Effect). signed node k.out.handed) (sym hands.sends.gives)
 
 -- nothing was heard, forgotten or made
-as_before : (old : Half) (station : Station) (out : Out) → out.heard ≡ None → out.forgot ≡ [] → out.made ≡ [] → record old { station = station } ≡ record old { station = station; seen = old.seen ++ option_to_list out.heard; forgotten = old.forgotten ++ out.forgot; made = old.made ++ oldest_first out.made }
+as_before : (old : Half) (station : GatewayState) (out : Out) → out.heard ≡ None → out.forgot ≡ [] → out.made ≡ [] → record old { station = station } ≡ record old { station = station; seen = old.seen ++ option_to_list out.heard; forgotten = old.forgotten ++ out.forgot; made = old.made ++ oldest_first out.made }
 as_before old station out heard forgot made =
     let seen = sym (append-nil old.seen) ∙ ap (λ h. old.seen ++ option_to_list h) (sym heard) in
     let forgotten = sym (append-nil old.forgotten) ∙ ap (λ l. old.forgotten ++ l) (sym forgot) in
@@ -64,22 +64,22 @@ as_before old station out heard forgot made =
     λ i. record old { station = station; seen = seen i; forgotten = forgotten i; made = makes i }
 
 -- a request was begun, and waits
-asked : (old new : Station) (begun : Begun) (teid : Option ℕ) (sent : List Datagram) (outcome : EventOutcome) → outcome ≡ Came_to (Asked teid) → (datagram_by begun.out ∷ []) ≡ sent → AsksNext old begun new → AsksFor sent outcome old new
+asked : (old new : GatewayState) (begun : Begun) (teid : Option ℕ) (sent : List Datagram) (outcome : EventOutcome) → outcome ≡ Came_to (Asked teid) → (datagram_by begun.out ∷ []) ≡ sent → SendsRequestNext old begun new → AsksFor sent outcome old new
 asked old new begun teid sent outcome is out next =
     record {
-      asks = λ other same. (datagram_by begun.out, sym out, record { number = next.number; free = next.free; purpose = next.purpose; timing = next.timing; tied = next.tied });
+      asks = λ other same. (datagram_by begun.out, sym out, record { number = next.number; free = next.free; purpose = next.purpose; queues = next.queues; tied = next.tied });
       none = λ never. absurd (never teid is);
     }
 
 -- none was
-unasked : (old new : Station) (sent : List Datagram) (outcome : EventOutcome) → ((teid : Option ℕ) → outcome ≡ Came_to (Asked teid) → ⊥) → new.timing ≡ old.timing → AsksFor sent outcome old new
+unasked : (old new : GatewayState) (sent : List Datagram) (outcome : EventOutcome) → ((teid : Option ℕ) → outcome ≡ Came_to (Asked teid) → ⊥) → new.queues ≡ old.queues → AsksFor sent outcome old new
 unasked old new sent outcome never same = record { asks = λ teid is. absurd (never teid is); none = λ other. same }
 
 gone_out : (outcome : EventOutcome) → outcome ≡ Came_to GoneOut → (teid : Option ℕ) → outcome ≡ Came_to (Asked teid) → ⊥
 gone_out outcome is teid asks = let apart : Came_to GoneOut ≡ Came_to (Asked teid) = sym is ∙ asks in cc apart
 
 -- what ticks go by, after a command
-asks_for : (command : Command) (old new : Station) (begun : Begun) (teid : Option ℕ) (sent : List Datagram) (outcome : EventOutcome) → outcome ≡ Came_to (outcome_by command teid) → (datagram_by begun.out ∷ []) ≡ sent → IsTimed command old begun new → AsksFor sent outcome old new
+asks_for : (command : Command) (old new : GatewayState) (begun : Begun) (teid : Option ℕ) (sent : List Datagram) (outcome : EventOutcome) → outcome ≡ Came_to (outcome_by command teid) → (datagram_by begun.out ∷ []) ≡ sent → IsTimed command old begun new → AsksFor sent outcome old new
 asks_for (Create_session spec) old new begun teid sent outcome is out next = asked old new begun teid sent outcome is out next
 asks_for (Delete_session session) old new begun teid sent outcome is out next = asked old new begun teid sent outcome is out next
 asks_for (Create_bearer session tft qos) old new begun teid sent outcome is out next = asked old new begun teid sent outcome is out next
@@ -93,7 +93,7 @@ asks_for (Send_user bearer payload) old new begun teid sent outcome is out same 
 abbrev pub came_of_begun : Command → Begun → Option (By Entry) → Came
 came_of_begun command begun handed = record { outcome = outcome_by command (option_map (λ (t : Teid). t.0) begun.teid); second = None; restart = None; out = Some begun.out; handed = handed; accepted = None }
 
-pub done : (node : Role) (command : Command) (old : Half) (begun : Begun) (station : Station) (handed : Option (By Entry)) → IsDone command old.station begun station → IsTimed command old.station begun station → IsHanded node old.station.node command handed → IsInput node (Commanded command) AsksFor old (came_of_begun command begun handed) (record old { station = station })
+pub done : (node : Role) (command : Command) (old : Half) (begun : Begun) (station : GatewayState) (handed : Option (By Entry)) → IsCarriedOut command old.station begun station → IsTimed command old.station begun station → IsHanded node old.station.node command handed → IsInput node (Commanded command) AsksFor old (came_of_begun command begun handed) (record old { station = station })
 done node command old begun station handed d times is =
     let plain = plainly old.station.role command old.station.node d.effect d.step in
     record {
@@ -158,11 +158,11 @@ abbrev pub came_of_step : Step → Option LoggedEntry → Came
 came_of_step step accepted = record { outcome = step.report.outcome; second = step.report.second; restart = step.report.restart; out = step.out; handed = None; accepted = accepted }
 
 -- a gateway, after a datagram of which this was told
-abbrev pub half_told : Half → Station → Step → Arrival → Half
+abbrev pub half_told : Half → GatewayState → Step → Arrival → Half
 half_told old station step request = record old { station = station; seen = old.seen ++ option_to_list (option_map (λ (c : Counter). c.0) step.report.heard); made = old.made ++ made_for request step.report.made }
 
 -- a datagram was taken as a whole
-taken_whole : (node : Role) (plane : Plane) (source : Endpoint) (octets : List ℕ) (old : Half) (step : Step) (station : Station) (entry : Option LoggedEntry) (request : Arrival) (r : IsReceivedOnce plane source octets old.station step station) → made_for request step.report.made ≡ r.effect.out.made → KeepsOn plane source octets (sent_at old r.effect.out) r.effect.outcome old.station station → ChoosesLowest step.report.made old.station.role old.station.node station.node → (IsSome step.accepted → station ≡ old.station) → IsAccepted node station.node step.accepted entry → IsInput node (coming plane source octets) (KeepsOn plane source octets) old (came_of_step step entry) (half_told old station step request)
+taken_whole : (node : Role) (plane : Plane) (source : Endpoint) (octets : List ℕ) (old : Half) (step : Step) (station : GatewayState) (entry : Option LoggedEntry) (request : Arrival) (r : IsReceivedOnce plane source octets old.station step station) → made_for request step.report.made ≡ r.effect.out.made → KeepsOn plane source octets (sent_at old r.effect.out) r.effect.outcome old.station station → ChoosesLowest step.report.made old.station.role old.station.node station.node → (IsSome step.accepted → station ≡ old.station) → IsAccepted node station.node step.accepted entry → IsInput node (coming plane source octets) (KeepsOn plane source octets) old (came_of_step step entry) (half_told old station step request)
 taken_whole node plane source octets old step station entry request r told keeps lowest stays is =
     let out = r.effect.out in
     let forgot = ap (λ (o : Out). o.forgot) r.tells.all in
@@ -184,7 +184,7 @@ taken_whole node plane source octets old step station entry request r told keeps
         alone = r.tells.alone;
         learned = r.tells.restart;
         handed = ap (λ (o : Out). signed node o.handed) (sym r.tells.all);
-        accepted = is out.accepted (entries_now old.station.node station.node step.accepted out.accepted (λ some. ap (λ (s : Station). s.node) (stays some)) r.tells.accepted);
+        accepted = is out.accepted (entries_now old.station.node station.node step.accepted out.accepted (λ some. ap (λ (s : GatewayState). s.node) (stays some)) r.tells.accepted);
         gave_up = ap (λ (o : Out). o.gave_up) r.tells.all;
         forgot = forgot;
       };
@@ -200,7 +200,7 @@ none_accepted : (node : Role) (at : Node) (accepted : Option Accepted) (entry : 
 none_accepted node at accepted entry none is = is [] (subst (λ a. AreEntries at a []) (sym none) refl)
 
 -- its two messages were taken, one after the other
-taken_both : (node : Role) (source : Endpoint) (octets : List ℕ) (answer : CreateSessionResponse) (asked : CreateBearerRequest) (old : Half) (step : Step) (station : Station) (entry : Option LoggedEntry) (request : Arrival) → AreReceived source octets answer asked old.station step station → request ≡ arrival_of source (second_part octets) → GoesOn source (second_part octets) old.station station → ChoosesLowest step.report.made old.station.role old.station.node station.node → IsAccepted node station.node step.accepted entry → AreInputs node source octets answer asked old (came_of_step step entry) (half_told old station step request)
+taken_both : (node : Role) (source : Endpoint) (octets : List ℕ) (answer : CreateSessionResponse) (asked : CreateBearerRequest) (old : Half) (step : Step) (station : GatewayState) (entry : Option LoggedEntry) (request : Arrival) → AreReceived source octets answer asked old.station step station → request ≡ arrival_of source (second_part octets) → QueuesAfterMessage source (second_part octets) old.station station → ChoosesLowest step.report.made old.station.role old.station.node station.node → IsAccepted node station.node step.accepted entry → AreInputs node source octets answer asked old (came_of_step step entry) (half_told old station step request)
 taken_both node source octets answer asked old step station entry request r same keeps lowest is =
     let first = r.first.out in
     let second = r.second.out in
@@ -237,7 +237,7 @@ taken_both node source octets answer asked old step station entry request r same
     }
 
 -- a datagram was taken
-pub taken : (node : Role) (plane : Plane) (source : Endpoint) (octets : List ℕ) (old : Half) (step : Step) (station : Station) (entry : Option LoggedEntry) → IsReceived plane source octets old.station step station → KeepsTiming plane source octets step old.station station → ChoosesLowest step.report.made old.station.role old.station.node station.node → (IsSome step.accepted → station ≡ old.station) → IsAccepted node station.node step.accepted entry → IsBrought node plane source octets old (came_of_step step entry) (half_told old station step (arrival_of source (last_octets octets)))
+pub taken : (node : Role) (plane : Plane) (source : Endpoint) (octets : List ℕ) (old : Half) (step : Step) (station : GatewayState) (entry : Option LoggedEntry) → IsReceived plane source octets old.station step station → QueuesAfterReceive plane source octets step old.station station → ChoosesLowest step.report.made old.station.role old.station.node station.node → (IsSome step.accepted → station ≡ old.station) → IsAccepted node station.node step.accepted entry → IsBrought node plane source octets old (came_of_step step entry) (half_told old station step (arrival_of source (last_octets octets)))
 taken node Control source octets old step station entry (inl (none, r)) (inl (alone, keeps)) lowest stays is = inl (none, taken_whole node Control source octets old step station entry (arrival_of source (last_octets octets)) r (made_last Control source octets old.station step station r) keeps lowest stays is)
 taken node Control source octets old step station entry (inl (none, r)) (inr (pair, keeps)) lowest stays is = absurd (none pair)
 taken node Control source octets old step station entry (inr (pair, r)) (inl (none, keeps)) lowest stays is = absurd (none pair)

@@ -2,9 +2,9 @@
 use Rattle.std.specs.Prelude.{◌≡◌, Bool, true, false}
 use Rattle.gtp_machine.specs.Input as machine
 use Rattle.gtp_machine.specs.Input.{Create_session, Delete_session, Create_bearer, Delete_bearer, Release_session, Mark_end, Send_echo, Send_user}
-use Rattle.gtp_gateway.specs.Begun.{AsksNext}
-use Rattle.gtp_gateway.specs.Specified.{specification}
-use Rattle.gtp_gateway.specs.Station.{Station}
+use Rattle.gtp_gateway.specs.command.Command.{SendsRequestNext}
+use Rattle.gtp_gateway.specs.command.CreateSession.{specification}
+use Rattle.gtp_gateway.specs.GatewayState.{GatewayState}
 use Rattle.gtp_gateway.specs.declared.sent.Begun.{Begun}
 use Rattle.gtp_world.specs.declared.event.Event.{Event}
 use Rattle.gtp_world.specs.declared.event.Event.TheVariants.{CreateSession, DeleteSession, CreateBearer, DeleteBearer, ReleaseSession, EndMarker, SendUser, Tick, Deliver, Cut, Restart}
@@ -29,7 +29,7 @@ command_of (SendUser node bearer payload) = Send_user bearer.0 payload.items
 command_of _ = Send_echo
 
 -- what ticks go by, after a command that was carried out: a request waits from now on; a packet or an End Marker changes nothing
-abbrev pub IsTimed : machine.Command → Station → Begun → Station → Type 0
-IsTimed (Mark_end bearer) old begun new = new.timing ≡ old.timing
-IsTimed (Send_user bearer payload) old begun new = new.timing ≡ old.timing
-IsTimed command old begun new = AsksNext old begun new
+abbrev pub IsTimed : machine.Command → GatewayState → Begun → GatewayState → Type 0
+IsTimed (Mark_end bearer) old begun new = new.queues ≡ old.queues
+IsTimed (Send_user bearer payload) old begun new = new.queues ≡ old.queues
+IsTimed command old begun new = SendsRequestNext old begun new

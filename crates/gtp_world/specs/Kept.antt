@@ -7,10 +7,10 @@ use Rattle.gtp_machine.specs.declared.role.Role.TheVariants.{Serving, Packet}
 use Rattle.gtp_machine.specs.Node.{Arrival}
 use Rattle.gtp_machine.specs.Spelling.{Datagram}
 use Rattle.gtp_machine.specs.World.{By, EventOutcome, Came_to, Ticked, Restarted, No_such_datagram, Restarts_used, Cut_too_long}
-use Rattle.gtp_gateway.specs.Sent.{datagram_by}
+use Rattle.gtp_gateway.specs.messages.Sent.{datagram_by}
 use Rattle.gtp_gateway.specs.Settings.{Settings}
-use Rattle.gtp_gateway.specs.Station.{Station}
-use Rattle.gtp_gateway.specs.Ticked.{arrivals_of}
+use Rattle.gtp_gateway.specs.GatewayState.{GatewayState}
+use Rattle.gtp_gateway.specs.Tick.{arrivals_of}
 pub use Rattle.gtp_world.specs.Indexes.{entry_by}
 use Rattle.gtp_world.specs.declared.event.EventOutcome.{EventOutcome as Outcome}
 use Rattle.gtp_world.specs.declared.event.EventOutcome.TheVariants as outcomes
@@ -29,7 +29,7 @@ oldest_first (x ∷ xs) = oldest_first xs ++ (x ∷ [])
 -- which it made a context, each in order; how it is set up, with which counter it began, and how often it was restarted
 pub record Half : Type 0 where
   pub settings : Settings
-  pub station : Station
+  pub station : GatewayState
   pub first : ℕ
   pub restarts : ℕ
   pub seen : List ℕ

@@ -2,9 +2,9 @@
 use Rattle.std.specs.Prelude.{ℕ, ◌+◌, ◌<◌, ◌≤◌, option_to_list, Bool, [], ◌∷◌, ◌++◌, map, length, None, option_map, vec_len, vec_capacity}
 use Rattle.gtp_machine.specs.declared.role.Role.{Role}
 use Rattle.gtp_machine.specs.World.{Came_to, Ticked, signed}
-use Rattle.gtp_gateway.specs.Sent.{datagram_by}
-use Rattle.gtp_gateway.specs.Taken.{datagrams}
-use Rattle.gtp_gateway.specs.Ticked.{arrivals_of}
+use Rattle.gtp_gateway.specs.messages.Sent.{datagram_by}
+use Rattle.gtp_gateway.specs.receive.Taken.{datagrams}
+use Rattle.gtp_gateway.specs.Tick.{arrivals_of}
 use Rattle.gtp_gateway.specs.declared.tick.Ticked.{Ticked as Tick}
 use Rattle.gtp_world.specs.Kept.{Log, counted}
 use Rattle.gtp_world.specs.Sides.{entries}

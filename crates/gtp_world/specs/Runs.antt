@@ -8,7 +8,7 @@ use Rattle.gtp_machine.specs.World as machine
 use Rattle.gtp_machine.specs.World.{By, SentDatagram, Side, World, Event, Run, start}
 use Rattle.gtp_machine.specs.Safety.{SessionsAgree, BearersAgree, EachOwed, NoneOutlivesRestart}
 use Rattle.gtp_world.specs.Kept.{oldest_first, Half, Told, Kept, half_in}
-use Rattle.gtp_gateway.specs.Sent.{ReadsBack}
+use Rattle.gtp_gateway.specs.messages.Sent.{ReadsBack}
 use Rattle.gtp_gateway.specs.Settings.{Settings}
 use Rattle.gtp_world.specs.Recorded.{empty_log}
 use Rattle.gtp_world.specs.Stepped.{half_begun, Follows}

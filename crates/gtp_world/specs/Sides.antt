@@ -11,16 +11,16 @@ use Rattle.gtp_machine.specs.Spelling.{Datagram}
 use Rattle.gtp_machine.specs.Step.{Step}
 use Rattle.gtp_machine.specs.Tick.{Ticks}
 use Rattle.gtp_machine.specs.World.{By, signed, outcome_in}
-use Rattle.gtp_gateway.specs.GoesOn.{GoesOn}
-use Rattle.gtp_gateway.specs.Pair.{second_part}
-use Rattle.gtp_gateway.specs.Received.{coming, first_comes, second_comes, ByPair}
-use Rattle.gtp_gateway.specs.Sent.{datagram_by}
-use Rattle.gtp_gateway.specs.Taken.{datagrams}
-use Rattle.gtp_gateway.specs.Station.{Station}
-use Rattle.gtp_gateway.specs.Ticked.{due_in, arrivals_of, CountsOn}
+use Rattle.gtp_gateway.specs.receive.Queues.{QueuesAfterMessage}
+use Rattle.gtp_gateway.specs.receive.TwoMessages.{second_part}
+use Rattle.gtp_gateway.specs.receive.Received.{coming, first_comes, second_comes, ByPair}
+use Rattle.gtp_gateway.specs.messages.Sent.{datagram_by}
+use Rattle.gtp_gateway.specs.receive.Taken.{datagrams}
+use Rattle.gtp_gateway.specs.GatewayState.{GatewayState}
+use Rattle.gtp_gateway.specs.Tick.{due_in, arrivals_of, QueuesAfterTick}
 use Rattle.gtp_gateway.specs.declared.tick.Ticked.{Ticked}
 use Rattle.gtp_gateway.specs.declared.step.Accepted.{Accepted}
-use Rattle.gtp_gateway.specs.UserTaken.{AreEntries}
+use Rattle.gtp_gateway.specs.user.Receive.{AreEntries}
 use Rattle.gtp_world.specs.Kept.{Half, entry_by}
 use Rattle.gtp_world.specs.Stepped.{half_after, sent_at, AreReadable, TakesLowest, KeepsOn}
 use Rattle.gtp_world.specs.declared.log.Entry.{Entry as LoggedEntry}
@@ -42,7 +42,7 @@ pub record TellsCame (role : Role) (old : Half) (came : Came) (e : Effect) : Typ
   pub forgot : e.out.forgot ≡ []
 
 -- The gateway took an input, of what is free it took the lowest, and what its ticks go by is as this says.
-pub record IsInput (role : Role) (input : Input) (Timed : List Datagram → EventOutcome → Station → Station → Type 0) (old : Half) (came : Came) (new : Half) : Type 0 where
+pub record IsInput (role : Role) (input : Input) (Timed : List Datagram → EventOutcome → GatewayState → GatewayState → Type 0) (old : Half) (came : Came) (new : Half) : Type 0 where
   pub effect : Effect
   pub step : Step old.station.role old.station.node input effect
   pub readable : AreReadable effect.out
@@ -76,7 +76,7 @@ pub record AreInputs (role : Role) (source : Endpoint) (octets : List ℕ) (answ
   pub node : new.station.node ≡ second.node
   pub role_stays : new.station.role ≡ old.station.role
   pub lowest : TakesLowest new.station.role second.out old.station.node new.station.node
-  pub timed : GoesOn source (second_part octets) old.station new.station
+  pub timed : QueuesAfterMessage source (second_part octets) old.station new.station
   pub becomes : new ≡ half_after (half_after old new.station first.out) new.station second.out
   pub tells : TellsCameBoth role old came first second
 
@@ -88,10 +88,10 @@ IsBrought role User source octets old came new = IsInput role (coming User sourc
 -- The gateway ticked.
 pub record IsTick (old : Half) (ticked : Ticked) (new : Half) : Type 0 where
   pub out : Out
-  pub ticks : Ticks old.station.node (due_in old.station.timing) out new.station.node
+  pub ticks : Ticks old.station.node (due_in old.station.queues) out new.station.node
   pub readable : AreReadable out
   pub role_stays : new.station.role ≡ old.station.role
-  pub counts : CountsOn old.station new.station
+  pub counts : QueuesAfterTick old.station new.station
   pub becomes : new ≡ half_after old new.station out
   pub sent : map datagram_by ticked.resent.items ≡ sent_at old out
   pub gave_up : ticked.gave_up.items ≡ out.gave_up

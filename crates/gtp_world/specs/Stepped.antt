@@ -13,23 +13,23 @@ use Rattle.gtp_machine.specs.Spelling.{Datagram, datagram_of}
 use Rattle.gtp_machine.specs.Step.{Step}
 use Rattle.gtp_machine.specs.Tick.{Ticks}
 use Rattle.gtp_machine.specs.World.{By, EventOutcome, Came_to, Ticked, Restarted, No_such_datagram, Restarts_used, Cut_too_long, Event, Does, Tick, Deliver, Cut, Restart, other, signed, outcome_in}
-use Rattle.gtp_gateway.specs.declared.purpose.Purpose.{Purpose}
-use Rattle.gtp_gateway.specs.Asking.{after_begun}
-use Rattle.gtp_gateway.specs.Choosing.{MakesLowest}
-use Rattle.gtp_gateway.specs.GoesOn.{GoesOn}
-use Rattle.gtp_gateway.specs.Pair.{second_part}
+use Rattle.gtp_gateway.specs.declared.command.purpose.Purpose.{Purpose}
+use Rattle.gtp_gateway.specs.command.SendRequest.{after_begun}
+use Rattle.gtp_gateway.specs.receive.Choosing.{MakesLowest}
+use Rattle.gtp_gateway.specs.receive.Queues.{QueuesAfterMessage}
+use Rattle.gtp_gateway.specs.receive.TwoMessages.{second_part}
 use Rattle.gtp_gateway.specs.Parts.{arrival_of}
-use Rattle.gtp_gateway.specs.Received.{coming, first_comes, second_comes, ByPair}
-use Rattle.gtp_gateway.specs.Sent.{SendingReads}
+use Rattle.gtp_gateway.specs.receive.Received.{coming, first_comes, second_comes, ByPair}
+use Rattle.gtp_gateway.specs.messages.Sent.{SendingReads}
 use Rattle.gtp_gateway.specs.Settings.{Settings}
-use Rattle.gtp_gateway.specs.Station.{Station, starting, IsTied}
-use Rattle.gtp_gateway.specs.Ticked.{due_in, CountsOn}
-use Rattle.gtp_gateway.specs.UserTaken.{WaitOn}
+use Rattle.gtp_gateway.specs.GatewayState.{GatewayState, starting, NodeMatchesQueues}
+use Rattle.gtp_gateway.specs.Tick.{due_in, QueuesAfterTick}
+use Rattle.gtp_gateway.specs.user.Receive.{RequestsWaitOn}
 use Rattle.gtp_world.specs.Kept.{oldest_first, Half, Told, Log, Kept, half_in, with_half, counted}
 use Rattle.gtp_world.specs.Last.{last_octets}
 
 -- what is kept of a gateway, after a step that tells this
-abbrev pub half_after : Half → Station → Out → Half
+abbrev pub half_after : Half → GatewayState → Out → Half
 half_after h station out = record h { station = station; seen = h.seen ++ option_to_list out.heard; forgotten = h.forgotten ++ out.forgot; made = h.made ++ oldest_first out.made }
 
 -- what is told of an event that sends these datagrams
@@ -62,11 +62,11 @@ abbrev pub log_after_both : Log → Role → Effect → Effect → List Datagram
 log_after_both log role first second sent more late = log_told (log_moved (log_moved log role first.out sent) role second.out more) (told_of_both first second (sent ++ more)) late
 
 -- all that is kept, after a step of that gateway
-abbrev pub kept_after : Kept → Role → Station → Out → List Datagram → EventOutcome → Bool → Kept
+abbrev pub kept_after : Kept → Role → GatewayState → Out → List Datagram → EventOutcome → Bool → Kept
 kept_after v role station out datagrams outcome late = record (with_half v role (half_after (half_in v role) station out)) { log = log_after v.log role out datagrams outcome late }
 
 -- all that is kept, after a step of that gateway for each of two messages
-abbrev pub kept_after_both : Kept → Role → Station → Effect → Effect → List Datagram → List Datagram → Bool → Kept
+abbrev pub kept_after_both : Kept → Role → GatewayState → Effect → Effect → List Datagram → List Datagram → Bool → Kept
 kept_after_both v role station first second sent more late =
     record (with_half v role (half_after (half_after (half_in v role) station first.out) station second.out)) { log = log_after_both v.log role first second sent more late }
 
@@ -79,34 +79,34 @@ abbrev pub AreReadable : Out → Type 0
 AreReadable out = All SendingReads out.sent
 
 -- a request that was sent waits from now on, under the next free number; and what ticks and draws go by is what the node keeps
-pub record WaitsFor (old : Station) (d : Datagram) (new : Station) : Type 0 where
+pub record WaitsFor (old : GatewayState) (d : Datagram) (new : GatewayState) : Type 0 where
   pub number : ℕ
-  pub free : IsNextFree old.timing.next old.timing.waiting number
+  pub free : IsNextFree old.queues.next old.queues.waiting number
   pub purpose : Purpose
-  pub timing : new.timing ≡ after_begun number purpose d.to d.octets old.timing
-  pub tied : IsTied new
+  pub queues : new.queues ≡ after_begun number purpose d.to d.octets old.queues
+  pub tied : NodeMatchesQueues new
 
 -- what ticks go by, after a command: a request that was begun waits from now on; where none was, nothing changes
-pub record AsksFor (sent : List Datagram) (outcome : EventOutcome) (old new : Station) : Type 0 where
+pub record AsksFor (sent : List Datagram) (outcome : EventOutcome) (old new : GatewayState) : Type 0 where
   pub asks : (teid : Option ℕ) → outcome ≡ Came_to (Begun teid) → (d : Datagram) × (sent ≡ d ∷ []) × WaitsFor old d new
-  pub none : ((teid : Option ℕ) → outcome ≢ Came_to (Begun teid)) → new.timing ≡ old.timing
+  pub none : ((teid : Option ℕ) → outcome ≢ Came_to (Begun teid)) → new.queues ≡ old.queues
 
 -- what ticks go by, after a datagram of that plane: the requests that are still pending wait on; after one of the control plane one more may wait, and an answer
 -- that was given is held from now on; one of the user plane changes nothing, but where bearers go that the peer does not know; and it is what the node keeps
-abbrev pub KeepsOn : Plane → Endpoint → List ℕ → List Datagram → EventOutcome → Station → Station → Type 0
-KeepsOn Control source octets sent outcome old new = GoesOn source octets old new
-KeepsOn User source octets sent outcome old new = (outcome ≢ Came_to Broken → new.timing ≡ old.timing) × WaitOn old new × IsTied new
+abbrev pub KeepsOn : Plane → Endpoint → List ℕ → List Datagram → EventOutcome → GatewayState → GatewayState → Type 0
+KeepsOn Control source octets sent outcome old new = QueuesAfterMessage source octets old new
+KeepsOn User source octets sent outcome old new = (outcome ≢ Came_to Broken → new.queues ≡ old.queues) × RequestsWaitOn old new × NodeMatchesQueues new
 
 -- what is made on a request has the lowest address or identity that is free
 abbrev pub TakesLowest : Role → Out → Node → Node → Type 0
 TakesLowest role out old new = out.made ≢ [] → MakesLowest role old new
 
 -- A gateway takes an input, by the rules of the machine, and of what is free it takes the lowest; and what its ticks go by is as this says.
-pub record Takes (old : Kept) (role : Role) (input : Input) (Timed : List Datagram → EventOutcome → Station → Station → Type 0) (late : Bool) (new : Kept) : Type 0 where
+pub record Takes (old : Kept) (role : Role) (input : Input) (Timed : List Datagram → EventOutcome → GatewayState → GatewayState → Type 0) (late : Bool) (new : Kept) : Type 0 where
   pub effect : Effect
   pub step : Step (half_in old role).station.role (half_in old role).station.node input effect
   pub readable : AreReadable effect.out
-  pub station : Station
+  pub station : GatewayState
   pub node : station.node ≡ effect.node
   pub role_stays : station.role ≡ (half_in old role).station.role
   pub lowest : TakesLowest station.role effect.out (half_in old role).station.node station.node
@@ -122,11 +122,11 @@ pub record TakesBoth (old : Kept) (role : Role) (source : Endpoint) (octets : Li
   pub second : Effect
   pub follows : Step (half_in old role).station.role first.node (second_comes source octets asked) second
   pub readable : AreReadable second.out
-  pub station : Station
+  pub station : GatewayState
   pub node : station.node ≡ second.node
   pub role_stays : station.role ≡ (half_in old role).station.role
   pub lowest : TakesLowest station.role second.out (half_in old role).station.node station.node
-  pub timed : GoesOn source (second_part octets) (half_in old role).station station
+  pub timed : QueuesAfterMessage source (second_part octets) (half_in old role).station station
   pub becomes : new ≡ kept_after_both old role station first second (sent_at (half_in old role) first.out) (sent_at (half_in old role) second.out) late
 
 -- A gateway takes a datagram of a plane: of the control plane a pair that it takes message by message, and any other as a whole.
@@ -141,11 +141,11 @@ Brings old sent octets late new = TakesOn old (other sent.role) sent.what.plane 
 -- A gateway ticks: what is due by its counts of ticks is done, and what waits has waited one tick more.
 pub record TicksBy (old : Kept) (role : Role) (new : Kept) : Type 0 where
   pub out : Out
-  pub station : Station
-  pub ticks : Ticks (half_in old role).station.node (due_in (half_in old role).station.timing) out station.node
+  pub station : GatewayState
+  pub ticks : Ticks (half_in old role).station.node (due_in (half_in old role).station.queues) out station.node
   pub readable : AreReadable out
   pub role_stays : station.role ≡ (half_in old role).station.role
-  pub counts : CountsOn (half_in old role).station station
+  pub counts : QueuesAfterTick (half_in old role).station station
   pub becomes : new ≡ kept_after old role station out (sent_at (half_in old role) out) Ticked false
 
 -- the log, where this is told, and nothing else

@@ -1,7 +1,7 @@
 //! Commands of a world.
 
 ghost use Rattle.std.specs.Prelude.{◌≡◌, true, option_map, IfOk, OnErr};
-ghost use Rattle.gtp_gateway.specs.Begun.{IsDone, IsRefusedWhere, outcome_by};
+ghost use Rattle.gtp_gateway.specs.command.Command.{IsCarriedOut, IsRefusedWhere, outcome_by};
 ghost use Rattle.gtp_world.specs.Commands.{command_of, is_command, IsTimed};
 
 use crate::event::Event;
@@ -12,7 +12,7 @@ use std::alloc::Global;
 pub fn tell(gateway: &mut Gateway, alloc: Global, event: &Event) -> Result<Begun, CommandFault>
     requires { is_command event.now ≡ true }
     ensures done { IfOk result (λ begun.
-        IsDone (command_of event.now) gateway.old begun gateway.new) }
+        IsCarriedOut (command_of event.now) gateway.old begun gateway.new) }
     ensures timed { IfOk result (λ begun.
         IsTimed (command_of event.now) gateway.old begun gateway.new) }
     ensures refused { IsRefusedWhere (command_of event.now) gateway.old result }

@@ -4,8 +4,8 @@ ghost use Rattle.std.specs.Prelude.{◌≡◌, ◌+◌, ◌<◌, ◌≤◌, ◌+
 ghost use Rattle.std.specs.Prelude.{◌↔◌, IsTrue, IfSome, IfNone, OnOk};
 ghost use Rattle.gtp_machine.specs.Input.{nothing};
 ghost use Rattle.gtp_machine.specs.World.{signed, other, HasBy};
-ghost use Rattle.gtp_gateway.specs.Sent.{datagram_by};
-ghost use Rattle.gtp_gateway.specs.Taken.{datagrams};
+ghost use Rattle.gtp_gateway.specs.messages.Sent.{datagram_by};
+ghost use Rattle.gtp_gateway.specs.receive.Taken.{datagrams};
 ghost use Rattle.gtp_world.specs.Kept.{log_of, told_by, entry_by, outcome_of, outcomes_in, sent_by};
 ghost use Rattle.gtp_world.specs.Recorded.{HasRoom, empty_log, log_of_came, log_of_tick};
 ghost use Rattle.gtp_world.specs.Stepped.{log_with, told_of};

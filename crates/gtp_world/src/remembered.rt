@@ -2,7 +2,7 @@
 
 ghost use Rattle.std.specs.Prelude.{◌≡◌, ◌↔◌, ◌+◌, ◌<◌, ◌≤◌, ◌++◌, [], ◌∷◌, length, IsTrue, IfOk, OnOk};
 ghost use Rattle.gtp_values.specs.FiniteMap.{Among};
-ghost use Rattle.gtp_gateway.specs.Ticked.{arrivals_of};
+ghost use Rattle.gtp_gateway.specs.Tick.{arrivals_of};
 ghost use Rattle.gtp_gateway.specs.Parts.{arrival_of};
 ghost use Rattle.gtp_world.specs.Indexes.{asked};
 
@@ -26,7 +26,7 @@ pub struct Remembered {
 impl Model for Remembered {
     ghost use Rattle.std.specs.Prelude.{◌+◌, ◌≤◌, map, vec_len, vec_capacity};
     ghost use Rattle.indexmap.specs.IndexSet.{spare};
-    ghost use Rattle.gtp_gateway.specs.Ticked.{arrivals_of};
+    ghost use Rattle.gtp_gateway.specs.Tick.{arrivals_of};
     ghost use Rattle.gtp_world.specs.Indexes.{Arrivals, IsIndexed, asked};
 
     ghost Value = { Arrivals };

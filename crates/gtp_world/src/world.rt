@@ -7,7 +7,7 @@ ghost use Rattle.gtp_machine.specs.Input.{Entry as Packet};
 ghost use Rattle.gtp_machine.specs.Exchange.{CanExchange};
 ghost use Rattle.gtp_machine.specs.Safety.{IsOwed};
 ghost use Rattle.gtp_machine.specs.World.{By};
-ghost use Rattle.gtp_gateway.specs.Specified.{specification};
+ghost use Rattle.gtp_gateway.specs.command.CreateSession.{specification};
 ghost use Rattle.gtp_world.specs.Kept.{half_in, outcome_of, outcomes_in, sent_by, entry_by, told_by};
 ghost use Rattle.gtp_world.specs.Events.{event_of};
 ghost use Rattle.gtp_world.specs.Naming.{Pair, pair_of, mutual_pairs, NameEachOther, DoAgree};
@@ -36,7 +36,7 @@ pub struct World {
 
 impl Model for World {
     ghost use Rattle.std.specs.Coded.{codes};
-    ghost use Rattle.gtp_gateway.specs.Codes.{table_code};
+    ghost use Rattle.gtp_gateway.specs.tables.Codes.{table_code};
     ghost use Rattle.gtp_tables.specs.contracts.context.Session as session;
     ghost use Rattle.gtp_tables.specs.contracts.context.Bearer as bearer;
     ghost use Rattle.gtp_world.specs.Kept.{Kept, kept_of};

@@ -3,7 +3,7 @@
 ghost use Rattle.std.specs.Prelude.{◌≡◌, ◌+◌, ◌<◌, ◌^◌, ◌++◌, OnOk, map, option_map, length};
 ghost use Rattle.std.specs.List.{flat_map, enumerate_from};
 ghost use Rattle.gtp_reliable.specs.Forgotten.{question_of};
-ghost use Rattle.gtp_gateway.specs.Ticked.{asked_by, arrivals_of};
+ghost use Rattle.gtp_gateway.specs.Tick.{asked_by, arrivals_of};
 ghost use Rattle.gtp_world.specs.Events.{event_of};
 ghost use Rattle.gtp_world.specs.Kept.{sent_by, told_by};
 ghost use Rattle.gtp_replay.specs.Events.{second_text, learned_text, told_words, told_text, head_line, sent_line, gave_up_line, forgot_line, event_lines, events_text};

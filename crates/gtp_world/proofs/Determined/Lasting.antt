@@ -19,14 +19,14 @@ use Rattle.gtp_machine.specs.Determined.{OneAnswerPerRequest}
 use Rattle.gtp_machine.specs.World.{EventOutcome, By, Event, Does, Tick, Deliver, Cut, Restart, other}
 use Rattle.gtp_machine.proofs.Determined.Alike.{Fits}
 use Rattle.gtp_machine.proofs.Requests.ActsOnce.{reached_holds_once}
-use Rattle.gtp_gateway.specs.GoesOn.{Beginning, begun_with, IsNext, waiting_on, GoesOn}
-use Rattle.gtp_gateway.specs.Pair.{second_part}
+use Rattle.gtp_gateway.specs.receive.Queues.{Beginning, begun_with, IsNext, waiting_on, QueuesAfterMessage}
+use Rattle.gtp_gateway.specs.receive.TwoMessages.{second_part}
 use Rattle.gtp_gateway.specs.Parts.{held_of, pending_in}
-use Rattle.gtp_gateway.specs.Received.{coming, first_comes, second_comes}
+use Rattle.gtp_gateway.specs.receive.Received.{coming, first_comes, second_comes}
 use Rattle.gtp_gateway.specs.Settings.{Settings}
-use Rattle.gtp_gateway.specs.Station.{Timing, Station, starting, IsTied}
-use Rattle.gtp_gateway.specs.Ticked.{CountsOn}
-use Rattle.gtp_gateway.proofs.GoingOn.{on_goes}
+use Rattle.gtp_gateway.specs.GatewayState.{Queues, GatewayState, starting, NodeMatchesQueues}
+use Rattle.gtp_gateway.specs.Tick.{QueuesAfterTick}
+use Rattle.gtp_gateway.proofs.QueuesAfter.{on_goes}
 use Rattle.gtp_world.specs.Kept.{Log, Kept, half_in, with_half}
 use Rattle.gtp_world.specs.Runs.{Setup, begun}
 use Rattle.gtp_world.specs.Stepped.{WaitsFor, AsksFor, KeepsOn, Takes, TakesBoth, TakesOn, Brings, kept_after, kept_after_both, passed_over, counter_after, half_restarted, Comes}
@@ -34,22 +34,22 @@ use Rattle.gtp_world.proofs.Determined.Commands.{IsQuiet, IsBegun, commanded}
 use Rattle.gtp_world.proofs.Determined.Placed.{placed_fits, BringDrawn, placed_brings, reached_placed}
 
 -- steps of the machine lead to the gateway from a start, no two of its requests have one number, and what its node keeps is what ticks and draws go by
-pub record Lasts (s : Station) : Type 0 where
+pub record Lasts (s : GatewayState) : Type 0 where
   pub config : Config
   pub counter : ℕ
   pub log : List Done
   pub steps : Steps s.role (fresh_node config counter) log s.node
-  pub tied : IsTied s
-  pub apart : AreDistinct s.timing.waiting
+  pub tied : NodeMatchesQueues s
+  pub apart : AreDistinct s.queues.waiting
 
-pub lasts_fits : (s : Station) → Lasts s → Fits s.node
+pub lasts_fits : (s : GatewayState) → Lasts s → Fits s.node
 lasts_fits s l = placed_fits s.node (reached_placed s.role l.config l.counter l.log s.node l.steps)
 
-pub lasts_once : (s : Station) → Lasts s → OneAnswerPerRequest s.node
+pub lasts_once : (s : GatewayState) → Lasts s → OneAnswerPerRequest s.node
 lasts_once s l = reached_holds_once s.role l.config l.counter l.log s.node l.steps
 
 -- the TEID that a request brings was drawn, where it waits
-pub lasts_bring : (s : Station) → Lasts s → BringDrawn s.node
+pub lasts_bring : (s : GatewayState) → Lasts s → BringDrawn s.node
 lasts_bring s l = placed_brings s.node (reached_placed s.role l.config l.counter l.log s.node l.steps)
 
 pub lasts_starting : (role : Role) (settings : Settings) (counter : ℕ) → Lasts (starting role settings counter)
@@ -62,7 +62,7 @@ steps_push role start [] old input e is step = (is, subst (λ n. Step role n inp
 steps_push role start (done ∷ log) old input e steps step = (steps.0, steps.1, steps_push role done.effect.node log old input e steps.2 step)
 
 -- after a step, what a step needs to be determined stands again
-pub mid_ready : (s : Station) → Lasts s → (input : Input) (e : Effect) → Step s.role s.node input e → Fits e.node × OneAnswerPerRequest e.node
+pub mid_ready : (s : GatewayState) → Lasts s → (input : Input) (e : Effect) → Step s.role s.node input e → Fits e.node × OneAnswerPerRequest e.node
 mid_ready s l input e step =
     let steps = steps_push s.role (fresh_node l.config l.counter) l.log s.node input e l.steps step in
     (placed_fits e.node (reached_placed s.role l.config l.counter _ e.node steps), reached_holds_once s.role l.config l.counter _ e.node steps)
@@ -77,7 +77,7 @@ steps_ticked role start log old [] out new steps tick = (log, subst (λ n. Steps
 steps_ticked role start log old (move ∷ moves) out new steps (e, rest, step, others, is) =
     steps_ticked role start (log ++ (record { before = old; input = Moves_on move; effect = e } ∷ [])) e.node moves rest new (steps_push role start log old (Moves_on move) e steps (move_is role old move e step)) others
 
-module _ (old new : Station) (l : Lasts old) (stays : new.role ≡ old.role) (tied : IsTied new) (apart : AreDistinct new.timing.waiting) where
+module _ (old new : GatewayState) (l : Lasts old) (stays : new.role ≡ old.role) (tied : NodeMatchesQueues new) (apart : AreDistinct new.queues.waiting) where
   lasts_with : (log : List Done) (node : Node) → new.node ≡ node → Steps old.role (fresh_node l.config l.counter) log node → Lasts new
   lasts_with log node is steps = record {
     config = l.config;
@@ -104,40 +104,40 @@ module _ (old new : Station) (l : Lasts old) (stays : new.role ≡ old.role) (ti
 
 -- ---- what ticks go by
 
-pub keeps_goes : (plane : Plane) (source : Endpoint) (octets : List ℕ) (sent : List Datagram) (outcome : EventOutcome) (old new : Station) → KeepsOn plane source octets sent outcome old new → GoesOn source octets old new
+pub keeps_goes : (plane : Plane) (source : Endpoint) (octets : List ℕ) (sent : List Datagram) (outcome : EventOutcome) (old new : GatewayState) → KeepsOn plane source octets sent outcome old new → QueuesAfterMessage source octets old new
 keeps_goes Control source octets sent outcome old new keeps = keeps
 keeps_goes User source octets sent outcome old new keeps = on_goes source octets old new keeps.1 keeps.2
 
-goes_apart : (source : Endpoint) (octets : List ℕ) (old new : Station) → GoesOn source octets old new → AreDistinct old.timing.waiting → AreDistinct new.timing.waiting
-goes_apart source octets old new goes apart = subst (λ (t : Timing). AreDistinct t.waiting) (sym goes.timing) (by goes.begun goes.next)
+goes_apart : (source : Endpoint) (octets : List ℕ) (old new : GatewayState) → QueuesAfterMessage source octets old new → AreDistinct old.queues.waiting → AreDistinct new.queues.waiting
+goes_apart source octets old new goes apart = subst (λ (t : Queues). AreDistinct t.waiting) (sym goes.queues) (by goes.begun goes.next)
   where
-    by : (begun : Option Beginning) → IsNext begun (waiting_on goes.stays old.timing) → AreDistinct (begun_with begun (waiting_on goes.stays old.timing)).waiting
-    by None next = distinct_filter goes.stays old.timing.waiting apart
-    by (Some b) next = distinct_push (filter goes.stays old.timing.waiting) (just_sent b.number b.to b.octets b.purpose) (distinct_filter goes.stays old.timing.waiting apart) next.free
+    by : (begun : Option Beginning) → IsNext begun (waiting_on goes.stays old.queues) → AreDistinct (begun_with begun (waiting_on goes.stays old.queues)).waiting
+    by None next = distinct_filter goes.stays old.queues.waiting apart
+    by (Some b) next = distinct_push (filter goes.stays old.queues.waiting) (just_sent b.number b.to b.octets b.purpose) (distinct_filter goes.stays old.queues.waiting apart) next.free
 
-waits_apart : (old : Station) (d : Datagram) (new : Station) → WaitsFor old d new → AreDistinct old.timing.waiting → AreDistinct new.timing.waiting
-waits_apart old d new waits apart = subst (λ (t : Timing). AreDistinct t.waiting) (sym waits.timing) (distinct_push old.timing.waiting (just_sent waits.number d.to d.octets waits.purpose) apart waits.free.free)
+waits_apart : (old : GatewayState) (d : Datagram) (new : GatewayState) → WaitsFor old d new → AreDistinct old.queues.waiting → AreDistinct new.queues.waiting
+waits_apart old d new waits apart = subst (λ (t : Queues). AreDistinct t.waiting) (sym waits.queues) (distinct_push old.queues.waiting (just_sent waits.number d.to d.octets waits.purpose) apart waits.free.free)
 
-counts_apart : (old new : Station) → CountsOn old new → AreDistinct old.timing.waiting → AreDistinct new.timing.waiting
-counts_apart old new counts apart = subst (λ (t : Timing). AreDistinct t.waiting) (sym counts.timing) (ticked_distinct old.timing.timers.t3 old.timing.timers.n3 (filter counts.stays old.timing.waiting) (distinct_filter counts.stays old.timing.waiting apart))
+counts_apart : (old new : GatewayState) → QueuesAfterTick old new → AreDistinct old.queues.waiting → AreDistinct new.queues.waiting
+counts_apart old new counts apart = subst (λ (t : Queues). AreDistinct t.waiting) (sym counts.queues) (ticked_distinct old.queues.timers.t3 old.queues.timers.n3 (filter counts.stays old.queues.waiting) (distinct_filter counts.stays old.queues.waiting apart))
 
 -- where a command leaves what ticks and draws go by
-pub quiet_tied : (old new : Station) (e : Effect) → IsTied old → IsQuiet old.node e → new.node ≡ e.node → new.timing ≡ old.timing → IsTied new
-quiet_tied old new e tied quiet is timing =
+pub quiet_tied : (old new : GatewayState) (e : Effect) → NodeMatchesQueues old → IsQuiet old.node e → new.node ≡ e.node → new.queues ≡ old.queues → NodeMatchesQueues new
+quiet_tied old new e tied quiet is queues =
     let counter : new.node.counter ≡ old.node.counter = ap (λ (n : Node). n.counter) is ∙ quiet.counter in
     let drawn : new.node.drawn ≡ old.node.drawn = ap (λ (n : Node). n.drawn) is ∙ quiet.drawn in
     record {
-      pending = ap (λ (n : Node). n.pending) is ∙ (quiet.pending ∙ (tied.pending ∙ ap (λ (t : Timing). pending_in t.waiting) (sym timing)));
-      held = ap (λ (n : Node). n.held) is ∙ (quiet.held ∙ (tied.held ∙ ap (λ (t : Timing). map held_of t.held) (sym timing)));
+      pending = ap (λ (n : Node). n.pending) is ∙ (quiet.pending ∙ (tied.pending ∙ ap (λ (t : Queues). pending_in t.waiting) (sym queues)));
+      held = ap (λ (n : Node). n.held) is ∙ (quiet.held ∙ (tied.held ∙ ap (λ (t : Queues). map held_of t.held) (sym queues)));
       drawn = drawn ∙ (tied.drawn ∙ (λ i. drawn_up_to (sym counter i) (length (sym drawn i))));
     }
 
 -- and so it is after each command, and after each datagram
-pub asks_ready : (old new : Station) (sent : List Datagram) (e : Effect) → Lasts old → IsBegun e ⊎ IsQuiet old.node e → new.node ≡ e.node → AsksFor sent e.outcome old new → IsTied new × AreDistinct new.timing.waiting
+pub asks_ready : (old new : GatewayState) (sent : List Datagram) (e : Effect) → Lasts old → IsBegun e ⊎ IsQuiet old.node e → new.node ≡ e.node → AsksFor sent e.outcome old new → NodeMatchesQueues new × AreDistinct new.queues.waiting
 asks_ready old new sent e l (inl begun) is asks = let a = asks.asks begun.0 begun.1 in (a.2.tied, waits_apart old a.0 new a.2 l.apart)
 asks_ready old new sent e l (inr quiet) is asks =
     let same = asks.none quiet.begins_none in
-    (quiet_tied old new e l.tied quiet is same, subst (λ (t : Timing). AreDistinct t.waiting) (sym same) l.apart)
+    (quiet_tied old new e l.tied quiet is same, subst (λ (t : Queues). AreDistinct t.waiting) (sym same) l.apart)
 
 -- ---- both gateways of a world
 
@@ -152,7 +152,7 @@ last_of v both Packet = both.packet
 pub begun_last : (setup : Setup) → BothLast (begun setup)
 begun_last setup = record { serving = lasts_starting Serving setup.serving setup.serving_counter; packet = lasts_starting Packet setup.packet setup.packet_counter }
 
-after_last : (v : Kept) (role : Role) (station : Station) (out : Out) (sent : List Datagram) (outcome : EventOutcome) (late : Bool) → BothLast v → Lasts station → BothLast (kept_after v role station out sent outcome late)
+after_last : (v : Kept) (role : Role) (station : GatewayState) (out : Out) (sent : List Datagram) (outcome : EventOutcome) (late : Bool) → BothLast v → Lasts station → BothLast (kept_after v role station out sent outcome late)
 after_last v Serving station out sent outcome late both l = record { serving = l; packet = both.packet }
 after_last v Packet station out sent outcome late both l = record { serving = both.serving; packet = l }
 
@@ -163,13 +163,13 @@ restarted_last v Packet log both = record { serving = both.serving; packet = las
 passed_last : (v : Kept) (outcome : EventOutcome) (new : Kept) → BothLast v → new ≡ passed_over v outcome → BothLast new
 passed_last v outcome new both is = subst (λ k. BothLast k) (sym is) (record { serving = both.serving; packet = both.packet })
 
-takes_last : (v : Kept) (role : Role) (input : Input) (Timed : List Datagram → EventOutcome → Station → Station → Type 0) (late : Bool) (new : Kept) (t : Takes v role input Timed late new) → BothLast v → IsTied t.station × AreDistinct t.station.timing.waiting → BothLast new
+takes_last : (v : Kept) (role : Role) (input : Input) (Timed : List Datagram → EventOutcome → GatewayState → GatewayState → Type 0) (late : Bool) (new : Kept) (t : Takes v role input Timed late new) → BothLast v → NodeMatchesQueues t.station × AreDistinct t.station.queues.waiting → BothLast new
 takes_last v role input Timed late new t both ready =
     subst (λ k. BothLast k) (sym t.becomes)
     (after_last v role t.station t.effect.out _ _ late both
     (lasts_took (half_in v role).station t.station (last_of v both role) t.role_stays ready.0 ready.1 input t.effect t.node t.step))
 
-both_last : (v : Kept) (role : Role) (station : Station) (first second : Effect) (sent more : List Datagram) (late : Bool) → BothLast v → Lasts station → BothLast (kept_after_both v role station first second sent more late)
+both_last : (v : Kept) (role : Role) (station : GatewayState) (first second : Effect) (sent more : List Datagram) (late : Bool) → BothLast v → Lasts station → BothLast (kept_after_both v role station first second sent more late)
 both_last v Serving station first second sent more late both l = record { serving = l; packet = both.packet }
 both_last v Packet station first second sent more late both l = record { serving = both.serving; packet = l }
 

@@ -21,13 +21,13 @@ use Rattle.gtp_machine.specs.Tick.{Due}
 use Rattle.gtp_machine.proofs.Basics.FiniteMaps.{found-insert, get-insert_same}
 use Rattle.gtp_machine.proofs.Determined.Alike.{WaitsBeside}
 use Rattle.gtp_gateway.specs.declared.config.Timers.{Timers}
-use Rattle.gtp_gateway.specs.declared.purpose.Purpose.{Purpose}
+use Rattle.gtp_gateway.specs.declared.command.purpose.Purpose.{Purpose}
 use Rattle.gtp_gateway.specs.Determined.{held_as, waits_as, AreLeftAlike}
-use Rattle.gtp_gateway.specs.GoesOn.{Beginning, held_with, begun_with, IsNext, IsNewFor, IsNew, waiting_on, GoesOn}
+use Rattle.gtp_gateway.specs.receive.Queues.{Beginning, held_with, begun_with, IsNext, IsNewFor, IsNew, waiting_on, QueuesAfterMessage}
 use Rattle.gtp_gateway.specs.Parts.{held_of, pending_of, pending_in}
-use Rattle.gtp_gateway.specs.Spelled.{message_in}
-use Rattle.gtp_gateway.specs.Station.{Timing, Station, IsTied}
-use Rattle.gtp_gateway.specs.Ticked.{asked_by, due_in, CountsOn}
+use Rattle.gtp_gateway.specs.messages.Spelled.{message_in}
+use Rattle.gtp_gateway.specs.GatewayState.{Queues, GatewayState, NodeMatchesQueues}
+use Rattle.gtp_gateway.specs.Tick.{asked_by, due_in, QueuesAfterTick}
 use Rattle.gtp_gateway.proofs.ChosenOnce.{same_beside, one_next}
 use Rattle.gtp_gateway.proofs.Requests.{none_pending, pending_push, found_before, of_found}
 use Rattle.gtp_world.specs.Stepped.{WaitsFor}
@@ -91,15 +91,15 @@ module _ (t3 n3 : ℕ) (w : Waiting Purpose) where
       by_tick SentAgain e = cc
       by_tick GivenUp e = cc
 
-due_as : (t : Timing) → due_in t ≡ due_by t.timers (map waits_as t.waiting) (map held_as t.held)
+due_as : (t : Queues) → due_in t ≡ due_by t.timers (map waits_as t.waiting) (map held_as t.held)
 due_as t = λ i. record {
   resends = by_forms (sent_again t.timers.t3 t.timers.n3) (sent_again t.timers.t3 t.timers.n3) waits_as (λ (m : Message). m.seq) (λ (m : Message). m.seq) (sent_form t.timers.t3 t.timers.n3) t.waiting i;
   give_ups = by_forms (given_up t.timers.t3 t.timers.n3) (given_up t.timers.t3 t.timers.n3) waits_as (λ (g : ℕ × Purpose). g.0) (λ (g : ℕ × Unit {0}). g.0) (given_form t.timers.t3 t.timers.n3) t.waiting i;
   forgets = by_forms (forgotten t.timers.hold) (forgotten t.timers.hold) held_as asked_by asked_by (λ p. refl) t.held i;
 }
 
-pub same_due : (one other : Station) → AreLeftAlike one other → due_in one.timing ≡ due_in other.timing
-same_due one other alike = due_as one.timing ∙ ((λ i. due_by (alike.timers i) (alike.waiting i) (alike.held i)) ∙ sym (due_as other.timing))
+pub same_due : (one other : GatewayState) → AreLeftAlike one other → due_in one.queues ≡ due_in other.queues
+same_due one other alike = due_as one.queues ∙ ((λ i. due_by (alike.timers i) (alike.waiting i) (alike.held i)) ∙ sym (due_as other.queues))
 
 -- ---- which numbers wait
 
@@ -121,8 +121,8 @@ free_among start ws vs same n f = record {
 }
 
 -- the next free number is one
-pub one_free : (one other : Station) (m n : ℕ) → AreLeftAlike one other → IsNextFree one.timing.next one.timing.waiting m → IsNextFree other.timing.next other.timing.waiting n → m ≡ n
-one_free one other m n alike a b = one_next one.timing.next one.timing.waiting m n a (free_among one.timing.next one.timing.waiting other.timing.waiting alike.waiting n (subst (λ k. IsNextFree k other.timing.waiting n) (sym alike.next) b))
+pub one_free : (one other : GatewayState) (m n : ℕ) → AreLeftAlike one other → IsNextFree one.queues.next one.queues.waiting m → IsNextFree other.queues.next other.queues.waiting n → m ≡ n
+one_free one other m n alike a b = one_next one.queues.next one.queues.waiting m n a (free_among one.queues.next one.queues.waiting other.queues.waiting alike.waiting n (subst (λ k. IsNextFree k other.queues.waiting n) (sym alike.next) b))
 
 -- ---- requests that stay
 
@@ -293,66 +293,66 @@ module _ (ws vs : List (Waiting Purpose)) (same : map waits_as ws ≡ map waits_
       (found-insert two b.number q a.number p (ap (λ (k : FiniteMap PendingRequest). get k a.number) (sym both) ∙ get-insert_same one a.number p))
 
 -- a request that is begun is known by its message
-same_begins : (one other : Station) (a b : Beginning) → one.node ≡ other.node → IsNewFor a one → IsNewFor b other → a.number ≡ b.number → message_in a.octets ≡ message_in b.octets → waits_as (begins a) ≡ waits_as (begins b)
+same_begins : (one other : GatewayState) (a b : Beginning) → one.node ≡ other.node → IsNewFor a one → IsNewFor b other → a.number ≡ b.number → message_in a.octets ≡ message_in b.octets → waits_as (begins a) ≡ waits_as (begins b)
 same_begins one other a b node is_new also number message =
     let to : a.to ≡ b.to = is_new.to ∙ (ap (λ (n : Node). control_end n.config.peer.control) node ∙ sym also.to) in
     let octets : a.octets ≡ b.octets = is_new.spelled.is ∙ (ap spelled message ∙ sym also.spelled.is) in
     λ i. record { seq = number i; to = to i; octets = octets i; purpose = tt; waited = 0; resent = 0 }
 
 -- a request with this number was begun beside these
-record IsBegunAmong (old : Station) (others : FiniteMap PendingRequest) (n : ℕ) : Type 0 where
+record IsBegunAmong (old : GatewayState) (others : FiniteMap PendingRequest) (n : ℕ) : Type 0 where
   pub stays : Waiting Purpose → Bool
-  pub next : IsNextFree old.timing.next (filter stays old.timing.waiting) n
-  pub beside : pending_in (filter stays old.timing.waiting) ≡ others
+  pub next : IsNextFree old.queues.next (filter stays old.queues.waiting) n
+  pub beside : pending_in (filter stays old.queues.waiting) ≡ others
 
 -- a request for a bearer with a new TEID that waits after a datagram was begun with it
-module _ (old : Station) (brings : BringDrawn old.node) (tied : IsTied old) (apart : AreDistinct old.timing.waiting) where
+module _ (old : GatewayState) (brings : BringDrawn old.node) (tied : NodeMatchesQueues old) (apart : AreDistinct old.queues.waiting) where
   -- it did not wait before
-  no_request : {new others : FiniteMap PendingRequest} (n : ℕ) (p : PendingRequest) (stays : Waiting Purpose → Bool) → WaitsBeside old.node.drawn new others n p → get (pending_in (filter stays old.timing.waiting)) n ≡ Some p → ⊥
-  no_request n p stays waits found = waits.undrawn (brings n p waits.request (ap (λ (k : FiniteMap PendingRequest). get k n) tied.pending ∙ found_before stays old.timing.waiting n p apart found) waits.asked)
+  no_request : {new others : FiniteMap PendingRequest} (n : ℕ) (p : PendingRequest) (stays : Waiting Purpose → Bool) → WaitsBeside old.node.drawn new others n p → get (pending_in (filter stays old.queues.waiting)) n ≡ Some p → ⊥
+  no_request n p stays waits found = waits.undrawn (brings n p waits.request (ap (λ (k : FiniteMap PendingRequest). get k n) tied.pending ∙ found_before stays old.queues.waiting n p apart found) waits.asked)
 
-  begun_among : (source : Endpoint) (octets : List ℕ) (new : Station) (others : FiniteMap PendingRequest) (n : ℕ) (p : PendingRequest) → GoesOn source octets old new → WaitsBeside old.node.drawn new.node.pending others n p → IsBegunAmong old others n
+  begun_among : (source : Endpoint) (octets : List ℕ) (new : GatewayState) (others : FiniteMap PendingRequest) (n : ℕ) (p : PendingRequest) → QueuesAfterMessage source octets old new → WaitsBeside old.node.drawn new.node.pending others n p → IsBegunAmong old others n
   begun_among source octets new others n p goes waits = by goes.begun goes.next left
     where
-      left : pending_in (begun_with goes.begun (waiting_on goes.stays old.timing)).waiting ≡ insert others n p
-      left = ap (λ (t : Timing). pending_in t.waiting) (sym goes.timing) ∙ (sym goes.tied.pending ∙ waits.is)
+      left : pending_in (begun_with goes.begun (waiting_on goes.stays old.queues)).waiting ≡ insert others n p
+      left = ap (λ (t : Queues). pending_in t.waiting) (sym goes.queues) ∙ (sym goes.tied.pending ∙ waits.is)
 
-      by : (x : Option Beginning) → IsNext x (waiting_on goes.stays old.timing) → pending_in (begun_with x (waiting_on goes.stays old.timing)).waiting ≡ insert others n p → IsBegunAmong old others n
+      by : (x : Option Beginning) → IsNext x (waiting_on goes.stays old.queues) → pending_in (begun_with x (waiting_on goes.stays old.queues)).waiting ≡ insert others n p → IsBegunAmong old others n
       by None next is = absurd (no_request n p goes.stays waits (ap (λ (k : FiniteMap PendingRequest). get k n) is ∙ get-insert_same others n p))
       by (Some b) next is =
-          let kept = filter goes.stays old.timing.waiting in
+          let kept = filter goes.stays old.queues.waiting in
           let stay : FiniteMap PendingRequest = pending_in kept in
-          let both : insert stay b.number (pending_of (begins b)).1 ≡ insert others n p = sym (pushed old.timing.next kept b next) ∙ is in
+          let both : insert stay b.number (pending_of (begins b)).1 ≡ insert others n p = sym (pushed old.queues.next kept b next) ∙ is in
           ⊎_elim
           (λ here. record {
             stays = goes.stays;
-            next = subst (λ (k : ℕ). IsNextFree old.timing.next kept k) (sym here.0) next;
+            next = subst (λ (k : ℕ). IsNextFree old.queues.next kept k) (sym here.0) next;
             beside = same_beside stay others n (pending_of (begins b)).1 p (ap (λ k. get stay k) here.0 ∙ none_pending kept b.number next.free) waits.absent (ap (λ (k : ℕ). insert stay k (pending_of (begins b)).1) here.0 ∙ both);
           })
           (λ there. absurd (no_request n p goes.stays waits there.1))
           (found-insert stay b.number (pending_of (begins b)).1 n p (ap (λ (k : FiniteMap PendingRequest). get k n) both ∙ get-insert_same others n p))
 
 -- requests for bearers that two gateways begin that were alike have one number
-module _ (one other new left : Station) (alike : AreLeftAlike one other) (apart : AreDistinct one.timing.waiting) (also : AreDistinct other.timing.waiting) (source : Endpoint) (octets : List ℕ) (m : GoesOn source octets one new) (n : GoesOn source octets other left) where
-  pub number_begun : BringDrawn one.node → IsTied one → IsTied other → (others : FiniteMap PendingRequest) (x y : ℕ) (p q : PendingRequest) → WaitsBeside one.node.drawn new.node.pending others x p → WaitsBeside one.node.drawn left.node.pending others y q → x ≡ y
+module _ (one other new left : GatewayState) (alike : AreLeftAlike one other) (apart : AreDistinct one.queues.waiting) (also : AreDistinct other.queues.waiting) (source : Endpoint) (octets : List ℕ) (m : QueuesAfterMessage source octets one new) (n : QueuesAfterMessage source octets other left) where
+  pub number_begun : BringDrawn one.node → NodeMatchesQueues one → NodeMatchesQueues other → (others : FiniteMap PendingRequest) (x y : ℕ) (p q : PendingRequest) → WaitsBeside one.node.drawn new.node.pending others x p → WaitsBeside one.node.drawn left.node.pending others y q → x ≡ y
   number_begun brings tied tied_too others x y p q waits too =
       let a = begun_among one brings tied apart source octets new others x p m waits in
       let b = begun_among other (subst BringDrawn alike.node brings) tied_too also source octets left others y q n (subst (λ (k : Node). WaitsBeside k.drawn left.node.pending others y q) alike.node too) in
-      let same = same_filter a.stays b.stays one.timing.waiting other.timing.waiting alike.waiting apart also (a.beside ∙ sym b.beside) in
-      one_next one.timing.next (filter a.stays one.timing.waiting) x y a.next (free_among one.timing.next (filter a.stays one.timing.waiting) (filter b.stays other.timing.waiting) same y (subst (λ k. IsNextFree k (filter b.stays other.timing.waiting) y) (sym alike.next) b.next))
+      let same = same_filter a.stays b.stays one.queues.waiting other.queues.waiting alike.waiting apart also (a.beside ∙ sym b.beside) in
+      one_next one.queues.next (filter a.stays one.queues.waiting) x y a.next (free_among one.queues.next (filter a.stays one.queues.waiting) (filter b.stays other.queues.waiting) same y (subst (λ k. IsNextFree k (filter b.stays other.queues.waiting) y) (sym alike.next) b.next))
 
 -- ---- two gateways that were alike
 
-module _ (one other new left : Station) (alike : AreLeftAlike one other) (role : new.role ≡ left.role) (node : new.node ≡ left.node) where
+module _ (one other new left : GatewayState) (alike : AreLeftAlike one other) (role : new.role ≡ left.role) (node : new.node ≡ left.node) where
   -- where nothing changes
-  pub left_stays : new.timing ≡ one.timing → left.timing ≡ other.timing → AreLeftAlike new left
+  pub left_stays : new.queues ≡ one.queues → left.queues ≡ other.queues → AreLeftAlike new left
   left_stays m n = record {
     role = role;
     node = node;
-    timers = ap (λ (t : Timing). t.timers) m ∙ (alike.timers ∙ sym (ap (λ (t : Timing). t.timers) n));
-    next = ap (λ (t : Timing). t.next) m ∙ (alike.next ∙ sym (ap (λ (t : Timing). t.next) n));
-    waiting = ap (λ (t : Timing). map waits_as t.waiting) m ∙ (alike.waiting ∙ sym (ap (λ (t : Timing). map waits_as t.waiting) n));
-    held = ap (λ (t : Timing). map held_as t.held) m ∙ (alike.held ∙ sym (ap (λ (t : Timing). map held_as t.held) n));
+    timers = ap (λ (t : Queues). t.timers) m ∙ (alike.timers ∙ sym (ap (λ (t : Queues). t.timers) n));
+    next = ap (λ (t : Queues). t.next) m ∙ (alike.next ∙ sym (ap (λ (t : Queues). t.next) n));
+    waiting = ap (λ (t : Queues). map waits_as t.waiting) m ∙ (alike.waiting ∙ sym (ap (λ (t : Queues). map waits_as t.waiting) n));
+    held = ap (λ (t : Queues). map held_as t.held) m ∙ (alike.held ∙ sym (ap (λ (t : Queues). map held_as t.held) n));
   }
 
   -- where the same request was begun
@@ -365,77 +365,77 @@ module _ (one other new left : Station) (alike : AreLeftAlike one other) (role :
       record {
         role = role;
         node = node;
-        timers = ap (λ (t : Timing). t.timers) m.timing ∙ (alike.timers ∙ sym (ap (λ (t : Timing). t.timers) n.timing));
-        next = ap (λ (t : Timing). t.next) m.timing ∙ (ap number_after number ∙ sym (ap (λ (t : Timing). t.next) n.timing));
-        waiting = ap (λ (t : Timing). map waits_as t.waiting) m.timing ∙ (map_push waits_as one.timing.waiting first ∙ ((λ i. alike.waiting i ++ (same i ∷ [])) ∙ (sym (map_push waits_as other.timing.waiting second) ∙ sym (ap (λ (t : Timing). map waits_as t.waiting) n.timing))));
-        held = ap (λ (t : Timing). map held_as t.held) m.timing ∙ (alike.held ∙ sym (ap (λ (t : Timing). map held_as t.held) n.timing));
+        timers = ap (λ (t : Queues). t.timers) m.queues ∙ (alike.timers ∙ sym (ap (λ (t : Queues). t.timers) n.queues));
+        next = ap (λ (t : Queues). t.next) m.queues ∙ (ap number_after number ∙ sym (ap (λ (t : Queues). t.next) n.queues));
+        waiting = ap (λ (t : Queues). map waits_as t.waiting) m.queues ∙ (map_push waits_as one.queues.waiting first ∙ ((λ i. alike.waiting i ++ (same i ∷ [])) ∙ (sym (map_push waits_as other.queues.waiting second) ∙ sym (ap (λ (t : Queues). map waits_as t.waiting) n.queues))));
+        held = ap (λ (t : Queues). map held_as t.held) m.queues ∙ (alike.held ∙ sym (ap (λ (t : Queues). map held_as t.held) n.queues));
       }
 
-  module _ (apart : AreDistinct one.timing.waiting) (also : AreDistinct other.timing.waiting) where
+  module _ (apart : AreDistinct one.queues.waiting) (also : AreDistinct other.queues.waiting) where
     -- after a datagram
-    module _ (source : Endpoint) (octets : List ℕ) (m : GoesOn source octets one new) (n : GoesOn source octets other left) where
-      abbrev first : Option Beginning → Timing
-      first begun = record (begun_with begun (waiting_on m.stays one.timing)) { held = held_with source octets m.answer one.timing.held }
+    module _ (source : Endpoint) (octets : List ℕ) (m : QueuesAfterMessage source octets one new) (n : QueuesAfterMessage source octets other left) where
+      abbrev first : Option Beginning → Queues
+      first begun = record (begun_with begun (waiting_on m.stays one.queues)) { held = held_with source octets m.answer one.queues.held }
 
-      abbrev second : Option Beginning → Timing
-      second begun = record (begun_with begun (waiting_on n.stays other.timing)) { held = held_with source octets n.answer other.timing.held }
+      abbrev second : Option Beginning → Queues
+      second begun = record (begun_with begun (waiting_on n.stays other.queues)) { held = held_with source octets n.answer other.queues.held }
 
-      pending_alike : (x y : Option Beginning) → new.timing ≡ first x → left.timing ≡ second y → pending_in (first x).waiting ≡ pending_in (second y).waiting
-      pending_alike x y p q = ap (λ (t : Timing). pending_in t.waiting) (sym p) ∙ (sym m.tied.pending ∙ (ap (λ (k : Node). k.pending) node ∙ (n.tied.pending ∙ ap (λ (t : Timing). pending_in t.waiting) q)))
+      pending_alike : (x y : Option Beginning) → new.queues ≡ first x → left.queues ≡ second y → pending_in (first x).waiting ≡ pending_in (second y).waiting
+      pending_alike x y p q = ap (λ (t : Queues). pending_in t.waiting) (sym p) ∙ (sym m.tied.pending ∙ (ap (λ (k : Node). k.pending) node ∙ (n.tied.pending ∙ ap (λ (t : Queues). pending_in t.waiting) q)))
 
-      held_alike : (x y : Option Beginning) → new.timing ≡ first x → left.timing ≡ second y → map held_of (held_with source octets m.answer one.timing.held) ≡ map held_of (held_with source octets n.answer other.timing.held)
-      held_alike x y p q = ap (λ (t : Timing). map held_of t.held) (sym p) ∙ (sym m.tied.held ∙ (ap (λ (k : Node). k.held) node ∙ (n.tied.held ∙ ap (λ (t : Timing). map held_of t.held) q)))
+      held_alike : (x y : Option Beginning) → new.queues ≡ first x → left.queues ≡ second y → map held_of (held_with source octets m.answer one.queues.held) ≡ map held_of (held_with source octets n.answer other.queues.held)
+      held_alike x y p q = ap (λ (t : Queues). map held_of t.held) (sym p) ∙ (sym m.tied.held ∙ (ap (λ (k : Node). k.held) node ∙ (n.tied.held ∙ ap (λ (t : Queues). map held_of t.held) q)))
 
-      left_with : (x y : Option Beginning) → new.timing ≡ first x → left.timing ≡ second y → (first x).timers ≡ (second y).timers → (first x).next ≡ (second y).next → map waits_as (first x).waiting ≡ map waits_as (second y).waiting → AreLeftAlike new left
+      left_with : (x y : Option Beginning) → new.queues ≡ first x → left.queues ≡ second y → (first x).timers ≡ (second y).timers → (first x).next ≡ (second y).next → map waits_as (first x).waiting ≡ map waits_as (second y).waiting → AreLeftAlike new left
       left_with x y p q timers next waiting = record {
         role = role;
         node = node;
-        timers = ap (λ (t : Timing). t.timers) p ∙ (timers ∙ sym (ap (λ (t : Timing). t.timers) q));
-        next = ap (λ (t : Timing). t.next) p ∙ (next ∙ sym (ap (λ (t : Timing). t.next) q));
-        waiting = ap (λ (t : Timing). map waits_as t.waiting) p ∙ (waiting ∙ sym (ap (λ (t : Timing). map waits_as t.waiting) q));
-        held = ap (λ (t : Timing). map held_as t.held) p ∙ (same_held source octets m.answer n.answer one.timing.held other.timing.held alike.held (held_alike x y p q) ∙ sym (ap (λ (t : Timing). map held_as t.held) q));
+        timers = ap (λ (t : Queues). t.timers) p ∙ (timers ∙ sym (ap (λ (t : Queues). t.timers) q));
+        next = ap (λ (t : Queues). t.next) p ∙ (next ∙ sym (ap (λ (t : Queues). t.next) q));
+        waiting = ap (λ (t : Queues). map waits_as t.waiting) p ∙ (waiting ∙ sym (ap (λ (t : Queues). map waits_as t.waiting) q));
+        held = ap (λ (t : Queues). map held_as t.held) p ∙ (same_held source octets m.answer n.answer one.queues.held other.queues.held alike.held (held_alike x y p q) ∙ sym (ap (λ (t : Queues). map held_as t.held) q));
       }
 
-      by_begun : (x y : Option Beginning) → IsNext x (waiting_on m.stays one.timing) → IsNext y (waiting_on n.stays other.timing) → IsNew x one → IsNew y other → new.timing ≡ first x → left.timing ≡ second y → AreLeftAlike new left
-      by_begun None None i j v w p q = left_with None None p q alike.timers alike.next (same_filter m.stays n.stays one.timing.waiting other.timing.waiting alike.waiting apart also (pending_alike None None p q))
-      by_begun None (Some b) i j v w p q = absurd (none_begun other.timing.next (filter n.stays other.timing.waiting) m.stays one.timing.waiting b apart (none_alike b other.timing.waiting one.timing.waiting (sym alike.waiting) w.other) j (sym (pending_alike None (Some b) p q)))
-      by_begun (Some a) None i j v w p q = absurd (none_begun one.timing.next (filter m.stays one.timing.waiting) n.stays other.timing.waiting a also (none_alike a one.timing.waiting other.timing.waiting alike.waiting v.other) i (pending_alike (Some a) None p q))
+      by_begun : (x y : Option Beginning) → IsNext x (waiting_on m.stays one.queues) → IsNext y (waiting_on n.stays other.queues) → IsNew x one → IsNew y other → new.queues ≡ first x → left.queues ≡ second y → AreLeftAlike new left
+      by_begun None None i j v w p q = left_with None None p q alike.timers alike.next (same_filter m.stays n.stays one.queues.waiting other.queues.waiting alike.waiting apart also (pending_alike None None p q))
+      by_begun None (Some b) i j v w p q = absurd (none_begun other.queues.next (filter n.stays other.queues.waiting) m.stays one.queues.waiting b apart (none_alike b other.queues.waiting one.queues.waiting (sym alike.waiting) w.other) j (sym (pending_alike None (Some b) p q)))
+      by_begun (Some a) None i j v w p q = absurd (none_begun one.queues.next (filter m.stays one.queues.waiting) n.stays other.queues.waiting a also (none_alike a one.queues.waiting other.queues.waiting alike.waiting v.other) i (pending_alike (Some a) None p q))
       by_begun (Some a) (Some b) i j v w p q =
-          let same = one_begun one.timing.waiting other.timing.waiting alike.waiting apart also one.timing.next other.timing.next m.stays n.stays a b (none_alike a one.timing.waiting other.timing.waiting alike.waiting v.other) i j (pending_alike (Some a) (Some b) p q) in
+          let same = one_begun one.queues.waiting other.queues.waiting alike.waiting apart also one.queues.next other.queues.next m.stays n.stays a b (none_alike a one.queues.waiting other.queues.waiting alike.waiting v.other) i j (pending_alike (Some a) (Some b) p q) in
           let begun = same_begins one other a b alike.node v w same.number same.message in
           left_with (Some a) (Some b) p q alike.timers (ap number_after same.number)
-          (map_push waits_as (filter m.stays one.timing.waiting) (begins a)
+          (map_push waits_as (filter m.stays one.queues.waiting) (begins a)
           ∙ ((λ i. same.others i ++ (begun i ∷ []))
-          ∙ sym (map_push waits_as (filter n.stays other.timing.waiting) (begins b))))
+          ∙ sym (map_push waits_as (filter n.stays other.queues.waiting) (begins b))))
 
       pub left_goes : AreLeftAlike new left
-      left_goes = by_begun m.begun n.begun m.next n.next m.new_one n.new_one m.timing n.timing
+      left_goes = by_begun m.begun n.begun m.next n.next m.new_one n.new_one m.queues n.queues
 
     -- after a tick
-    pub left_ticked : CountsOn one new → CountsOn other left → AreLeftAlike new left
+    pub left_ticked : QueuesAfterTick one new → QueuesAfterTick other left → AreLeftAlike new left
     left_ticked m n =
-        let t3 = one.timing.timers.t3 in
-        let n3 = one.timing.timers.n3 in
-        let hold = one.timing.timers.hold in
+        let t3 = one.queues.timers.t3 in
+        let n3 = one.queues.timers.n3 in
+        let hold = one.queues.timers.hold in
         let later : Waiting Purpose → Option (Waiting Purpose) = after_tick t3 n3 in
-        let timers : other.timing.timers ≡ one.timing.timers = sym alike.timers in
-        let timing : left.timing ≡ record other.timing { timers = one.timing.timers; waiting = filter_map later (filter n.stays other.timing.waiting); held = filter_map (held.after_tick hold) other.timing.held } =
-        n.timing ∙ (λ i. record other.timing { timers = timers i; waiting = filter_map (after_tick (timers i).t3 (timers i).n3) (filter n.stays other.timing.waiting); held = filter_map (held.after_tick (timers i).hold) other.timing.held }) in
-        let pending : pending_in (filter_map later (filter m.stays one.timing.waiting)) ≡ pending_in (filter_map later (filter n.stays other.timing.waiting)) =
-        ap (λ (t : Timing). pending_in t.waiting) (sym m.timing) ∙ (sym m.tied.pending ∙ (ap (λ (k : Node). k.pending) node ∙ (n.tied.pending ∙ ap (λ (t : Timing). pending_in t.waiting) timing))) in
+        let timers : other.queues.timers ≡ one.queues.timers = sym alike.timers in
+        let queues : left.queues ≡ record other.queues { timers = one.queues.timers; waiting = filter_map later (filter n.stays other.queues.waiting); held = filter_map (held.after_tick hold) other.queues.held } =
+        n.queues ∙ (λ i. record other.queues { timers = timers i; waiting = filter_map (after_tick (timers i).t3 (timers i).n3) (filter n.stays other.queues.waiting); held = filter_map (held.after_tick (timers i).hold) other.queues.held }) in
+        let pending : pending_in (filter_map later (filter m.stays one.queues.waiting)) ≡ pending_in (filter_map later (filter n.stays other.queues.waiting)) =
+        ap (λ (t : Queues). pending_in t.waiting) (sym m.queues) ∙ (sym m.tied.pending ∙ (ap (λ (k : Node). k.pending) node ∙ (n.tied.pending ∙ ap (λ (t : Queues). pending_in t.waiting) queues))) in
         record {
           role = role;
           node = node;
-          timers = ap (λ (t : Timing). t.timers) m.timing ∙ sym (ap (λ (t : Timing). t.timers) timing);
-          next = ap (λ (t : Timing). t.next) m.timing ∙ (alike.next ∙ sym (ap (λ (t : Timing). t.next) timing));
+          timers = ap (λ (t : Queues). t.timers) m.queues ∙ sym (ap (λ (t : Queues). t.timers) queues);
+          next = ap (λ (t : Queues). t.next) m.queues ∙ (alike.next ∙ sym (ap (λ (t : Queues). t.next) queues));
           waiting =
-              ap (λ (t : Timing). map waits_as t.waiting) m.timing
-              ∙ (same_staying later (numbered_later t3 n3) (λ w v form. ticked_form t3 n3 w ∙ (ap (λ k. after_tick t3 n3 k) form ∙ sym (ticked_form t3 n3 v))) m.stays n.stays one.timing.waiting other.timing.waiting alike.waiting apart also pending
-              ∙ sym (ap (λ (t : Timing). map waits_as t.waiting) timing));
+              ap (λ (t : Queues). map waits_as t.waiting) m.queues
+              ∙ (same_staying later (numbered_later t3 n3) (λ w v form. ticked_form t3 n3 w ∙ (ap (λ k. after_tick t3 n3 k) form ∙ sym (ticked_form t3 n3 v))) m.stays n.stays one.queues.waiting other.queues.waiting alike.waiting apart also pending
+              ∙ sym (ap (λ (t : Queues). map waits_as t.waiting) queues));
           held =
-              ap (λ (t : Timing). map held_as t.held) m.timing
-              ∙ (by_forms (held.after_tick hold) (held.after_tick hold) held_as held_as held_as (held_form hold) one.timing.held
+              ap (λ (t : Queues). map held_as t.held) m.queues
+              ∙ (by_forms (held.after_tick hold) (held.after_tick hold) held_as held_as held_as (held_form hold) one.queues.held
               ∙ (ap (λ k. map held_as (filter_map (held.after_tick hold) k)) alike.held
-              ∙ (sym (by_forms (held.after_tick hold) (held.after_tick hold) held_as held_as held_as (held_form hold) other.timing.held)
-              ∙ sym (ap (λ (t : Timing). map held_as t.held) timing))));
+              ∙ (sym (by_forms (held.after_tick hold) (held.after_tick hold) held_as held_as held_as (held_form hold) other.queues.held)
+              ∙ sym (ap (λ (t : Queues). map held_as t.held) queues))));
         }

@@ -26,15 +26,15 @@ use Rattle.gtp_machine.proofs.Determined.Alike.{WaitsBeside, Alike}
 use Rattle.gtp_machine.proofs.Determined.Steps.{step_done}
 use Rattle.gtp_machine.proofs.Determined.Ticks.{one_tick}
 use Rattle.gtp_machine.proofs.Requests.Opening.{opening, same_drawn, none_made}
-use Rattle.gtp_gateway.specs.declared.purpose.Purpose.{Purpose}
-use Rattle.gtp_gateway.specs.Choosing.{MakesLowestSession, MakesLowestBearer, MakesLowest}
+use Rattle.gtp_gateway.specs.declared.command.purpose.Purpose.{Purpose}
+use Rattle.gtp_gateway.specs.receive.Choosing.{MakesLowestSession, MakesLowestBearer, MakesLowest}
 use Rattle.gtp_gateway.specs.Determined.{AreLeftAlike}
 use Rattle.gtp_gateway.specs.Parts.{arrival_of, pending_of, pending_in}
-use Rattle.gtp_gateway.specs.Pair.{first_part, second_part}
-use Rattle.gtp_gateway.specs.Received.{coming, first_comes, second_comes}
+use Rattle.gtp_gateway.specs.receive.TwoMessages.{first_part, second_part}
+use Rattle.gtp_gateway.specs.receive.Received.{coming, first_comes, second_comes}
 use Rattle.gtp_gateway.specs.Settings.{Settings}
-use Rattle.gtp_gateway.specs.Station.{Timing, Station, starting, IsTied}
-use Rattle.gtp_gateway.specs.Ticked.{due_in}
+use Rattle.gtp_gateway.specs.GatewayState.{Queues, GatewayState, starting, NodeMatchesQueues}
+use Rattle.gtp_gateway.specs.Tick.{due_in}
 use Rattle.gtp_gateway.proofs.ChosenOnce.{one_lowest_address, one_lowest_identity, lowest_address, lowest_identity, one_drawn}
 use Rattle.gtp_gateway.proofs.Requests.{pending_push}
 use Rattle.gtp_world.specs.Kept.{oldest_first, Half, Log, Kept, half_in, with_half}
@@ -46,12 +46,12 @@ use Rattle.gtp_world.proofs.Determined.Lasting.{Lasts, lasts_fits, lasts_once, l
 use Rattle.gtp_world.proofs.Determined.Left.{same_due, one_free, left_stays, left_begun, left_goes, number_begun, left_ticked}
 use Rattle.gtp_world.proofs.Determined.Opening.{bearers_from, none_from}
 
-tied_draws : (new : Station) (node : Node) → new.node ≡ node → IsTied new → node.drawn ≡ drawn_up_to node.counter (length node.drawn)
+tied_draws : (new : GatewayState) (node : Node) → new.node ≡ node → NodeMatchesQueues new → node.drawn ≡ drawn_up_to node.counter (length node.drawn)
 tied_draws new node is tied = subst (λ (k : Node). k.drawn ≡ drawn_up_to k.counter (length k.drawn)) is tied.drawn
 
 -- ---- an input comes to two gateways that are alike
 
-module _ (one other : Station) (alike : AreLeftAlike one other) (l : Lasts one) (input : Input) (e f : Effect) (first : Step one.role one.node input e) (second : Step other.role other.node input f) where
+module _ (one other : GatewayState) (alike : AreLeftAlike one other) (l : Lasts one) (input : Input) (e f : Effect) (first : Step one.role one.node input e) (second : Step other.role other.node input f) where
   -- both are steps of one gateway
   there : Step one.role one.node input f
   there = subst (λ n. Step one.role n input f) (sym alike.node) (subst (λ r. Step r other.node input f) (sym alike.role) second)
@@ -60,7 +60,7 @@ module _ (one other : Station) (alike : AreLeftAlike one other) (l : Lasts one) 
   both = step_done one.role one.node input (lasts_fits one l) (lasts_once one l) e f first there
 
   -- and where the lowest is taken of what is free, and the same number, they are one
-  module _ (new left : Station) (new_is : new.node ≡ e.node) (left_is : left.node ≡ f.node) (new_stays : new.role ≡ one.role) (left_stays_so : left.role ≡ other.role) (new_tied : IsTied new) (left_tied : IsTied left)
+  module _ (new left : GatewayState) (new_is : new.node ≡ e.node) (left_is : left.node ≡ f.node) (new_stays : new.role ≡ one.role) (left_stays_so : left.role ≡ other.role) (new_tied : NodeMatchesQueues new) (left_tied : NodeMatchesQueues left)
       (new_lowest : TakesLowest new.role e.out one.node new.node) (left_lowest : TakesLowest left.role f.out other.node left.node) where
     one_effect : ((command : Command) → input ≡ Commanded command → (number : ℕ) → get one.node.pending number ≡ None → HasPending e.node number → HasPending f.node number)
         → ((request : Arrival) (reading : ControlReading) → input ≡ Control_came request reading → (others : FiniteMap PendingRequest) (m n : ℕ) (p q : PendingRequest) → WaitsBeside one.node.drawn e.node.pending others m p → WaitsBeside one.node.drawn f.node.pending others n q → m ≡ n) → e ≡ f
@@ -90,11 +90,11 @@ module _ (one other : Station) (alike : AreLeftAlike one other) (l : Lasts one) 
 -- ---- the number of a request
 
 -- the request that was begun waits beside the others
-begun_waits : (old : Station) (d : Datagram) (new : Station) → IsTied old → (w : WaitsFor old d new) → (p : PendingRequest) × (new.node.pending ≡ insert old.node.pending w.number p)
+begun_waits : (old : GatewayState) (d : Datagram) (new : GatewayState) → NodeMatchesQueues old → (w : WaitsFor old d new) → (p : PendingRequest) × (new.node.pending ≡ insert old.node.pending w.number p)
 begun_waits old d new tied w =
     let request : Waiting Purpose = just_sent w.number d.to d.octets w.purpose in (
       (pending_of request).1,
-      w.tied.pending ∙ (ap (λ (t : Timing). pending_in t.waiting) w.timing ∙ (pending_push old.timing.waiting request (pending_of request).1 w.free.free refl ∙ ap (λ (k : FiniteMap PendingRequest). insert k w.number (pending_of request).1) (sym tied.pending))),
+      w.tied.pending ∙ (ap (λ (t : Queues). pending_in t.waiting) w.queues ∙ (pending_push old.queues.waiting request (pending_of request).1 w.free.free refl ∙ ap (λ (k : FiniteMap PendingRequest). insert k w.number (pending_of request).1) (sym tied.pending))),
     )
 
 waits_too : (pending : FiniteMap PendingRequest) (one other : Node) (m n : ℕ) (p q : PendingRequest) → one.pending ≡ insert pending m p → other.pending ≡ insert pending n q → m ≡ n → (number : ℕ) → get pending number ≡ None → HasPending one number → HasPending other number
@@ -115,7 +115,7 @@ none_new old one other same number free waits = absurd (never waits.pending (ap 
 
 -- ---- what is kept after one step, and after two
 
-half_after_alike : (h k : Half) → HalvesAlike h k → (new left : Station) → AreLeftAlike new left → (out : Out) → HalvesAlike (half_after h new out) (half_after k left out)
+half_after_alike : (h k : Half) → HalvesAlike h k → (new left : GatewayState) → AreLeftAlike new left → (out : Out) → HalvesAlike (half_after h new out) (half_after k left out)
 half_after_alike h k a new left leaves out = record {
   settings = a.settings;
   station = leaves;
@@ -126,11 +126,11 @@ half_after_alike h k a new left leaves out = record {
   made = ap (λ l. l ++ oldest_first out.made) a.made;
 }
 
-after_alike : (u v : Kept) → WorldsAlike u v → (role : Role) (new left : Station) → AreLeftAlike new left → (out : Out) (sent : List Datagram) (outcome : EventOutcome) (late : Bool) → WorldsAlike (kept_after u role new out sent outcome late) (kept_after v role left out sent outcome late)
+after_alike : (u v : Kept) → WorldsAlike u v → (role : Role) (new left : GatewayState) → AreLeftAlike new left → (out : Out) (sent : List Datagram) (outcome : EventOutcome) (late : Bool) → WorldsAlike (kept_after u role new out sent outcome late) (kept_after v role left out sent outcome late)
 after_alike u v alike Serving new left leaves out sent outcome late = record { serving = half_after_alike u.serving v.serving alike.serving new left leaves out; packet = alike.packet; log = λ i. log_after (alike.log i) Serving out sent outcome late }
 after_alike u v alike Packet new left leaves out sent outcome late = record { serving = alike.serving; packet = half_after_alike u.packet v.packet alike.packet new left leaves out; log = λ i. log_after (alike.log i) Packet out sent outcome late }
 
-both_after_alike : (u v : Kept) → WorldsAlike u v → (role : Role) (new left : Station) → AreLeftAlike new left → (first second : Effect) (sent more : List Datagram) (late : Bool) → WorldsAlike (kept_after_both u role new first second sent more late) (kept_after_both v role left first second sent more late)
+both_after_alike : (u v : Kept) → WorldsAlike u v → (role : Role) (new left : GatewayState) → AreLeftAlike new left → (first second : Effect) (sent more : List Datagram) (late : Bool) → WorldsAlike (kept_after_both u role new first second sent more late) (kept_after_both v role left first second sent more late)
 both_after_alike u v alike Serving new left leaves first second sent more late = record {
   serving = half_after_alike (half_after u.serving new first.out) (half_after v.serving left first.out) (half_after_alike u.serving v.serving alike.serving new left leaves first.out) new left leaves second.out;
   packet = alike.packet;
@@ -144,7 +144,7 @@ both_after_alike u v alike Packet new left leaves first second sent more late = 
 
 -- ---- one effect, and gateways that are alike after it
 
-pub record IsOne (e f : Effect) (new left : Station) : Type 0 where
+pub record IsOne (e f : Effect) (new left : GatewayState) : Type 0 where
   pub effect : e ≡ f
   pub leaves : AreLeftAlike new left
 
@@ -154,10 +154,10 @@ half_alike u v alike Serving = alike.serving
 half_alike u v alike Packet = alike.packet
 
 module _ (u v : Kept) (alike : WorldsAlike u v) (role : Role) (lasts : BothLast u) (lasts_too : BothLast v) where
-  abbrev one : Station
+  abbrev one : GatewayState
   one = (half_in u role).station
 
-  abbrev two : Station
+  abbrev two : GatewayState
   two = (half_in v role).station
 
   stations : AreLeftAlike one two
@@ -335,13 +335,13 @@ module _ (u v : Kept) (alike : WorldsAlike u v) (role : Role) (lasts : BothLast 
 -- ---- what is kept after it
 
 -- worlds that are what was kept of the same
-become_alike : (u v new left : Kept) (role : Role) (one two : Station) (out other : Out) (sent sent_too : List Datagram) (outcome outcome_too : EventOutcome) (late : Bool) → WorldsAlike u v → AreLeftAlike one two → out ≡ other → sent ≡ sent_too → outcome ≡ outcome_too → new ≡ kept_after u role one out sent outcome late → left ≡ kept_after v role two other sent_too outcome_too late → WorldsAlike new left
+become_alike : (u v new left : Kept) (role : Role) (one two : GatewayState) (out other : Out) (sent sent_too : List Datagram) (outcome outcome_too : EventOutcome) (late : Bool) → WorldsAlike u v → AreLeftAlike one two → out ≡ other → sent ≡ sent_too → outcome ≡ outcome_too → new ≡ kept_after u role one out sent outcome late → left ≡ kept_after v role two other sent_too outcome_too late → WorldsAlike new left
 become_alike u v new left role one two out other sent sent_too outcome outcome_too late alike leaves same same_sent same_outcome is is_too =
     subst (λ k. WorldsAlike k left) (sym is)
     (subst (λ k. WorldsAlike (kept_after u role one out sent outcome late) k) (sym (is_too ∙ (λ i. kept_after v role two (sym same i) (sym same_sent i) (sym same_outcome i) late)))
     (after_alike u v alike role one two leaves out sent outcome late))
 
-takes_alike : (u v : Kept) → WorldsAlike u v → (role : Role) (input : Input) (Timed : List Datagram → EventOutcome → Station → Station → Type 0) (late : Bool) (new left : Kept) (t : Takes u role input Timed late new) (s : Takes v role input Timed late left) → IsOne t.effect s.effect t.station s.station → WorldsAlike new left
+takes_alike : (u v : Kept) → WorldsAlike u v → (role : Role) (input : Input) (Timed : List Datagram → EventOutcome → GatewayState → GatewayState → Type 0) (late : Bool) (new left : Kept) (t : Takes u role input Timed late new) (s : Takes v role input Timed late left) → IsOne t.effect s.effect t.station s.station → WorldsAlike new left
 takes_alike u v alike role input Timed late new left t s is =
     become_alike u v new left role t.station s.station t.effect.out s.effect.out _ _ _ _ late alike is.leaves
     (ap (λ (k : Effect). k.out) is.effect)
@@ -367,7 +367,7 @@ starts_alike role settings counter = record { role = refl; node = refl; timers =
 half_restarts : (role : Role) (h k : Half) → HalvesAlike h k → HalvesAlike (half_restarted role h) (half_restarted role k)
 half_restarts role h k a = record {
   settings = a.settings;
-  station = subst (λ (s : Station). AreLeftAlike (starting role h.settings (counter_after h)) s) (λ i. starting role (a.settings i) (same_counter h k a i)) (starts_alike role h.settings (counter_after h));
+  station = subst (λ (s : GatewayState). AreLeftAlike (starting role h.settings (counter_after h)) s) (λ i. starting role (a.settings i) (same_counter h k a i)) (starts_alike role h.settings (counter_after h));
   first = a.first;
   restarts = ap (λ n. n + 1) a.restarts;
   seen = refl;
@@ -391,8 +391,8 @@ module _ (u v : Kept) (alike : WorldsAlike u v) (lasts : BothLast u) (lasts_too 
       let one = (half_in u role).station in
       let two = (half_in v role).station in
       let due = same_due one two halves.station in
-      let second = subst (λ n. Ticks n (due_in one.timing) s.out s.station.node) (sym halves.station.node) (subst (λ d. Ticks two.node d s.out s.station.node) (sym due) s.ticks) in
-      let same = one_tick one.node (due_in one.timing) t.out s.out t.station.node s.station.node t.ticks second in
+      let second = subst (λ n. Ticks n (due_in one.queues) s.out s.station.node) (sym halves.station.node) (subst (λ d. Ticks two.node d s.out s.station.node) (sym due) s.ticks) in
+      let same = one_tick one.node (due_in one.queues) t.out s.out t.station.node s.station.node t.ticks second in
       become_alike u v new left role t.station s.station t.out s.out _ _ Ticked Ticked false alike
       (left_ticked one two t.station s.station halves.station (t.role_stays ∙ (halves.station.role ∙ sym s.role_stays)) same.1 (last_of u lasts role).apart (last_of v lasts_too role).apart t.counts s.counts)
       same.0

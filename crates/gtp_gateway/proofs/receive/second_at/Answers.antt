@@ -1,6 +1,6 @@
 use Rattle.std.proofs.Common.{sym, ◌∙◌, ap}
 use Rattle.std.specs.Prelude.{length, ◌-◌, is_some, not}
-use Rattle.gtp_gateway.proofs.Pairs.{second_there, no_second_fault}
+use Rattle.gtp_gateway.proofs.TwoMessages.{second_there, no_second_fault}
 use Rattle.gtp_gateway.proofs.receive.second_at.Goals as goal
 
 pub returns-in-Err-clause-none : goal.returns-in-Err-clause-none

@@ -2,7 +2,7 @@ use Rattle.std.proofs.Common.{rules, ◌≡◌, ◌∙◌, List, ℕ, ◌++◌, 
 use Rattle.std.proofs.lemmas.Result.{on_ok_weaker}
 use Rattle.gtp_world.proofs.Logs.{as_many_arrivals}
 use Rattle.gtp_lines.proofs.Appends.{twice}
-use Rattle.gtp_gateway.specs.Ticked.{arrivals_of}
+use Rattle.gtp_gateway.specs.Tick.{arrivals_of}
 use Rattle.gtp_replay.specs.Diagram.{some_of}
 use Rattle.gtp_replay.proofs.drawing.put_tick.Goals as goal
 

@@ -1,7 +1,7 @@
 use Rattle.std.proofs.Common.{◌≡◌, ◌++◌, map, drop}
 use Rattle.std.specs.List.{flat_map}
 use Rattle.json.specs.Tree.{json_tokens}
-use Rattle.gtp_gateway.specs.Sent.{datagram_by}
+use Rattle.gtp_gateway.specs.messages.Sent.{datagram_by}
 use Rattle.gtp_serve.specs.Replies.{sent_json}
 use Rattle.gtp_serve.proofs.reply.put_all_datagrams.Given as goal
 

@@ -1,6 +1,6 @@
 use Rattle.std.proofs.Common.{sym, subst}
 use Rattle.gtp_machine.specs.Input.{Send_user}
-use Rattle.gtp_gateway.specs.Begun.{IsRefusedWhere}
+use Rattle.gtp_gateway.specs.command.Command.{IsRefusedWhere}
 use Rattle.gtp_world.specs.Commands.{command_of}
 use Rattle.gtp_world.specs.declared.event.Event.{Event}
 use Rattle.gtp_world.proofs.command.tell.Goals as goal

@@ -1,5 +1,5 @@
 use Rattle.gtp_machine.specs.Input.{Create_session}
-use Rattle.gtp_gateway.specs.Specified.{specification}
+use Rattle.gtp_gateway.specs.command.CreateSession.{specification}
 use Rattle.gtp_c.proofs.Carried.{has_begun}
 use Rattle.gtp_c.proofs.desk.Desk.create_session.Goals as goal
 

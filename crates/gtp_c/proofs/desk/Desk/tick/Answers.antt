@@ -1,6 +1,6 @@
 use Rattle.std.proofs.Common.{rules, ◌++◌, List, ap, ◌∙◌, sym, subst}
-use Rattle.gtp_gateway.specs.Station.{Station}
-use Rattle.gtp_gateway.specs.Ticked.{IsTicked, CountsOn}
+use Rattle.gtp_gateway.specs.GatewayState.{GatewayState}
+use Rattle.gtp_gateway.specs.Tick.{IsTicked, QueuesAfterTick}
 use Rattle.gtp_gateway.specs.declared.sent.Sent.{Sent}
 use Rattle.gtp_c.proofs.desk.Desk.tick.Goals as goal
 
@@ -9,9 +9,9 @@ returns-in-Ok-clause-done c =
     let k = c.room_for-status.ensures.kept in let old = c.args.self.now.gateway in
     λ _. record {
       ticked = c.in-Ok.ticked;
-      is_ticked = subst (λ (g : Station). IsTicked old c.in-Ok.ticked g) (sym c.put_all.ensures.gateway)
-          (subst (λ (g : Station). IsTicked g c.in-Ok.ticked c.tick.new.self) k.0 c.in-Ok.ensures.ticked);
-      counts = subst (λ (g : Station). CountsOn old g) (sym c.put_all.ensures.gateway) (subst (λ (g : Station). CountsOn g c.tick.new.self) k.0 c.in-Ok.ensures.counts);
+      is_ticked = subst (λ (g : GatewayState). IsTicked old c.in-Ok.ticked g) (sym c.put_all.ensures.gateway)
+          (subst (λ (g : GatewayState). IsTicked g c.in-Ok.ticked c.tick.new.self) k.0 c.in-Ok.ensures.ticked);
+      counts = subst (λ (g : GatewayState). QueuesAfterTick old g) (sym c.put_all.ensures.gateway) (subst (λ (g : GatewayState). QueuesAfterTick g c.tick.new.self) k.0 c.in-Ok.ensures.counts);
       waiting = c.put_all.ensures.waiting ∙ ap (λ (xs : List Sent). xs ++ c.in-Ok.ticked.resent.items) k.1;
       tells = search rules;
     }

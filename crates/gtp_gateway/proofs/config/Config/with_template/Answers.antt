@@ -1,6 +1,6 @@
 use Rattle.std.proofs.Common.{◌≡◌, ◌<◌, ◌≤◌, ℕ, List, length, refl, ◌∙◌, ap, subst, arith, rules}
 use Rattle.gtp_values.specs.FiniteMap.{Among}
-use Rattle.gtp_gateway.specs.declared.config.Template.{Template}
+use Rattle.gtp_gateway.specs.declared.config.access_points.Template.{Template}
 use Rattle.gtp_gateway.specs.Settings.{Settings, IsPlaceOf, settings_of, template_of, with_template}
 use Rattle.gtp_gateway.proofs.Templates.{place_within, place_among, put_in_order}
 use Rattle.gtp_gateway.proofs.config.Config.with_template.Goals as goal

@@ -7,19 +7,19 @@ use Rattle.gtp_machine.specs.Message.{Message}
 use Rattle.gtp_machine.specs.Reading.{control_message}
 use Rattle.gtp_machine.specs.Spelling.{datagram_of}
 use Rattle.gtp_machine.specs.declared.outcome.Outcome.TheVariants.{Answered}
-use Rattle.gtp_gateway.specs.declared.control_step.ControlStep.{ControlStep}
-use Rattle.gtp_gateway.specs.Faulty.{defect_of, fault_of, IsFaultEffect}
+use Rattle.gtp_gateway.specs.declared.step.ControlStep.{ControlStep}
+use Rattle.gtp_gateway.specs.receive.InvalidRequest.{defect_of, fault_of, IsFaultEffect}
 use Rattle.gtp_gateway.specs.Parts.{node_of}
-use Rattle.gtp_gateway.specs.Sent.{ReadsBack}
-use Rattle.gtp_gateway.specs.Station.{station_of}
-use Rattle.gtp_gateway.specs.Taken.{plain_report}
-use Rattle.gtp_gateway.proofs.FaultsTaken.{fault_answered}
+use Rattle.gtp_gateway.specs.messages.Sent.{ReadsBack}
+use Rattle.gtp_gateway.specs.GatewayState.{state_of}
+use Rattle.gtp_gateway.specs.receive.Taken.{plain_report}
+use Rattle.gtp_gateway.proofs.InvalidRequests.{fault_answered}
 use Rattle.gtp_gateway.proofs.SentBack.{one_sent}
 use Rattle.gtp_gateway.proofs.parts.Parts.answer_fault.Goals as goal
 
 pub returns-clause-taken : goal.returns-clause-taken
 returns-clause-taken c = λ request from peer new.
-    let old = station_of c.args.self.now in
+    let old = state_of c.args.self.now in
     let node = node_of c.args.self.now in
     let f = c.args.faulty.now in
     let fault = fault_of f in

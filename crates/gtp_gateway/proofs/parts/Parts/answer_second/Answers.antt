@@ -6,37 +6,37 @@ use Rattle.gtp_machine.specs.Node.{Held, Node, holding}
 use Rattle.gtp_machine.specs.Reading.{control_message}
 use Rattle.gtp_machine.specs.Serving.{BearerJudged, BearerAsked}
 use Rattle.gtp_machine.specs.Spelling.{Datagram, spelled, datagram_of}
-use Rattle.gtp_gateway.specs.declared.control_step.ControlStep.{ControlStep}
-use Rattle.gtp_gateway.specs.Answering.{after_held, answering}
-use Rattle.gtp_gateway.specs.UserTaken.{WaitOn}
-use Rattle.gtp_gateway.proofs.GoingOn.{tied_of, answered_goes}
-use Rattle.gtp_gateway.specs.Change.{changed_by}
-use Rattle.gtp_gateway.specs.Granting.{bearer_answer, change_for, is_granted}
-use Rattle.gtp_gateway.specs.Pairing.{node_settled, settled_station}
+use Rattle.gtp_gateway.specs.declared.step.ControlStep.{ControlStep}
+use Rattle.gtp_gateway.specs.receive.Answer.{after_held, answering}
+use Rattle.gtp_gateway.specs.user.Receive.{RequestsWaitOn}
+use Rattle.gtp_gateway.proofs.QueuesAfter.{tied_of, answered_goes}
+use Rattle.gtp_gateway.specs.tables.Change.{changed_by}
+use Rattle.gtp_gateway.specs.receive.CreateBearerRequest.{bearer_answer, change_for, is_granted}
+use Rattle.gtp_gateway.specs.receive.Piggybacked.{node_after_first, state_after_first}
 use Rattle.gtp_gateway.specs.Parts.{arrival_of, node_of}
-use Rattle.gtp_gateway.specs.Sent.{datagram_by}
-use Rattle.gtp_gateway.specs.Station.{Station, station_of}
+use Rattle.gtp_gateway.specs.messages.Sent.{datagram_by}
+use Rattle.gtp_gateway.specs.GatewayState.{GatewayState, state_of}
 use Rattle.gtp_gateway.proofs.Answers.{held_few}
-use Rattle.gtp_gateway.proofs.Pairing.{settled_config, settled_counter, settled_held}
+use Rattle.gtp_gateway.proofs.BeforeSecond.{settled_config, settled_counter, settled_held}
 use Rattle.gtp_gateway.proofs.Rows.{answers_made}
 use Rattle.gtp_gateway.proofs.SecondsTaken.{row_is_taken, same_answer, change_config, lowest_second}
 use Rattle.gtp_gateway.proofs.parts.Parts.answer_second.Goals.{Joined-message-3}
 use Rattle.gtp_gateway.proofs.parts.Parts.answer_second.Goals as goal
 
 -- what is left: the answer is held, and what was granted is made
-left : (c : Joined-message-3) → node_of c.give-out.new.self ≡ holding (arrival_of c.args.source c.args.octets.now) (control_message c.in_ok-message.message ∷ []) (changed_by (change_for c.args.request.now c.args.judged.now.answer) (node_settled c.args.heard c.args.verdict c.args.seq (node_of c.args.self.now)))
+left : (c : Joined-message-3) → node_of c.send_answer-out.new.self ≡ holding (arrival_of c.args.source c.args.octets.now) (control_message c.in_ok-message.message ∷ []) (changed_by (change_for c.args.request.now c.args.judged.now.answer) (node_after_first c.args.heard c.args.verdict c.args.seq (node_of c.args.self.now)))
 left c =
     let ready = c.in_ok-ready.ensures in
-    c.give-out.ensures.node
-    ∙ (λ i. holding (arrival_of c.args.source (ready.request i)) (ready.read i) (node_of c.settle_for.new.self))
-    ∙ ap (holding (arrival_of c.args.source c.args.octets.now) (control_message c.in_ok-message.message ∷ [])) (c.in_ok-settle_for.ensures.node ∙ ap (λ (s : Station). changed_by (change_for c.args.request.now c.args.judged.now.answer) (node_settled c.args.heard c.args.verdict c.args.seq s.node)) c.ready_answer.ensures.same)
+    c.send_answer-out.ensures.node
+    ∙ (λ i. holding (arrival_of c.args.source (ready.request i)) (ready.read i) (node_of c.apply_both.new.self))
+    ∙ ap (holding (arrival_of c.args.source c.args.octets.now) (control_message c.in_ok-message.message ∷ [])) (c.in_ok-apply_both.ensures.node ∙ ap (λ (s : GatewayState). changed_by (change_for c.args.request.now c.args.judged.now.answer) (node_after_first c.args.heard c.args.verdict c.args.seq s.node)) c.ready_answer.ensures.same)
 
 pub returns-clause-taken : goal.returns-clause-taken
 returns-clause-taken c = λ q says.
-    let old = station_of c.args.self.now in
+    let old = state_of c.args.self.now in
     let heard = c.args.heard in
     let v = c.args.verdict in
-    let settled = settled_station heard v c.args.seq old in
+    let settled = state_after_first heard v c.args.seq old in
     let node = settled.node in
     let request = arrival_of c.args.source c.args.octets.now in
     let r = c.args.request.now in
@@ -44,17 +44,17 @@ returns-clause-taken c = λ q says.
     let m = control_message c.in_ok-message.message in
     let change = change_for r j.answer in
     let said : m ≡ bearer_answer j.answer j.header.0 q node = c.in_ok-message.ensures.says q says ∙ same_answer j.answer j.header.0 q old.node node (settled_counter heard v c.args.seq old.node) (settled_config heard v c.args.seq old.node) in
-    let same : station_of c.ready_answer.new.self ≡ old = c.ready_answer.ensures.same in
-    let config : c.settle_for.new.self.config.config ≡ node.config = ap (λ (n : Node). n.config) c.in_ok-settle_for.ensures.node ∙ ap (λ (s : Station). (changed_by change (node_settled heard v c.args.seq s.node)).config) same ∙ change_config r j.answer node in
+    let same : state_of c.ready_answer.new.self ≡ old = c.ready_answer.ensures.same in
+    let config : c.apply_both.new.self.config.config ≡ node.config = ap (λ (n : Node). n.config) c.in_ok-apply_both.ensures.node ∙ ap (λ (s : GatewayState). (changed_by change (node_after_first heard v c.args.seq s.node)).config) same ∙ change_config r j.answer node in
     let plane : Control ≡ plane_of m = sym c.in_ok-message.ensures.own.control in
-    let sent : datagram_by c.give-out.result ≡ datagram_of node.config (record { destination = c.args.source; messages = m ∷ [] }) =
-    c.give-out.ensures.sent ∙ ◌∙◌ {A = Datagram} (λ i. record { plane = Control; from = own_end (config i) Control; to = c.args.source; octets = c.in_ok-ready.ensures.octets i }) (λ i. record { plane = plane i; from = own_end node.config (plane i); to = c.args.source; octets = spelled m }) in
+    let sent : datagram_by c.send_answer-out.result ≡ datagram_of node.config (record { destination = c.args.source; messages = m ∷ [] }) =
+    c.send_answer-out.ensures.sent ∙ ◌∙◌ {A = Datagram} (λ i. record { plane = Control; from = own_end (config i) Control; to = c.args.source; octets = c.in_ok-ready.ensures.octets i }) (λ i. record { plane = plane i; from = own_end node.config (plane i); to = c.args.source; octets = spelled m }) in
     let held = settled_held heard v c.args.seq old.node in
     let room : length node.held < 4096 = subst (λ (h : List Held). length h < 4096) (sym held) (held_few c.args.self.now.held.pairs (λ many. let few = c.requires.few in omega (arith, many, few))) in
     let judged = c.requires.judged.judged request q says in
     let peer = ap (λ x. x) c.requires.fresh.peer ∙ (λ i. (sym (settled_config heard v c.args.seq old.node) i).peer.control) in
-    row_is_taken c.args.source c.args.octets.now q settled c.requires.serving peer (λ h among. c.requires.fresh.new h (subst (Among h) held among)) c.answered.result (station_of c.give-out.new.self)
-    (answers_made (BearerAsked request q) request settled (station_of c.give-out.new.self) c.answered.result c.give-out.result (m ∷ []) c.cause.result c.is_granted.result (changed_by change node) c.answered.ensures sent c.in_ok-ready.ensures.back (left c) (c.give-out.ensures.role ∙ c.settle_for.ensures.role ∙ ap (λ (s : Station). s.role) same)
+    row_is_taken c.args.source c.args.octets.now q settled c.requires.serving peer (λ h among. c.requires.fresh.new h (subst (Among h) held among)) c.answered.result (state_of c.send_answer-out.new.self)
+    (answers_made (BearerAsked request q) request settled (state_of c.send_answer-out.new.self) c.answered.result c.send_answer-out.result (m ∷ []) c.cause.result c.is_granted.result (changed_by change node) c.answered.ensures sent c.in_ok-ready.ensures.back (left c) (c.send_answer-out.ensures.role ∙ c.apply_both.ensures.role ∙ ap (λ (s : GatewayState). s.role) same)
     (inr (
       record { few = room },
       subst (λ e. BearerJudged request q node e) (λ i. answering (sym c.is_granted.ensures i) request (sym said i ∷ []) (sym c.cause.ensures i) (changed_by change node)) judged,
@@ -66,11 +66,11 @@ returns-clause-choices c = λ made.
     let r = c.args.request.now in
     let j = c.args.judged.now in
     let granted : is_granted j.answer ≡ true = sym c.is_granted.ensures ∙ (sym (ap (λ (s : ControlStep). s.report.made) c.answered.ensures) ∙ made) in
-    lowest_second r j.answer _ old (node_settled c.args.heard c.args.verdict c.args.seq old) (node_of c.give-out.new.self) c.requires.given c.requires.judged.chosen (ap (λ (n : Node). n.bearers) (left c)) granted
+    lowest_second r j.answer _ old (node_after_first c.args.heard c.args.verdict c.args.seq old) (node_of c.send_answer-out.new.self) c.requires.given c.requires.judged.chosen (ap (λ (n : Node). n.bearers) (left c)) granted
 
 pub returns-clause-goes : goal.returns-clause-goes
 returns-clause-goes c =
-    let mid = station_of c.settle_for.new.self in
+    let mid = state_of c.apply_both.new.self in
     let ready = c.in_ok-ready.ready in
-    answered_goes c.args.source c.args.octets.now (station_of c.args.self.now) mid (station_of c.give-out.new.self) ready.answer.items (subst (λ (s : Station). WaitOn s mid) c.ready_answer.ensures.same c.settle_for.ensures.waits)
-    (c.give-out.ensures.timing ∙ (λ i. record mid.timing { held = after_held c.args.source (c.in_ok-ready.ensures.request i) ready.answer.items mid.timing.held })) (tied_of c.give-out.new.self)
+    answered_goes c.args.source c.args.octets.now (state_of c.args.self.now) mid (state_of c.send_answer-out.new.self) ready.answer.items (subst (λ (s : GatewayState). RequestsWaitOn s mid) c.ready_answer.ensures.same c.apply_both.ensures.waits)
+    (c.send_answer-out.ensures.queues ∙ (λ i. record mid.queues { held = after_held c.args.source (c.in_ok-ready.ensures.request i) ready.answer.items mid.queues.held })) (tied_of c.send_answer-out.new.self)

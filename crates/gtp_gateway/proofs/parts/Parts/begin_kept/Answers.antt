@@ -3,10 +3,10 @@ use Rattle.std.proofs.lemmas.List.Elements.{All-same, All-push}
 use Rattle.gtp_values.specs.declared.address.Ip.{Ip}
 use Rattle.gtp_machine.specs.Config.{control_end}
 use Rattle.gtp_reliable.specs.Waiting.{Waiting, just_sent}
-use Rattle.gtp_gateway.specs.declared.purpose.Purpose.{Purpose}
-use Rattle.gtp_gateway.specs.Asking.{about}
+use Rattle.gtp_gateway.specs.declared.command.purpose.Purpose.{Purpose}
+use Rattle.gtp_gateway.specs.command.SendRequest.{about}
 use Rattle.gtp_gateway.specs.Parts.{pending_in, node_of}
-use Rattle.gtp_gateway.specs.Spelled.{message_in, IsAsked}
+use Rattle.gtp_gateway.specs.messages.Spelled.{message_in, IsAsked}
 use Rattle.gtp_gateway.proofs.Requests.{pending_push}
 use Rattle.gtp_gateway.proofs.parts.Parts.begin_kept.Goals as goal
 

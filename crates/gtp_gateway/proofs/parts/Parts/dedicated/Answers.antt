@@ -1,7 +1,7 @@
 use Rattle.std.proofs.Common.{◌≡◌, sym, ◌∙◌, ap}
 use Rattle.gtp_machine.specs.Node.{Bearer}
 use Rattle.gtp_machine.proofs.Basics.Facts.{one_value}
-use Rattle.gtp_gateway.specs.Station.{station_of}
+use Rattle.gtp_gateway.specs.GatewayState.{state_of}
 use Rattle.gtp_gateway.proofs.Columns.{no}
 use Rattle.gtp_gateway.proofs.DedicatedBearers.{not_named}
 use Rattle.gtp_gateway.proofs.parts.Parts.dedicated.Goals as goal
@@ -10,5 +10,5 @@ pub returns-then-not-is_dedicated-clause-none : goal.returns-then-not-is_dedicat
 returns-then-not-is_dedicated-clause-none c =
     let with = c.in-Some.ensures.found in
     let one : with.bearer ≡ c.in-Some-get.bearer = one_value _ with.bearer c.in-Some-get.bearer with.stands (sym c.get.ensures ∙ c.in-Some-get.is) in
-    not_named (station_of c.args.self.now) c.requires.whole c.args.session.0 c.args.identity c.in-Some.teid.0 with.bearer with.stands with.of with.has
+    not_named (state_of c.args.self.now) c.requires.whole c.args.session.0 c.args.identity c.in-Some.teid.0 with.bearer with.stands with.of with.has
     (λ is. no c.is_dedicated.ensures c.if-not-is_dedicated.true (ap (λ (b : Bearer). b.kind) (sym one) ∙ is))

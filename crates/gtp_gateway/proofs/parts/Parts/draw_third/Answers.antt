@@ -1,6 +1,6 @@
 use Rattle.std.proofs.Common.{false, true, ◌≡◌, refl}
 use Rattle.gtp_gateway.specs.Parts.{node_of}
-use Rattle.gtp_gateway.proofs.Drawn.{third_drawn, no_third}
+use Rattle.gtp_gateway.proofs.Teids.{third_drawn, no_third}
 use Rattle.gtp_gateway.proofs.parts.Parts.draw_third.Goals as goal
 
 pub returns-in-Ok-clause-some : goal.returns-in-Ok-clause-some

@@ -1,7 +1,7 @@
 use Rattle.std.proofs.Common.{[], ◌∷◌, ◌∙◌, subst}
 use Rattle.std.proofs.lemmas.Result.{IfOk-weaker}
 use Rattle.gtp_machine.specs.Spelling.{spelled_all}
-use Rattle.gtp_gateway.specs.Sent.{ReadsBack}
+use Rattle.gtp_gateway.specs.messages.Sent.{ReadsBack}
 use Rattle.gtp_gateway.proofs.parts.Parts.encode_granted.Goals as goal
 
 pub returns-clause-spelled : goal.returns-clause-spelled

@@ -1,19 +1,19 @@
 use Rattle.std.proofs.Common.{◌≡◌, ◌+◌, List, ◌∷◌, Option, drop, sym, ◌∙◌, ap, subst}
 use Rattle.std.proofs.lemmas.List.{drop_more}
 use Rattle.gtp_values.specs.declared.identifiers.Teid.{Teid}
-use Rattle.gtp_gateway.specs.declared.ending.NamedBearer.{NamedBearer}
+use Rattle.gtp_gateway.specs.declared.receive.delete_bearer_request.identities.NamedBearer.{NamedBearer}
 use Rattle.gtp_gateway.specs.declared.parts.Parts.{Parts}
-use Rattle.gtp_gateway.specs.Ending.{without_named, without_each}
+use Rattle.gtp_gateway.specs.receive.DeleteBearerRequest.{without_named, without_each}
 use Rattle.gtp_gateway.specs.Parts.{node_of}
-use Rattle.gtp_gateway.specs.Station.{station_of}
-use Rattle.gtp_gateway.specs.UserTaken.{WaitOn}
-use Rattle.gtp_gateway.proofs.Giving.{wait_on}
+use Rattle.gtp_gateway.specs.GatewayState.{state_of}
+use Rattle.gtp_gateway.specs.user.Receive.{RequestsWaitOn}
+use Rattle.gtp_gateway.proofs.GivenUp.{wait_on}
 use Rattle.gtp_gateway.proofs.parts.Parts.end_each.Goals.{in-Some, in_default}
 use Rattle.gtp_gateway.proofs.parts.Parts.end_each.Goals as goal
 
 pub loop-n-preserved : goal.loop-n-preserved
 loop-n-preserved c =
-    let old = station_of c.args.self.now in
+    let old = state_of c.args.self.now in
     let at = c.loop-n.invariant in
     let named = c.args.named.now in
     let n = c.n-item.result in
@@ -27,8 +27,8 @@ loop-n-preserved c =
     record {
       node = ap (without_each rest) (sym one) ∙ (ap (λ (ns : List NamedBearer). without_each ns before) (sym first) ∙ at.node);
       waits = elim c.match-n.branch [
-        | in-Some w ↦ subst (λ (g : Parts). WaitOn old (station_of g)) (sym w.self-is) (wait_on old (station_of c.loop-n.self) _ at.waits w.remove_bearer.ensures.waits)
-        | in_default w ↦ subst (λ (g : Parts). WaitOn old (station_of g)) (sym w.self-is) at.waits
+        | in-Some w ↦ subst (λ (g : Parts). RequestsWaitOn old (state_of g)) (sym w.self-is) (wait_on old (state_of c.loop-n.self) _ at.waits w.remove_bearer.ensures.waits)
+        | in_default w ↦ subst (λ (g : Parts). RequestsWaitOn old (state_of g)) (sym w.self-is) at.waits
       ];
       held = elim c.match-n.branch [ in-Some w ↦ ap (λ (g : Parts). g.held) w.self-is ∙ w.remove_bearer.ensures.held ∙ at.held | in_default w ↦ ap (λ (g : Parts). g.held) w.self-is ∙ at.held ];
       config = elim c.match-n.branch [ in-Some w ↦ ap (λ (g : Parts). g.config) w.self-is ∙ w.remove_bearer.ensures.config ∙ at.config | in_default w ↦ ap (λ (g : Parts). g.config) w.self-is ∙ at.config ];

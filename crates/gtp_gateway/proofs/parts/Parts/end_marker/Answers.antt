@@ -11,19 +11,19 @@ use Rattle.gtp_machine.specs.declared.role.Role.{Role}
 use Rattle.gtp_machine.specs.declared.outcome.Refusal.TheVariants.{NoSuchContext, NotActive, BearerEnded}
 use Rattle.gtp_machine.specs.declared.outcome.Outcome.TheVariants.{GoneOut}
 use Rattle.gtp_gateway.specs.Parts.{node_of}
-use Rattle.gtp_gateway.specs.Sent.{ReadsBack}
+use Rattle.gtp_gateway.specs.messages.Sent.{ReadsBack}
 use Rattle.gtp_gateway.proofs.Columns.{Told, yes, no, ends_on, stops, goes, goes_bearer}
 use Rattle.gtp_gateway.proofs.Own.{marker_short}
 use Rattle.gtp_gateway.proofs.SentBack.{one_sent}
 use Rattle.gtp_gateway.proofs.parts.Parts.end_marker.Goals as goal
 
-pub returns-then-not-is_active-clause-refused : goal.returns-then-not-is_active-clause-refused
-returns-then-not-is_active-clause-refused c = λ why.
+pub returns-then-not-is_bearer_active-clause-refused : goal.returns-then-not-is_bearer_active-clause-refused
+returns-then-not-is_bearer_active-clause-refused c = λ why.
     let node = node_of c.args.self.now in
     let bearer = c.args.bearer.0 in
     subst (λ (role : Role). Told _ why ↔ EndMarked role bearer node (refused node why)) (sym c.in-Packet.is)
     (goes_bearer node _ (ends_on bearer node (refused node why)) bearer c.in-Some.at NoSuchContext why (sym c.get.ensures ∙ c.in-Some.is)
-    (stops node _ NotActive refl (no c.is_active.ensures c.if-not-is_active.true) why))
+    (stops node _ NotActive refl (no c.is_bearer_active.ensures c.if-not-is_bearer_active.true) why))
 
 pub returns-then-at-clause-refused : goal.returns-then-at-clause-refused
 returns-then-at-clause-refused c = λ why.
@@ -31,7 +31,7 @@ returns-then-at-clause-refused c = λ why.
     let bearer = c.args.bearer.0 in
     subst (λ (role : Role). Told _ why ↔ EndMarked role bearer node (refused node why)) (sym c.in-Packet.is)
     (goes_bearer node _ (ends_on bearer node (refused node why)) bearer c.in-Some.at NoSuchContext why (sym c.get.ensures ∙ c.in-Some.is)
-    (goes node _ NotActive why (yes c.is_active.ensures c.if-not-is_active.false) (λ active.
+    (goes node _ NotActive why (yes c.is_bearer_active.ensures c.if-not-is_bearer_active.false) (λ active.
     stops node _ BearerEnded refl (λ before. let is = c.if-at.true in cc) why)))
 
 pub send_plain-requires : goal.send_plain-requires
@@ -46,7 +46,7 @@ returns-clause-done c =
     let effect : Effect = record { out = says (user_end node.config.peer.user) (End_marker (written at.remote)); outcome = Came_to GoneOut; node = record node { bearers = insert node.bearers bearer (ended_bearer at) } } in
     record {
       effect = effect;
-      step = subst (λ (role : Role). EndMarked role bearer node effect) (sym c.in-Packet.is) (inr (record { bearer = at; stands = stands }, inr (yes c.is_active.ensures c.if-not-is_active.false, inr (c.if-at.false, refl))));
+      step = subst (λ (role : Role). EndMarked role bearer node effect) (sym c.in-Packet.is) (inr (record { bearer = at; stands = stands }, inr (yes c.is_bearer_active.ensures c.if-not-is_bearer_active.false, inr (c.if-at.false, refl))));
       sent = one_sent node.config _ _ (c.in_ok-out.ensures.sent ∙ (λ i. datagram_of node.config (record { destination = user_end node.config.peer.user; messages = End_marker (c.written_teid-teid.ensures i) ∷ [] })))
           (subst (λ (t : ℕ). ReadsBack (End_marker t ∷ [])) c.written_teid-teid.ensures c.in_ok-out.ensures.back);
       outcome = refl;

@@ -7,21 +7,21 @@ use Rattle.gtp_machine.specs.Node.{holding}
 use Rattle.gtp_machine.specs.Reading.{control_message}
 use Rattle.gtp_machine.specs.Serving.{RemovalJudged, removal_cause}
 use Rattle.gtp_machine.specs.Spelling.{spelled}
-use Rattle.gtp_gateway.specs.declared.ending.NamedBearer.{NamedBearer}
-use Rattle.gtp_gateway.specs.Ending.{NamesEach, identity_named, number_in, removed_by, without_each}
-use Rattle.gtp_gateway.specs.Answering.{after_held}
+use Rattle.gtp_gateway.specs.declared.receive.delete_bearer_request.identities.NamedBearer.{NamedBearer}
+use Rattle.gtp_gateway.specs.receive.DeleteBearerRequest.{NamesEach, identity_named, number_in, removed_by, without_each}
+use Rattle.gtp_gateway.specs.receive.Answer.{after_held}
 use Rattle.gtp_gateway.specs.Parts.{arrival_of}
-use Rattle.gtp_gateway.specs.Sent.{ReadsBack}
-use Rattle.gtp_gateway.specs.Station.{Station, station_of}
-use Rattle.gtp_gateway.specs.UserTaken.{WaitOn}
-use Rattle.gtp_gateway.proofs.Endings.{ends_judged}
-use Rattle.gtp_gateway.proofs.GoingOn.{tied_of, answered_goes}
+use Rattle.gtp_gateway.specs.messages.Sent.{ReadsBack}
+use Rattle.gtp_gateway.specs.GatewayState.{GatewayState, state_of}
+use Rattle.gtp_gateway.specs.user.Receive.{RequestsWaitOn}
+use Rattle.gtp_gateway.proofs.DeleteBearerRequests.{ends_judged}
+use Rattle.gtp_gateway.proofs.QueuesAfter.{tied_of, answered_goes}
 use Rattle.gtp_gateway.proofs.Rows.{answers}
 use Rattle.gtp_gateway.proofs.parts.Parts.end_named.Goals as goal
 
 pub returns-clause-taken : goal.returns-clause-taken
 returns-clause-taken c = λ d says listed.
-    let old = station_of c.args.self.now in
+    let old = state_of c.args.self.now in
     let request = arrival_of c.args.source c.args.octets.now in
     let r = c.args.request.now in
     let header = c.args.header.0 in
@@ -33,21 +33,21 @@ returns-clause-taken c = λ d says listed.
     let m : Message = Delete_bearer_response (record { header = header; number = d.number; cause = cause_of (removal_cause (map removed_by ns)); linked = None; contexts = map removed_by ns; recovery = Some old.node.counter }) in
     let said : control_message c.in_ok-message.message ≡ m = c.in_ok-message.ensures.says ∙ (λ i. Delete_bearer_response (record { header = header; number = sym says.number i; cause = cause_of (removal_cause (map removed_by ns)); linked = None; contexts = map removed_by ns; recovery = Some old.node.counter })) in
     let ready = c.in_ok-ready.ensures in
-    let config = ap (λ s. s.config) c.end_each.ensures.config ∙ ap (λ (s : Station). s.node.config) c.ready_answer.ensures.same in
-    let left = c.end_each.ensures.node ∙ ap (λ (s : Station). without_each ns s.node) c.ready_answer.ensures.same in
-    answers (RemovalJudged request d) request old (station_of c.give.new.self) c.sent.result c.give.result m c.cause_of_all.result (without_each ns old.node) c.sent.ensures
-    (c.give.ensures.sent ∙ (λ i. record { plane = Control; from = control_end (config i).own.control; to = c.args.source; octets = (ready.octets ∙ ap spelled said) i }))
+    let config = ap (λ s. s.config) c.end_each.ensures.config ∙ ap (λ (s : GatewayState). s.node.config) c.ready_answer.ensures.same in
+    let left = c.end_each.ensures.node ∙ ap (λ (s : GatewayState). without_each ns s.node) c.ready_answer.ensures.same in
+    answers (RemovalJudged request d) request old (state_of c.send_answer.new.self) c.sent.result c.send_answer.result m c.cause_of_all.result (without_each ns old.node) c.sent.ensures
+    (c.send_answer.ensures.sent ∙ (λ i. record { plane = Control; from = control_end (config i).own.control; to = c.args.source; octets = (ready.octets ∙ ap spelled said) i }))
     (subst (λ m. ReadsBack (m ∷ [])) said ready.back)
-    (c.give.ensures.node ∙ (λ i. holding (arrival_of c.args.source (ready.request i)) ((ready.read ∙ ap (λ m. m ∷ []) said) i) (left i)))
-    (c.give.ensures.role ∙ (c.end_each.ensures.role ∙ ap (λ (s : Station). s.role) c.ready_answer.ensures.same))
+    (c.send_answer.ensures.node ∙ (λ i. holding (arrival_of c.args.source (ready.request i)) ((ready.read ∙ ap (λ m. m ∷ []) said) i) (left i)))
+    (c.send_answer.ensures.role ∙ (c.end_each.ensures.role ∙ ap (λ (s : GatewayState). s.role) c.ready_answer.ensures.same))
     (subst (λ (cause : ℕ). RemovalJudged request d old.node (answered request m cause (without_each ns old.node))) (sym c.cause_of_all.ensures)
     (ends_judged request r d old.node header ids ns says listed c.requires.asked c.requires.short same names))
 
 pub returns-clause-goes : goal.returns-clause-goes
 returns-clause-goes c =
-    let old = station_of c.args.self.now in
-    let left = station_of c.end_each.new.self in
-    let new = station_of c.give.new.self in
-    let waits = subst (λ (s : Station). WaitOn s left) c.ready_answer.ensures.same c.end_each.ensures.waits in
+    let old = state_of c.args.self.now in
+    let left = state_of c.end_each.new.self in
+    let new = state_of c.send_answer.new.self in
+    let waits = subst (λ (s : GatewayState). RequestsWaitOn s left) c.ready_answer.ensures.same c.end_each.ensures.waits in
     let answer = c.in_ok-ready.ready.answer.items in
-    answered_goes c.args.source c.args.octets.now old left new answer waits (c.give.ensures.timing ∙ (λ i. record left.timing { held = after_held c.args.source (c.in_ok-ready.ensures.request i) answer left.timing.held })) (tied_of c.give.new.self)
+    answered_goes c.args.source c.args.octets.now old left new answer waits (c.send_answer.ensures.queues ∙ (λ i. record left.queues { held = after_held c.args.source (c.in_ok-ready.ensures.request i) answer left.queues.held })) (tied_of c.send_answer.new.self)

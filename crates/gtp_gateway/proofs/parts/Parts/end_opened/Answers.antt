@@ -6,7 +6,7 @@ use Rattle.gtp_tables.specs.Contexts.{is_opened}
 use Rattle.gtp_machine.specs.Node.{PendingRequest}
 use Rattle.gtp_machine.specs.Removal.{on}
 use Rattle.gtp_gateway.specs.Parts.{pending_in, node_of}
-use Rattle.gtp_gateway.specs.Spelled.{IsAsked, AreAsked}
+use Rattle.gtp_gateway.specs.messages.Spelled.{IsAsked, AreAsked}
 use Rattle.gtp_gateway.proofs.Finished.{pending_kept}
 use Rattle.gtp_gateway.proofs.parts.Parts.end_opened.Goals as goal
 

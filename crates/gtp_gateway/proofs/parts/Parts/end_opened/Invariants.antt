@@ -1,4 +1,4 @@
-use Rattle.gtp_gateway.specs.Hearing.{goes_with}
+use Rattle.gtp_gateway.specs.receive.RestartCounter.{goes_with}
 use Rattle.gtp_gateway.proofs.parts.Parts.end_opened.Given as goal
 
 abbrev pub ghost-finish_where : goal.ghost-finish_where

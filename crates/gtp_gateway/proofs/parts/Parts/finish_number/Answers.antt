@@ -1,7 +1,7 @@
 use Rattle.std.proofs.Common.{sym, ◌∙◌, ap, subst}
 use Rattle.std.proofs.lemmas.List.Elements.{All-filter}
 use Rattle.gtp_gateway.specs.Parts.{pending_in, node_of}
-use Rattle.gtp_gateway.specs.Spelled.{IsAsked, AreAsked}
+use Rattle.gtp_gateway.specs.messages.Spelled.{IsAsked, AreAsked}
 use Rattle.gtp_gateway.proofs.Removed.{pending_removed}
 use Rattle.gtp_gateway.proofs.parts.Parts.finish_number.Goals as goal
 

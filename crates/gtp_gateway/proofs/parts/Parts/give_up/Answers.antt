@@ -1,6 +1,6 @@
 use Rattle.std.proofs.Common.{refl, sym, ◌∙◌}
-use Rattle.gtp_gateway.specs.Asking.{about}
-use Rattle.gtp_gateway.specs.Station.{station_of}
+use Rattle.gtp_gateway.specs.command.SendRequest.{about}
+use Rattle.gtp_gateway.specs.GatewayState.{state_of}
 use Rattle.gtp_gateway.proofs.Pendings.{waits, none_waits_at}
 use Rattle.gtp_gateway.proofs.UserRows.{all_wait}
 use Rattle.gtp_gateway.proofs.parts.Parts.give_up.Goals as goal
@@ -9,7 +9,7 @@ pub returns-in_default-clause-node : goal.returns-in_default-clause-node
 returns-in_default-clause-node c = (λ at. none_waits_at c.args.self.now.pending.waiting c.args.seq c.args.seq at.pending refl (sym c.waiting.ensures ∙ c.in_default.is) at.waits, refl)
 
 pub returns-in_default-clause-waits : goal.returns-in_default-clause-waits
-returns-in_default-clause-waits c = all_wait (station_of c.args.self.now) (station_of c.args.self.now) refl refl
+returns-in_default-clause-waits c = all_wait (state_of c.args.self.now) (state_of c.args.self.now) refl refl
 
 pub returns-clause-node : goal.returns-clause-node
 returns-clause-node c =

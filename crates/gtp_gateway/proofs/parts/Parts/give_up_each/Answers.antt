@@ -1,10 +1,10 @@
 use Rattle.std.proofs.Common.{◌≡◌, ℕ, ◌+◌, ◌≤◌, Bool, not, is_ok, vec_len, length-drop, true, false, cond, List, [], ◌∷◌, ◌++◌, map, drop, refl, sym, ◌∙◌, ap, subst, append_assoc, append-nil, arith}
 use Rattle.std.proofs.lemmas.List.{drop_more, at_drop_all}
-use Rattle.gtp_gateway.specs.declared.purpose.Purpose.{Purpose}
+use Rattle.gtp_gateway.specs.declared.command.purpose.Purpose.{Purpose}
 use Rattle.gtp_gateway.specs.Parts.{node_of}
-use Rattle.gtp_gateway.specs.Station.{station_of}
-use Rattle.gtp_gateway.specs.Ticked.{GivesUpEach}
-use Rattle.gtp_gateway.proofs.Giving.{ends, goes_on, wait_on}
+use Rattle.gtp_gateway.specs.GatewayState.{state_of}
+use Rattle.gtp_gateway.specs.Tick.{GivesUpEach}
+use Rattle.gtp_gateway.proofs.GivenUp.{ends, goes_on, wait_on}
 use Rattle.gtp_gateway.proofs.UserRows.{all_wait}
 use Rattle.gtp_gateway.proofs.parts.Parts.give_up_each.Goals as goal
 use Rattle.gtp_gateway.proofs.parts.Parts.give_up_each.Goals.{else-give_up-via-then-give_up+else-is_err, else-give_up-via-else-give_up}
@@ -26,7 +26,7 @@ pub loop-entry-init : goal.loop-entry-init
 loop-entry-init c =
     record {
       each = λ others new given. subst (λ (items : List ℕ). GivesUpEach (node_of c.args.self.now) (map number c.args.due.now) (items ++ others) new) (sym c.requires.empty) given;
-      waits = all_wait (station_of c.args.self.now) (station_of c.args.self.now) refl refl;
+      waits = all_wait (state_of c.args.self.now) (state_of c.args.self.now) refl refl;
       room = c.requires.room;
       role = refl;
     }
@@ -51,7 +51,7 @@ loop-entry-preserved c =
           (at.invariant.each (one ++ others) new
           (subst (λ (l : List ℕ). GivesUpEach (node_of at.self) l (one ++ others) new) (sym first)
           (goes_on seq rest c.give_up.result (node_of at.self) (node_of c.give_up.new.self) others new c.give_up.ensures.node given)));
-      waits = wait_on (station_of c.args.self.now) (station_of at.self) (station_of c.give_up.new.self) at.invariant.waits c.give_up.ensures.waits;
+      waits = wait_on (state_of c.args.self.now) (state_of at.self) (state_of c.give_up.new.self) at.invariant.waits c.give_up.ensures.waits;
       room = elim c.else-give_up.branch [
         | else-give_up-via-then-give_up+else-is_err w ↦ rw w.gave_up-is (let more = one_more (is_ok w.push.result) (vec_len at.gave_up) (vec_len w.push.new.self) w.push.ensures.len in omega (arith, more, before, after, at.invariant.room, w.push.ensures.capacity, c.loop-entry-test.true))
         | else-give_up-via-else-give_up w ↦ rw w.gave_up-is (omega (arith, before, after, at.invariant.room))

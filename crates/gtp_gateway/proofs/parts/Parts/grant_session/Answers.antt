@@ -1,44 +1,44 @@
 use Rattle.std.proofs.Common.{◌≡◌, Some, true, ◌∙◌, ap, subst, [], ◌∷◌}
-use Rattle.gtp_gateway.specs.Answering.{after_held}
-use Rattle.gtp_gateway.specs.UserTaken.{WaitOn}
-use Rattle.gtp_gateway.proofs.GoingOn.{tied_of, answered_goes}
+use Rattle.gtp_gateway.specs.receive.Answer.{after_held}
+use Rattle.gtp_gateway.specs.user.Receive.{RequestsWaitOn}
+use Rattle.gtp_gateway.proofs.QueuesAfter.{tied_of, answered_goes}
 use Rattle.gtp_machine.specs.Config.{control_end}
 use Rattle.gtp_machine.specs.Message.{Control}
 use Rattle.gtp_machine.specs.Node.{holding}
 use Rattle.gtp_machine.specs.Reading.{control_message}
 use Rattle.gtp_machine.specs.Spelling.{spelled}
 use Rattle.gtp_machine.specs.declared.outcome.Outcome.TheVariants.{Answered}
-use Rattle.gtp_gateway.specs.Change.{changed_by}
-use Rattle.gtp_gateway.specs.Grant.{change_of, grants}
-use Rattle.gtp_gateway.specs.Hearing.{node_heard}
+use Rattle.gtp_gateway.specs.tables.Change.{changed_by}
+use Rattle.gtp_gateway.specs.receive.CreateSessionRequest.{change_of, grants}
+use Rattle.gtp_gateway.specs.receive.RestartCounter.{node_heard}
 use Rattle.gtp_gateway.specs.Parts.{arrival_of}
-use Rattle.gtp_gateway.specs.Sent.{ReadsBack}
+use Rattle.gtp_gateway.specs.messages.Sent.{ReadsBack}
 use Rattle.gtp_gateway.specs.Settings.{Settings}
-use Rattle.gtp_gateway.specs.Station.{Station, station_of}
-use Rattle.gtp_gateway.specs.Taken.{plain_report}
+use Rattle.gtp_gateway.specs.GatewayState.{GatewayState, state_of}
+use Rattle.gtp_gateway.specs.receive.Taken.{plain_report}
 use Rattle.gtp_gateway.proofs.parts.Parts.grant_session.Goals as goal
 
 pub returns-clause-granted : goal.returns-clause-granted
 returns-clause-granted c =
-    let old = station_of c.args.self.now in
+    let old = state_of c.args.self.now in
     let ready = c.in_ok-ready.ensures in
     let change = change_of c.args.request.now c.args.grant.now in
     let said : control_message c.in_ok-message.message ≡ grants c.args.request.now c.args.grant.now old.node = c.in_ok-message.ensures.says in
-    let same : station_of c.ready_answer.new.self ≡ old = c.ready_answer.ensures.same in
-    let config : c.make_granted.new.self.config.config ≡ old.node.config = ap (λ (s : Settings). s.config) c.make_granted.ensures.config ∙ ap (λ (s : Station). s.node.config) same in
+    let same : state_of c.ready_answer.new.self ≡ old = c.ready_answer.ensures.same in
+    let config : c.make_granted.new.self.config.config ≡ old.node.config = ap (λ (s : Settings). s.config) c.make_granted.ensures.config ∙ ap (λ (s : GatewayState). s.node.config) same in
     record {
-      sent = c.give-out.result;
-      is = c.answered.ensures ∙ (λ i. record { out = Some c.give-out.result; report = record (plain_report (Answered (c.session_cause.ensures i))) { made = true } });
-      goes = c.give-out.ensures.sent ∙ (λ i. record { plane = Control; from = control_end (config i).own.control; to = c.args.source; octets = (ready.octets ∙ ap spelled said) i });
+      sent = c.send_answer-out.result;
+      is = c.answered.ensures ∙ (λ i. record { out = Some c.send_answer-out.result; report = record (plain_report (Answered (c.session_cause.ensures i))) { made = true } });
+      goes = c.send_answer-out.ensures.sent ∙ (λ i. record { plane = Control; from = control_end (config i).own.control; to = c.args.source; octets = (ready.octets ∙ ap spelled said) i });
       read = subst (λ m. ReadsBack (m ∷ [])) said ready.back;
-      becomes = c.give-out.ensures.node
-          ∙ (λ i. holding (arrival_of c.args.source (ready.request i)) ((ready.read ∙ ap (λ m. m ∷ []) said) i) ((c.in_ok-make_granted.ensures.node ∙ ap (λ (s : Station). changed_by change (node_heard c.args.heard s.node)) same) i));
-      role = c.give-out.ensures.role ∙ c.make_granted.ensures.role ∙ ap (λ (s : Station). s.role) same;
+      becomes = c.send_answer-out.ensures.node
+          ∙ (λ i. holding (arrival_of c.args.source (ready.request i)) ((ready.read ∙ ap (λ m. m ∷ []) said) i) ((c.in_ok-make_granted.ensures.node ∙ ap (λ (s : GatewayState). changed_by change (node_heard c.args.heard s.node)) same) i));
+      role = c.send_answer-out.ensures.role ∙ c.make_granted.ensures.role ∙ ap (λ (s : GatewayState). s.role) same;
     }
 
 pub returns-clause-goes : goal.returns-clause-goes
 returns-clause-goes c =
-    let mid = station_of c.make_granted.new.self in
+    let mid = state_of c.make_granted.new.self in
     let ready = c.in_ok-ready.ready in
-    answered_goes c.args.source c.args.octets.now (station_of c.args.self.now) mid (station_of c.give-out.new.self) ready.answer.items (subst (λ (s : Station). WaitOn s mid) c.ready_answer.ensures.same c.make_granted.ensures.waits)
-    (c.give-out.ensures.timing ∙ (λ i. record mid.timing { held = after_held c.args.source (c.in_ok-ready.ensures.request i) ready.answer.items mid.timing.held })) (tied_of c.give-out.new.self)
+    answered_goes c.args.source c.args.octets.now (state_of c.args.self.now) mid (state_of c.send_answer-out.new.self) ready.answer.items (subst (λ (s : GatewayState). RequestsWaitOn s mid) c.ready_answer.ensures.same c.make_granted.ensures.waits)
+    (c.send_answer-out.ensures.queues ∙ (λ i. record mid.queues { held = after_held c.args.source (c.in_ok-ready.ensures.request i) ready.answer.items mid.queues.held })) (tied_of c.send_answer-out.new.self)

@@ -3,12 +3,12 @@ use Rattle.gtp_values.specs.FiniteMap.{FiniteMap}
 use Rattle.gtp_values.specs.declared.counter.Counter.{Counter}
 use Rattle.gtp_reliable.specs.Waiting.{Waiting}
 use Rattle.gtp_machine.specs.Node.{Session, Node}
-use Rattle.gtp_gateway.specs.declared.hearing.Heard.{Heard}
-use Rattle.gtp_gateway.specs.declared.hearing.Heard.TheVariants.{Nothing, Same, Earlier}
-use Rattle.gtp_gateway.specs.declared.purpose.Purpose.{Purpose}
-use Rattle.gtp_gateway.specs.Hearing.{node_heard}
-use Rattle.gtp_gateway.specs.Settled.{waiting_heard}
-use Rattle.gtp_gateway.specs.Station.{station_of}
+use Rattle.gtp_gateway.specs.declared.receive.restart_counter.Heard.{Heard}
+use Rattle.gtp_gateway.specs.declared.receive.restart_counter.Heard.TheVariants.{Nothing, Same, Earlier}
+use Rattle.gtp_gateway.specs.declared.command.purpose.Purpose.{Purpose}
+use Rattle.gtp_gateway.specs.receive.RestartCounter.{node_heard}
+use Rattle.gtp_gateway.specs.tables.Opening.{waiting_heard}
+use Rattle.gtp_gateway.specs.GatewayState.{state_of}
 use Rattle.gtp_gateway.proofs.UserRows.{all_stay, all_wait}
 use Rattle.gtp_gateway.proofs.parts.Parts.hear.Goals as goal
 
@@ -24,7 +24,7 @@ returns-in-Nothing c =
     let both = nothing_changes _ old.sessions.table old.pending.waiting c.args.heard c.in-Nothing.is in
     record {
       node = both.0;
-      waits = all_wait (station_of old) (station_of old) refl refl;
+      waits = all_wait (state_of old) (state_of old) refl refl;
       waiting = both.1;
       next = refl;
       ready = λ has. has;

@@ -9,15 +9,15 @@ use Rattle.gtp_machine.specs.Choice.{asked_by, IsGiven, CanGive}
 use Rattle.gtp_machine.specs.Config.{Config}
 use Rattle.gtp_machine.specs.Node.{Session, Node}
 use Rattle.gtp_machine.proofs.Exchange.Nodes.{can_be_had}
-use Rattle.gtp_gateway.specs.declared.session_grant.SessionVerdict.{SessionVerdict}
-use Rattle.gtp_gateway.specs.Grant.{JudgesRoom}
-use Rattle.gtp_gateway.specs.Hearing.{node_heard}
+use Rattle.gtp_gateway.specs.declared.receive.create_session_request.judge.CreateSessionVerdict.{CreateSessionVerdict}
+use Rattle.gtp_gateway.specs.receive.CreateSessionRequest.{JudgesRoom}
+use Rattle.gtp_gateway.specs.receive.RestartCounter.{node_heard}
 use Rattle.gtp_gateway.specs.Parts.{node_of}
-use Rattle.gtp_gateway.specs.Station.{station_of}
+use Rattle.gtp_gateway.specs.GatewayState.{state_of}
 use Rattle.gtp_gateway.proofs.Columns.{no}
-use Rattle.gtp_gateway.proofs.SessionGrants.{draws_left, still_free, lowest_given, none_given}
+use Rattle.gtp_gateway.proofs.CreateSessionRequests.{draws_left, still_free, lowest_given, none_given}
 use Rattle.gtp_gateway.proofs.parts.Parts.judge_room.Goals as goal
-use Rattle.gtp_gateway.proofs.Weighing.{config_stays}
+use Rattle.gtp_gateway.proofs.RestartCounters.{config_stays}
 
 has_room : (a b : ℕ) → a ≡ b → (1000 ≤ a → ⊥) → b < 1000
 has_room a b same few = omega (arith, same, few)
@@ -74,7 +74,7 @@ returns-in-Err c =
     let same = c.view_after-view.ensures.sessions in
     let pools : c.pools.result ≡ left.config.pools = c.pools.ensures ∙ ap (λ (x : Config). x.pools) (sym (config_stays c.args.heard node)) in
     let none = may_not_give left c.args.pdn.0 _ _ _ same pools c.asked_by.ensures c.in-Err.ensures.none in
-    subst (λ (v : SessionVerdict). JudgesRoom c.args.identity c.args.pdn.0 c.args.access_point.now c.args.heard (station_of c.args.self.now) v) (sym c.refused-in-Err.ensures)
+    subst (λ (v : CreateSessionVerdict). JudgesRoom c.args.identity c.args.pdn.0 c.args.access_point.now c.args.heard (state_of c.args.self.now) v) (sym c.refused-in-Err.ensures)
     (record {
       judged = λ request q is of. inr (
         (record { few = has_room _ _ (ap (λ (m : FiniteMap Session). len m) same) (no c.is_full.ensures c.if-is_full.false) }, draws_left c.args.heard node 2 drawn.left),

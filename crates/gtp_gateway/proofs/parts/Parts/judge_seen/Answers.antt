@@ -4,8 +4,8 @@ use Rattle.std.specs.Prelude.{option_map}
 use Rattle.gtp_user.specs.Message as users
 use Rattle.gtp_machine.specs.Reading.{user_content_message}
 use Rattle.gtp_machine.specs.User.{UserTaken}
-use Rattle.gtp_gateway.specs.Station.{station_of}
-use Rattle.gtp_gateway.specs.UserTaken.{IsJudgedBy}
+use Rattle.gtp_gateway.specs.GatewayState.{state_of}
+use Rattle.gtp_gateway.specs.user.Receive.{IsJudgedBy}
 use Rattle.gtp_gateway.proofs.parts.Parts.judge_seen.Goals as goal
 
 is_packet : (content : users.Content) (teid : ℕ) (payload : List ℕ) → users.packet_in content ≡ Some (teid, payload) → users.Packet teid payload ≡ content
@@ -19,7 +19,7 @@ is_packet (users.Other kind t octets) teid payload is = absurd cc
 
 pub returns-in-Some : goal.returns-in-Some
 returns-in-Some c =
-    let old = station_of c.args.self.now in
+    let old = state_of c.args.self.now in
     let m = c.args.seen.now in
     let said : users.packet_in m.content ≡ Some (c.in-Some.teid.0, c.in-Some.payload.now) = sym c.packet.ensures ∙ ap (option_map (λ p. (p.0.0, p.1.now))) c.in-Some.is in
     subst (λ (content : users.Content). IsJudgedBy (UserTaken old.role c.args.source.now (user_content_message m.seq content)) old c.judge_packet.result old) (is_packet m.content c.in-Some.teid.0 c.in-Some.payload.now said) c.judge_packet.ensures

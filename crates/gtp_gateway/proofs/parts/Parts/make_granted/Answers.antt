@@ -2,20 +2,20 @@ use Rattle.std.proofs.Common.{◌∷◌, sym, ◌∙◌, ap, subst}
 use Rattle.std.specs.FinMap.{insert}
 use Rattle.gtp_values.specs.FiniteMap.{FiniteMap}
 use Rattle.gtp_machine.specs.Node.{Session, Bearer, Node}
-use Rattle.gtp_gateway.specs.Change.{IsAbove}
-use Rattle.gtp_gateway.specs.Grant.{bearer_of}
-use Rattle.gtp_gateway.specs.Hearing.{node_heard}
+use Rattle.gtp_gateway.specs.tables.Change.{IsAbove}
+use Rattle.gtp_gateway.specs.receive.CreateSessionRequest.{bearer_granted}
+use Rattle.gtp_gateway.specs.receive.RestartCounter.{node_heard}
 use Rattle.gtp_gateway.specs.Parts.{node_of}
-use Rattle.gtp_gateway.proofs.SessionGrants.{none_above, heard_with, still_above}
-use Rattle.gtp_gateway.proofs.Settled.{succeeded}
-use Rattle.gtp_gateway.proofs.Weighing.{counter_stays, drawn_stays}
+use Rattle.gtp_gateway.proofs.CreateSessionRequests.{none_above, heard_with, still_above}
+use Rattle.gtp_gateway.proofs.Opened.{succeeded}
+use Rattle.gtp_gateway.proofs.RestartCounters.{counter_stays, drawn_stays}
 use Rattle.gtp_gateway.proofs.parts.Parts.make_granted.Goals as goal
 
 pub add-requires-2-clause-rises : goal.add-requires-2-clause-rises
 add-requires-2-clause-rises c =
     let node = node_of c.args.self.now in
     let g = c.args.grant.now in
-    let bearer = bearer_of c.args.request.now g in
+    let bearer = bearer_granted c.args.request.now g in
     let stands = ap (λ r. r.table) (succeeded c.reserve_one.result c.in_ok-map_err.ensures.variant c.reserve_one.ensures.ok) in
     let made = succeeded c.add.result c.in_ok-map_err-2.ensures.variant c.add.ensures.ok ∙ ap (λ (b : Bearer). insert node.bearers g.drawn.user.0 b) c.granted_bearer.ensures in
     let heard = c.hear.ensures.node ∙ (λ i. node_heard c.args.heard (record node { sessions = stands i; bearers = made i })) ∙ heard_with c.args.heard node g.drawn.user.0 bearer (none_above node.sessions g.drawn.control.0 c.requires.can.control_above) in
@@ -25,7 +25,7 @@ pub returns-clause-node : goal.returns-clause-node
 returns-clause-node c =
     let node = node_of c.args.self.now in
     let g = c.args.grant.now in
-    let bearer = bearer_of c.args.request.now g in
+    let bearer = bearer_granted c.args.request.now g in
     let can = c.requires.can in
     let stands = ap (λ r. r.table) (succeeded c.reserve_one.result c.in_ok-map_err.ensures.variant c.reserve_one.ensures.ok) in
     let made = succeeded c.add.result c.in_ok-map_err-2.ensures.variant c.add.ensures.ok ∙ ap (λ (b : Bearer). insert node.bearers g.drawn.user.0 b) c.granted_bearer.ensures in

@@ -4,14 +4,14 @@ use Rattle.std.specs.FinMap.{insert, remove}
 use Rattle.gtp_values.specs.FiniteMap.{FiniteMap}
 use Rattle.gtp_machine.specs.Node.{Session, Bearer, Node}
 use Rattle.gtp_machine.specs.Command.{pending_dedicated}
-use Rattle.gtp_gateway.specs.Change.{IsAbove}
-use Rattle.gtp_gateway.specs.Grant.{bearer_of}
-use Rattle.gtp_gateway.specs.Hearing.{node_heard}
+use Rattle.gtp_gateway.specs.tables.Change.{IsAbove}
+use Rattle.gtp_gateway.specs.receive.CreateSessionRequest.{bearer_granted}
+use Rattle.gtp_gateway.specs.receive.RestartCounter.{node_heard}
 use Rattle.gtp_gateway.specs.Parts.{node_of}
-use Rattle.gtp_gateway.specs.Station.{station_of}
-use Rattle.gtp_gateway.proofs.SessionGrants.{none_above, heard_with, still_above, above_one, taken_back}
-use Rattle.gtp_gateway.proofs.Settled.{succeeded, failed}
-use Rattle.gtp_gateway.proofs.Weighing.{counter_stays, drawn_stays}
+use Rattle.gtp_gateway.specs.GatewayState.{state_of}
+use Rattle.gtp_gateway.proofs.CreateSessionRequests.{none_above, heard_with, still_above, above_one, taken_back}
+use Rattle.gtp_gateway.proofs.Opened.{succeeded, failed}
+use Rattle.gtp_gateway.proofs.RestartCounters.{counter_stays, drawn_stays}
 use Rattle.gtp_gateway.proofs.parts.Parts.make_granted_with.Goals as goal
 
 pub add-requires-2 : goal.add-requires-2
@@ -19,7 +19,7 @@ add-requires-2 c =
     let node = node_of c.args.self.now in
     let g = c.args.grant.now in
     let third = c.requires.third in
-    let bearer = bearer_of c.args.request.now g in
+    let bearer = bearer_granted c.args.request.now g in
     let made = succeeded c.add.result c.in_ok-map_err-2.ensures.variant c.add.ensures.ok ∙ ap (λ (b : Bearer). insert node.bearers g.drawn.user.0 b) c.granted_bearer.ensures in
     record { rises = subst (λ (bearers : FiniteMap Bearer). IsAbove bearers c.args.added.now.drawn.teid.0) (sym made) (above_one node.bearers g.drawn.user.0 c.args.added.now.drawn.teid.0 bearer third.above third.later) }
 
@@ -27,19 +27,19 @@ pub returns-then-is_err-clause-err : goal.returns-then-is_err-clause-err
 returns-then-is_err-clause-err c =
     let node = node_of c.args.self.now in
     let g = c.args.grant.now in
-    let bearer = bearer_of c.args.request.now g in
+    let bearer = bearer_granted c.args.request.now g in
     let stands = ap (λ r. r.table) (succeeded c.reserve_one.result c.in_ok-map_err.ensures.variant c.reserve_one.ensures.ok) in
     let made = succeeded c.add.result c.in_ok-map_err-2.ensures.variant c.add.ensures.ok ∙ ap (λ (b : Bearer). insert node.bearers g.drawn.user.0 b) c.granted_bearer.ensures in
     let left = failed c.add-2.result (c.is_err.ensures.negation ∙ ap not c.if-is_err.true) c.add-2.ensures.err in
     let back = c.remove.ensures ∙ ap (λ (m : FiniteMap Bearer). remove m g.drawn.user.0) (left ∙ made) ∙ taken_back node.bearers g.drawn.user.0 bearer (none_above node.bearers g.drawn.user.0 c.requires.can.user_above) in
-    λ i. record (station_of c.args.self.now) { node = record node { sessions = stands i; bearers = back i } }
+    λ i. record (state_of c.args.self.now) { node = record node { sessions = stands i; bearers = back i } }
 
 pub add-requires-3-clause-rises : goal.add-requires-3-clause-rises
 add-requires-3-clause-rises c =
     let node = node_of c.args.self.now in
     let g = c.args.grant.now in
     let t = c.args.added.now.drawn.teid.0 in
-    let bearer = bearer_of c.args.request.now g in
+    let bearer = bearer_granted c.args.request.now g in
     let dedicated = pending_dedicated g.drawn.control.0 in
     let stands = ap (λ r. r.table) (succeeded c.reserve_one.result c.in_ok-map_err.ensures.variant c.reserve_one.ensures.ok) in
     let made = succeeded c.add.result c.in_ok-map_err-2.ensures.variant c.add.ensures.ok ∙ ap (λ (b : Bearer). insert node.bearers g.drawn.user.0 b) c.granted_bearer.ensures in
@@ -55,7 +55,7 @@ returns-clause-node c =
     let g = c.args.grant.now in
     let t = c.args.added.now.drawn.teid.0 in
     let third = c.requires.third in
-    let bearer = bearer_of c.args.request.now g in
+    let bearer = bearer_granted c.args.request.now g in
     let dedicated = pending_dedicated g.drawn.control.0 in
     let stands = ap (λ r. r.table) (succeeded c.reserve_one.result c.in_ok-map_err.ensures.variant c.reserve_one.ensures.ok) in
     let made = succeeded c.add.result c.in_ok-map_err-2.ensures.variant c.add.ensures.ok ∙ ap (λ (b : Bearer). insert node.bearers g.drawn.user.0 b) c.granted_bearer.ensures in

@@ -1,9 +1,9 @@
 use Rattle.std.proofs.Common.{List, [], ◌∷◌, ◌++◌, map, take, get_or, ap, subst, sym, ◌∙◌}
 use Rattle.std.proofs.lemmas.List.{map_push, take_more}
-use Rattle.gtp_gateway.specs.declared.ending.NamedBearer.{NamedBearer}
-use Rattle.gtp_gateway.specs.Ending.{NamesEach, NamesOne, identity_named, number_in}
+use Rattle.gtp_gateway.specs.declared.receive.delete_bearer_request.identities.NamedBearer.{NamedBearer}
+use Rattle.gtp_gateway.specs.receive.DeleteBearerRequest.{NamesEach, NamesOne, identity_named, number_in}
 use Rattle.gtp_gateway.specs.Parts.{node_of}
-use Rattle.gtp_gateway.proofs.Endings.{names_push}
+use Rattle.gtp_gateway.proofs.DeleteBearerRequests.{names_push}
 use Rattle.gtp_gateway.proofs.parts.Parts.name_each.Goals as goal
 
 pub loop-identity-preserved : goal.loop-identity-preserved

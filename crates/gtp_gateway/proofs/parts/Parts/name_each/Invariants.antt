@@ -1,5 +1,5 @@
 use Rattle.std.proofs.Common.{◌≡◌, [], map, take}
-use Rattle.gtp_gateway.specs.Ending.{NamesEach, identity_named, number_in}
+use Rattle.gtp_gateway.specs.receive.DeleteBearerRequest.{NamesEach, identity_named, number_in}
 use Rattle.gtp_gateway.specs.Parts.{node_of}
 use Rattle.gtp_gateway.proofs.parts.Parts.name_each.Given as goal
 

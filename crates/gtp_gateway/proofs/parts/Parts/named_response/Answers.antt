@@ -2,10 +2,10 @@ use Rattle.std.proofs.Common.{Some, None, map, ◌∙◌, ap}
 use Rattle.gtp_machine.specs.Element.{cause_of}
 use Rattle.gtp_machine.specs.Message.{Delete_bearer_response}
 use Rattle.gtp_machine.specs.Reading.{removed_bearer}
-use Rattle.gtp_gateway.proofs.Endings.{contexts_said}
+use Rattle.gtp_gateway.proofs.DeleteBearerRequests.{contexts_said}
 use Rattle.gtp_gateway.proofs.parts.Parts.named_response.Goals as goal
 
 pub returns-clause-says : goal.returns-clause-says
 returns-clause-says c =
     let contexts = ap (map removed_bearer) c.in_ok-contexts.ensures ∙ contexts_said c.args.named.now in
-    c.removal_response.ensures.says ∙ (λ i. Delete_bearer_response (record { header = c.args.header.0; number = c.args.seq; cause = cause_of (c.cause_of_all-cause.ensures i); linked = None; contexts = contexts i; recovery = Some (c.counter-counter.ensures i) }))
+    c.delete_bearer_response.ensures.says ∙ (λ i. Delete_bearer_response (record { header = c.args.header.0; number = c.args.seq; cause = cause_of (c.cause_of_all-cause.ensures i); linked = None; contexts = contexts i; recovery = Some (c.counter-counter.ensures i) }))

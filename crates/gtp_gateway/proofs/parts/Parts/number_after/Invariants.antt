@@ -1,4 +1,4 @@
-use Rattle.gtp_gateway.specs.Settled.{goes_after}
+use Rattle.gtp_gateway.specs.tables.Opening.{goes_after}
 use Rattle.gtp_gateway.proofs.parts.Parts.number_after.Given as goal
 
 abbrev pub ghost-next_without : goal.ghost-next_without

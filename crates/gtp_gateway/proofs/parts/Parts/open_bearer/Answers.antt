@@ -1,7 +1,7 @@
 use Rattle.std.proofs.Common.{◌∙◌}
-use Rattle.gtp_gateway.specs.Hearing.{node_heard}
+use Rattle.gtp_gateway.specs.receive.RestartCounter.{node_heard}
 use Rattle.gtp_gateway.specs.Parts.{node_of}
-use Rattle.gtp_gateway.proofs.Settled.{bearer_stood, heard_opened, succeeded}
+use Rattle.gtp_gateway.proofs.Opened.{bearer_stood, heard_opened, succeeded}
 use Rattle.gtp_gateway.proofs.parts.Parts.open_bearer.Goals as goal
 
 pub open-requires : goal.open-requires

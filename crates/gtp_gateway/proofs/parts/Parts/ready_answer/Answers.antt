@@ -1,6 +1,6 @@
 use Rattle.std.proofs.Common.{[], ◌∷◌, sym, ◌∙◌, ap, subst}
 use Rattle.gtp_machine.specs.Message.{Message}
-use Rattle.gtp_gateway.specs.Spelled.{messages_in, AreSpelledAll}
+use Rattle.gtp_gateway.specs.messages.Spelled.{messages_in, AreSpelledAll}
 use Rattle.gtp_gateway.proofs.Taking.{alone_in, alone_kept}
 use Rattle.gtp_gateway.proofs.parts.Parts.ready_answer.Goals as goal
 

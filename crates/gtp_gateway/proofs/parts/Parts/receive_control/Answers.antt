@@ -11,21 +11,21 @@ use Rattle.gtp_machine.specs.Step.{Step as MachineStep, TakesPair}
 use Rattle.gtp_machine.specs.declared.role.Role.{Role}
 use Rattle.gtp_machine.specs.declared.role.Role.TheVariants.{Serving, Packet}
 use Rattle.gtp_machine.specs.declared.outcome.DropReason.TheVariants.{Unexpected}
-use Rattle.gtp_gateway.specs.declared.control_step.ControlStep.{ControlStep}
+use Rattle.gtp_gateway.specs.declared.step.ControlStep.{ControlStep}
 use Rattle.gtp_values.specs.declared.address.Endpoint.{Endpoint}
 use Rattle.gtp_machine.specs.declared.message_type.MessageType.TheVariants as types
-use Rattle.gtp_gateway.specs.GoesOn.{GoesOn}
-use Rattle.gtp_gateway.specs.Faulty.{reading_of}
-use Rattle.gtp_gateway.specs.Needing.{StepSendsOrOpens}
+use Rattle.gtp_gateway.specs.receive.Queues.{QueuesAfterMessage}
+use Rattle.gtp_gateway.specs.receive.InvalidRequest.{reading_of}
+use Rattle.gtp_gateway.specs.receive.Allocations.{StepSendsOrOpens}
 use Rattle.gtp_gateway.specs.Parts.{arrival_of}
 use Rattle.gtp_machine.specs.MessageType.{type_at, takes_some, takes_message}
-use Rattle.gtp_gateway.specs.Station.{Station, station_of}
-use Rattle.gtp_gateway.specs.Taken.{IsEntered, IsTaken, IsNoPair}
+use Rattle.gtp_gateway.specs.GatewayState.{GatewayState, state_of}
+use Rattle.gtp_gateway.specs.receive.Taken.{IsEntered, IsTaken, IsNoPair}
 use Rattle.gtp_gateway.proofs.Columns.{yes, no}
-use Rattle.gtp_gateway.proofs.GoingOn.{on_ok, tied_of, same_goes}
-use Rattle.gtp_gateway.proofs.Left.{reads_message, reads_fault, fault_received}
+use Rattle.gtp_gateway.proofs.QueuesAfter.{on_ok, tied_of, same_goes}
+use Rattle.gtp_gateway.proofs.ReadsAs.{reads_message, reads_fault, fault_received}
 use Rattle.gtp_gateway.proofs.PairKinds.{answer_kind, request_kind, answer_of, request_of}
-use Rattle.gtp_gateway.proofs.Pairs.{alone_no_pair, one_reads, fault_reads, two_read, pair_viewed, parts_of}
+use Rattle.gtp_gateway.proofs.TwoMessages.{alone_no_pair, one_reads, fault_reads, two_read, pair_viewed, parts_of}
 use Rattle.gtp_gateway.proofs.Procedures.{not_taken}
 use Rattle.gtp_gateway.proofs.Rows.{message_left}
 use Rattle.gtp_gateway.proofs.SentBack.{none_sent}
@@ -53,7 +53,7 @@ flaw_of-requires c = c.in-Err.ensures.instance
 
 pub returns-in-Err-clause-taken : goal.returns-in-Err-clause-taken
 returns-in-Err-clause-taken c =
-    let old = station_of c.args.self.now in
+    let old = state_of c.args.self.now in
     let fresh = subst (IsEntered c.args.source c.args.octets.now old c.args.self.now.held.pairs) c.in-New.is c.in_ok-step.ensures.entered in
     IfOk-weaker c.take_flaw.result _ _ (λ step taken. inl (
       alone_no_pair c.args.source c.args.octets.now old _ (fault_reads c.args.octets.now c.in-Err.fault c.in-Err.ensures.fault),
@@ -62,12 +62,12 @@ returns-in-Err-clause-taken c =
 
 pub returns-in-Err-clause-goes : goal.returns-in-Err-clause-goes
 returns-in-Err-clause-goes c =
-    let old = station_of c.args.self.now in
+    let old = state_of c.args.self.now in
     on_any c.take_flaw.result (inl (alone_no_pair c.args.source c.args.octets.now old _ (fault_reads c.args.octets.now c.in-Err.fault c.in-Err.ensures.fault), same_goes c.args.source c.args.octets.now old old refl (tied_of c.args.self.now)))
 
 pub returns-in-Err-clause-memory : goal.returns-in-Err-clause-memory
 returns-in-Err-clause-memory c =
-    let old = station_of c.args.self.now in
+    let old = state_of c.args.self.now in
     let octets = c.args.octets.now in
     let request = arrival_of c.args.source octets in
     let fresh = subst (IsEntered c.args.source octets old c.args.self.now.held.pairs) c.in-New.is c.in_ok-step.ensures.entered in
@@ -77,13 +77,13 @@ returns-in-Err-clause-memory c =
     )) c.take_flaw.ensures.memory
 
 -- two messages that are no pair
-no_such_pair : (source : Endpoint) (octets : List ℕ) (old : Station) (first second : Viewed) (back : List ℕ) → LieIn octets first (Some second) back → ((old.role ≡ Serving) × (type_at first.message.kind ≡ Some types.CreateSessionResponse) × (type_at second.message.kind ≡ Some types.CreateBearerRequest) → ⊥) → IsNoPair source octets old
+no_such_pair : (source : Endpoint) (octets : List ℕ) (old : GatewayState) (first second : Viewed) (back : List ℕ) → LieIn octets first (Some second) back → ((old.role ≡ Serving) × (type_at first.message.kind ≡ Some types.CreateSessionResponse) × (type_at second.message.kind ≡ Some types.CreateBearerRequest) → ⊥) → IsNoPair source octets old
 no_such_pair source octets old first second back lie not pair =
     let are = pair_viewed source octets old first second back lie pair in
     not (pair.by, answer_kind pair.answer first.message are.answer, request_kind pair.asked second.message are.asked)
 
 -- the pair that the gateway takes
-the_pair : (source : Endpoint) (octets : List ℕ) (old : Station) (first second : Viewed) (back : List ℕ) → LieIn octets first (Some second) back → old.role ≡ Serving → source.ip ≡ old.node.config.peer.control → type_at first.message.kind ≡ Some types.CreateSessionResponse → type_at second.message.kind ≡ Some types.CreateBearerRequest
+the_pair : (source : Endpoint) (octets : List ℕ) (old : GatewayState) (first second : Viewed) (back : List ℕ) → LieIn octets first (Some second) back → old.role ≡ Serving → source.ip ≡ old.node.config.peer.control → type_at first.message.kind ≡ Some types.CreateSessionResponse → type_at second.message.kind ≡ Some types.CreateBearerRequest
     → TakesPair old.role old.node.config (arrival_of source octets) (datagram_reading octets)
 the_pair source octets old first second back (front, announced, in_front, in_back) serving peer is_answer is_request =
     let a = answer_of front first.message in_front.spelled is_answer in
@@ -102,7 +102,7 @@ lies_so octets first given second other back held same is all lie = subst (λ (v
 
 pub returns-then-not-takes_pair-clause-taken : goal.returns-then-not-takes_pair-clause-taken
 returns-then-not-takes_pair-clause-taken c =
-    let old = station_of c.args.self.now in
+    let old = state_of c.args.self.now in
     let source = c.args.source in
     let octets = c.args.octets.now in
     let view = c.in-Ok.view in
@@ -125,7 +125,7 @@ returns-then-not-takes_pair-clause-taken c =
 
 pub returns-then-not-takes_pair-clause-goes : goal.returns-then-not-takes_pair-clause-goes
 returns-then-not-takes_pair-clause-goes c =
-    let old = station_of c.args.self.now in
+    let old = state_of c.args.self.now in
     let octets = c.args.octets.now in
     let view = c.in-Ok.view in
     let lie = lies_so octets view.message c.message-message.result.now view.second c.in-Some.second view.back view.back c.message-message.ensures (sym c.second.ensures ∙ c.in-Some.is) refl c.in-Ok.ensures.lie in
@@ -139,7 +139,7 @@ take_pair-requires-clause-lie c =
 
 pub returns-in-Some-clause-taken : goal.returns-in-Some-clause-taken
 returns-in-Some-clause-taken c =
-    let old = station_of c.args.self.now in
+    let old = state_of c.args.self.now in
     let source = c.args.source in
     let octets = c.args.octets.now in
     let view = c.in-Ok.view in
@@ -154,7 +154,7 @@ returns-in-Some-clause-taken c =
 
 pub returns-in-Some-clause-goes : goal.returns-in-Some-clause-goes
 returns-in-Some-clause-goes c =
-    let old = station_of c.args.self.now in
+    let old = state_of c.args.self.now in
     let source = c.args.source in
     let octets = c.args.octets.now in
     let view = c.in-Ok.view in
@@ -165,11 +165,11 @@ returns-in-Some-clause-goes c =
     let fresh = subst (IsEntered source octets old c.args.self.now.held.pairs) c.in-New.is c.in_ok-step.ensures.entered in
     let are = yes c.takes_pair.ensures c.if-not-takes_pair.false in
     let pair = the_pair source octets old first second back lie are.0 fresh.peer are.1 are.2 in
-    on_ok c.take_pair.result (λ goes. inr (pair, subst (λ (o : List ℕ). GoesOn source o old (station_of c.take_pair.new.self)) (sym (parts_of octets lie.0 back lie.1).second) goes)) c.take_pair.ensures.goes
+    on_ok c.take_pair.result (λ goes. inr (pair, subst (λ (o : List ℕ). QueuesAfterMessage source o old (state_of c.take_pair.new.self)) (sym (parts_of octets lie.0 back lie.1).second) goes)) c.take_pair.ensures.goes
 
 pub returns-in-Some-clause-memory : goal.returns-in-Some-clause-memory
 returns-in-Some-clause-memory c =
-    let old = station_of c.args.self.now in
+    let old = state_of c.args.self.now in
     let source = c.args.source in
     let octets = c.args.octets.now in
     let view = c.in-Ok.view in
@@ -184,7 +184,7 @@ returns-in-Some-clause-memory c =
 
 pub returns-in-Some-type_for-clause-taken : goal.returns-in-Some-type_for-clause-taken
 returns-in-Some-type_for-clause-taken c =
-    let old = station_of c.args.self.now in
+    let old = state_of c.args.self.now in
     let octets = c.args.octets.now in
     let view = c.in-Ok.view in
     let alone = lies_one octets view.message view.second view.back (sym c.second.ensures ∙ c.in_default.is) c.in-Ok.ensures.lie in
@@ -192,7 +192,7 @@ returns-in-Some-type_for-clause-taken c =
 
 pub returns-in-None-clause-taken : goal.returns-in-None-clause-taken
 returns-in-None-clause-taken c =
-    let old = station_of c.args.self.now in
+    let old = state_of c.args.self.now in
     let source = c.args.source in
     let octets = c.args.octets.now in
     let view = c.in-Ok.view in
@@ -215,7 +215,7 @@ returns-in-None-clause-taken c =
 
 pub returns-in-None-clause-goes : goal.returns-in-None-clause-goes
 returns-in-None-clause-goes c =
-    let old = station_of c.args.self.now in
+    let old = state_of c.args.self.now in
     let octets = c.args.octets.now in
     let view = c.in-Ok.view in
     let alone = lies_one octets view.message view.second view.back (sym c.second.ensures ∙ c.in_default.is) c.in-Ok.ensures.lie in

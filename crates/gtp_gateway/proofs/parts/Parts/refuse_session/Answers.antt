@@ -6,39 +6,39 @@ use Rattle.gtp_machine.specs.Message.{Message, Control}
 use Rattle.gtp_machine.specs.Node.{holding}
 use Rattle.gtp_machine.specs.Reading.{control_message}
 use Rattle.gtp_machine.specs.Spelling.{spelled}
-use Rattle.gtp_gateway.specs.Answering.{after_held}
-use Rattle.gtp_gateway.specs.UserTaken.{WaitOn}
-use Rattle.gtp_gateway.proofs.GoingOn.{tied_of, answered_goes}
-use Rattle.gtp_gateway.specs.Hearing.{node_heard}
+use Rattle.gtp_gateway.specs.receive.Answer.{after_held}
+use Rattle.gtp_gateway.specs.user.Receive.{RequestsWaitOn}
+use Rattle.gtp_gateway.proofs.QueuesAfter.{tied_of, answered_goes}
+use Rattle.gtp_gateway.specs.receive.RestartCounter.{node_heard}
 use Rattle.gtp_gateway.specs.Parts.{arrival_of}
-use Rattle.gtp_gateway.specs.Sent.{ReadsBack}
+use Rattle.gtp_gateway.specs.messages.Sent.{ReadsBack}
 use Rattle.gtp_gateway.specs.Settings.{Settings}
-use Rattle.gtp_gateway.specs.Station.{Station, station_of}
+use Rattle.gtp_gateway.specs.GatewayState.{GatewayState, state_of}
 use Rattle.gtp_gateway.proofs.parts.Parts.refuse_session.Goals as goal
 
 pub returns-clause-refused : goal.returns-clause-refused
 returns-clause-refused c =
-    let old = station_of c.args.self.now in
+    let old = state_of c.args.self.now in
     let ready = c.in_ok-ready.ensures in
     let m : Message = refusing types.CreateSessionRequest c.args.request.now.control.teid c.args.request.now.seq c.args.cause old.node.counter in
     let said : control_message c.in_ok-message.message ≡ m = c.in_ok-message.ensures.says ∙ (λ i. refusing types.CreateSessionRequest (c.teid-header.ensures i) c.args.request.now.seq c.args.cause (c.counter-counter.ensures i)) in
-    let same : station_of c.ready_answer.new.self ≡ old = c.ready_answer.ensures.same in
-    let config : c.hear.new.self.config.config ≡ old.node.config = ap (λ (s : Settings). s.config) c.hear.ensures.config ∙ ap (λ (s : Station). s.node.config) same in
+    let same : state_of c.ready_answer.new.self ≡ old = c.ready_answer.ensures.same in
+    let config : c.hear.new.self.config.config ≡ old.node.config = ap (λ (s : Settings). s.config) c.hear.ensures.config ∙ ap (λ (s : GatewayState). s.node.config) same in
     record {
-      sent = c.give-out.result;
+      sent = c.send_answer-out.result;
       is = c.answered.ensures;
-      goes = c.give-out.ensures.sent ∙ (λ i. record { plane = Control; from = control_end (config i).own.control; to = c.args.source; octets = (ready.octets ∙ ap spelled said) i });
+      goes = c.send_answer-out.ensures.sent ∙ (λ i. record { plane = Control; from = control_end (config i).own.control; to = c.args.source; octets = (ready.octets ∙ ap spelled said) i });
       read = subst (λ m. ReadsBack (m ∷ [])) said ready.back;
-      becomes = c.give-out.ensures.node
-          ∙ (λ i. holding (arrival_of c.args.source (ready.request i)) ((ready.read ∙ ap (λ m. m ∷ []) said) i) ((c.hear.ensures.node ∙ ap (λ (s : Station). node_heard c.args.heard s.node) same) i));
-      role = c.give-out.ensures.role ∙ c.hear.ensures.role ∙ ap (λ (s : Station). s.role) same;
+      becomes = c.send_answer-out.ensures.node
+          ∙ (λ i. holding (arrival_of c.args.source (ready.request i)) ((ready.read ∙ ap (λ m. m ∷ []) said) i) ((c.hear.ensures.node ∙ ap (λ (s : GatewayState). node_heard c.args.heard s.node) same) i));
+      role = c.send_answer-out.ensures.role ∙ c.hear.ensures.role ∙ ap (λ (s : GatewayState). s.role) same;
     }
 
 pub returns-clause-goes : goal.returns-clause-goes
 returns-clause-goes c =
-    let old = station_of c.args.self.now in
-    let new = station_of c.give-out.new.self in
-    let waits = subst (λ (s : Station). WaitOn s (station_of c.hear.new.self)) c.ready_answer.ensures.same c.hear.ensures.waits in
-    let heard = station_of c.hear.new.self in
+    let old = state_of c.args.self.now in
+    let new = state_of c.send_answer-out.new.self in
+    let waits = subst (λ (s : GatewayState). RequestsWaitOn s (state_of c.hear.new.self)) c.ready_answer.ensures.same c.hear.ensures.waits in
+    let heard = state_of c.hear.new.self in
     let answer = c.in_ok-ready.ready.answer.items in
-    answered_goes c.args.source c.args.octets.now old heard new answer waits (c.give-out.ensures.timing ∙ (λ i. record heard.timing { held = after_held c.args.source (c.in_ok-ready.ensures.request i) answer heard.timing.held })) (tied_of c.give-out.new.self)
+    answered_goes c.args.source c.args.octets.now old heard new answer waits (c.send_answer-out.ensures.queues ∙ (λ i. record heard.queues { held = after_held c.args.source (c.in_ok-ready.ensures.request i) answer heard.queues.held })) (tied_of c.send_answer-out.new.self)

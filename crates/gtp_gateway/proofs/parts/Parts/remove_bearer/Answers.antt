@@ -5,7 +5,7 @@ use Rattle.gtp_tables.specs.declared.context.Session.{Session}
 use Rattle.gtp_machine.specs.Node.{PendingRequest}
 use Rattle.gtp_machine.specs.Removal.{on}
 use Rattle.gtp_gateway.specs.Parts.{pending_in, node_of}
-use Rattle.gtp_gateway.specs.Spelled.{IsAsked, AreAsked}
+use Rattle.gtp_gateway.specs.messages.Spelled.{IsAsked, AreAsked}
 use Rattle.gtp_gateway.proofs.Finished.{pending_kept}
 use Rattle.gtp_gateway.proofs.Removed.{all_kept, bearer_kept}
 use Rattle.gtp_gateway.proofs.parts.Parts.remove_bearer.Goals as goal

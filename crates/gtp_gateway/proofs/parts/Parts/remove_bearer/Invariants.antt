@@ -1,4 +1,4 @@
-use Rattle.gtp_gateway.specs.Removal.{goes_with_bearer}
+use Rattle.gtp_gateway.specs.tables.Removal.{goes_with_bearer}
 use Rattle.gtp_gateway.proofs.parts.Parts.remove_bearer.Given as goal
 
 abbrev pub ghost-finish_where : goal.ghost-finish_where

@@ -5,7 +5,7 @@ use Rattle.gtp_tables.specs.declared.context.Bearer.{Bearer}
 use Rattle.gtp_machine.specs.Node.{PendingRequest}
 use Rattle.gtp_machine.specs.Removal.{on}
 use Rattle.gtp_gateway.specs.Parts.{pending_in, node_of}
-use Rattle.gtp_gateway.specs.Spelled.{IsAsked, AreAsked}
+use Rattle.gtp_gateway.specs.messages.Spelled.{IsAsked, AreAsked}
 use Rattle.gtp_gateway.proofs.Finished.{pending_kept}
 use Rattle.gtp_gateway.proofs.Removed.{session_kept}
 use Rattle.gtp_gateway.proofs.parts.Parts.remove_session.Goals as goal

@@ -1,8 +1,8 @@
 use Rattle.std.proofs.Common.{◌≡◌, map, ◌++◌, length}
 use Rattle.std.specs.Vec.Iter.{into_iter_items, into_iter_len}
 use Rattle.gtp_reliable.specs.Due.{message_of}
-use Rattle.gtp_gateway.specs.Sent.{datagram_by}
-use Rattle.gtp_gateway.specs.Ticked.{datagram_again}
+use Rattle.gtp_gateway.specs.messages.Sent.{datagram_by}
+use Rattle.gtp_gateway.specs.Tick.{datagram_again}
 use Rattle.gtp_gateway.proofs.parts.Parts.send_again.Given as goal
 
 -- what was sent so far and what is left are all

@@ -4,11 +4,11 @@ use Rattle.gtp_machine.specs.Config.{control_end, own_end}
 use Rattle.gtp_machine.specs.Message.{Control}
 use Rattle.gtp_machine.specs.Spelling.{Datagram, datagram_plane, spelled_all, datagram_of}
 use Rattle.gtp_gateway.specs.declared.sent.Sent.{Sent}
-use Rattle.gtp_gateway.specs.Sent.{datagram_by, ReadsBack}
-use Rattle.gtp_gateway.specs.Spelled.{AreSpelledAll}
-use Rattle.gtp_gateway.specs.Station.{station_of}
+use Rattle.gtp_gateway.specs.messages.Sent.{datagram_by, ReadsBack}
+use Rattle.gtp_gateway.specs.messages.Spelled.{AreSpelledAll}
+use Rattle.gtp_gateway.specs.GatewayState.{state_of}
 use Rattle.gtp_gateway.proofs.Answers.{repeats, is_held}
-use Rattle.gtp_gateway.proofs.Needing.{on_err}
+use Rattle.gtp_gateway.proofs.Allocations.{on_err}
 use Rattle.gtp_gateway.proofs.Readings.{control_kept}
 use Rattle.gtp_gateway.proofs.SentBack.{one_sent}
 use Rattle.gtp_gateway.proofs.Taking.{all_back, spelled_answer}
@@ -19,7 +19,7 @@ returns-in_err-from_slice-clause-memory c = on_err c.from_residual.result (is_he
 
 pub returns-clause-some : goal.returns-clause-some
 returns-clause-some c =
-    let config = (station_of c.args.self.now).node.config in
+    let config = (state_of c.args.self.now).node.config in
     let source = c.args.source in
     let octets = c.args.octets.now in
     let pairs = c.args.self.now.held.pairs in

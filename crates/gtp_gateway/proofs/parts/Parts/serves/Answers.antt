@@ -1,6 +1,6 @@
 use Rattle.std.proofs.Common.{List, ℕ, sym, ◌∙◌, subst}
 use Rattle.gtp_values.specs.FiniteMap.{Among}
-use Rattle.gtp_gateway.proofs.SessionGrants.{any_among, among_any}
+use Rattle.gtp_gateway.proofs.CreateSessionRequests.{any_among, among_any}
 use Rattle.gtp_gateway.proofs.parts.Parts.serves.Goals as goal
 
 pub returns : goal.returns

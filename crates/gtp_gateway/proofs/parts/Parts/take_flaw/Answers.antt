@@ -1,26 +1,26 @@
 use Rattle.std.proofs.Common.{sym, ◌∙◌, ap, subst}
 use Rattle.gtp_values.specs.declared.address.Endpoint.{Endpoint}
 use Rattle.gtp_machine.specs.Answer.{fault_number}
-use Rattle.gtp_gateway.specs.declared.faulty.Flaw.{Flaw}
-use Rattle.gtp_gateway.specs.declared.control_step.ControlStep.{ControlStep}
-use Rattle.gtp_gateway.specs.Faulty.{defect_of, fault_of, reading_of, dropped_for, IsFaultEffect}
-use Rattle.gtp_gateway.specs.Station.{station_of}
-use Rattle.gtp_gateway.proofs.FaultsTaken.{drops_for, fault_unanswered}
-use Rattle.gtp_gateway.proofs.Left.{fault_dropped}
-use Rattle.gtp_gateway.proofs.Needing.{on_err, fault_needs}
-use Rattle.gtp_gateway.specs.Needing.{StepSendsOrOpens}
+use Rattle.gtp_gateway.specs.declared.receive.invalid_request.Flaw.{Flaw}
+use Rattle.gtp_gateway.specs.declared.step.ControlStep.{ControlStep}
+use Rattle.gtp_gateway.specs.receive.InvalidRequest.{defect_of, fault_of, reading_of, dropped_for, IsFaultEffect}
+use Rattle.gtp_gateway.specs.GatewayState.{state_of}
+use Rattle.gtp_gateway.proofs.InvalidRequests.{drops_for, fault_unanswered}
+use Rattle.gtp_gateway.proofs.ReadsAs.{fault_dropped}
+use Rattle.gtp_gateway.proofs.Allocations.{on_err, fault_needs}
+use Rattle.gtp_gateway.specs.receive.Allocations.{StepSendsOrOpens}
 use Rattle.gtp_gateway.proofs.parts.Parts.take_flaw.Goals as goal
 
 pub returns-in-Plain-clause-taken : goal.returns-in-Plain-clause-taken
 returns-in-Plain-clause-taken c = λ request from peer new.
-    let old = station_of c.args.self.now in
+    let old = state_of c.args.self.now in
     subst (λ (s : ControlStep). IsFaultEffect request (reading_of c.args.flaw.now) old s) (sym c.undecodable.ensures)
     (subst (λ (f : Flaw). IsFaultEffect request (reading_of f) old (dropped_for c.in-Plain.number)) (sym c.in-Plain.is)
     (drops_for request _ old c.in-Plain.number (fault_dropped old.role old.node request c.in-Plain.number (ap (λ (e : Endpoint). e.ip) from ∙ peer) new)))
 
 pub returns-else-is_answered_by-clause-taken : goal.returns-else-is_answered_by-clause-taken
 returns-else-is_answered_by-clause-taken c = λ request from peer new.
-    let old = station_of c.args.self.now in
+    let old = state_of c.args.self.now in
     let f = c.in-Faulty.faulty in
     subst (λ (s : ControlStep). IsFaultEffect request (reading_of c.args.flaw.now) old s) (sym (c.undecodable-else-is_answered_by.ensures ∙ ap dropped_for c.number.ensures))
     (subst (λ (g : Flaw). IsFaultEffect request (reading_of g) old (dropped_for (fault_number (defect_of f.defect)))) (sym c.in-Faulty.is)
@@ -28,7 +28,7 @@ returns-else-is_answered_by-clause-taken c = λ request from peer new.
 
 pub returns-then-is_answered_by-clause-memory : goal.returns-then-is_answered_by-clause-memory
 returns-then-is_answered_by-clause-memory c = on_err c.answer_fault.result (λ request from peer.
-    let old = station_of c.args.self.now in
+    let old = state_of c.args.self.now in
     let f = c.in-Faulty.faulty in
     subst (λ (g : Flaw). StepSendsOrOpens request (reading_of g) old) (sym c.in-Faulty.is)
     (fault_needs request (fault_of f) old (ap (λ (e : Endpoint). e.ip) from ∙ peer) (sym c.is_answered_by.ensures ∙ c.if-is_answered_by.true)))

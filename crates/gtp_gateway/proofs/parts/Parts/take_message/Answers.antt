@@ -4,29 +4,29 @@ use Rattle.gtp_machine.specs.Decoded.{message_of}
 use Rattle.gtp_machine.specs.Input.{ControlReading}
 use Rattle.gtp_machine.specs.declared.outcome.DropReason.TheVariants.{OldCounter}
 use Rattle.gtp_machine.specs.declared.outcome.Outcome.TheVariants.{Dropped}
-use Rattle.gtp_gateway.specs.declared.hearing.Heard.{Heard}
-use Rattle.gtp_gateway.specs.declared.control_step.ControlStep.{ControlStep}
-use Rattle.gtp_gateway.specs.Hearing.{weighed_by, node_heard, IsEarlier, report_heard}
+use Rattle.gtp_gateway.specs.declared.receive.restart_counter.Heard.{Heard}
+use Rattle.gtp_gateway.specs.declared.step.ControlStep.{ControlStep}
+use Rattle.gtp_gateway.specs.receive.RestartCounter.{weighed_by, node_heard, IsEarlier, report_heard}
 use Rattle.gtp_gateway.specs.Parts.{arrival_of}
 use Rattle.gtp_machine.specs.Step.{TakesBy}
-use Rattle.gtp_gateway.specs.Row.{IsHeardRow}
-use Rattle.gtp_gateway.specs.Station.{station_of}
-use Rattle.gtp_gateway.specs.Taken.{plain_report, IsTaken}
+use Rattle.gtp_gateway.specs.receive.Row.{IsHeardRow}
+use Rattle.gtp_gateway.specs.GatewayState.{state_of}
+use Rattle.gtp_gateway.specs.receive.Taken.{plain_report, IsTaken}
 use Rattle.gtp_gateway.proofs.ByProcedure.{is_taken}
 use Rattle.gtp_gateway.proofs.Columns.{yes, no}
-use Rattle.gtp_gateway.proofs.Left.{reads_message}
+use Rattle.gtp_gateway.proofs.ReadsAs.{reads_message}
 use Rattle.gtp_gateway.proofs.Rows.{row_taken, early_taken}
-use Rattle.gtp_gateway.proofs.Needing.{on_err, message_needs}
-use Rattle.gtp_gateway.specs.Needing.{AlwaysSendsOrOpens, StepSendsOrOpens}
+use Rattle.gtp_gateway.proofs.Allocations.{on_err, message_needs}
+use Rattle.gtp_gateway.specs.receive.Allocations.{AlwaysSendsOrOpens, StepSendsOrOpens}
 use Rattle.gtp_gateway.proofs.parts.Parts.take_message.Goals as goal
 
 pub returns-then-is_earlier-clause-taken : goal.returns-then-is_earlier-clause-taken
 returns-then-is_earlier-clause-taken c =
-    let old = station_of c.args.self.now in
+    let old = state_of c.args.self.now in
     let octets = c.args.octets.now in
     let m = c.args.view.now.message in
     let recovery : Option Counter = c.counter_in.result in
-    let is : c.weigh-heard.result ≡ weighed_by recovery old.node.known = c.weigh-heard.ensures in
+    let is : c.compare_counter-heard.result ≡ weighed_by recovery old.node.known = c.compare_counter-heard.ensures in
     let early = subst IsEarlier is (yes c.is_earlier.ensures c.if-is_earlier.true) in
     let shown : c.hearing.result ≡ record { out = None; report = report_heard (weighed_by recovery old.node.known) (plain_report (Dropped OldCounter)) } =
     c.hearing.ensures ∙ (λ i. record { out = (c.dropped.ensures i).out; report = report_heard (is i) (c.dropped.ensures i).report }) in
@@ -35,13 +35,13 @@ returns-then-is_earlier-clause-taken c =
 
 pub returns-clause-taken : goal.returns-clause-taken
 returns-clause-taken c =
-    let old = station_of c.args.self.now in
-    let new = station_of c.take_heard.new.self in
+    let old = state_of c.args.self.now in
+    let new = state_of c.dispatch.new.self in
     let octets = c.args.octets.now in
     let m = c.args.view.now.message in
     let recovery : Option Counter = c.counter_in.result in
     let step : ControlStep = c.in_ok-step.step in
-    let is : c.weigh-heard.result ≡ weighed_by recovery old.node.known = c.weigh-heard.ensures in
+    let is : c.compare_counter-heard.result ≡ weighed_by recovery old.node.known = c.compare_counter-heard.ensures in
     let on = λ (early : IsEarlier (weighed_by recovery old.node.known)). no c.is_earlier.ensures c.if-is_earlier.false (subst IsEarlier (sym is) early) in
     let row : IsHeardRow (arrival_of c.args.source octets) (message_of m) (weighed_by recovery old.node.known) old step new = subst (λ (h : Heard). IsHeardRow (arrival_of c.args.source octets) (message_of m) h old step new) is c.in_ok-step.ensures.taken in
     let shown : c.hearing-2.result ≡ record step { report = report_heard (weighed_by recovery old.node.known) step.report } =
@@ -51,12 +51,12 @@ returns-clause-taken c =
 
 pub returns-in_err-step-clause-memory : goal.returns-in_err-step-clause-memory
 returns-in_err-step-clause-memory c =
-    let old = station_of c.args.self.now in
+    let old = state_of c.args.self.now in
     let octets = c.args.octets.now in
     let m = c.args.view.now.message in
     let request = arrival_of c.args.source octets in
     let recovery : Option Counter = c.counter_in.result in
-    let is : c.weigh-heard.result ≡ weighed_by recovery old.node.known = c.weigh-heard.ensures in
+    let is : c.compare_counter-heard.result ≡ weighed_by recovery old.node.known = c.compare_counter-heard.ensures in
     let on = λ (early : IsEarlier (weighed_by recovery old.node.known)). no c.is_earlier.ensures c.if-is_earlier.false (subst IsEarlier (sym is) early) in
     let needs : AlwaysSendsOrOpens (TakesBy old.role request (message_of m)) (node_heard (weighed_by recovery old.node.known) old.node) = subst (λ (h : Heard). AlwaysSendsOrOpens (TakesBy old.role request (message_of m)) (node_heard h old.node)) is c.in_err-step.ensures.memory in
     on_err c.from_residual.result (subst (λ (r : ControlReading). StepSendsOrOpens request r old) (reads_message octets m c.requires.spelled)

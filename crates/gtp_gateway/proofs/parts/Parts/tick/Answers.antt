@@ -3,14 +3,14 @@ use Rattle.std.specs.Prelude.{All}
 use Rattle.gtp_reliable.specs.Due.{message_of}
 use Rattle.gtp_reliable.specs.Forgotten.{question_of}
 use Rattle.gtp_machine.specs.Spelling.{datagram_of}
-use Rattle.gtp_gateway.specs.declared.purpose.Purpose.{Purpose}
+use Rattle.gtp_gateway.specs.declared.command.purpose.Purpose.{Purpose}
 use Rattle.gtp_gateway.specs.Parts.{node_of, pending_in, held_of}
-use Rattle.gtp_gateway.specs.Sent.{datagram_by, SendingReads}
-use Rattle.gtp_gateway.specs.Spelled.{AreAsked, AreAnswered}
-use Rattle.gtp_gateway.specs.Station.{station_of}
-use Rattle.gtp_gateway.specs.Ticked.{asked_by, datagram_again, GivesUpEach}
+use Rattle.gtp_gateway.specs.messages.Sent.{datagram_by, SendingReads}
+use Rattle.gtp_gateway.specs.messages.Spelled.{AreAsked, AreAnswered}
+use Rattle.gtp_gateway.specs.GatewayState.{state_of}
+use Rattle.gtp_gateway.specs.Tick.{asked_by, datagram_again, GivesUpEach}
 use Rattle.gtp_gateway.proofs.Forgetting.{answered_left}
-use Rattle.gtp_gateway.proofs.Giving.{asked_on}
+use Rattle.gtp_gateway.proofs.GivenUp.{asked_on}
 use Rattle.gtp_gateway.proofs.Resending.{resent, resent_back}
 use Rattle.gtp_gateway.proofs.Ticking.{given_by, ticks, few_by, few_sent, none_resent, none_given_up}
 use Rattle.gtp_gateway.proofs.parts.Parts.tick.Goals as goal
@@ -23,8 +23,8 @@ returns-clause-ticked c =
     let told : List ℕ = c.give_up_each.new.gave_up.items in
     let each = subst (λ (l : List (ℕ × Purpose)). GivesUpEach (node_of old) (map (λ (g : ℕ × Purpose). g.0) l) told (node_of mid)) (c.as_slice-give_ups.ensures.value ∙ c.in-Ok.ensures.gave_up) c.give_up_each.ensures.each in
     record {
-      out = given_by (station_of old) told;
-      ticks = ticks (station_of old) (station_of mid) told refl refl c.in-Ok.ensures.always.distinct c.in-Ok-due.ensures.always.apart c.give_up_each.ensures.waits each _
+      out = given_by (state_of old) told;
+      ticks = ticks (state_of old) (state_of mid) told refl refl c.in-Ok.ensures.always.distinct c.in-Ok-due.ensures.always.apart c.give_up_each.ensures.waits each _
           (λ i. record (node_of mid) { pending = pending_in (c.tick.ensures.waiting i); held = map held_of (c.tick-2.ensures.pairs i) });
       tells = record {
         sent = record {

@@ -1,7 +1,7 @@
 use Rattle.std.proofs.Common.{refl, sym, ◌∙◌}
 use Rattle.gtp_gateway.specs.Parts.{node_of}
 use Rattle.gtp_gateway.proofs.Pendings.{waits, none_waits_at}
-use Rattle.gtp_gateway.proofs.Settled.{waited, waits_on, waits_no_more}
+use Rattle.gtp_gateway.proofs.Opened.{waited, waits_on, waits_no_more}
 use Rattle.gtp_gateway.proofs.parts.Parts.waiting_after.Goals as goal
 
 pub returns-in_default-clause-none : goal.returns-in_default-clause-none

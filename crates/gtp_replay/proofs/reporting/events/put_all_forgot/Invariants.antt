@@ -1,6 +1,6 @@
 use Rattle.std.proofs.Common.{◌≡◌, ◌++◌, drop}
 use Rattle.std.specs.List.{flat_map}
-use Rattle.gtp_gateway.specs.Ticked.{arrivals_of}
+use Rattle.gtp_gateway.specs.Tick.{arrivals_of}
 use Rattle.gtp_replay.specs.Events.{forgot_line}
 use Rattle.gtp_replay.proofs.reporting.events.put_all_forgot.Given as goal
 

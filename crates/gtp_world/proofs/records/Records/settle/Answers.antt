@@ -1,7 +1,7 @@
 use Rattle.std.proofs.Common.{◌≡◌, [], ◌∷◌, ◌++◌, map, option_map, option_to_list, length, ◌∙◌, ap}
 use Rattle.gtp_machine.specs.World.{Came_to}
-use Rattle.gtp_gateway.specs.Taken.{datagrams}
-use Rattle.gtp_gateway.specs.Ticked.{arrivals_of}
+use Rattle.gtp_gateway.specs.receive.Taken.{datagrams}
+use Rattle.gtp_gateway.specs.Tick.{arrivals_of}
 use Rattle.gtp_world.specs.Kept.{Told, Log, entry_by, told_by, late_among, counted}
 use Rattle.gtp_world.specs.Sides.{entries}
 use Rattle.gtp_world.specs.declared.event.EventOutcome.TheVariants as outcomes

@@ -1,6 +1,6 @@
 use Rattle.std.proofs.Common.{◌≡◌, [], ◌∷◌, ◌++◌, map, length, false, None, ◌∙◌, ap}
 use Rattle.gtp_machine.specs.World.{Ticked}
-use Rattle.gtp_gateway.specs.Ticked.{arrivals_of}
+use Rattle.gtp_gateway.specs.Tick.{arrivals_of}
 use Rattle.gtp_world.specs.Kept.{Told, Log, entry_by, told_by, late_among}
 use Rattle.gtp_world.specs.declared.event.EventOutcome.TheVariants as outcomes
 use Rattle.gtp_world.specs.declared.log.Note.{Note}

@@ -1,6 +1,6 @@
 use Rattle.std.proofs.Common.{◌<◌, List, [], ◌∷◌, ◌++◌, map, sym, ◌∙◌, ap, subst, arith}
 use Rattle.gtp_machine.specs.Node.{Arrival}
-use Rattle.gtp_gateway.specs.Ticked.{arrivals_of}
+use Rattle.gtp_gateway.specs.Tick.{arrivals_of}
 use Rattle.gtp_world.specs.Indexes.{Arrivals, IsIndexed, asked}
 use Rattle.gtp_world.specs.declared.asked.Asked.{Asked}
 use Rattle.gtp_world.proofs.Indexes.{one_more}

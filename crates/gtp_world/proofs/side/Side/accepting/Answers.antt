@@ -1,7 +1,7 @@
 use Rattle.std.proofs.Common.{List, [], ◌∷◌, sym, ◌∙◌, ap, subst}
 use Rattle.gtp_machine.specs.Input.{Entry, entry_for}
 use Rattle.gtp_machine.specs.World.{By, signed}
-use Rattle.gtp_gateway.specs.UserTaken.{AreEntries}
+use Rattle.gtp_gateway.specs.user.Receive.{AreEntries}
 use Rattle.gtp_world.proofs.side.Side.accepting.Goals as goal
 
 pub returns-clause-accepted : goal.returns-clause-accepted

@@ -2,7 +2,7 @@ use Rattle.std.proofs.Common.{◌≡◌, true, false, ◌+◌, ◌<◌, List, le
 use Rattle.std.proofs.lemmas.List.{take_all}
 use Rattle.gtp_reliable.specs.declared.held.Request.{Request}
 use Rattle.gtp_gateway.specs.Parts.{arrival_of}
-use Rattle.gtp_gateway.specs.Ticked.{arrivals_of}
+use Rattle.gtp_gateway.specs.Tick.{arrivals_of}
 use Rattle.gtp_world.specs.Views.{IsCount}
 use Rattle.gtp_world.proofs.Counts.{one_more, none_more}
 use Rattle.gtp_world.proofs.side.Side.contexts_made.Goals as goal

@@ -1,6 +1,6 @@
 use Rattle.std.proofs.Common.{◌≤◌, take}
 use Rattle.gtp_gateway.specs.Parts.{arrival_of}
-use Rattle.gtp_gateway.specs.Ticked.{arrivals_of}
+use Rattle.gtp_gateway.specs.Tick.{arrivals_of}
 use Rattle.gtp_world.specs.Views.{IsCount}
 use Rattle.gtp_world.proofs.side.Side.contexts_made.Given as goal
 

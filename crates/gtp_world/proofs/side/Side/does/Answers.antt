@@ -1,7 +1,7 @@
 use Rattle.std.proofs.Common.{Some, None, Err, sym, ◌∙◌, ap, subst}
 use Rattle.gtp_machine.specs.Input.{Commanded}
 use Rattle.gtp_machine.specs.declared.outcome.Outcome.{Outcome}
-use Rattle.gtp_gateway.specs.Station.{Station}
+use Rattle.gtp_gateway.specs.GatewayState.{GatewayState}
 use Rattle.gtp_world.specs.Commands.{command_of}
 use Rattle.gtp_world.specs.Kept.{Half, half_of}
 use Rattle.gtp_world.specs.Sides.{IsInput}
@@ -23,7 +23,7 @@ returns-in-Err-Refused-clause-done c =
     let command = command_of c.args.event.now in
     let old = half_of c.args.self.now in
     let why = c.in-Err-Refused.why in
-    let same = ap (λ (s : Station). record old { station = s }) (sym c.in-Err-Refused.ensures.err) in
+    let same = ap (λ (s : GatewayState). record old { station = s }) (sym c.in-Err-Refused.ensures.err) in
     subst (λ (k : Came). IsInput c.args.node (Commanded command) AsksFor old k (record old { station = c.tell.new.gateway })) (sym c.refused.ensures)
     (subst (λ (h : Half). IsInput c.args.node (Commanded command) AsksFor old (came_of_refused why) h) same
     (turned_down c.args.node command old why ((c.tell.ensures.refused why).0 (c.in-Err-Refused.is ∙ ap Err c.in-Err-Refused.field-0-is))))

@@ -1,6 +1,6 @@
 use Rattle.std.proofs.Common.{ℕ, List, ◌++◌, map, option_to_list, sym, ◌∙◌, ap, append-nil}
 use Rattle.gtp_machine.specs.Input.{Out}
-use Rattle.gtp_gateway.specs.Ticked.{arrivals_of}
+use Rattle.gtp_gateway.specs.Tick.{arrivals_of}
 use Rattle.gtp_world.specs.Kept.{oldest_first}
 use Rattle.gtp_world.proofs.Forgets.{forgets_due}
 use Rattle.gtp_world.proofs.side.Side.ticks.Goals as goal

@@ -1,7 +1,7 @@
 use Rattle.std.proofs.Common.{◌≡◌, ℕ, ◌+◌, length, refl, sym, ◌∙◌, ap, subst, arith}
 use Rattle.std.proofs.lemmas.List.{length-map}
 use Rattle.gtp_machine.specs.World.{Deliver}
-use Rattle.gtp_gateway.specs.Specified.{specification}
+use Rattle.gtp_gateway.specs.command.CreateSession.{specification}
 use Rattle.gtp_world.specs.Kept.{sent_by, outcome_of}
 use Rattle.gtp_world.specs.Stepped.{Comes}
 use Rattle.gtp_world.proofs.Finding.{if_err}

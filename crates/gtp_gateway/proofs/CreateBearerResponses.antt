@@ -1,0 +1,255 @@
+-- Create Bearer Responses: what they say where they lie, and what the packet gateway does with them.
+use Rattle.std.proofs.Common.{◌≡◌, ◌⊎◌, ◌≢◌, inl, inr, ℕ, Bool, true, List, [], ◌∷◌, map, Option, Some, None, refl, sym, ◌∙◌, ap, subst}
+use Rattle.std.specs.Prelude.{◌==◌, not, option_to_list, IsSomeAnd}
+use Rattle.std.specs.Bool.{beq}
+use Rattle.std.specs.FinMap.{get, insert, remove}
+use Rattle.std.proofs.lemmas.Bool.{eqb-true}
+use Rattle.gtp_values.proofs.Tests.{both}
+use Rattle.gtp_values.specs.FiniteMap.{FiniteMap}
+use Rattle.gtp_values.specs.declared.identifiers.Teid.{Teid}
+use Rattle.gtp_ie.specs.Element.{Element}
+use Rattle.gtp_ie.specs.Value.{Value}
+use Rattle.gtp_v2.specs.Datagram.{IsMessage}
+use Rattle.gtp_v2.specs.Message.{MessageValue}
+use Rattle.gtp_v2.specs.Viewed.{optional_at, values_in}
+use Rattle.gtp_machine.specs.declared.role.Role.{Role}
+use Rattle.gtp_machine.specs.declared.outcome.DropReason.TheVariants.{NoPending, Mismatch}
+use Rattle.gtp_machine.specs.declared.outcome.Outcome.TheVariants.{Opened, Clash, Rejected}
+use Rattle.gtp_machine.specs.Choice.{HasPending}
+use Rattle.gtp_machine.specs.Decoded.{number_at, cause_at, given}
+use Rattle.gtp_machine.specs.Element.{IsAccepting, teid_in}
+use Rattle.gtp_machine.specs.Input.{Came_to, Effect, nothing}
+use Rattle.gtp_machine.specs.Message.{Message, CreateBearerRequest, CreateBearerResponse, GivenBearer, Create_bearer_request, Create_bearer_response, header_of, first_given, first_identity}
+use Rattle.gtp_machine.specs.Node.{Active, Closing, Session, Bearer, Arrival, Node}
+use Rattle.gtp_machine.specs.Packet.{FitsBearer, DescribesBearer, CanOpen, opened_dedicated, BearerAnswered as BearerRow}
+use Rattle.gtp_machine.specs.Response.{Named}
+use Rattle.gtp_machine.specs.Sound.{IsSound, IsWanted}
+use Rattle.gtp_machine.proofs.Sound.Changes.{is_bearer}
+use Rattle.gtp_machine.proofs.Basics.Facts.{one_value}
+use Rattle.gtp_machine.proofs.Basics.Types.{type_kind}
+use Rattle.gtp_machine.specs.declared.role.Role.TheVariants.{Packet}
+use Rattle.gtp_gateway.specs.declared.receive.create_bearer_response.AskedBearer.{AskedBearer}
+use Rattle.gtp_gateway.specs.declared.receive.create_bearer_response.BearerResponse.{BearerResponse}
+use Rattle.gtp_gateway.specs.declared.receive.response_context.ResponseContext.{ResponseContext}
+use Rattle.gtp_gateway.specs.declared.receive.restart_counter.Heard.{Heard}
+use Rattle.gtp_machine.specs.declared.message_type.MessageType.TheVariants as types
+use Rattle.gtp_gateway.specs.declared.command.purpose.Purpose.{Purpose}
+use Rattle.gtp_gateway.specs.declared.command.purpose.Purpose.TheVariants.{CreateBearer}
+use Rattle.gtp_gateway.specs.declared.receive.response.Response.{Response}
+use Rattle.gtp_gateway.specs.declared.tables.opening.ResponseVerdict.TheVariants.{Drops, Finishes, OpensBearer}
+use Rattle.gtp_gateway.specs.command.SendRequest.{about}
+use Rattle.gtp_gateway.specs.receive.CreateBearerResponse.{SaysGiven, SaysOnlyGiven, SaysCreateBearerResponse, FitsCreateBearerOf, IsAskedBearer, CanOpenIn}
+use Rattle.gtp_gateway.specs.receive.ResponseContext.{context_values, AreContexts, ReadsOnly}
+use Rattle.gtp_gateway.specs.receive.RestartCounter.{node_heard}
+use Rattle.gtp_gateway.specs.Parts.{session_of, bearer_of}
+use Rattle.gtp_machine.specs.MessageType.{type_at, takes_type}
+use Rattle.gtp_machine.specs.Step.{TakesBy}
+use Rattle.gtp_gateway.specs.tables.Opening.{IsWaiting, effect_by}
+use Rattle.gtp_gateway.specs.messages.Spelled.{is_for}
+use Rattle.gtp_gateway.proofs.Unopened.{IsBlank, stands_there, blank_there}
+use Rattle.gtp_gateway.proofs.InPlace.{groups_so, bearer_answered}
+use Rattle.gtp_gateway.proofs.Pendings.{names_here, names_there}
+use Rattle.gtp_gateway.proofs.Opened.{heard_sound}
+use Rattle.gtp_gateway.proofs.Procedures.{at_taker}
+
+-- ---- what the message says, where it lies
+
+-- what the other rows of a bearer context have (table 7.2.4-2)
+abbrev pub given_others : List Element → List (List Value)
+given_others es = option_to_list (optional_at 87 2 es) ∷ option_to_list (optional_at 87 3 es) ∷ []
+
+pub given_contexts : (octets : List ℕ) (m : MessageValue) (is : IsMessage octets m) (at : type_at m.kind ≡ Some types.CreateBearerResponse) → AreContexts m given_others (bearer_answered octets m (type_kind m.kind types.CreateBearerResponse at) is).groups
+given_contexts octets m is at =
+    let a = bearer_answered octets m (type_kind m.kind types.CreateBearerResponse at) is in
+    record {
+      stand = subst (λ o. IsSomeAnd o (λ p. (p.1 ≡ a.groups) × ((es : List Element) → values_in p.0 es ≡ context_values given_others es))) (sym (groups_so 96 93 0 _ m a.says)) (refl, λ es. refl);
+      each = a.each;
+    }
+
+pub given_only : (groups : List (List (List Value))) (o : Option ResponseContext) → ReadsOnly given_others groups o → SaysOnlyGiven o (map given groups)
+given_only groups (Some c) (es, is, reads) = (
+  given (context_values given_others es),
+  ap (map given) is,
+  record {
+    identity = ap (λ (v : Option Value). number_at (option_to_list v)) reads.identity;
+    cause = ap (λ (v : Option Value). cause_at (option_to_list v)) reads.cause;
+    user = reads.user;
+    returned = reads.returned;
+  },
+)
+given_only [] None none = λ k is. absurd cc
+given_only (g ∷ []) None none = λ k is. none g refl
+given_only (g ∷ h ∷ groups) None none = λ k is. absurd cc
+
+-- ---- the request that it answers
+
+-- a Create Bearer Request for this bearer; a TEID stood in its header, or not
+record AsksFor (m : Message) (bearer : ℕ) (named : Bool) : Type 0 where
+  pub request : CreateBearerRequest
+  pub is : m ≡ Create_bearer_request request
+  pub user : request.context.user.teid ≡ bearer
+  pub told : beq named (not (request.header == 0)) ≡ true
+
+asks_bearer : (session bearer : Teid) (named : Bool) (m : Message) → is_for (CreateBearer session bearer named) m ≡ true → AsksFor m bearer.0 named
+asks_bearer session bearer named (Create_bearer_request q) meant =
+    let says = both (q.context.user.teid == bearer.0) (beq named (not (q.header == 0))) meant in
+    record { request = q; is = refl; user = eqb-true q.context.user.teid bearer.0 says.left; told = says.right }
+asks_bearer session bearer named m meant = absurd cc
+
+bearer_here : (purpose : Purpose) (m : Message) (r : Response) (x : CreateBearerResponse) → is_for purpose m ≡ true → x.header ≡ r.header.0 → x.cause ≡ r.cause → FitsBearer (about purpose m) x → FitsCreateBearerOf purpose r
+bearer_here (CreateBearer session bearer named) (Create_bearer_request q) r x meant at of fits =
+    names_here session.0 x.header q.header x.cause named r (both (q.context.user.teid == bearer.0) (beq named (not (q.header == 0))) meant).right at of fits.named
+bearer_here purpose m r x meant at of fits = absurd (let asked = fits.asked in cc)
+
+abbrev one : ℕ → Option ℕ
+one n = Some n
+
+-- ---- the column of the packet gateway
+
+module _ (n : Node) (r : BearerResponse) (x : CreateBearerResponse) (says : SaysCreateBearerResponse r x) where
+  pub no_pending : (HasPending n r.response.seq → ⊥) → BearerRow x n (effect_by (Drops NoPending) x.number n)
+  no_pending none = inl (λ at. none (subst (HasPending n) says.number at), refl)
+
+  module _ (purpose : Purpose) (w : IsWaiting n r.response.seq purpose) where
+    abbrev at : HasPending n x.number
+    at = record { pending = about purpose w.message; waits = ap (λ (i : ℕ). get n.pending i) says.number ∙ w.waits }
+
+    pub does_not_fit : (FitsCreateBearerOf purpose r.response → ⊥) → BearerRow x n (effect_by (Drops Mismatch) x.number n)
+    does_not_fit unfit = inr (at, inl (λ fits. unfit (bearer_here purpose w.message r.response x w.meant says.header says.cause fits), refl))
+
+    module _ (k : AskedBearer) (asked : IsAskedBearer purpose r.response k) where
+      request : AsksFor w.message k.bearer.0 asked.named
+      request = asks_bearer k.session k.bearer asked.named w.message (ap (λ (p : Purpose). is_for p w.message) (sym asked.is) ∙ w.meant)
+
+      is_named : Named (about purpose w.message) x.header x.cause
+      is_named = by (names_there k.session.0 x.header request.request.header x.cause asked.named r.response request.told says.header says.cause asked.names)
+        where
+          by : (one k.session.0 ≡ one x.header) ⊎ ((x.header ≡ 0) × (x.cause.value ≡ 64) × (request.request.header ≢ 0)) → Named (about purpose w.message) x.header x.cause
+          by (inl same) = inl (ap session_of asked.is ∙ same)
+          by (inr (zero, unknown, some)) = inr (zero, unknown, λ is. some (sym (ap header_of request.is) ∙ is))
+
+      abbrev fits : FitsBearer at.pending x
+      fits = record { request = request.request; asked = request.is; session = k.session.0; about = ap session_of asked.is; bearer = k.bearer.0; about_bearer = ap bearer_of asked.is; named = is_named }
+
+      pub is_refused : (IsAccepting r.response.cause → ⊥) → BearerRow x n (effect_by (Finishes purpose (Rejected r.response.cause.value)) x.number n)
+      is_refused refused = inr (at, inr (fits, inl (λ accepts. refused (subst IsAccepting says.cause accepts), λ i. effect_by (Finishes purpose (Rejected (sym says.cause i).value)) x.number n)))
+
+      module _ (accepts : IsAccepting r.response.cause) where
+        accepting : IsAccepting x.cause
+        accepting = subst IsAccepting (sym says.cause) accepts
+
+        pub not_one : r.context ≡ None → BearerRow x n (effect_by (Drops Mismatch) x.number n)
+        not_one none =
+            let never = subst (λ (o : Option ResponseContext). SaysOnlyGiven o x.contexts) none says.contexts in
+            inr (at, inr (fits, inr (accepting, inl (λ new. never new.context new.alone, refl))))
+
+        module _ (c : ResponseContext) (is : r.context ≡ Some c) where
+          only : (g : GivenBearer) × (x.contexts ≡ g ∷ []) × SaysGiven c g
+          only = subst (λ (o : Option ResponseContext). SaysOnlyGiven o x.contexts) is says.contexts
+
+          abbrev new : DescribesBearer x
+          new = record { context = only.0; alone = only.1 }
+
+          pub bearer_refused : (IsAccepting c.cause → ⊥) → BearerRow x n (effect_by (Finishes purpose (Rejected c.cause.value)) x.number n)
+          bearer_refused refused = inr (at, inr (fits, inr (accepting, inr (new, inl (λ both. refused (subst IsAccepting only.2.cause both), λ i. effect_by (Finishes purpose (Rejected (sym only.2.cause i).value)) x.number n)))))
+
+          module _ (accept : IsAccepting c.cause) where
+            both_accept : IsAccepting new.context.cause
+            both_accept = subst IsAccepting (sym only.2.cause) accept
+
+            pub not_returned : (c.returned ≡ Some k.bearer.0 → ⊥) → BearerRow x n (effect_by (Drops Mismatch) x.number n)
+            not_returned other = inr (at, inr (fits, inr (accepting, inr (new, inr (both_accept, inl (λ returned. other (sym only.2.returned ∙ returned), refl))))))
+
+            module _ (returned : c.returned ≡ Some k.bearer.0) (sessions : FiniteMap Session) (bearers : FiniteMap Bearer) (same : sessions ≡ n.sessions) (same_bearers : bearers ≡ n.bearers) where
+              is_returned : teid_in new.context.packet_user ≡ Some k.bearer.0
+              is_returned = only.2.returned ∙ returned
+
+              openable : CanOpenIn sessions bearers k.session.0 c.identity → CanOpen n k.session.0 new.context.identity
+              openable can =
+                  let here = subst (λ (bs : FiniteMap Bearer). CanOpenIn n.sessions bs k.session.0 c.identity) same_bearers (subst (λ (ss : FiniteMap Session). CanOpenIn ss bearers k.session.0 c.identity) same can) in
+                  subst (λ (i : ℕ). CanOpen n k.session.0 i) (sym only.2.identity)
+                  (record { range = record { low = here.range.least; high = here.range.most }; unused = here.unused; at = record { session = here.at; stands = here.stands }; not_closing = here.not_closing })
+
+              not_openable : (CanOpenIn sessions bearers k.session.0 c.identity → ⊥) → CanOpen n k.session.0 new.context.identity → ⊥
+              not_openable cannot can =
+                  let here = subst (λ (i : ℕ). CanOpen n k.session.0 i) only.2.identity can in
+                  cannot (subst (λ (bs : FiniteMap Bearer). CanOpenIn sessions bs k.session.0 c.identity) (sym same_bearers) (subst (λ (ss : FiniteMap Session). CanOpenIn ss n.bearers k.session.0 c.identity) (sym same)
+                  (record { range = record { least = here.range.low; most = here.range.high }; unused = here.unused; at = here.at.session; stands = here.at.stands; not_closing = here.not_closing })))
+
+              pub clashes : (CanOpenIn sessions bearers k.session.0 c.identity → ⊥) → BearerRow x n (effect_by (Finishes purpose Clash) x.number n)
+              clashes cannot = inr (at, inr (fits, inr (accepting, inr (new, inr (both_accept, inr (is_returned, inl (not_openable cannot, refl)))))))
+
+              pub opens : CanOpenIn sessions bearers k.session.0 c.identity → (b : Bearer) → get n.bearers k.bearer.0 ≡ Some b → (identity : ℕ) → identity ≡ c.identity → (bearer : Bearer) → bearer ≡ record b { remote = c.user; identity = Some identity; state = Active } → BearerRow x n (effect_by (OpensBearer k.bearer bearer) x.number n)
+              opens can b stands identity is_identity bearer bearer_is =
+                  let then : bearer ≡ opened_dedicated b x =
+                  bearer_is ∙ (λ i. record b { remote = (sym only.2.user ∙ sym (ap first_given only.1)) i; identity = (ap one (is_identity ∙ sym only.2.identity) ∙ sym (ap first_identity only.1)) i; state = Active }) in
+                  inr (
+                    at,
+                    inr (
+                      fits,
+                      inr (
+                        accepting,
+                        inr (
+                          new,
+                          inr (
+                            both_accept,
+                            inr (
+                              is_returned,
+                              inr (
+                                openable can,
+                                record {
+                                  at = record { bearer = b; stands = stands };
+                                  gives = λ i. record { out = nothing; outcome = Came_to Opened; node = record n { bearers = insert n.bearers k.bearer.0 (then i); pending = remove n.pending x.number } };
+                                },
+                              ),
+                            ),
+                          ),
+                        ),
+                      ),
+                    ),
+                  )
+
+-- ---- what stands, at a sound gateway
+
+-- the bearer that was asked for: it has no remote yet, unless its session is closing
+record IsBearerAsked (n : Node) (session bearer : ℕ) : Type 0 where
+  pub at : Bearer
+  pub stands : get n.bearers bearer ≡ Some at
+  pub blank : (s : Session) → get n.sessions session ≡ Some s → s.state ≢ Closing → at.remote ≡ None
+
+bearer_asked : (role : Role) (n : Node) → IsSound role n → (number : ℕ) (purpose : Purpose) (w : IsWaiting n number purpose) (r : Response) (k : AskedBearer) → IsAskedBearer purpose r k → IsBearerAsked n k.session.0 k.bearer.0
+bearer_asked role n sound number purpose w r k asked =
+    let q = asks_bearer k.session k.bearer asked.named w.message (ap (λ (p : Purpose). is_for p w.message) (sym asked.is) ∙ w.meant) in
+    let is = is_bearer role n sound number (about purpose w.message) q.request w.waits q.is in
+    let user : is.0.request.context.user.teid ≡ k.bearer.0 = ap (λ (y : CreateBearerRequest). y.context.user.teid) is.1 ∙ q.user in
+    let of : one is.0.about ≡ one k.session.0 = sym is.0.session ∙ ap session_of asked.is in
+    let session : is.0.about ≡ k.session.0 = cc in
+    by is.0.about is.0.request.context.user.teid session user is.0.wanted
+  where
+    by : (s t : ℕ) → s ≡ k.session.0 → t ≡ k.bearer.0 → IsWanted n.sessions n.bearers s t → IsBearerAsked n k.session.0 k.bearer.0
+    by s t session user (inl (b, there, is)) =
+        let stands = ap (λ (i : ℕ). get n.bearers i) (sym user) ∙ there in
+        record { at = b; stands = stands; blank = λ o here opened. (sound.contexts.each_bearer k.bearer.0 b stands).blank is.in_state }
+    by s t session user (inr ((b, there, is), (c, closes, closing))) = record {
+      at = b;
+      stands = ap (λ (i : ℕ). get n.bearers i) (sym user) ∙ there;
+      blank = λ o here opened. absurd (opened (ap (λ (y : Session). y.state) (one_value (get n.sessions k.session.0) o c here (ap (λ (i : ℕ). get n.sessions i) (sym session) ∙ closes)) ∙ closing));
+    }
+
+module _ (role : Role) (heard : Heard) (old : Node) (whole : ∥ IsSound role old ∥₁) (number : ℕ) (purpose : Purpose) (w : IsWaiting (node_heard heard old) number purpose) (r : Response) (k : AskedBearer) (asked : IsAskedBearer purpose r k) where
+  pub bearer_stands : get (node_heard heard old).bearers k.bearer.0 ≡ None → ⊥
+  bearer_stands = stands_there whole (node_heard heard old) k.bearer.0 (λ sound. let d = by sound in (d.at, d.stands))
+    where
+      by : IsSound role old → IsBearerAsked (node_heard heard old) k.session.0 k.bearer.0
+      by sound = bearer_asked role (node_heard heard old) (heard_sound role heard old sound) number purpose w r k asked
+
+  pub bearer_blank : (s : Session) → get (node_heard heard old).sessions k.session.0 ≡ Some s → s.state ≢ Closing → (b : Bearer) → get (node_heard heard old).bearers k.bearer.0 ≡ Some b → b.remote ≡ None
+  bearer_blank s here opened = blank_there whole (node_heard heard old) k.bearer.0 by
+    where
+      by : IsSound role old → IsBlank (node_heard heard old) k.bearer.0
+      by sound = let d = bearer_asked role (node_heard heard old) (heard_sound role heard old sound) number purpose w r k asked in record { at = d.at; stands = d.stands; blank = d.blank s here opened }
+
+-- ---- wired to the kinds of message
+
+pub takes_bearer_response : (role : Role) (request : Arrival) (x : CreateBearerResponse) (m : Message) → takes_type role types.CreateBearerResponse ≡ true → m ≡ Create_bearer_response x → (n : Node) (e : Effect) → BearerRow x n e → TakesBy role request m n e
+takes_bearer_response role request x m has_it is n e takes = at_taker (λ r k. TakesBy r request k n e) Packet role m (Create_bearer_response x) has_it is takes

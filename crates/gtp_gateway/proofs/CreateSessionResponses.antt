@@ -1,0 +1,243 @@
+-- Create Session Responses: what they say where they lie, and what the serving gateway does with them.
+use Rattle.std.proofs.Common.{◌≡◌, inl, inr, ℕ, true, List, [], ◌∷◌, map, Option, Some, None, option_map, refl, sym, ◌∙◌, ap, subst}
+use Rattle.std.specs.Prelude.{◌==◌, ◌&&◌, option_to_list, IsSomeAnd}
+use Rattle.std.specs.FinMap.{get, insert, remove}
+use Rattle.std.proofs.lemmas.Bool.{eqb-true}
+use Rattle.gtp_values.proofs.Tests.{both}
+use Rattle.gtp_values.specs.FiniteMap.{FiniteMap}
+use Rattle.gtp_values.specs.TunnelEnd.{TunnelEnd}
+use Rattle.gtp_values.specs.declared.identifiers.Teid.{Teid}
+use Rattle.gtp_values.specs.declared.paa.Paa.{Paa}
+use Rattle.gtp_ie.specs.Element.{Element}
+use Rattle.gtp_ie.specs.Value.{Value, OfFTeid, OfPaa}
+use Rattle.gtp_v2.specs.Datagram.{IsMessage}
+use Rattle.gtp_v2.specs.Message.{MessageValue}
+use Rattle.gtp_v2.specs.Viewed.{optional_at, front_value, values_in}
+use Rattle.gtp_machine.specs.declared.role.Role.{Role}
+use Rattle.gtp_machine.specs.declared.outcome.DropReason.TheVariants.{NoPending, Mismatch}
+use Rattle.gtp_machine.specs.declared.outcome.Outcome.TheVariants.{Opened, Rejected}
+use Rattle.gtp_machine.specs.Choice.{HasPending}
+use Rattle.gtp_machine.specs.Decoded.{number_at, cause_at, first_in, end_in, paa_in, created}
+use Rattle.gtp_machine.specs.Element.{IsAccepting}
+use Rattle.gtp_machine.specs.Input.{Came_to, Effect, nothing}
+use Rattle.gtp_machine.specs.Message.{Message, CreateSessionRequest, CreateSessionResponse, CreatedBearer, Create_session_request, Create_session_response, header_of, first_created}
+use Rattle.gtp_machine.specs.Node.{Active, Session, Bearer, Arrival, Node}
+use Rattle.gtp_machine.specs.Response.{Named}
+use Rattle.gtp_machine.specs.Serving.{FitsSession, DescribesSession, opened_session, opened_bearer, SessionAnswered as SessionRow}
+use Rattle.gtp_machine.specs.Sound.{IsSound}
+use Rattle.gtp_machine.proofs.Sound.Changes.{is_session}
+use Rattle.gtp_machine.proofs.Basics.Types.{type_kind}
+use Rattle.gtp_machine.specs.declared.role.Role.TheVariants.{Serving}
+use Rattle.gtp_gateway.specs.declared.receive.restart_counter.Heard.{Heard}
+use Rattle.gtp_gateway.specs.receive.RestartCounter.{node_heard}
+use Rattle.gtp_gateway.proofs.Unopened.{IsBlank, stands_there, blank_there}
+use Rattle.gtp_gateway.proofs.Opened.{heard_sound}
+use Rattle.gtp_gateway.specs.declared.receive.response_context.ResponseContext.{ResponseContext}
+use Rattle.gtp_machine.specs.declared.message_type.MessageType.TheVariants as types
+use Rattle.gtp_gateway.specs.declared.command.purpose.Purpose.{Purpose}
+use Rattle.gtp_gateway.specs.declared.command.purpose.Purpose.TheVariants.{CreateSession}
+use Rattle.gtp_gateway.specs.declared.receive.response.Response.{Response}
+use Rattle.gtp_gateway.specs.declared.receive.create_session_response.AskedSession.{AskedSession}
+use Rattle.gtp_gateway.specs.declared.receive.create_session_response.DescribedSession.{DescribedSession}
+use Rattle.gtp_gateway.specs.declared.receive.create_session_response.SessionResponse.{SessionResponse}
+use Rattle.gtp_gateway.specs.declared.tables.opening.ResponseVerdict.TheVariants.{Drops, Finishes, OpensSession}
+use Rattle.gtp_gateway.specs.command.SendRequest.{about}
+use Rattle.gtp_gateway.specs.receive.ResponseContext.{context_values, AreContexts, ReadsOnly}
+use Rattle.gtp_gateway.specs.Parts.{session_of}
+use Rattle.gtp_machine.specs.MessageType.{type_at, takes_type}
+use Rattle.gtp_machine.specs.Step.{TakesBy}
+use Rattle.gtp_gateway.specs.receive.CreateSessionResponse.{SaysCreated, SaysOnlyCreated, SaysCreateSessionResponse, FitsCreateSessionOf, IsAskedSession, IsDescribed}
+use Rattle.gtp_gateway.specs.tables.Opening.{IsWaiting, effect_by}
+use Rattle.gtp_gateway.specs.messages.Spelled.{is_for}
+use Rattle.gtp_gateway.proofs.InPlace.{groups_so, session_answered}
+use Rattle.gtp_gateway.proofs.Procedures.{at_taker}
+
+-- ---- what the message says, where it lies
+
+-- what the other rows of a bearer context have (table 7.2.2-2)
+abbrev pub created_others : List Element → List (List Value)
+created_others es = option_to_list (optional_at 87 2 es) ∷ option_to_list (optional_at 80 0 es) ∷ option_to_list (optional_at 94 0 es) ∷ []
+
+pub created_contexts : (octets : List ℕ) (m : MessageValue) (is : IsMessage octets m) (at : type_at m.kind ≡ Some types.CreateSessionResponse) → AreContexts m created_others (session_answered octets m (type_kind m.kind types.CreateSessionResponse at) is).groups
+created_contexts octets m is at =
+    let a = session_answered octets m (type_kind m.kind types.CreateSessionResponse at) is in
+    record {
+      stand = subst (λ o. IsSomeAnd o (λ p. (p.1 ≡ a.groups) × ((es : List Element) → values_in p.0 es ≡ context_values created_others es))) (sym (groups_so 33 93 0 _ m a.says)) (refl, λ es. refl);
+      each = a.each;
+    }
+
+pub end_is : (vs : List Value) (o : Option TunnelEnd) → option_map OfFTeid o ≡ front_value vs → first_in end_in vs ≡ o
+end_is [] None is = refl
+end_is [] (Some e) is = absurd cc
+end_is (v ∷ vs) None is = absurd cc
+end_is (v ∷ vs) (Some e) is = let same : v ≡ OfFTeid e = cc in ap end_in same
+
+pub paa_is : (vs : List Value) (o : Option Paa) → option_map OfPaa o ≡ front_value vs → first_in paa_in vs ≡ o
+paa_is [] None is = refl
+paa_is [] (Some e) is = absurd cc
+paa_is (v ∷ vs) None is = absurd cc
+paa_is (v ∷ vs) (Some e) is = let same : v ≡ OfPaa e = cc in ap paa_in same
+
+pub created_only : (groups : List (List (List Value))) (o : Option ResponseContext) → ReadsOnly created_others groups o → SaysOnlyCreated o (map created groups)
+created_only groups (Some c) (es, is, reads) = (
+  created (context_values created_others es),
+  ap (map created) is,
+  record { identity = ap (λ (v : Option Value). number_at (option_to_list v)) reads.identity; cause = ap (λ (v : Option Value). cause_at (option_to_list v)) reads.cause; user = reads.user },
+)
+created_only [] None none = λ k is. absurd cc
+created_only (g ∷ []) None none = λ k is. none g refl
+created_only (g ∷ h ∷ groups) None none = λ k is. absurd cc
+
+-- ---- the request that it answers
+
+-- a Create Session Request for a session with this bearer, with no TEID in its header
+record AsksFor (m : Message) (bearer : ℕ) : Type 0 where
+  pub request : CreateSessionRequest
+  pub is : m ≡ Create_session_request request
+  pub user : request.context.user.teid ≡ bearer
+  pub unnamed : request.header ≡ 0
+
+asks_session : (session bearer : Teid) (m : Message) → is_for (CreateSession session bearer) m ≡ true → AsksFor m bearer.0
+asks_session session bearer (Create_session_request q) meant =
+    let control = both (q.control.teid == session.0) ((q.context.user.teid == bearer.0) && (q.header == 0)) meant in
+    let user = both (q.context.user.teid == bearer.0) (q.header == 0) control.right in
+    record { request = q; is = refl; user = eqb-true q.context.user.teid bearer.0 user.left; unnamed = eqb-true q.header 0 user.right }
+asks_session session bearer m meant = absurd cc
+
+abbrev one : ℕ → Option ℕ
+one n = Some n
+
+session_here : (purpose : Purpose) (m : Message) (r : Response) (a : CreateSessionResponse) → is_for purpose m ≡ true → a.header ≡ r.header.0 → FitsSession (about purpose m) a → FitsCreateSessionOf purpose r
+session_here (CreateSession session bearer) (Create_session_request q) r a meant at fits = by fits.named
+  where
+    by : Named (about (CreateSession session bearer) (Create_session_request q)) a.header a.cause → session.0 ≡ r.header.0
+    by (inl same) = let is : session.0 ≡ a.header = cc in is ∙ at
+    by (inr other) = let x = asks_session session bearer (Create_session_request q) meant in absurd (other.2 (ap header_of x.is ∙ x.unnamed))
+session_here purpose m r a meant at fits = absurd (let asked = fits.asked in cc)
+
+module _ (n : Node) (r : SessionResponse) (a : CreateSessionResponse) (says : SaysCreateSessionResponse r a) where
+  -- the one bearer context
+  only_here : (c : ResponseContext) → r.context ≡ Some c → (k : CreatedBearer) × (a.contexts ≡ k ∷ []) × SaysCreated c k
+  only_here c is = subst (λ (o : Option ResponseContext). SaysOnlyCreated o a.contexts) is says.contexts
+
+  abbrev describes_here : (sessions : FiniteMap Session) (session : ℕ) (d : DescribedSession) → sessions ≡ n.sessions → IsDescribed sessions session r d → DescribesSession n session a
+  describes_here sessions session d same is =
+      let k = only_here d.context is.alone in
+      record {
+        at = record { session = d.session; stands = ap (λ (s : FiniteMap Session). get s session) (sym same) ∙ is.stands };
+        context = k.0;
+        alone = k.1;
+        default = k.2.identity ∙ is.default;
+        address = d.address;
+        given = says.address ∙ is.given;
+      }
+
+  describes_none : (sessions : FiniteMap Session) (session : ℕ) → sessions ≡ n.sessions → ((d : DescribedSession) → IsDescribed sessions session r d → ⊥) → DescribesSession n session a → ⊥
+  describes_none sessions session same none new = by r.context refl says.contexts
+    where
+      by : (o : Option ResponseContext) → r.context ≡ o → SaysOnlyCreated o a.contexts → ⊥
+      by None is never = never new.context new.alone
+      by (Some c) is (k, alone, said) =
+          let one : k ≡ new.context = (let both : ◌≡◌ {A = List CreatedBearer} (k ∷ []) (new.context ∷ []) = sym alone ∙ new.alone in cc) in
+          none (record { session = new.at.session; context = c; address = new.address })
+          (record {
+            stands = ap (λ (s : FiniteMap Session). get s session) same ∙ new.at.stands;
+            alone = is;
+            default = sym said.identity ∙ (ap (λ (b : CreatedBearer). b.identity) one ∙ new.default);
+            given = sym says.address ∙ new.given;
+          })
+
+-- ---- the column of the serving gateway
+
+module _ (n : Node) (r : SessionResponse) (a : CreateSessionResponse) (says : SaysCreateSessionResponse r a) where
+  pub no_pending : (HasPending n r.response.seq → ⊥) → SessionRow a n (effect_by (Drops NoPending) a.number n)
+  no_pending none = inl (λ at. none (subst (HasPending n) says.number at), refl)
+
+  module _ (purpose : Purpose) (w : IsWaiting n r.response.seq purpose) where
+    abbrev at : HasPending n a.number
+    at = record { pending = about purpose w.message; waits = ap (λ (i : ℕ). get n.pending i) says.number ∙ w.waits }
+
+    pub does_not_fit : (FitsCreateSessionOf purpose r.response → ⊥) → SessionRow a n (effect_by (Drops Mismatch) a.number n)
+    does_not_fit unfit = inr (at, inl (λ fits. unfit (session_here purpose w.message r.response a w.meant says.header fits), refl))
+
+    module _ (k : AskedSession) (asked : IsAskedSession purpose r.response k) where
+      request : AsksFor w.message k.bearer.0
+      request = asks_session k.session k.bearer w.message (ap (λ (p : Purpose). is_for p w.message) (sym asked.is) ∙ w.meant)
+
+      abbrev fits : FitsSession at.pending a
+      fits = record { request = request.request; asked = request.is; session = k.session.0; about = ap session_of asked.is; named = inl (ap session_of asked.is ∙ ap one (asked.named ∙ sym says.header)) }
+
+      pub is_refused : (IsAccepting r.response.cause → ⊥) → SessionRow a n (effect_by (Finishes purpose (Rejected r.response.cause.value)) a.number n)
+      is_refused refused = inr (at, inr (fits, inl (λ accepts. refused (subst IsAccepting says.cause accepts), λ i. effect_by (Finishes purpose (Rejected (sym says.cause i).value)) a.number n)))
+
+      module _ (accepts : IsAccepting r.response.cause) (sessions : FiniteMap Session) (same : sessions ≡ n.sessions) where
+        accepting : IsAccepting a.cause
+        accepting = subst IsAccepting (sym says.cause) accepts
+
+        pub not_described : ((d : DescribedSession) → IsDescribed sessions k.session.0 r d → ⊥) → SessionRow a n (effect_by (Drops Mismatch) a.number n)
+        not_described none = inr (at, inr (fits, inr (accepting, inl (λ new. describes_none n r a says sessions k.session.0 same none new, refl))))
+
+        module _ (d : DescribedSession) (is : IsDescribed sessions k.session.0 r d) where
+          abbrev new : DescribesSession n k.session.0 a
+          new = describes_here n r a says sessions k.session.0 d same is
+
+          only : SaysCreated d.context new.context
+          only = (only_here n r a says d.context is.alone).2
+
+          pub bearer_refused : (IsAccepting d.context.cause → ⊥) → SessionRow a n (effect_by (Finishes purpose (Rejected d.context.cause.value)) a.number n)
+          bearer_refused refused = inr (at, inr (fits, inr (accepting, inr (new, inl (λ both. refused (subst IsAccepting only.cause both), λ i. effect_by (Finishes purpose (Rejected (sym only.cause i).value)) a.number n)))))
+
+          pub opens : IsAccepting d.context.cause → (b : Bearer) → get n.bearers k.bearer.0 ≡ Some b → (session : Session) → session ≡ record d.session { remote = r.control; address = Some d.address; state = Active } → (bearer : Bearer) → bearer ≡ record b { remote = d.context.user; state = Active } → SessionRow a n (effect_by (OpensSession k.session session k.bearer bearer) a.number n)
+          opens both b stands session session_is bearer bearer_is =
+              let user : k.bearer.0 ≡ request.request.context.user.teid = sym request.user in
+              let now : session ≡ opened_session d.session a d.address = session_is ∙ (λ i. record d.session { remote = sym says.control i; address = Some d.address; state = Active }) in
+              let then : bearer ≡ opened_bearer b a = bearer_is ∙ (λ i. record b { remote = (sym only.user ∙ sym (ap first_created new.alone)) i; state = Active }) in
+              inr (
+                at,
+                inr (
+                  fits,
+                  inr (
+                    accepting,
+                    inr (
+                      new,
+                      inr (
+                        subst IsAccepting (sym only.cause) both,
+                        record {
+                          default = record { bearer = b; stands = ap (λ (t : ℕ). get n.bearers t) (sym user) ∙ stands };
+                          gives = λ i. record {
+                            out = nothing;
+                            outcome = Came_to Opened;
+                            node = record n { sessions = insert n.sessions k.session.0 (now i); bearers = insert n.bearers (user i) (then i); pending = remove n.pending a.number };
+                          };
+                        },
+                      ),
+                    ),
+                  ),
+                ),
+              )
+
+-- ---- what stands, at a sound gateway
+
+-- the default bearer of a session that was asked for has no remote yet
+default_asked : (role : Role) (n : Node) → IsSound role n → (number : ℕ) (purpose : Purpose) (w : IsWaiting n number purpose) (r : Response) (k : AskedSession) → IsAskedSession purpose r k → IsBlank n k.bearer.0
+default_asked role n sound number purpose w r k asked =
+    let x = asks_session k.session k.bearer w.message (ap (λ (p : Purpose). is_for p w.message) (sym asked.is) ∙ w.meant) in
+    let is = is_session role n sound number (about purpose w.message) x.request w.waits x.is in
+    let user : is.0.request.context.user.teid ≡ k.bearer.0 = ap (λ (q : CreateSessionRequest). q.context.user.teid) is.1 ∙ x.user in
+    let stands = ap (λ (t : ℕ). get n.bearers t) (sym user) ∙ is.0.default.1 in
+    record { at = is.0.default.0; stands = stands; blank = (sound.contexts.each_bearer k.bearer.0 is.0.default.0 stands).blank is.0.default.2.in_state }
+
+module _ (role : Role) (heard : Heard) (old : Node) (whole : ∥ IsSound role old ∥₁) (number : ℕ) (purpose : Purpose) (w : IsWaiting (node_heard heard old) number purpose) (r : Response) (k : AskedSession) (asked : IsAskedSession purpose r k) where
+  pub default_stands : get (node_heard heard old).bearers k.bearer.0 ≡ None → ⊥
+  default_stands = stands_there whole (node_heard heard old) k.bearer.0 (λ sound. let d = by sound in (d.at, d.stands))
+    where
+      by : IsSound role old → IsBlank (node_heard heard old) k.bearer.0
+      by sound = default_asked role (node_heard heard old) (heard_sound role heard old sound) number purpose w r k asked
+
+  pub default_blank : (b : Bearer) → get (node_heard heard old).bearers k.bearer.0 ≡ Some b → b.remote ≡ None
+  default_blank = blank_there whole (node_heard heard old) k.bearer.0 (λ sound. default_asked role (node_heard heard old) (heard_sound role heard old sound) number purpose w r k asked)
+
+-- ---- wired to the kinds of message
+
+pub takes_session_response : (role : Role) (request : Arrival) (a : CreateSessionResponse) (m : Message) → takes_type role types.CreateSessionResponse ≡ true → m ≡ Create_session_response a → (n : Node) (e : Effect) → SessionRow a n e → TakesBy role request m n e
+takes_session_response role request a m has_it is n e takes = at_taker (λ r k. TakesBy r request k n e) Serving role m (Create_session_response a) has_it is takes

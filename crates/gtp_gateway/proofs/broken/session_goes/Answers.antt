@@ -1,5 +1,0 @@
-use Rattle.gtp_gateway.proofs.Breaking.{default_same}
-use Rattle.gtp_gateway.proofs.broken.session_goes.Goals as goal
-
-pub returns : goal.returns
-returns c = default_same c.args.bearers.now c.args.remote.0 c.args.session.0 c.has_default.result c.has_default.ensures

@@ -1,0 +1,243 @@
+use Rattle.std.proofs.Common.{◌≡◌, ℕ, true, Some, refl, sym, ◌∙◌, ap, subst}
+use Rattle.std.proofs.lemmas.Result.{IfOk-weaker, on_err_weaker}
+use Rattle.gtp_v2.specs.Viewed.{always_has}
+use Rattle.gtp_machine.specs.Answer.{echoed}
+use Rattle.gtp_machine.specs.Message.{recovery_of}
+use Rattle.gtp_machine.specs.Decoded.{message_of}
+use Rattle.gtp_machine.specs.Packet.{SessionAsked, DeletionAsked, BearerAnswered, RemovalAnswered}
+use Rattle.gtp_machine.specs.Response.{EchoAnswered}
+use Rattle.gtp_machine.specs.Serving.{BearerAsked, SessionAnswered, DeletionAnswered, RemovalAsked}
+use Rattle.gtp_machine.specs.declared.message_type.MessageType.{MessageType}
+use Rattle.gtp_machine.specs.declared.message_type.MessageType.TheVariants as types
+use Rattle.gtp_machine.proofs.Basics.Types.{type_kind}
+use Rattle.gtp_gateway.specs.receive.DeleteSessionRequest.{delete_session_by}
+use Rattle.gtp_gateway.specs.receive.RestartCounter.{node_heard}
+use Rattle.gtp_gateway.specs.Parts.{arrival_of}
+use Rattle.gtp_machine.specs.MessageType.{takes_type}
+use Rattle.gtp_machine.specs.Step.{TakesBy}
+use Rattle.gtp_gateway.specs.GatewayState.{state_of}
+use Rattle.gtp_gateway.proofs.ByProcedure.{unheard, deletion_request_is, takes_deletion_request, echo_request_is, takes_echo_request, echo_response_is, takes_echo_response, deletion_response_is, takes_deletion_response, removal_response_is, takes_removal_response, takes_session_request}
+use Rattle.gtp_gateway.proofs.DeleteBearerRequests.{delete_bearer_is, takes_removal_request}
+use Rattle.gtp_gateway.proofs.GivenUp.{wait_on}
+use Rattle.gtp_gateway.proofs.QueuesAfter.{on_ok, tied_of, on_goes}
+use Rattle.gtp_gateway.proofs.CreateBearerRequests.{has_context, create_bearer_is, takes_bearer_request}
+use Rattle.gtp_gateway.proofs.CreateBearerResponses.{takes_bearer_response}
+use Rattle.gtp_gateway.proofs.Rows.{as_row}
+use Rattle.gtp_gateway.proofs.CreateSessionResponses.{takes_session_response}
+use Rattle.gtp_gateway.proofs.Allocations.{on_err, needs_echo, needs_session, needs_deletion, needs_bearer, needs_removal, needs_session_response, needs_bearer_response}
+use Rattle.gtp_gateway.specs.receive.Allocations.{AlwaysSendsOrOpens}
+use Rattle.gtp_machine.specs.Node.{Node}
+use Rattle.gtp_gateway.proofs.parts.Parts.dispatch.Goals as goal
+
+pub returns-in-EchoRequest-clause-taken : goal.returns-in-EchoRequest-clause-taken
+returns-in-EchoRequest-clause-taken c =
+    let old = state_of c.args.self.now in
+    let m = c.args.view.now.message in
+    let request = arrival_of c.args.source c.args.octets.now in
+    let says = echo_request_is c.args.octets.now m c.requires.spelled (c.requires.of ∙ ap (λ (p : MessageType). Some p) c.in-EchoRequest.is) in
+    IfOk-weaker c.take_echo_request.result _ _ (λ step taken. as_row (λ n e. e ≡ echoed request says.echo n) (TakesBy old.role request (message_of m)) request old.role old.role (node_heard c.args.heard old.node) (node_heard c.args.heard old.node) step (state_of c.take_echo_request.new.self) refl refl
+    (takes_echo_request old.role request says.echo (message_of m) says.is)
+    (taken request says.echo refl (says.number ∙ sym c.seq.ensures)))
+    c.take_echo_request.ensures.taken
+
+pub returns-in-EchoResponse-clause-taken : goal.returns-in-EchoResponse-clause-taken
+returns-in-EchoResponse-clause-taken c =
+    let old = state_of c.args.self.now in
+    let m = c.args.view.now.message in
+    let request = arrival_of c.args.source c.args.octets.now in
+    let says = echo_response_is c.args.octets.now m c.requires.spelled (c.requires.of ∙ ap (λ (p : MessageType). Some p) c.in-EchoResponse.is) in
+    let heard = state_of c.hear.new.self in
+    as_row (EchoAnswered says.echo) (TakesBy old.role request (message_of m)) request old.role heard.role (node_heard c.args.heard old.node) heard.node _ (state_of c.take_echo_response.new.self) c.hear.ensures.role c.hear.ensures.node
+    (takes_echo_response old.role request says.echo (message_of m) says.is)
+    (c.take_echo_response.ensures.taken request says.echo (says.number ∙ sym c.seq-in-EchoResponse.ensures))
+
+pub take_echo_request-requires : goal.take_echo_request-requires
+take_echo_request-requires c = record { weighed = (c.requires.weighed.0, c.requires.weighed.2) }
+
+pub hear-requires : goal.hear-requires
+hear-requires c = (c.requires.weighed.0, c.requires.weighed.2)
+
+pub returns-in-DeleteSessionRequest-clause-taken : goal.returns-in-DeleteSessionRequest-clause-taken
+returns-in-DeleteSessionRequest-clause-taken c =
+    let old = state_of c.args.self.now in
+    let m = c.args.view.now.message in
+    let request = arrival_of c.args.source c.args.octets.now in
+    let is = deletion_request_is c.args.octets.now m c.delete_request_in-request.result c.requires.spelled (c.requires.of ∙ ap (λ (p : MessageType). Some p) c.in-DeleteSessionRequest.is) c.delete_request_in-request.ensures in
+    IfOk-weaker c.take_delete_session_request.result _ _ (λ step taken. as_row (DeletionAsked request (delete_session_by c.delete_request_in-request.result)) (TakesBy old.role request (message_of m)) request old.role old.role (node_heard c.args.heard old.node) old.node step (state_of c.take_delete_session_request.new.self) refl (unheard c.args.heard (message_of m) old c.requires.weighed (ap recovery_of is))
+    (takes_deletion_request old.role request _ (message_of m) (subst (λ (p : MessageType). takes_type old.role p ≡ true) c.in-DeleteSessionRequest.is c.requires.has) is)
+    taken)
+    c.take_delete_session_request.ensures.taken
+
+pub returns-in-DeleteSessionResponse-clause-taken : goal.returns-in-DeleteSessionResponse-clause-taken
+returns-in-DeleteSessionResponse-clause-taken c =
+    let old = state_of c.args.self.now in
+    let m = c.args.view.now.message in
+    let request = arrival_of c.args.source c.args.octets.now in
+    let r = c.response_in-response in
+    let says = deletion_response_is c.args.octets.now m r.result.cause c.requires.spelled (c.requires.of ∙ ap (λ (p : MessageType). Some p) c.in-DeleteSessionResponse.is) r.ensures.cause in
+    let heard = state_of c.hear-in-DeleteSessionResponse.new.self in
+    as_row (DeletionAnswered says.response) (TakesBy old.role request (message_of m)) request old.role heard.role (node_heard c.args.heard old.node) heard.node _ (state_of c.take_delete_session_response.new.self) c.hear-in-DeleteSessionResponse.ensures.role c.hear-in-DeleteSessionResponse.ensures.node
+    (takes_deletion_response old.role request says.response (message_of m) (subst (λ (p : MessageType). takes_type old.role p ≡ true) c.in-DeleteSessionResponse.is c.requires.has) says.is)
+    (c.take_delete_session_response.ensures.taken request says.response (says.header ∙ sym r.ensures.header) (says.number ∙ sym r.ensures.seq) says.cause)
+
+pub returns-in-DeleteBearerResponse-clause-taken : goal.returns-in-DeleteBearerResponse-clause-taken
+returns-in-DeleteBearerResponse-clause-taken c =
+    let old = state_of c.args.self.now in
+    let m = c.args.view.now.message in
+    let request = arrival_of c.args.source c.args.octets.now in
+    let r = c.response_in-response-in-DeleteBearerResponse in
+    let says = removal_response_is c.args.octets.now m r.result.cause c.requires.spelled (c.requires.of ∙ ap (λ (p : MessageType). Some p) c.in-DeleteBearerResponse.is) r.ensures.cause in
+    let heard = state_of c.hear-in-DeleteBearerResponse.new.self in
+    as_row (RemovalAnswered says.response) (TakesBy old.role request (message_of m)) request old.role heard.role (node_heard c.args.heard old.node) heard.node _ (state_of c.take_delete_bearer_response.new.self) c.hear-in-DeleteBearerResponse.ensures.role c.hear-in-DeleteBearerResponse.ensures.node
+    (takes_removal_response old.role request says.response (message_of m) (subst (λ (p : MessageType). takes_type old.role p ≡ true) c.in-DeleteBearerResponse.is c.requires.has) says.is)
+    (c.take_delete_bearer_response.ensures.taken request says.response (says.header ∙ sym r.ensures.header) (says.number ∙ sym r.ensures.seq) says.cause)
+
+pub create_session_request_in-request-requires-clause-of : goal.create_session_request_in-request-requires-clause-of
+create_session_request_in-request-requires-clause-of c = type_kind c.args.view.now.message.kind types.CreateSessionRequest (c.requires.of ∙ ap (λ (p : MessageType). Some p) c.in-CreateSessionRequest.is)
+
+pub returns-in-CreateSessionRequest-clause-taken : goal.returns-in-CreateSessionRequest-clause-taken
+returns-in-CreateSessionRequest-clause-taken c =
+    let old = state_of c.args.self.now in
+    let m = c.args.view.now.message in
+    let request = arrival_of c.args.source c.args.octets.now in
+    let q = c.create_session_request_in-request.ensures in
+    IfOk-weaker c.take_create_session_request.result _ _ (λ step taken. as_row (SessionAsked request q.0) (TakesBy old.role request (message_of m)) request old.role old.role (node_heard c.args.heard old.node) (node_heard c.args.heard old.node) step (state_of c.take_create_session_request.new.self) refl refl
+    (takes_session_request old.role request q.0 (message_of m) (subst (λ (p : MessageType). takes_type old.role p ≡ true) c.in-CreateSessionRequest.is c.requires.has) q.1)
+    (taken q.0 q.2))
+    c.take_create_session_request.ensures.taken
+
+pub take_create_session_request-requires-clause-weighed : goal.take_create_session_request-requires-clause-weighed
+take_create_session_request-requires-clause-weighed c = (c.requires.weighed.0, c.requires.weighed.2)
+
+pub returns-in-CreateBearerRequest-clause-taken : goal.returns-in-CreateBearerRequest-clause-taken
+returns-in-CreateBearerRequest-clause-taken c =
+    let old = state_of c.args.self.now in
+    let m = c.args.view.now.message in
+    let request = arrival_of c.args.source c.args.octets.now in
+    let says = create_bearer_is c.args.octets.now m c.create_bearer_request_in-request.result c.requires.spelled (c.requires.of ∙ ap (λ (p : MessageType). Some p) c.in-CreateBearerRequest.is) c.create_bearer_request_in-request.ensures in
+    IfOk-weaker c.take_create_bearer_request.result _ _ (λ step taken. as_row (BearerAsked request says.request) (TakesBy old.role request (message_of m)) request old.role old.role (node_heard c.args.heard old.node) old.node step (state_of c.take_create_bearer_request.new.self) refl (unheard c.args.heard (message_of m) old c.requires.weighed (ap recovery_of says.is))
+    (takes_bearer_request old.role request says.request (message_of m) (subst (λ (p : MessageType). takes_type old.role p ≡ true) c.in-CreateBearerRequest.is c.requires.has) says.is)
+    (taken says.request says.says))
+    c.take_create_bearer_request.ensures.taken
+
+pub create_bearer_request_in-request-requires : goal.create_bearer_request_in-request-requires
+create_bearer_request_in-request-requires c = has_context c.args.octets.now c.args.view.now.message c.requires.spelled (c.requires.of ∙ ap (λ (p : MessageType). Some p) c.in-CreateBearerRequest.is)
+
+pub response_in-response-requires-in-DeleteBearerResponse : goal.response_in-response-requires-in-DeleteBearerResponse
+response_in-response-requires-in-DeleteBearerResponse c = ap (λ (k : ℕ). always_has k 2 0) (type_kind c.args.view.now.message.kind types.DeleteBearerResponse (c.requires.of ∙ ap (λ (p : MessageType). Some p) c.in-DeleteBearerResponse.is))
+
+pub returns-in-CreateSessionResponse-clause-taken : goal.returns-in-CreateSessionResponse-clause-taken
+returns-in-CreateSessionResponse-clause-taken c =
+    let old = state_of c.args.self.now in
+    let m = c.args.view.now.message in
+    let request = arrival_of c.args.source c.args.octets.now in
+    let reads = c.create_session_response_in-answer.ensures in
+    IfOk-weaker c.take_create_session_response.result _ _ (λ step taken. as_row (SessionAnswered reads.response) (TakesBy old.role request (message_of m)) request old.role old.role (node_heard c.args.heard old.node) (node_heard c.args.heard old.node) step (state_of c.take_create_session_response.new.self) refl refl
+    (takes_session_response old.role request reads.response (message_of m) (subst (λ (p : MessageType). takes_type old.role p ≡ true) c.in-CreateSessionResponse.is c.requires.has) reads.is)
+    (taken request reads.response reads.says))
+    c.take_create_session_response.ensures.taken
+
+pub take_delete_bearer_request-requires-clause-kind : goal.take_delete_bearer_request-requires-clause-kind
+take_delete_bearer_request-requires-clause-kind c = type_kind c.args.view.now.message.kind types.DeleteBearerRequest (c.requires.of ∙ ap (λ (p : MessageType). Some p) c.in-DeleteBearerRequest.is)
+
+pub returns-in-DeleteBearerRequest-clause-taken : goal.returns-in-DeleteBearerRequest-clause-taken
+returns-in-DeleteBearerRequest-clause-taken c =
+    let old = state_of c.args.self.now in
+    let m = c.args.view.now.message in
+    let request = arrival_of c.args.source c.args.octets.now in
+    let says = delete_bearer_is c.args.octets.now m c.delete_request_in-request-in-DeleteBearerRequest.result c.requires.spelled (c.requires.of ∙ ap (λ (p : MessageType). Some p) c.in-DeleteBearerRequest.is) c.delete_request_in-request-in-DeleteBearerRequest.ensures in
+    IfOk-weaker c.take_delete_bearer_request.result _ _ (λ step taken. as_row (RemovalAsked request says.request) (TakesBy old.role request (message_of m)) request old.role old.role (node_heard c.args.heard old.node) old.node step (state_of c.take_delete_bearer_request.new.self) refl (unheard c.args.heard (message_of m) old c.requires.weighed (ap recovery_of says.is))
+    (takes_removal_request old.role request says.request (message_of m) (subst (λ (p : MessageType). takes_type old.role p ≡ true) c.in-DeleteBearerRequest.is c.requires.has) says.is)
+    (taken says.request says.says says.reads))
+    c.take_delete_bearer_request.ensures.taken
+
+pub returns-in-CreateBearerResponse-clause-taken : goal.returns-in-CreateBearerResponse-clause-taken
+returns-in-CreateBearerResponse-clause-taken c =
+    let old = state_of c.args.self.now in
+    let m = c.args.view.now.message in
+    let request = arrival_of c.args.source c.args.octets.now in
+    let reads = c.create_bearer_response_in-answer.ensures in
+    IfOk-weaker c.take_create_bearer_response.result _ _ (λ step taken. as_row (BearerAnswered reads.response) (TakesBy old.role request (message_of m)) request old.role old.role (node_heard c.args.heard old.node) (node_heard c.args.heard old.node) step (state_of c.take_create_bearer_response.new.self) refl refl
+    (takes_bearer_response old.role request reads.response (message_of m) (subst (λ (p : MessageType). takes_type old.role p ≡ true) c.in-CreateBearerResponse.is c.requires.has) reads.is)
+    (taken request reads.response reads.says))
+    c.take_create_bearer_response.ensures.taken
+
+pub returns-in-EchoResponse-clause-goes : goal.returns-in-EchoResponse-clause-goes
+returns-in-EchoResponse-clause-goes c =
+    let heard = state_of c.hear.new.self in
+    on_goes c.args.source c.args.octets.now (state_of c.args.self.now) (state_of c.take_echo_response.new.self) (wait_on (state_of c.args.self.now) heard (state_of c.take_echo_response.new.self) c.hear.ensures.waits c.take_echo_response.ensures.waits) (tied_of c.take_echo_response.new.self)
+
+pub returns-in-DeleteSessionResponse-clause-goes : goal.returns-in-DeleteSessionResponse-clause-goes
+returns-in-DeleteSessionResponse-clause-goes c =
+    let heard = state_of c.hear-in-DeleteSessionResponse.new.self in
+    on_goes c.args.source c.args.octets.now (state_of c.args.self.now) (state_of c.take_delete_session_response.new.self) (wait_on (state_of c.args.self.now) heard (state_of c.take_delete_session_response.new.self) c.hear-in-DeleteSessionResponse.ensures.waits c.take_delete_session_response.ensures.waits) (tied_of c.take_delete_session_response.new.self)
+
+pub returns-in-DeleteBearerResponse-clause-goes : goal.returns-in-DeleteBearerResponse-clause-goes
+returns-in-DeleteBearerResponse-clause-goes c =
+    let heard = state_of c.hear-in-DeleteBearerResponse.new.self in
+    on_goes c.args.source c.args.octets.now (state_of c.args.self.now) (state_of c.take_delete_bearer_response.new.self) (wait_on (state_of c.args.self.now) heard (state_of c.take_delete_bearer_response.new.self) c.hear-in-DeleteBearerResponse.ensures.waits c.take_delete_bearer_response.ensures.waits) (tied_of c.take_delete_bearer_response.new.self)
+
+pub returns-in-EchoRequest-clause-memory : goal.returns-in-EchoRequest-clause-memory
+returns-in-EchoRequest-clause-memory c =
+    let old = state_of c.args.self.now in
+    let m = c.args.view.now.message in
+    let says = echo_request_is c.args.octets.now m c.requires.spelled (c.requires.of ∙ ap (λ (p : MessageType). Some p) c.in-EchoRequest.is) in
+    on_err c.take_echo_request.result (needs_echo old.role (arrival_of c.args.source c.args.octets.now) (message_of m) (node_heard c.args.heard old.node) says.echo says.is)
+
+pub returns-in-CreateSessionRequest-clause-memory : goal.returns-in-CreateSessionRequest-clause-memory
+returns-in-CreateSessionRequest-clause-memory c =
+    let old = state_of c.args.self.now in
+    let request = arrival_of c.args.source c.args.octets.now in
+    let q = c.create_session_request_in-request.ensures in
+    on_err_weaker c.take_create_session_request.result (λ needs. needs_session old.role request (message_of c.args.view.now.message) (node_heard c.args.heard old.node) q.0 (subst (λ (p : MessageType). takes_type old.role p ≡ true) c.in-CreateSessionRequest.is c.requires.has) q.1 (needs request q.0))
+    c.take_create_session_request.ensures.memory
+
+pub returns-in-DeleteSessionRequest-clause-memory : goal.returns-in-DeleteSessionRequest-clause-memory
+returns-in-DeleteSessionRequest-clause-memory c =
+    let old = state_of c.args.self.now in
+    let m = c.args.view.now.message in
+    let request = arrival_of c.args.source c.args.octets.now in
+    let is = deletion_request_is c.args.octets.now m c.delete_request_in-request.result c.requires.spelled (c.requires.of ∙ ap (λ (p : MessageType). Some p) c.in-DeleteSessionRequest.is) c.delete_request_in-request.ensures in
+    on_err_weaker c.take_delete_session_request.result (λ needs. subst (λ (n : Node). AlwaysSendsOrOpens (TakesBy old.role request (message_of m)) n) (unheard c.args.heard (message_of m) old c.requires.weighed (ap recovery_of is))
+    (needs_deletion old.role request (message_of m) old.node _ (subst (λ (p : MessageType). takes_type old.role p ≡ true) c.in-DeleteSessionRequest.is c.requires.has) is (needs request)))
+    c.take_delete_session_request.ensures.memory
+
+pub returns-in-CreateBearerRequest-clause-memory : goal.returns-in-CreateBearerRequest-clause-memory
+returns-in-CreateBearerRequest-clause-memory c =
+    let old = state_of c.args.self.now in
+    let m = c.args.view.now.message in
+    let request = arrival_of c.args.source c.args.octets.now in
+    let says = create_bearer_is c.args.octets.now m c.create_bearer_request_in-request.result c.requires.spelled (c.requires.of ∙ ap (λ (p : MessageType). Some p) c.in-CreateBearerRequest.is) c.create_bearer_request_in-request.ensures in
+    on_err_weaker c.take_create_bearer_request.result (λ needs. subst (λ (n : Node). AlwaysSendsOrOpens (TakesBy old.role request (message_of m)) n) (unheard c.args.heard (message_of m) old c.requires.weighed (ap recovery_of says.is))
+    (needs_bearer old.role request (message_of m) old.node says.request (subst (λ (p : MessageType). takes_type old.role p ≡ true) c.in-CreateBearerRequest.is c.requires.has) says.is (needs request says.request says.says)))
+    c.take_create_bearer_request.ensures.memory
+
+pub returns-in-DeleteBearerRequest-clause-memory : goal.returns-in-DeleteBearerRequest-clause-memory
+returns-in-DeleteBearerRequest-clause-memory c =
+    let old = state_of c.args.self.now in
+    let m = c.args.view.now.message in
+    let request = arrival_of c.args.source c.args.octets.now in
+    let says = delete_bearer_is c.args.octets.now m c.delete_request_in-request-in-DeleteBearerRequest.result c.requires.spelled (c.requires.of ∙ ap (λ (p : MessageType). Some p) c.in-DeleteBearerRequest.is) c.delete_request_in-request-in-DeleteBearerRequest.ensures in
+    on_err_weaker c.take_delete_bearer_request.result (λ needs. subst (λ (n : Node). AlwaysSendsOrOpens (TakesBy old.role request (message_of m)) n) (unheard c.args.heard (message_of m) old c.requires.weighed (ap recovery_of says.is))
+    (needs_removal old.role request (message_of m) old.node says.request (subst (λ (p : MessageType). takes_type old.role p ≡ true) c.in-DeleteBearerRequest.is c.requires.has) says.is (needs request says.request says.says)))
+    c.take_delete_bearer_request.ensures.memory
+
+pub returns-in-CreateSessionResponse-clause-memory : goal.returns-in-CreateSessionResponse-clause-memory
+returns-in-CreateSessionResponse-clause-memory c =
+    let old = state_of c.args.self.now in
+    let reads = c.create_session_response_in-answer.ensures in
+    on_err_weaker c.take_create_session_response.result (λ needs. needs_session_response old.role (arrival_of c.args.source c.args.octets.now) (message_of c.args.view.now.message) (node_heard c.args.heard old.node) reads.response (subst (λ (p : MessageType). takes_type old.role p ≡ true) c.in-CreateSessionResponse.is c.requires.has) reads.is (needs reads.response reads.says))
+    c.take_create_session_response.ensures.memory
+
+pub returns-in-CreateBearerResponse-clause-memory : goal.returns-in-CreateBearerResponse-clause-memory
+returns-in-CreateBearerResponse-clause-memory c =
+    let old = state_of c.args.self.now in
+    let reads = c.create_bearer_response_in-answer.ensures in
+    on_err_weaker c.take_create_bearer_response.result (λ needs. needs_bearer_response old.role (arrival_of c.args.source c.args.octets.now) (message_of c.args.view.now.message) (node_heard c.args.heard old.node) reads.response (subst (λ (p : MessageType). takes_type old.role p ≡ true) c.in-CreateBearerResponse.is c.requires.has) reads.is (needs reads.response reads.says))
+    c.take_create_bearer_response.ensures.memory
+
+pub returns-in-CreateSessionResponse-clause-goes : goal.returns-in-CreateSessionResponse-clause-goes
+returns-in-CreateSessionResponse-clause-goes c = on_ok c.take_create_session_response.result (λ waits. on_goes c.args.source c.args.octets.now (state_of c.args.self.now) (state_of c.take_create_session_response.new.self) waits (tied_of c.take_create_session_response.new.self)) c.take_create_session_response.ensures.waits
+
+pub returns-in-CreateBearerResponse-clause-goes : goal.returns-in-CreateBearerResponse-clause-goes
+returns-in-CreateBearerResponse-clause-goes c = on_ok c.take_create_bearer_response.result (λ waits. on_goes c.args.source c.args.octets.now (state_of c.args.self.now) (state_of c.take_create_bearer_response.new.self) waits (tied_of c.take_create_bearer_response.new.self)) c.take_create_bearer_response.ensures.waits

@@ -1,0 +1,82 @@
+use Rattle.std.proofs.Common.{◌≡◌, true, Option, inl, inr, refl, sym, ◌∙◌, ap, subst, [], ◌∷◌}
+use Rattle.gtp_machine.specs.Node.{Node}
+use Rattle.gtp_machine.specs.Reading.{control_message}
+use Rattle.gtp_machine.specs.Serving.{BearerJudged, BearerAsked}
+use Rattle.gtp_machine.specs.declared.outcome.DropReason.TheVariants.{HeldFull, ContextNotActive}
+use Rattle.gtp_gateway.specs.declared.tables.change.Change.{Change}
+use Rattle.gtp_gateway.specs.declared.receive.create_bearer_request.judge.CreateBearerVerdict.{CreateBearerVerdict}
+use Rattle.gtp_gateway.specs.receive.Answer.{answering}
+use Rattle.gtp_gateway.specs.tables.Change.{changed_by}
+use Rattle.gtp_gateway.specs.receive.CreateBearerRequest.{bearer_answer, create_bearer_effect, is_granted, ChoosesBearer}
+use Rattle.gtp_gateway.specs.Parts.{arrival_of, node_of}
+use Rattle.gtp_gateway.specs.GatewayState.{state_of}
+use Rattle.gtp_gateway.proofs.Answers.{held_few, held_many}
+use Rattle.gtp_tables.specs.Contexts.{Contexts}
+use Rattle.gtp_gateway.proofs.Columns.{yes, no}
+use Rattle.gtp_gateway.proofs.BeforeSecond.{stands_itself}
+use Rattle.gtp_gateway.proofs.Rows.{drops, answers_made}
+use Rattle.gtp_gateway.proofs.Allocations.{on_err, bearer_asked}
+use Rattle.gtp_gateway.proofs.Choosings.{unmade, lowest_bearer}
+use Rattle.gtp_gateway.specs.declared.step.ControlStep.{ControlStep}
+use Rattle.gtp_gateway.proofs.parts.Parts.take_create_bearer_request.Goals as goal
+
+pub returns-then-is_full-clause-taken : goal.returns-then-is_full-clause-taken
+returns-then-is_full-clause-taken c = λ q says.
+    let old = c.args.self.now in
+    let request = arrival_of c.args.source c.args.octets.now in
+    drops (BearerAsked request q) request (state_of old) c.dropped.result HeldFull c.dropped.ensures (inl (λ room. held_many old.held.pairs (yes c.is_full.ensures.full c.if-is_full.true) room.few, refl))
+
+pub returns-in_default-clause-taken : goal.returns-in_default-clause-taken
+returns-in_default-clause-taken c = λ q says.
+    let old = c.args.self.now in
+    let node = node_of old in
+    let request = arrival_of c.args.source c.args.octets.now in
+    drops (BearerAsked request q) request (state_of old) c.dropped-in_default.result ContextNotActive c.dropped-in_default.ensures
+    (inr (
+      record { few = held_few old.held.pairs (no c.is_full.ensures.full c.if-is_full.false) },
+      subst (λ (v : Option CreateBearerVerdict). BearerJudged request q node (create_bearer_effect request c.args.request.now q v node)) c.in_default.is ((c.judge_create_bearer.ensures.judged node (stands_itself node c.args.request.now.header.0 c.get-found.result c.new-view.result.bearers c.get-found.ensures (ap (λ (x : Contexts). x.bearers) c.new-view.ensures))).judged request q says),
+    ))
+
+pub returns-clause-taken : goal.returns-clause-taken
+returns-clause-taken c = λ q says.
+    let old = c.args.self.now in
+    let node = node_of old in
+    let request = arrival_of c.args.source c.args.octets.now in
+    let r = c.args.request.now in
+    let v = c.in-Some.verdict in
+    let judged = subst (λ (o : Option CreateBearerVerdict). BearerJudged request q node (create_bearer_effect request r q o node)) c.in-Some.is ((c.judge_create_bearer.ensures.judged node (stands_itself node c.args.request.now.header.0 c.get-found.result c.new-view.result.bearers c.get-found.ensures (ap (λ (x : Contexts). x.bearers) c.new-view.ensures))).judged request q says) in
+    let said : control_message c.in_ok-message.message ≡ bearer_answer v.answer v.header.0 q node = c.in_ok-message.ensures.says q says in
+    answers_made (BearerAsked request q) request (state_of old) (state_of c.answer.new.self) c.answered.result c.in_ok-out.out (control_message c.in_ok-message.message ∷ []) c.cause.result c.is_granted.result (changed_by c.change.result node) c.answered.ensures c.in_ok-out.ensures.sent c.in_ok-out.ensures.back c.in_ok-out.ensures.node c.in_ok-out.ensures.role
+    (inr (
+      record { few = held_few old.held.pairs (no c.is_full.ensures.full c.if-is_full.false) },
+      subst (λ e. BearerJudged request q node e) (λ i. answering (sym c.is_granted.ensures i) request (sym said i ∷ []) (sym c.cause.ensures i) (changed_by (sym c.change.ensures i) node)) judged,
+    ))
+
+pub returns-in_err-message-clause-memory : goal.returns-in_err-message-clause-memory
+returns-in_err-message-clause-memory c = on_err c.from_residual.result (λ arrival q says.
+    let old = c.args.self.now in
+    let node = node_of old in
+    let judged = subst (λ (o : Option CreateBearerVerdict). BearerJudged arrival q node (create_bearer_effect arrival c.args.request.now q o node)) c.in-Some.is ((c.judge_create_bearer.ensures.judged node (stands_itself node c.args.request.now.header.0 c.get-found.result c.new-view.result.bearers c.get-found.ensures (ap (λ (x : Contexts). x.bearers) c.new-view.ensures))).judged arrival q says) in
+    bearer_asked arrival q node _ _ _ _ (record { few = held_few old.held.pairs (no c.is_full.ensures.full c.if-is_full.false) }) judged)
+
+pub returns-in_err-out-clause-memory : goal.returns-in_err-out-clause-memory
+returns-in_err-out-clause-memory c = on_err c.from_residual-in_err-out.result (λ arrival q says.
+    let old = c.args.self.now in
+    let node = node_of old in
+    let judged = subst (λ (o : Option CreateBearerVerdict). BearerJudged arrival q node (create_bearer_effect arrival c.args.request.now q o node)) c.in-Some.is ((c.judge_create_bearer.ensures.judged node (stands_itself node c.args.request.now.header.0 c.get-found.result c.new-view.result.bearers c.get-found.ensures (ap (λ (x : Contexts). x.bearers) c.new-view.ensures))).judged arrival q says) in
+    bearer_asked arrival q node _ _ _ _ (record { few = held_few old.held.pairs (no c.is_full.ensures.full c.if-is_full.false) }) judged)
+
+pub returns-clause-choices : goal.returns-clause-choices
+returns-clause-choices c = λ made.
+    let old = node_of c.args.self.now in
+    let r = c.args.request.now in
+    let v = c.in-Some.verdict in
+    let granted : is_granted v.answer ≡ true = sym c.is_granted.ensures ∙ (sym (ap (λ (s : ControlStep). s.report.made) c.answered.ensures) ∙ made) in
+    lowest_bearer r v.answer old (node_of c.answer.new.self) (subst (λ (o : Option CreateBearerVerdict). ChoosesBearer r.header.0 o old) c.in-Some.is (c.judge_create_bearer.ensures.judged old (stands_itself old c.args.request.now.header.0 c.get-found.result c.new-view.result.bearers c.get-found.ensures (ap (λ (x : Contexts). x.bearers) c.new-view.ensures))).chosen)
+    (ap (λ (n : Node). n.bearers) c.in_ok-out.ensures.node ∙ ap (λ (k : Change). (changed_by k old).bearers) c.change.ensures) granted
+
+pub returns-then-is_full-clause-choices : goal.returns-then-is_full-clause-choices
+returns-then-is_full-clause-choices c = unmade c.dropped.result.report.made (ap (λ (s : ControlStep). s.report.made) c.dropped.ensures)
+
+pub returns-in_default-clause-choices : goal.returns-in_default-clause-choices
+returns-in_default-clause-choices c = unmade c.dropped-in_default.result.report.made (ap (λ (s : ControlStep). s.report.made) c.dropped-in_default.ensures)

@@ -1,0 +1,72 @@
+-- Commands that were carried out, and commands that were refused.
+use Rattle.std.specs.Prelude.{◌≡◌, ◌↔◌, ℕ, [], ◌∷◌, Option, Some, None, option_map, Result, Err}
+use Rattle.gtp_reliable.specs.Pending.{IsNextFree}
+use Rattle.gtp_machine.specs.Ordered.{Unless}
+use Rattle.gtp_machine.specs.Choice.{HasPendingRoom}
+use Rattle.gtp_machine.specs.declared.outcome.Refusal.TheVariants.{PendingFull}
+use Rattle.gtp_machine.specs.Input.{Came_to, Command, Mark_end, Send_user, Commanded, Effect, refused}
+use Rattle.gtp_machine.specs.declared.outcome.Refusal.{Refusal}
+use Rattle.gtp_machine.specs.declared.outcome.Outcome.{Outcome}
+use Rattle.gtp_machine.specs.declared.outcome.Outcome.TheVariants as outcomes
+use Rattle.gtp_machine.specs.Message.{Message, Echo_request, Create_session_request, Delete_session_request, Create_bearer_request, Delete_bearer_request}
+use Rattle.gtp_machine.specs.Step.{Step}
+use Rattle.gtp_gateway.specs.declared.fault.CommandFault.{CommandFault}
+use Rattle.gtp_gateway.specs.declared.fault.CommandFault.TheVariants.{Refused}
+use Rattle.gtp_gateway.specs.declared.command.purpose.Purpose.{Purpose}
+use Rattle.gtp_gateway.specs.declared.sent.Begun.{Begun}
+use Rattle.gtp_gateway.specs.command.SendRequest.{after_begun}
+use Rattle.gtp_gateway.specs.messages.Sent.{datagram_by, AreSent}
+use Rattle.gtp_gateway.specs.messages.Spelled.{message_in}
+use Rattle.gtp_gateway.specs.GatewayState.{GatewayState, NodeMatchesQueues}
+
+-- what a command comes to: a request is sent, or a packet or an End Marker
+abbrev pub outcome_by : Command → Option ℕ → Outcome
+outcome_by (Mark_end bearer) teid = outcomes.GoneOut
+outcome_by (Send_user bearer payload) teid = outcomes.GoneOut
+outcome_by command teid = outcomes.Begun teid
+
+-- the command was carried out: that is a step of the machine, whose one datagram is the one that is sent
+pub record IsCarriedOut (command : Command) (old : GatewayState) (begun : Begun) (new : GatewayState) : Type 0 where
+  pub effect : Effect
+  pub step : Step old.role old.node (Commanded command) effect
+  pub sent : AreSent old.node.config (datagram_by begun.out ∷ []) effect.out.sent
+  pub outcome : effect.outcome ≡ Came_to (outcome_by command (option_map (λ t. t.0) begun.teid))
+  pub becomes : new.node ≡ effect.node
+  pub role : new.role ≡ old.role
+
+-- the sequence number of a request
+abbrev pub request_number : Message → Option ℕ
+request_number (Echo_request q) = Some q.number
+request_number (Create_session_request q) = Some q.number
+request_number (Delete_session_request d) = Some d.number
+request_number (Create_bearer_request r) = Some r.number
+request_number (Delete_bearer_request d) = Some d.number
+request_number m = None
+
+-- the request that was sent has the next free number, as its octets read, and waits from now on under that; what ticks and draws go by is what the
+-- node keeps: so the request is about the session and bearer that the node says, and the TEIDs that were drawn are one after the other
+pub record SendsRequestNext (old : GatewayState) (begun : Begun) (new : GatewayState) : Type 0 where
+  pub number : ℕ
+  pub free : IsNextFree old.queues.next old.queues.waiting number
+  pub sent : request_number (message_in begun.out.octets.items) ≡ Some number
+  pub purpose : Purpose
+  pub queues : new.queues ≡ after_begun number purpose begun.out.to begun.out.octets.items old.queues
+  pub tied : NodeMatchesQueues new
+
+-- a command is refused so exactly where the machine refuses it so
+abbrev pub IsRefusedWhere : Command → GatewayState → Result Begun CommandFault → Type 0
+IsRefusedWhere command old result = (why : Refusal) → (result ≡ Err (Refused why)) ↔ Step old.role old.node (Commanded command) (refused old.node why)
+
+-- the last rule of a command that sends a request: it is refused where 256 are pending, and else the request is sent
+abbrev pub IsLastRefused : (Effect → Type 0) → GatewayState → Result Begun CommandFault → Type 0
+IsLastRefused Asks old result = (why : Refusal) → (result ≡ Err (Refused why)) ↔ Unless (HasPendingRoom old.node) (refused old.node why ≡ refused old.node PendingFull) (λ few. Asks (refused old.node why))
+
+-- a request was sent, by the last rule of its command
+pub record IsAsked (Asks : Effect → Type 0) (old : GatewayState) (begun : Begun) (new : GatewayState) : Type 0 where
+  pub effect : Effect
+  pub room : HasPendingRoom old.node
+  pub asks : Asks effect
+  pub sent : AreSent old.node.config (datagram_by begun.out ∷ []) effect.out.sent
+  pub outcome : effect.outcome ≡ Came_to (outcomes.Begun (option_map (λ t. t.0) begun.teid))
+  pub becomes : new.node ≡ effect.node
+  pub role : new.role ≡ old.role

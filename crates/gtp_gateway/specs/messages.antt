@@ -1,0 +1,4 @@
+-- What is sent, and messages as octets.
+pub mod Own
+pub mod Sent
+pub mod Spelled

@@ -1,0 +1,23 @@
+-- Datagrams that a gateway receives; of a message, a file of its name.
+pub mod Allocations
+pub mod Answer
+pub mod Choosing
+pub mod CreateBearerRequest
+pub mod CreateBearerResponse
+pub mod CreateSessionRequest
+pub mod CreateSessionResponse
+pub mod DeleteBearerRequest
+pub mod DeleteBearerResponse
+pub mod DeleteSessionRequest
+pub mod DeleteSessionResponse
+pub mod Echo
+pub mod InvalidRequest
+pub mod Piggybacked
+pub mod Queues
+pub mod Received
+pub mod Response
+pub mod ResponseContext
+pub mod RestartCounter
+pub mod Row
+pub mod Taken
+pub mod TwoMessages

@@ -1,0 +1,30 @@
+-- What takes memory on the control plane: to send a datagram, and to open a context.
+use Rattle.std.specs.Prelude.{◌≡◌, ◌≢◌, ◌⊎◌, ℕ, List, []}
+use Rattle.gtp_values.specs.declared.address.Endpoint.{Endpoint}
+use Rattle.gtp_machine.specs.Input.{Came_to, ControlReading, Control_came, Effect}
+use Rattle.gtp_machine.specs.Node.{Arrival, Node}
+use Rattle.gtp_machine.specs.Reading.{datagram_reading, taken_as}
+use Rattle.gtp_machine.specs.Step.{Step as MachineStep}
+use Rattle.gtp_machine.specs.declared.outcome.Outcome.TheVariants.{Opened}
+use Rattle.gtp_gateway.specs.Parts.{arrival_of}
+use Rattle.gtp_gateway.specs.GatewayState.{GatewayState}
+
+-- a datagram is sent, or a context is opened
+abbrev pub SendsOrOpens : Effect → Type 0
+SendsOrOpens e = (e.out.sent ≢ []) ⊎ (e.outcome ≡ Came_to Opened)
+
+-- whatever may come of it
+abbrev pub AlwaysSendsOrOpens : (Node → Effect → Type 0) → Node → Type 0
+AlwaysSendsOrOpens Takes old = (e : Effect) → Takes old e → SendsOrOpens e
+
+-- whatever step of the machine there is on a datagram that reads so
+abbrev pub StepSendsOrOpens : Arrival → ControlReading → GatewayState → Type 0
+StepSendsOrOpens request reading old = AlwaysSendsOrOpens (λ node e. MachineStep old.role node (Control_came request reading) e) old.node
+
+-- whatever step of the machine there is on these octets
+abbrev pub ControlSendsOrOpens : Endpoint → List ℕ → GatewayState → Type 0
+ControlSendsOrOpens source octets old = StepSendsOrOpens (arrival_of source octets) (taken_as (datagram_reading octets)) old
+
+-- whatever step of the machine there is on a datagram from the peer that reads so
+abbrev pub FaultSendsOrOpens : Endpoint → ControlReading → GatewayState → Type 0
+FaultSendsOrOpens source reading old = (request : Arrival) → request.source ≡ source → source.ip ≡ old.node.config.peer.control → StepSendsOrOpens request reading old

@@ -1,0 +1,139 @@
+-- Delete Bearer Requests, as the serving gateway takes them.
+use Rattle.std.specs.Prelude.{◌≡◌, ◌≢◌, ℕ, ◌==◌, Bool, true, false, List, [], ◌∷◌, ◌++◌, map, Option, Some, None, is_some}
+use Rattle.std.specs.List.{list_any}
+use Rattle.std.specs.FinMap.{get}
+use Rattle.gtp_values.specs.declared.address.Endpoint.{Endpoint}
+use Rattle.gtp_values.specs.declared.identifiers.Teid.{Teid}
+use Rattle.gtp_ie.specs.declared.value.ebi.EbiValue.{EbiValue}
+use Rattle.gtp_ie.specs.Value.{Value, OfEbi}
+use Rattle.gtp_v2.specs.Message.{Fields, MessageValue}
+use Rattle.gtp_v2.specs.Table.{Plain}
+use Rattle.gtp_v2.specs.declared.body.delete_bearer_response.RemovalResponseContext.{RemovalResponseContext}
+use Rattle.gtp_machine.specs.declared.causes.TheConstants.{REQUEST_ACCEPTED, CONTEXT_NOT_FOUND}
+use Rattle.gtp_machine.specs.Answer.{answered}
+use Rattle.gtp_machine.specs.Command.{NamesBearer}
+use Rattle.gtp_machine.specs.Element.{cause_of}
+use Rattle.gtp_machine.specs.Input.{Effect, dropped}
+use Rattle.gtp_machine.specs.declared.outcome.DropReason.TheVariants.{ContextNotActive}
+use Rattle.gtp_machine.specs.Message.{RemovedBearer, Delete_bearer_response}
+use Rattle.gtp_machine.specs.Message as messages
+use Rattle.gtp_machine.specs.Node.{Arrival, Session, Node, Pending, written}
+use Rattle.gtp_machine.specs.Removal.{without_bearer}
+use Rattle.gtp_machine.specs.Serving.{RemovalJudged, RemovalAsked}
+use Rattle.gtp_gateway.specs.declared.receive.delete_session_request.DeleteRequest.{DeleteRequest}
+use Rattle.gtp_gateway.specs.declared.receive.delete_bearer_request.identities.NamedBearer.{NamedBearer}
+use Rattle.gtp_gateway.specs.declared.receive.delete_bearer_request.DeleteBearerAnswer.{DeleteBearerAnswer}
+use Rattle.gtp_gateway.specs.declared.receive.delete_bearer_request.DeleteBearerVerdict.{DeleteBearerVerdict}
+use Rattle.gtp_gateway.specs.declared.receive.delete_bearer_request.DeleteBearerVerdict.TheVariants.{NotOpened, Answered, Bearers}
+use Rattle.gtp_gateway.specs.declared.step.ControlStep.{ControlStep}
+use Rattle.gtp_gateway.specs.tables.Change.{changed_by, CanChange}
+use Rattle.gtp_gateway.specs.Parts.{arrival_of}
+use Rattle.gtp_gateway.specs.receive.Row.{IsRow}
+use Rattle.gtp_gateway.specs.GatewayState.{GatewayState}
+
+-- these are the identities in the list of a message
+abbrev pub ReadsIdentities : MessageValue → List EbiValue → Type 0
+ReadsIdentities m identities = (linked : List Value) × (m.content ≡ Fields (Plain linked ∷ Plain (map (λ (i : EbiValue). OfEbi i.0) identities) ∷ []))
+
+-- the machine's message says what was read before the list
+pub record SaysDeleteBearer (r : DeleteRequest) (d : messages.DeleteBearerRequest) : Type 0 where
+  pub number : d.number ≡ r.seq
+  pub header : d.header ≡ r.header.0
+  pub linked : d.linked ≡ r.linked
+
+abbrev pub number_in : EbiValue → ℕ
+number_in i = i.0
+
+-- and what stands in the list
+abbrev pub SaysIdentities : List EbiValue → messages.DeleteBearerRequest → Type 0
+SaysIdentities identities d = d.identities ≡ map number_in identities
+
+-- ---- bearers that are named
+
+-- the bearer that goes for it has this TEID
+abbrev pub is_at : ℕ → Option Teid → Bool
+is_at t None = false
+is_at t (Some teid) = t == teid.0
+
+abbrev pub goes_for : ℕ → NamedBearer → Bool
+goes_for t n = is_at t n.teid
+
+-- a bearer goes for it
+abbrev pub is_found : NamedBearer → Bool
+is_found n = is_some n.teid
+
+-- the bearer under this TEID goes for one of them
+abbrev pub was_named : ℕ → List NamedBearer → Bool
+was_named t named = list_any (goes_for t) named
+
+-- the session's dedicated bearer with the identity goes for it, which goes for none before; where none goes, each that has the identity goes for one before
+abbrev pub NamesOne : Node → ℕ → List NamedBearer → ℕ → Option Teid → Type 0
+NamesOne old session before identity None = (named : NamesBearer old session identity) → was_named named.key before ≡ true
+NamesOne old session before identity (Some teid) = (named : NamesBearer old session identity) × (named.key ≡ teid.0) × (was_named teid.0 before ≡ false)
+
+-- each of them in turn
+abbrev pub NamesEach : Node → ℕ → List NamedBearer → List NamedBearer → Type 0
+NamesEach old session before [] = Unit {0}
+NamesEach old session before (n ∷ named) = NamesOne old session before n.identity.0 n.teid × NamesEach old session (before ++ n ∷ []) named
+
+abbrev pub identity_named : NamedBearer → ℕ
+identity_named n = n.identity.0
+
+-- whether a bearer goes, or there is none
+abbrev pub cause_named : Option Teid → ℕ
+cause_named None = CONTEXT_NOT_FOUND
+cause_named (Some teid) = REQUEST_ACCEPTED
+
+abbrev pub removed_by : NamedBearer → RemovedBearer
+removed_by n = record { identity = n.identity.0; cause = cause_of (cause_named n.teid) }
+
+abbrev pub context_by : NamedBearer → RemovalResponseContext
+context_by n = record { ebi = n.identity; cause = cause_of (cause_named n.teid) }
+
+-- the node without the bearer that goes, if one does
+abbrev pub without_named : Option Teid → Node → Node
+without_named None node = node
+without_named (Some teid) node = without_bearer node teid.0
+
+-- the node without all that go
+abbrev pub without_each : List NamedBearer → Node → Node
+without_each [] node = node
+without_each (n ∷ named) node = without_each named (without_named n.teid node)
+
+-- ---- what the request comes to
+
+-- the effect that an answer without bearer contexts stands for
+abbrev pub delete_bearer_effect : Arrival → messages.DeleteBearerRequest → DeleteBearerAnswer → Node → Effect
+delete_bearer_effect request d a old = answered request (Delete_bearer_response (record { header = a.header.0; number = d.number; cause = cause_of a.cause; linked = a.linked; contexts = []; recovery = Some old.counter })) a.cause (changed_by a.change old)
+
+-- the request names dedicated bearers of a session that was opened, whose remote goes into the header of the answer
+pub record IsForBearers (r : DeleteRequest) (header : ℕ) (old : Node) : Type 0 where
+  pub session : Session
+  pub stands : get old.sessions r.header.0 ≡ Some session
+  pub opened : session.state ≢ Pending
+  pub unlinked : r.linked ≡ None
+  pub named : header ≡ written session.remote
+
+-- an answer is the machine's, and what it changes can change
+pub record JudgesAnswer (r : DeleteRequest) (old : Node) (a : DeleteBearerAnswer) : Type 0 where
+  pub judged : (request : Arrival) (d : messages.DeleteBearerRequest) → SaysDeleteBearer r d → RemovalJudged request d old (delete_bearer_effect request d a old)
+  pub can : CanChange a.change old
+
+-- the verdict is the machine's, as far as the list is not looked at
+abbrev pub JudgesDeleteBearer : DeleteRequest → Node → DeleteBearerVerdict → Type 0
+JudgesDeleteBearer r old NotOpened = (request : Arrival) (d : messages.DeleteBearerRequest) → SaysDeleteBearer r d → RemovalJudged request d old (dropped old ContextNotActive)
+JudgesDeleteBearer r old (Answered answer) = JudgesAnswer r old answer
+JudgesDeleteBearer r old (Bearers header) = IsForBearers r header.0 old
+
+-- a request with this number was answered so
+abbrev pub AnswersDeleteBearer : Endpoint → List ℕ → ℕ → DeleteBearerAnswer → GatewayState → ControlStep → GatewayState → Type 0
+AnswersDeleteBearer source octets number answer old step new = (d : messages.DeleteBearerRequest) → d.number ≡ number → IsRow (λ node e. e ≡ delete_bearer_effect (arrival_of source octets) d answer node) (arrival_of source octets) old.role old.node step new
+
+-- a Delete Bearer Request with these identities was taken
+abbrev pub EndsNamed : Endpoint → List ℕ → DeleteRequest → List EbiValue → GatewayState → ControlStep → GatewayState → Type 0
+EndsNamed source octets r identities old step new = (d : messages.DeleteBearerRequest) → SaysDeleteBearer r d → SaysIdentities identities d → IsRow (RemovalJudged (arrival_of source octets) d) (arrival_of source octets) old.role old.node step new
+
+-- a Delete Bearer Request was taken, whatever identities are read in its list
+abbrev pub TakesDeleteBearerRequest : Endpoint → List ℕ → MessageValue → DeleteRequest → GatewayState → ControlStep → GatewayState → Type 0
+TakesDeleteBearerRequest source octets m r old step new =
+    (d : messages.DeleteBearerRequest) → SaysDeleteBearer r d → ((identities : List EbiValue) → ReadsIdentities m identities → SaysIdentities identities d) → IsRow (RemovalAsked (arrival_of source octets) d) (arrival_of source octets) old.role old.node step new

@@ -1,0 +1,27 @@
+-- Echo Request and Echo Response.
+use Rattle.std.specs.Prelude.{◌≡◌, ℕ}
+use Rattle.gtp_machine.specs.Message as messages
+use Rattle.gtp_values.specs.declared.address.Endpoint.{Endpoint}
+use Rattle.gtp_machine.specs.Answer.{echoed}
+use Rattle.gtp_machine.specs.Response.{EchoAnswered}
+use Rattle.gtp_machine.specs.Node.{Arrival}
+use Rattle.gtp_gateway.specs.declared.command.purpose.Purpose.{Purpose}
+use Rattle.gtp_gateway.specs.declared.command.purpose.Purpose.TheVariants.{Echo}
+use Rattle.gtp_gateway.specs.declared.step.ControlStep.{ControlStep}
+use Rattle.gtp_gateway.specs.declared.receive.restart_counter.Heard.{Heard}
+use Rattle.gtp_gateway.specs.receive.RestartCounter.{node_heard}
+use Rattle.gtp_gateway.specs.GatewayState.{GatewayState}
+use Rattle.gtp_gateway.specs.receive.Row.{IsRow}
+
+-- the request is an Echo Request
+abbrev pub FitsEcho : Purpose → Type 0
+FitsEcho Echo = Unit {0}
+FitsEcho purpose = ⊥
+
+-- an Echo Request was taken
+abbrev pub AnswersEcho : Endpoint → ℕ → Heard → GatewayState → ControlStep → GatewayState → Type 0
+AnswersEcho source number heard old step new = (request : Arrival) (q : messages.Echo) → request.source ≡ source → q.number ≡ number → IsRow (λ node e. e ≡ echoed request q node) request old.role (node_heard heard old.node) step new
+
+-- an Echo Response was taken
+abbrev pub TakesEchoResponse : ℕ → GatewayState → ControlStep → GatewayState → Type 0
+TakesEchoResponse number old step new = (request : Arrival) (a : messages.Echo) → a.number ≡ number → IsRow (EchoAnswered a) request old.role old.node step new

@@ -1,0 +1,4 @@
+-- The user plane.
+pub mod ErrorIndication
+pub mod Receive
+pub mod Reply

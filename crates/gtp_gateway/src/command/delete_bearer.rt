@@ -1,0 +1,87 @@
+//! The command that deletes a dedicated bearer (TS 29.274 7.2.9.2).
+
+ghost use Rattle.std.specs.Prelude.{◌≡◌, IfSome, IfNone, IfOk, OnErr};
+ghost use Rattle.gtp_machine.specs.Command.{NamesBearer};
+ghost use Rattle.gtp_gateway.specs.command.DeleteBearer.{IsDedicated};
+ghost use Rattle.gtp_gateway.specs.Parts.{node_of};
+ghost use Rattle.gtp_machine.specs.Input.{Delete_bearer};
+ghost use Rattle.gtp_gateway.specs.command.Command.{IsCarriedOut, IsRefusedWhere, SendsRequestNext};
+ghost use Rattle.gtp_gateway.specs.GatewayState.{IsSoundState, state_of};
+
+use crate::command::request::RequestToSend;
+use crate::fault::CommandFault;
+use crate::parts::Parts;
+use crate::sent::Begun;
+use crate::tables::contexts::{are_active, is_dedicated};
+use gtp_machine::{Refusal, Role};
+use gtp_tables::Bearer;
+use gtp_values::{Ebi, Teid};
+use std::alloc::Global;
+
+/// A dedicated bearer, under the gateway's own user plane TEID.
+#[derive(Clone, Copy)]
+pub struct Dedicated {
+    pub teid: Teid,
+    pub bearer: Bearer,
+}
+
+impl Parts {
+    /// The session's dedicated bearer with this identity.
+    pub fn dedicated(&self, session: Teid, identity: Ebi) -> Option<Dedicated>
+        requires whole { IsSoundState (state_of self.now) }
+        ensures some { IfSome result (IsDedicated (node_of self.now) session.0 identity) }
+        ensures none { IfNone result (NamesBearer (node_of self.now) session.0 identity → ⊥) }
+    {
+        let Some(teid) = self.bearers.with_identity(session, identity) else {
+            return None;
+        };
+        let Some(bearer) = self.bearers.get(teid) else {
+            return None;
+        };
+        if !is_dedicated(&bearer) {
+            return None;
+        }
+        Some(Dedicated { teid, bearer })
+    }
+
+    /// Ends an active dedicated bearer of an active session, at the packet gateway.
+    pub fn delete_bearer(
+        &mut self,
+        alloc: Global,
+        session: Teid,
+        identity: Ebi,
+    ) -> Result<Begun, CommandFault>
+        requires whole { IsSoundState (state_of self.old) }
+        ensures done { IfOk result (λ begun. IsCarriedOut (Delete_bearer session.0 identity)
+            (state_of self.old) begun (state_of self.new)) }
+        ensures next { IfOk result (λ begun.
+            SendsRequestNext (state_of self.old) begun (state_of self.new)) }
+        ensures refused { IsRefusedWhere (Delete_bearer session.0 identity)
+            (state_of self.old) result }
+        ensures err { OnErr result (state_of self.new ≡ state_of self.old) }
+    {
+        match self.role {
+            Role::Serving => return Err(CommandFault::Refused(Refusal::WrongRole)),
+            Role::Packet => {}
+        }
+        let Some(at) = self.sessions.get(session) else {
+            return Err(CommandFault::Refused(Refusal::NoSuchContext));
+        };
+        let Some(named) = self.dedicated(session, identity) else {
+            return Err(CommandFault::Refused(Refusal::NoSuchContext));
+        };
+        if !are_active(&at, &named.bearer) {
+            return Err(CommandFault::Refused(Refusal::NotActive));
+        }
+        self.send_request(
+            alloc,
+            &RequestToSend::DeleteBearer {
+                teid: named.teid,
+                bearer: named.bearer,
+                session,
+                of: at,
+                identity,
+            },
+        )
+    }
+}

@@ -1,0 +1,164 @@
+//! Delete Bearer Requests (TS 29.274 7.2.9.2), as the serving gateway takes them.
+
+pub mod dedicated;
+pub mod identities;
+
+ghost use Rattle.gtp_gateway.specs.receive.Queues.{QueuesAfterMessage};
+ghost use Rattle.std.specs.Prelude.{◌≡◌, ◌<◌, length, false, IfOk, OnOk, OnErr};
+ghost use Rattle.gtp_v2.specs.DeleteBearerRequest.{delete_bearer_request};
+ghost use Rattle.gtp_v2.specs.Datagram.{IsMessage};
+ghost use Rattle.gtp_v2.specs.Viewed.{Carries};
+ghost use Rattle.gtp_machine.specs.Message as messages;
+ghost use Rattle.gtp_machine.specs.Node.{Arrival};
+ghost use Rattle.gtp_machine.specs.Serving.{RemovalAsked};
+ghost use Rattle.gtp_gateway.specs.receive.DeleteBearerRequest.{JudgesDeleteBearer, SaysDeleteBearer, AnswersDeleteBearer, TakesDeleteBearerRequest};
+ghost use Rattle.gtp_gateway.specs.tables.Change.{CanChange};
+ghost use Rattle.gtp_gateway.specs.receive.Allocations.{AlwaysSendsOrOpens};
+ghost use Rattle.gtp_gateway.specs.Parts.{node_of};
+ghost use Rattle.gtp_gateway.specs.GatewayState.{IsSoundState, state_of};
+ghost use Rattle.gtp_gateway.specs.receive.Taken.{IsFresh};
+
+use crate::messages::delete_bearer::delete_bearer_response;
+use crate::messages::elements::written_teid;
+use crate::parts::Parts;
+use crate::receive::create_bearer_request::judge::is_default;
+use crate::receive::delete_session_request::DeleteRequest;
+use crate::step::ControlStep;
+use crate::tables::change::Change;
+use crate::tables::contexts::is_session_pending;
+use gtp_machine::{DropReason, Outcome, causes};
+use gtp_v2::MessageView;
+use gtp_values::{Below, Endpoint, Memory, Seq, Teid};
+use std::alloc::Global;
+
+/// An answer without bearer contexts, and what changes.
+#[derive(Clone, Copy)]
+pub struct DeleteBearerAnswer {
+    pub header: Teid,
+    pub cause: u8,
+    /// The linked EPS bearer identity.
+    pub linked: Option<Below<16>>,
+    pub change: Change,
+}
+
+/// What a Delete Bearer Request comes to, as far as its list is not looked at.
+#[derive(Clone, Copy)]
+pub enum DeleteBearerVerdict {
+    /// Its session was not opened yet, and it is dropped.
+    NotOpened,
+    /// It is answered.
+    Answered(DeleteBearerAnswer),
+    /// It is for the bearers in its list; with the TEID in the header of the answer.
+    Bearers { header: Teid },
+}
+
+impl Parts {
+    /// What a Delete Bearer Request comes to, as far as its list is not looked at. It changes nothing.
+    fn judge_delete_bearer(&self, request: &DeleteRequest) -> DeleteBearerVerdict
+        ensures { JudgesDeleteBearer request.now (node_of self.now) result }
+    {
+        let Some(session) = self.sessions.get(request.header) else {
+            return DeleteBearerVerdict::Answered(DeleteBearerAnswer {
+                header: Teid(0),
+                cause: causes::CONTEXT_NOT_FOUND,
+                linked: None,
+                change: Change::Stays,
+            });
+        };
+        if is_session_pending(&session) {
+            return DeleteBearerVerdict::NotOpened;
+        }
+        let header = written_teid(session.remote);
+        let Some(linked) = request.linked else {
+            return DeleteBearerVerdict::Bearers { header };
+        };
+        if !is_default(linked, &session) {
+            return DeleteBearerVerdict::Answered(DeleteBearerAnswer {
+                header,
+                cause: causes::CONTEXT_NOT_FOUND,
+                linked: None,
+                change: Change::Stays,
+            });
+        }
+        DeleteBearerVerdict::Answered(DeleteBearerAnswer {
+            header,
+            cause: causes::REQUEST_ACCEPTED,
+            linked: Some(linked),
+            change: Change::RemovesSession(request.header),
+        })
+    }
+
+    /// Answers a request without bearer contexts.
+    #[tactic(auto, using(crate::proofs::QueuesAfter::tied_of, crate::proofs::QueuesAfter::on_goes, crate::proofs::QueuesAfter::same_goes, crate::proofs::QueuesAfter::given_goes, crate::proofs::QueuesAfter::answered_goes))]
+    fn answer_delete_bearer(
+        &mut self,
+        alloc: Global,
+        source: Endpoint,
+        octets: &[u8],
+        seq: Seq,
+        answer: &DeleteBearerAnswer,
+    ) -> Result<ControlStep, Memory>
+        requires fresh { IsFresh source octets.now (state_of self.old) self.old.held.pairs }
+        requires few { length self.old.held.pairs < 4096 }
+        requires can { CanChange answer.now.change (node_of self.old) }
+        ensures taken { IfOk result (λ step. AnswersDeleteBearer source octets.now seq answer.now
+            (state_of self.old) step (state_of self.new)) }
+        ensures goes { OnOk result
+            (QueuesAfterMessage source octets.now (state_of self.old) (state_of self.new)) }
+        ensures unmade { IfOk result (λ step. step.report.made ≡ false) }
+        ensures err { OnErr result (state_of self.new ≡ state_of self.old) }
+    {
+        let contexts = Vec::new(alloc);
+        let counter = self.draws.counter();
+        let message = delete_bearer_response(
+            answer.header,
+            seq,
+            answer.cause,
+            answer.linked,
+            contexts,
+            counter,
+        );
+        let out = self.answer(alloc, source, octets, &message, answer.change)?;
+        Ok(ControlStep::sent(out, Outcome::Answered(answer.cause)))
+    }
+
+    /// Takes a Delete Bearer Request.
+    #[tactic(auto, using(crate::proofs::QueuesAfter::tied_of, crate::proofs::QueuesAfter::on_goes, crate::proofs::QueuesAfter::same_goes, crate::proofs::QueuesAfter::given_goes, crate::proofs::QueuesAfter::answered_goes))]
+    pub fn take_delete_bearer_request(
+        &mut self,
+        alloc: Global,
+        source: Endpoint,
+        octets: &[u8],
+        view: &MessageView<'_>,
+        request: &DeleteRequest,
+    ) -> Result<ControlStep, Memory>
+        requires whole { IsSoundState (state_of self.old) }
+        requires fresh { IsFresh source octets.now (state_of self.old) self.old.held.pairs }
+        requires spelled { IsMessage octets.now view.now.message × Carries octets.now view.now }
+        requires kind { view.now.message.kind ≡ delete_bearer_request.kind }
+        ensures taken { IfOk result (λ step. TakesDeleteBearerRequest source octets.now
+            view.now.message request.now (state_of self.old) step (state_of self.new)) }
+        ensures goes { OnOk result
+            (QueuesAfterMessage source octets.now (state_of self.old) (state_of self.new)) }
+        ensures unmade { IfOk result (λ step. step.report.made ≡ false) }
+        ensures memory { OnErr result ((arrival : Arrival) (d : messages.DeleteBearerRequest)
+            → SaysDeleteBearer request.now d
+            → AlwaysSendsOrOpens (RemovalAsked arrival d) (node_of self.old)) }
+        ensures err { OnErr result (state_of self.new ≡ state_of self.old) }
+    {
+        if self.held.is_full() {
+            return Ok(ControlStep::dropped(DropReason::HeldFull));
+        }
+        match self.judge_delete_bearer(request) {
+            DeleteBearerVerdict::NotOpened => Ok(ControlStep::dropped(
+                DropReason::ContextNotActive,
+            )),
+            DeleteBearerVerdict::Answered(answer) => {
+                self.answer_delete_bearer(alloc, source, octets, request.seq, &answer)
+            }
+            DeleteBearerVerdict::Bearers { header } => {
+                self.end_listed(alloc, source, octets, view, request, header)
+            }
+        }
+    }
+}

@@ -1,0 +1,133 @@
+//! Delete Session Requests (TS 29.274 7.2.9.1).
+
+ghost use Rattle.gtp_gateway.specs.receive.Queues.{QueuesAfterMessage};
+ghost use Rattle.std.specs.Prelude.{◌≡◌, ◌↔◌, false, IsTrue, IfOk, OnOk, OnErr, option_map};
+ghost use Rattle.gtp_machine.specs.Node.{Arrival};
+ghost use Rattle.gtp_machine.specs.Packet.{IsLinkedTo, DeletionAsked};
+ghost use Rattle.gtp_gateway.specs.receive.DeleteSessionRequest.{ReadsDeleteSession, delete_session_by, JudgesDeleteSession, TakesDeleteSessionRequest};
+ghost use Rattle.gtp_gateway.specs.receive.Allocations.{AlwaysSendsOrOpens};
+ghost use Rattle.gtp_gateway.specs.Parts.{node_of};
+ghost use Rattle.gtp_gateway.specs.GatewayState.{state_of};
+ghost use Rattle.gtp_gateway.specs.receive.Taken.{IsFresh};
+
+use crate::messages::delete_session::delete_session_response;
+use crate::messages::elements::written_teid;
+use crate::parts::Parts;
+use crate::step::ControlStep;
+use crate::tables::change::Change;
+use gtp_machine::{DropReason, Outcome, causes};
+use gtp_tables::Session;
+use gtp_v2::{EbiValue, MessageView};
+use gtp_values::{Below, Endpoint, Memory, Seq, Teid};
+use std::alloc::Global;
+
+/// What a Delete Session Request says, and a Delete Bearer Request before its list of identities.
+#[derive(Clone, Copy)]
+pub struct DeleteRequest {
+    pub seq: Seq,
+    /// The TEID of its header.
+    pub header: Teid,
+    /// The linked EPS bearer identity.
+    pub linked: Option<Below<16>>,
+}
+
+/// What the request comes to: the header and the cause of its answer, and what changes.
+#[derive(Clone, Copy)]
+pub struct DeleteSessionVerdict {
+    pub header: Teid,
+    pub cause: u8,
+    pub change: Change,
+}
+
+/// What such a request says.
+pub fn delete_request_in(view: &MessageView<'_>) -> DeleteRequest
+    ensures { ReadsDeleteSession view.now.message result }
+{
+    DeleteRequest {
+        seq: view.seq(),
+        header: view.teid().unwrap_or(Teid(0)),
+        linked: identity_of(view.value(0)),
+    }
+}
+
+/// The identity in an element.
+fn identity_of(value: Option<EbiValue>) -> Option<Below<16>>
+    ensures { option_map (λ e. e) result ≡ option_map (λ v. v.0) value }
+{
+    match value {
+        Some(EbiValue(identity)) => Some(identity),
+        None => None,
+    }
+}
+
+/// Whether the linked identity is absent, or the session's default.
+fn is_linked_to(linked: Option<Below<16>>, session: &Session) -> bool
+    ensures { IsTrue result ↔ IsLinkedTo linked session.now }
+{
+    match linked {
+        None => true,
+        Some(identity) => identity.number() == session.subscriber.identity.number(),
+    }
+}
+
+impl Parts {
+    /// What a Delete Session Request comes to. It changes nothing.
+    fn judge_delete_session(&self, request: &DeleteRequest) -> DeleteSessionVerdict
+        ensures { JudgesDeleteSession request.now (node_of self.now) result }
+    {
+        let Some(session) = self.sessions.get(request.header) else {
+            return DeleteSessionVerdict {
+                header: Teid(0),
+                cause: causes::CONTEXT_NOT_FOUND,
+                change: Change::Stays,
+            };
+        };
+        let header = written_teid(session.remote);
+        if !is_linked_to(request.linked, &session) {
+            return DeleteSessionVerdict {
+                header,
+                cause: causes::CONTEXT_NOT_FOUND,
+                change: Change::Stays,
+            };
+        }
+        DeleteSessionVerdict {
+            header,
+            cause: causes::REQUEST_ACCEPTED,
+            change: Change::RemovesSession(request.header),
+        }
+    }
+
+    /// Takes a Delete Session Request, in any state of the session.
+    #[tactic(auto, using(crate::proofs::QueuesAfter::tied_of, crate::proofs::QueuesAfter::on_goes, crate::proofs::QueuesAfter::same_goes, crate::proofs::QueuesAfter::given_goes, crate::proofs::QueuesAfter::answered_goes))]
+    pub fn take_delete_session_request(
+        &mut self,
+        alloc: Global,
+        source: Endpoint,
+        octets: &[u8],
+        request: &DeleteRequest,
+    ) -> Result<ControlStep, Memory>
+        requires fresh { IsFresh source octets.now (state_of self.old) self.old.held.pairs }
+        ensures taken { IfOk result (λ step. TakesDeleteSessionRequest source octets.now request.now
+            (state_of self.old) step (state_of self.new)) }
+        ensures goes { OnOk result
+            (QueuesAfterMessage source octets.now (state_of self.old) (state_of self.new)) }
+        ensures unmade { IfOk result (λ step. step.report.made ≡ false) }
+        ensures memory { OnErr result ((arrival : Arrival)
+            → AlwaysSendsOrOpens (DeletionAsked arrival (delete_session_by request.now))
+            (node_of self.old)) }
+        ensures err { OnErr result (state_of self.new ≡ state_of self.old) }
+    {
+        if self.held.is_full() {
+            return Ok(ControlStep::dropped(DropReason::HeldFull));
+        }
+        let verdict = self.judge_delete_session(request);
+        let message = delete_session_response(
+            verdict.header,
+            request.seq,
+            verdict.cause,
+            self.draws.counter(),
+        );
+        let out = self.answer(alloc, source, octets, &message, verdict.change)?;
+        Ok(ControlStep::sent(out, Outcome::Answered(verdict.cause)))
+    }
+}

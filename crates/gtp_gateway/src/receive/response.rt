@@ -1,0 +1,87 @@
+//! Responses (TS 29.274 7.6): each fits a request that waits, or is dropped.
+
+ghost use Rattle.gtp_ie.specs.Form.{number_of};
+ghost use Rattle.gtp_ie.specs.declared.form.Form.TheVariants as forms;
+ghost use Rattle.std.specs.Prelude.{◌≡◌, ◌↔◌, ◌∷◌, [], IsTrue, Some};
+ghost use Rattle.gtp_ie.specs.Value.{OfCause};
+ghost use Rattle.gtp_v2.specs.Viewed.{in_row, always_has};
+ghost use Rattle.gtp_reliable.specs.Pending.{purpose_of, SameTimes};
+ghost use Rattle.gtp_machine.specs.Node.{written};
+ghost use Rattle.gtp_machine.specs.Removal.{finished_about};
+ghost use Rattle.gtp_gateway.specs.Parts.{node_of, session_of, bearer_of};
+ghost use Rattle.gtp_gateway.specs.GatewayState.{state_of};
+ghost use Rattle.gtp_gateway.specs.user.Receive.{RequestsWaitOn};
+
+use crate::command::purpose::Purpose;
+use crate::parts::Parts;
+use gtp_machine::causes::CONTEXT_NOT_FOUND;
+use gtp_v2::MessageView;
+use gtp_values::{Cause, Seq, Teid};
+
+/// What a response says of the request that it answers.
+#[derive(Clone, Copy)]
+pub struct Response {
+    pub seq: Seq,
+    /// The TEID of its header.
+    pub header: Teid,
+    pub cause: Cause,
+}
+
+/// What a response says of its request, where the response has a cause.
+pub fn response_in(view: &MessageView<'_>) -> Response
+    requires { IsTrue (always_has view.now.message.kind (number_of forms.Cause) 0) }
+    ensures seq { result.seq ≡ view.now.message.seq }
+    ensures header { result.header.0 ≡ written view.now.message.teid }
+    ensures cause { in_row (number_of forms.Cause) 0 view.now.message
+        ≡ Some (OfCause result.cause ∷ []) }
+{
+    Response {
+        seq: view.seq(),
+        header: view.teid().unwrap_or(Teid(0)),
+        cause: view.needed(0),
+    }
+}
+
+impl Response {
+    ghost use Rattle.std.specs.Prelude.{◌≡◌, ◌↔◌, IsTrue};
+    ghost use Rattle.gtp_gateway.specs.receive.Response.{Names};
+
+    /// Whether the header names the session that the request is about (TS 29.274 5.5.2): it has the
+    /// session's TEID, or 0 with "context not found" where a TEID stood in the request's own.
+    pub fn names(&self, session: Teid, is_named: bool) -> bool
+        ensures { IsTrue result ↔ Names self.now session.0 is_named }
+    {
+        session == self.header
+            || (self.header.0 == 0 && self.cause.value == CONTEXT_NOT_FOUND && is_named)
+    }
+}
+
+impl Parts {
+    /// What the request of this number is about, where one waits.
+    pub fn waiting(&self, seq: Seq) -> Option<Purpose>
+        ensures { result ≡ purpose_of seq self.now.pending.waiting }
+    {
+        self.pending.matched(seq).copied()
+    }
+
+    /// The request of this number is finished, and what it was about goes. Allocates nothing.
+    pub fn finish(&mut self, seq: Seq, purpose: &Purpose)
+        ensures node { node_of self.new ≡ finished_about (node_of self.old) seq
+            (session_of purpose.now) (bearer_of purpose.now) }
+        ensures waits { RequestsWaitOn (state_of self.old) (state_of self.new) }
+        ensures next { self.new.pending.next ≡ self.old.pending.next }
+        ensures times { SameTimes self.old.pending self.new.pending }
+        ensures held { self.new.held ≡ self.old.held }
+        ensures config { self.new.config ≡ self.old.config }
+        ensures draws { self.new.draws ≡ self.old.draws }
+        ensures role { self.new.role ≡ self.old.role }
+    {
+        match purpose.bearer() {
+            Some(bearer) => self.remove_bearer(bearer),
+            None => match purpose.session() {
+                Some(session) => self.remove_session(session),
+                None => self.finish_number(seq),
+            },
+        }
+    }
+}

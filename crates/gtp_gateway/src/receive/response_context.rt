@@ -1,0 +1,85 @@
+//! What responses and their bearer contexts say, read where they lie (TS 29.274 tables 7.2.2-2,
+//! 7.2.4-2).
+
+ghost use Rattle.gtp_ie.specs.Form.{number_of};
+ghost use Rattle.gtp_ie.specs.declared.form.Form.TheVariants as forms;
+ghost use Rattle.std.specs.Prelude.{◌≡◌, ◌↔◌, IsTrue, List, is_some};
+ghost use Rattle.gtp_ie.specs.Element.{Element};
+ghost use Rattle.gtp_ie.specs.Value.{Value};
+ghost use Rattle.gtp_v2.specs.Viewed.{optional_at};
+ghost use Rattle.gtp_machine.specs.Element.{IsAccepting, address_of, teid_in};
+ghost use Rattle.gtp_gateway.specs.receive.ResponseContext.{AreContexts, ReadsContext, ReadsOnly};
+
+use gtp_v2::{ContextView, EbiValue, MessageView};
+use gtp_values::{Addr, Below, Cause, FTeid, Paa};
+
+/// What a bearer context of a response says.
+#[derive(Clone, Copy)]
+pub struct ResponseContext {
+    pub identity: Below<16>,
+    pub cause: Cause,
+    /// The TEID of the peer's F-TEID for the user plane (instance 2).
+    pub user: Option<u32>,
+    /// The TEID of the receiver's own F-TEID for the user plane, which comes back from its request
+    /// (instance 3).
+    pub returned: Option<u32>,
+}
+
+/// Whether the cause of a response or of a bearer context accepts (TS 29.274 8.4).
+pub fn accepts(cause: &Cause) -> bool
+    ensures { IsTrue result ↔ IsAccepting cause.now }
+{
+    cause.is_accepting()
+}
+
+/// The TEID of an F-TEID that may be absent.
+pub fn teid_of(end: Option<FTeid>) -> Option<u32>
+    ensures { result ≡ teid_in end }
+{
+    match end {
+        Some(end) => Some(end.teid().0),
+        None => None,
+    }
+}
+
+/// The address of a PDN Address Allocation (TS 29.274 8.14) that may be absent.
+pub fn address_of(allocation: Option<Paa>) -> Option<Addr>
+    ensures { result ≡ address_of allocation }
+{
+    match allocation {
+        Some(allocation) => allocation.address(),
+        None => None,
+    }
+}
+
+/// What a bearer context says that has an identity and a cause.
+fn context_in(context: &ContextView<'_>) -> ResponseContext
+    requires identity { IsTrue (is_some (optional_at (number_of forms.Ebi) 0 context.now)) }
+    requires cause { IsTrue (is_some (optional_at (number_of forms.Cause) 0 context.now)) }
+    ensures { ReadsContext context.now result }
+{
+    let EbiValue(identity) = context.needed(0);
+    ResponseContext {
+        identity,
+        cause: context.needed(0),
+        user: teid_of(context.value(2)),
+        returned: teid_of(context.value(3)),
+    }
+}
+
+/// What the only bearer context of a response says, where there is exactly one.
+pub fn only_context_in(view: &MessageView<'_>) -> Option<ResponseContext>
+    requires { (others : List Element → List (List Value)) × (groups : List (List (List Value)))
+        × AreContexts view.now.message others groups }
+    ensures { (others : List Element → List (List Value)) (groups : List (List (List Value)))
+        → AreContexts view.now.message others groups → ReadsOnly others groups result }
+{
+    let mut contexts = view.contexts();
+    let Some(first) = contexts.next() else {
+        return None;
+    };
+    match contexts.next() {
+        Some(_) => None,
+        None => Some(context_in(&first)),
+    }
+}
