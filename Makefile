@@ -18,6 +18,7 @@ shell_files = \
 	$(root)/share/zsh/site-functions/_gtpshow \
 	$(root)/share/fish/vendor_completions.d/gtpshow.fish
 c_files = $(addprefix $(root)/lib/,libgtp_c.a liblibc_c.a pkgconfig/gtp.pc) $(root)/include/gtp.h
+rust = $(root)/share/gtp/rust
 
 .PHONY: all install uninstall
 
@@ -42,8 +43,12 @@ install: $(program) $(library)
 	sed 's|@PREFIX@|$(PREFIX)|' share/gtp.pc > $(root)/lib/pkgconfig/gtp.pc
 	$(INSTALL) -d $(pages)/examples
 	$(INSTALL) -m 644 docs/PROTOCOL.md docs/FORMATS.md docs/JSON.md docs/C.md docs/PROVED.md docs/BELIEVE.md docs/CHANGELOG.md $(pages)
-	cp -R examples/scenarios examples/captures examples/datagrams examples/c $(pages)/examples
+	cp -R examples/scenarios examples/captures examples/datagrams examples/c examples/rust $(pages)/examples
+	rm -rf $(pages)/examples/rust/target
+	$(INSTALL) -d $(rust)/src
+	$(INSTALL) -m 644 rust/gtp/Cargo.toml rust/gtp/build.rs $(rust)
+	$(INSTALL) -m 644 $(wildcard rust/gtp/src/*.rs) $(rust)/src
 
 uninstall:
 	rm -f $(root)/bin/gtpshow $(root)/share/man/man1/gtpshow.1 $(shell_files) $(c_files)
-	rm -rf $(pages)
+	rm -rf $(pages) $(rust)

@@ -1,24 +1,48 @@
 -- The access points of a text, a name at a time.
-use Rattle.std.proofs.Common.{◌≡◌, ℕ, List, [], ◌∷◌, ◌++◌, refl, sym, ap, ◌∙◌}
-use mathlib.Core.List.{append_assoc}
-use Rattle.gtp_values.specs.Apn.{apn_text}
-use Rattle.gtp_c.specs.Names.{with_commas, IsPut}
+use Rattle.std.proofs.Common.{◌≡◌, ℕ, ◌+◌, ◌-◌, ◌<◌, not, ◌==◌, List, [], ◌∷◌, ◌++◌, length, take, drop, get_or, refl, sym, ap, ◌∙◌, subst, arith}
+use Rattle.std.proofs.lemmas.Bool.{not-true}
+use Rattle.std.proofs.lemmas.List.{length-drop, take_all}
+use Rattle.std.proofs.lemmas.List.Splits.{slice_split_none, slice_split_first}
+use Rattle.std.proofs.lemmas.List.Sums.{prefix_len_passes}
+use Rattle.std.specs.List.{AllByRecursion}
+use Rattle.std.specs.Borrow.{Bor}
+use Rattle.std.specs.Prelude.{Option, Some, None}
+use Rattle.gtp_values.specs.Apn.{IsApnText}
+use Rattle.gtp_c.specs.Names.{words_of, word_length, names_in, AreGoodNames, IsCut}
 
-pub one_more : (names : List (List ℕ)) (name : List ℕ) → with_commas (names ++ name ∷ []) ≡ with_commas names ++ (apn_text name ++ 44 ∷ [])
-one_more [] name = refl
-one_more (n ∷ names) name = ap (λ (xs : List ℕ). apn_text n ++ (44 ∷ xs)) (one_more names name) ∙ sym (append_assoc (apn_text n) (44 ∷ with_commas names) (apn_text name ++ 44 ∷ []))
+-- a text without a comma is one word
+pub alone : (octets : List ℕ) → word_length octets ≡ length octets → words_of octets ≡ octets ∷ []
+alone octets all =
+    slice_split_none (λ octet. octet == 44) octets (λ k d within. not-true (get_or octets k d == 44)
+    (prefix_len_passes (λ octet. not (octet == 44)) octets k d (subst (λ (n : ℕ). k < n) (sym all) within)))
 
--- what was put, as a text
-pub put_text : {old new : List (List ℕ)} {word : List ℕ} → IsPut old word new → with_commas new ≡ with_commas old ++ (word ++ 44 ∷ [])
-put_text {old} p = ap with_commas p.all ∙ (one_more old p.name ∙ ap (λ (w : List ℕ). with_commas old ++ (w ++ 44 ∷ [])) p.reads)
+-- what follows the first comma
+tail_is : (octets : List ℕ) (n : ℕ) → take (length octets - n) (drop n octets) ≡ drop n octets
+tail_is octets n = let count = length-drop n octets in take_all (length octets - n) (drop n octets) (omega (arith, count))
 
-pub goes_on : (octets : List ℕ) (old : List (List ℕ)) {new : List (List ℕ)} {word rest : List ℕ} (after : List ℕ)
-    → octets ≡ with_commas old ++ rest → IsPut old word new → rest ≡ word ++ 44 ∷ after → octets ≡ with_commas new ++ after
-goes_on octets old {new} {word} {rest} after same p is =
-    same ∙ (ap (λ (xs : List ℕ). with_commas old ++ xs) (is ∙ sym (append_assoc word (44 ∷ []) after))
-    ∙ (sym (append_assoc (with_commas old) (word ++ 44 ∷ []) after) ∙ ap (λ (xs : List ℕ). xs ++ after) (sym (put_text p))))
+-- and else it is the word before its first comma, and the words after that
+pub cut : (octets : List ℕ) (n : ℕ) → n ≡ word_length octets → n < length octets → words_of octets ≡ take n octets ∷ words_of (take (length octets - (n + 1)) (drop (n + 1) octets))
+cut octets n is less =
+    subst (λ (k : ℕ). words_of octets ≡ take k octets ∷ words_of (take (length octets - (k + 1)) (drop (k + 1) octets))) (sym is)
+    (slice_split_first (λ octet. octet == 44) octets 0 (subst (λ (k : ℕ). k < length octets) is less)
+    ∙ ap (λ (rest : List ℕ). take (word_length octets) octets ∷ words_of rest) (sym (tail_is octets (word_length octets + 1))))
 
-pub ends : (octets : List ℕ) (old : List (List ℕ)) {new : List (List ℕ)} {word rest : List ℕ}
-    → octets ≡ with_commas old ++ rest → IsPut old word new → word ≡ rest → octets ++ 44 ∷ [] ≡ with_commas new
-ends octets old {new} {word} {rest} same p is =
-    ap (λ (xs : List ℕ). xs ++ 44 ∷ []) (same ∙ ap (λ (xs : List ℕ). with_commas old ++ xs) (sym is)) ∙ (append_assoc (with_commas old) word (44 ∷ []) ∙ sym (put_text p))
+-- the words of a text that is not empty
+pub some : (octets : List ℕ) → (length octets ≡ 0 → ⊥) → names_in octets ≡ words_of octets
+some [] is = absurd (is refl)
+some (octet ∷ octets) is = refl
+
+in_all : (ws : List (List ℕ)) (word : List ℕ) (more : List (List ℕ)) → AllByRecursion IsApnText (ws ++ word ∷ more) → IsApnText word
+in_all [] word more all = all.0
+in_all (w ∷ ws) word more all = in_all ws word more all.1
+
+first_word : (octets word : List ℕ) (after : Option (Bor (List ℕ))) → IsCut octets word after → (more : List (List ℕ)) × (words_of octets ≡ word ∷ more)
+first_word octets word None is = ([], is)
+first_word octets word (Some after) is = (words_of after.now, is)
+
+-- where a word is no name, not all are
+pub not_good : (octets : List ℕ) (ws : List (List ℕ)) (rest word : List ℕ) (after : Option (Bor (List ℕ))) → (length octets ≡ 0 → ⊥)
+    → ws ++ words_of rest ≡ words_of octets → IsCut rest word after → ¬ IsApnText word → ¬ AreGoodNames octets
+not_good octets ws rest word after is_some same is bad good =
+    let first = first_word rest word after is in
+    bad (in_all ws word first.0 (subst (AllByRecursion IsApnText) (some octets is_some ∙ (sym same ∙ ap (λ (rest : List (List ℕ)). ws ++ rest) first.1)) good))

@@ -8,6 +8,7 @@ pub mod Names
 pub mod Reading
 pub mod Sessions
 pub mod Setups
+pub mod Statuses
 pub mod Steps
 pub mod Told
 pub mod Values

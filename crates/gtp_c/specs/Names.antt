@@ -1,21 +1,34 @@
 -- The access points of a text.
-use Rattle.std.specs.Prelude.{◌≡◌, ◌⊎◌, ℕ, List, [], ◌∷◌, ◌++◌, Option, Some, None}
+use Rattle.std.specs.Prelude.{◌≡◌, ℕ, ◌==◌, List, [], ◌∷◌, ◌++◌, Option, Some, None, map}
 use Rattle.std.specs.Borrow.{Bor}
-use Rattle.gtp_values.specs.Apn.{apn_text}
+use Rattle.std.specs.List.{AllByRecursion, position_or_len, slice_split}
+use Rattle.gtp_values.specs.Apn.{apn_text, IsApnText}
 
--- the texts of the names, each with a comma behind it
-abbrev pub with_commas : List (List ℕ) → List ℕ
-with_commas [] = []
-with_commas (name ∷ names) = apn_text name ++ (44 ∷ with_commas names)
+-- the words between the commas (44) of a text, one more than it has commas
+abbrev pub words_of : List ℕ → List (List ℕ)
+words_of text = slice_split (λ octet. octet == 44) text
 
--- the text writes these names, with commas between them; an empty one writes none
+-- the words of a text, and none of an empty one
+abbrev pub names_in : List ℕ → List (List ℕ)
+names_in [] = []
+names_in (octet ∷ octets) = words_of (octet ∷ octets)
+
+-- the words of the text are those of these names
 abbrev pub AreNames : List ℕ → List (List ℕ) → Type 0
-AreNames text names = ((text ≡ []) × (names ≡ [])) ⊎ (text ++ 44 ∷ [] ≡ with_commas names)
+AreNames text names = map apn_text names ≡ names_in text
 
--- what stands before a comma and what after it, or all
+-- each word of the text is that of a name
+abbrev pub AreGoodNames : List ℕ → Type 0
+AreGoodNames text = AllByRecursion IsApnText (names_in text)
+
+-- how many octets stand before the first comma
+abbrev pub word_length : List ℕ → ℕ
+word_length octets = position_or_len (λ octet. octet == 44) octets
+
+-- the first word, and the text after its comma, or all that there is
 abbrev pub IsCut : List ℕ → List ℕ → Option (Bor (List ℕ)) → Type 0
-IsCut octets word None = word ≡ octets
-IsCut octets word (Some after) = octets ≡ word ++ 44 ∷ after.now
+IsCut octets word None = words_of octets ≡ word ∷ []
+IsCut octets word (Some after) = words_of octets ≡ word ∷ words_of after.now
 
 -- a name more, which the text writes
 pub record IsPut (old : List (List ℕ)) (text : List ℕ) (new : List (List ℕ)) : Type 0 where

@@ -1,14 +1,16 @@
 -- Which session or bearer C's values ask for.
-use Rattle.std.specs.Prelude.{◌≡◌, ℕ, ◌==◌, List, if◌then◌else◌, drop, get_or, map, take}
-use Rattle.gtp_values.specs.Apn.{apn_text}
-use Rattle.gtp_values.specs.Imsi.{value_of_digit}
-use Rattle.gtp_values.specs.Plmn.{Network}
+use Rattle.std.specs.Prelude.{◌≡◌, ℕ, ◌==◌, ◌<◌, ◌^◌, List, if◌then◌else◌, drop, get_or, map, take}
+use Rattle.gtp_values.specs.Apn.{apn_text, IsApnText}
+use Rattle.gtp_values.specs.Ebi.{IsEbi}
+use Rattle.gtp_values.specs.Imsi.{value_of_digit, IsImsiText}
+use Rattle.gtp_values.specs.Plmn.{Network, IsNetwork}
 use Rattle.gtp_values.specs.declared.qos.Qos.{Qos}
 use Rattle.gtp_values.specs.declared.qos.Rates.{Rates}
 use Rattle.gtp_tables.specs.declared.context.Subscriber.{Subscriber}
 use Rattle.gtp_gateway.specs.declared.command.create_session.SessionSpec.{SessionSpec}
 use Rattle.gtp_machine.specs.Input.{Create_session}
 use Rattle.gtp_gateway.specs.command.CreateSession.{specification}
+use Rattle.gtp_c.specs.Statuses.{CommandMayRunOut}
 use Rattle.gtp_c.specs.Steps.{HasBegun, IsRefused}
 use Rattle.gtp_c.specs.declared.desk.Desk.{Desk}
 use Rattle.gtp_c.specs.declared.told.Told.{Told}
@@ -28,6 +30,24 @@ code_length last = if last == 15 then 2 else 3
 -- the network with these six digits
 abbrev pub network_in : List ℕ → Network
 network_in digits = record { mcc = take 3 digits; mnc = take (code_length (get_or digits 5 0)) (drop 3 digits) }
+
+-- each rate is below 2^40 kilobits a second, and the priority level below 16
+pub record IsGoodQuality (q : Quality) : Type 0 where
+  pub mbr_up : q.mbr_up < 2 ^ 40
+  pub mbr_down : q.mbr_down < 2 ^ 40
+  pub gbr_up : q.gbr_up < 2 ^ 40
+  pub gbr_down : q.gbr_down < 2 ^ 40
+  pub pl : q.pl < 16
+
+-- the texts are those of an IMSI and of an access point, and each number is in its range
+pub record IsGoodSession (c : Session) (imsi access_point : List ℕ) : Type 0 where
+  pub imsi_is : IsImsiText imsi
+  pub access_point_is : IsApnText access_point
+  pub identity : IsEbi c.identity
+  pub network : IsNetwork (network_in c.network)
+  pub quality : IsGoodQuality c.quality
+  pub selection : c.selection < 4
+  pub pdn : c.pdn < 8
 
 -- the identity is this number, and the texts write the IMSI and the access point
 pub record IsSubscriber (identity : ℕ) (imsi access_point : List ℕ) (s : Subscriber) : Type 0 where
@@ -57,3 +77,9 @@ pub record IsCreationRefused (c : Session) (imsi access_point : List ℕ) (told 
   pub spec : SessionSpec
   pub is : IsSpecified c imsi access_point spec
   pub refused : IsRefused (Create_session (specification spec)) told old new
+
+-- memory may run out over a session that C's values ask for
+pub record CreationMayRunOut (c : Session) (imsi access_point : List ℕ) (d : Desk) : Type 0 where
+  pub spec : SessionSpec
+  pub is : IsSpecified c imsi access_point spec
+  pub may : CommandMayRunOut (Create_session (specification spec)) d

@@ -1,14 +1,15 @@
 -- Which gateway C's setup is.
-use Rattle.std.specs.Prelude.{◌≡◌, ◌⊎◌, ℕ, List, [], Some}
+use Rattle.std.specs.Prelude.{◌≡◌, ℕ, ◌≤◌, List, [], ◌∷◌, Some, IsSome}
 use Rattle.gtp_machine.specs.declared.role.Role.{Role}
 use Rattle.gtp_machine.specs.declared.role.Role.TheVariants.{Serving, Packet}
-use Rattle.gtp_gateway.specs.Settings.{Settings, settings_of}
+use Rattle.gtp_gateway.specs.Settings.{Settings, AreSettings, settings_of}
 use Rattle.gtp_gateway.specs.GatewayState.{GatewayState, starting}
 use Rattle.gtp_gateway.specs.declared.config.Addresses.{Addresses}
 use Rattle.gtp_gateway.specs.declared.config.Timers.{Timers}
+use Rattle.gtp_tables.specs.Pool.{IsPool, ArePrefixes}
 use Rattle.gtp_tables.specs.declared.pool.Pools.{Pools}
 use Rattle.gtp_c.specs.Ends.{ip_at}
-use Rattle.gtp_c.specs.Names.{AreNames}
+use Rattle.gtp_c.specs.Names.{AreNames, AreGoodNames, names_in}
 use Rattle.gtp_c.specs.declared.desk.Desk.{Desk}
 use Rattle.gtp_c.specs.declared.ends.Address.{Address}
 use Rattle.gtp_c.specs.declared.setup.Setup.{Setup}
@@ -53,6 +54,29 @@ pub record Starts (s : Setup) (text : List ℕ) (d : Desk) : Type 0 where
   pub gateway : IsStarted s text d.gateway
   pub waiting : d.waiting.items ≡ []
 
--- why there is no gateway: a bad value, or no memory
-abbrev pub IsRefusal : ℕ → Type 0
-IsRefusal status = (status ≡ 1) ⊎ (status ≡ 2)
+-- C's addresses are addresses
+pub record HasAddresses (control user : Address) : Type 0 where
+  pub control_is : IsSome (ip_at control)
+  pub user_is : IsSome (ip_at user)
+
+-- both ends have addresses, there are at most 16 access points, the timers are in their ranges, and so are the addresses to give
+pub record IsGoodConfig (s : Setup) (names : List (List ℕ)) : Type 0 where
+  pub own : HasAddresses s.own_control s.own_user
+  pub peer : HasAddresses s.peer_control s.peer_user
+  pub settings : AreSettings names (timers_at s)
+  pub pool : IsPool (pools_at s).v4
+  pub prefixes : ArePrefixes (pools_at s).v6
+
+-- a gateway can be set up so: the role is one, the text has names of access points, and the rest is in its range
+pub record IsGoodSetup (s : Setup) (text : List ℕ) : Type 0 where
+  pub role : s.role ≤ 1
+  pub names : AreGoodNames text
+  pub config : IsGoodConfig s (names_in text)
+
+-- the statuses of a call that starts a gateway, where it does not
+abbrev pub no_gateway : List ℕ
+no_gateway = 1 ∷ 2 ∷ []
+
+-- the statuses of `gtp_gateway_new`
+abbrev pub new_statuses : List ℕ
+new_statuses = 0 ∷ 1 ∷ 2 ∷ 8 ∷ []

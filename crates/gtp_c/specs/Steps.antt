@@ -77,6 +77,10 @@ pub record HasTicked (told : Told) (old new : Desk) : Type 0 where
   pub waiting : new.waiting.items ≡ old.waiting.items ++ ticked.resent.items
   pub tells : told ≡ tick_told (length ticked.gave_up.items) (length ticked.forgotten.items) (deque_len new.waiting)
 
+-- no datagram waits
+abbrev pub NothingWaits : Desk → Type 0
+NothingWaits d = d.waiting.items ≡ []
+
 -- the datagram that waited longest waits no more
 abbrev pub HasTaken : Desk → Desk → Type 0
 HasTaken old new = (new.gateway ≡ old.gateway) × (new.waiting.items ≡ drop 1 old.waiting.items)

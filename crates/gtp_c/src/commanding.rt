@@ -1,11 +1,14 @@
 //! Commands to a gateway behind a handle. Each answers 0 with `told` filled, or 6 with `told` saying which rule refuses it; and else
 //! nothing happened.
 
-ghost use Rattle.std.specs.Prelude.{◌≡◌, ◌≢◌, ◌↔◌, None};
+ghost use Rattle.std.specs.Prelude.{◌≡◌, ◌≢◌, ◌≤◌, length, IsSomeAnd};
+ghost use Rattle.gtp_values.specs.Ebi.{IsEbi};
 ghost use Rattle.gtp_machine.specs.Input.{Delete_session, Create_bearer, Delete_bearer};
 ghost use Rattle.gtp_machine.specs.Input.{Release_session, Mark_end, Send_echo, Send_user};
 ghost use Rattle.gtp_c.specs.Handles.{Goes, Stays};
 ghost use Rattle.gtp_c.specs.Sessions.{quality_at, Creates, IsCreationRefused};
+ghost use Rattle.gtp_c.specs.Sessions.{IsGoodQuality, IsGoodSession, CreationMayRunOut};
+ghost use Rattle.gtp_c.specs.Statuses.{HasStatus, command_statuses, CommandMayRunOut};
 ghost use Rattle.gtp_c.specs.Steps.{HasBegun, IsRefused};
 
 use crate::handle::Handle;
@@ -31,7 +34,10 @@ pub extern "C" fn gtp_gateway_create_session(
         Goes (IsCreationRefused session.now imsi.now access_point.now told.new)
         handle.old.hidden.value handle.new.hidden.value }
     ensures kept { result ≢ 0 → Stays handle.old.hidden.value handle.new.hidden.value }
-    ensures empty { (result ≡ 7) ↔ (handle.old.hidden.value ≡ None) }
+    ensures status { HasStatus command_statuses (¬ IsGoodSession session.now imsi.now access_point.now)
+        handle.old.hidden.value result }
+    ensures memory { result ≡ 2 → IsSomeAnd handle.old.hidden.value
+        (CreationMayRunOut session.now imsi.now access_point.now) }
 {
     if handle.count == 0 {
         return EMPTY;
@@ -55,7 +61,10 @@ pub extern "C" fn gtp_gateway_delete_session(
     ensures refused { result ≡ 6 → Goes (IsRefused (Delete_session session) told.new)
         handle.old.hidden.value handle.new.hidden.value }
     ensures kept { result ≢ 0 → Stays handle.old.hidden.value handle.new.hidden.value }
-    ensures empty { (result ≡ 7) ↔ (handle.old.hidden.value ≡ None) }
+    ensures status { HasStatus command_statuses ⊥
+        handle.old.hidden.value result }
+    ensures memory { result ≡ 2 → IsSomeAnd handle.old.hidden.value
+        (CommandMayRunOut (Delete_session session)) }
 {
     if handle.count == 0 {
         return EMPTY;
@@ -83,7 +92,10 @@ pub extern "C" fn gtp_gateway_create_bearer(
         Goes (IsRefused (Create_bearer session tft.now (quality_at quality.now)) told.new)
         handle.old.hidden.value handle.new.hidden.value }
     ensures kept { result ≢ 0 → Stays handle.old.hidden.value handle.new.hidden.value }
-    ensures empty { (result ≡ 7) ↔ (handle.old.hidden.value ≡ None) }
+    ensures status { HasStatus command_statuses (¬ (IsGoodQuality quality.now × (length tft.now ≤ 255)))
+        handle.old.hidden.value result }
+    ensures memory { result ≡ 2 → IsSomeAnd handle.old.hidden.value
+        (CommandMayRunOut (Create_bearer session tft.now (quality_at quality.now))) }
 {
     if handle.count == 0 {
         return EMPTY;
@@ -114,7 +126,10 @@ pub extern "C" fn gtp_gateway_delete_bearer(
     ensures refused { result ≡ 6 → Goes (IsRefused (Delete_bearer session identity) told.new)
         handle.old.hidden.value handle.new.hidden.value }
     ensures kept { result ≢ 0 → Stays handle.old.hidden.value handle.new.hidden.value }
-    ensures empty { (result ≡ 7) ↔ (handle.old.hidden.value ≡ None) }
+    ensures status { HasStatus command_statuses (¬ IsEbi identity)
+        handle.old.hidden.value result }
+    ensures memory { result ≡ 2 → IsSomeAnd handle.old.hidden.value
+        (CommandMayRunOut (Delete_bearer session identity)) }
 {
     if handle.count == 0 {
         return EMPTY;
@@ -141,7 +156,10 @@ pub extern "C" fn gtp_gateway_release_session(
     ensures refused { result ≡ 6 → Goes (IsRefused (Release_session session) told.new)
         handle.old.hidden.value handle.new.hidden.value }
     ensures kept { result ≢ 0 → Stays handle.old.hidden.value handle.new.hidden.value }
-    ensures empty { (result ≡ 7) ↔ (handle.old.hidden.value ≡ None) }
+    ensures status { HasStatus command_statuses ⊥
+        handle.old.hidden.value result }
+    ensures memory { result ≡ 2 → IsSomeAnd handle.old.hidden.value
+        (CommandMayRunOut (Release_session session)) }
 {
     if handle.count == 0 {
         return EMPTY;
@@ -165,7 +183,10 @@ pub extern "C" fn gtp_gateway_end_marker(
     ensures refused { result ≡ 6 → Goes (IsRefused (Mark_end bearer) told.new)
         handle.old.hidden.value handle.new.hidden.value }
     ensures kept { result ≢ 0 → Stays handle.old.hidden.value handle.new.hidden.value }
-    ensures empty { (result ≡ 7) ↔ (handle.old.hidden.value ≡ None) }
+    ensures status { HasStatus command_statuses ⊥
+        handle.old.hidden.value result }
+    ensures memory { result ≡ 2 → IsSomeAnd handle.old.hidden.value
+        (CommandMayRunOut (Mark_end bearer)) }
 {
     if handle.count == 0 {
         return EMPTY;
@@ -187,7 +208,10 @@ pub extern "C" fn gtp_gateway_send_user(
     ensures refused { result ≡ 6 → Goes (IsRefused (Send_user bearer payload.now) told.new)
         handle.old.hidden.value handle.new.hidden.value }
     ensures kept { result ≢ 0 → Stays handle.old.hidden.value handle.new.hidden.value }
-    ensures empty { (result ≡ 7) ↔ (handle.old.hidden.value ≡ None) }
+    ensures status { HasStatus command_statuses ⊥
+        handle.old.hidden.value result }
+    ensures memory { result ≡ 2 → IsSomeAnd handle.old.hidden.value
+        (CommandMayRunOut (Send_user bearer payload.now)) }
 {
     if handle.count == 0 {
         return EMPTY;
@@ -206,7 +230,10 @@ pub extern "C" fn gtp_gateway_echo(alloc: Global, handle: &mut Handle, told: &mu
     ensures refused { result ≡ 6 → Goes (IsRefused Send_echo told.new)
         handle.old.hidden.value handle.new.hidden.value }
     ensures kept { result ≢ 0 → Stays handle.old.hidden.value handle.new.hidden.value }
-    ensures empty { (result ≡ 7) ↔ (handle.old.hidden.value ≡ None) }
+    ensures status { HasStatus command_statuses ⊥
+        handle.old.hidden.value result }
+    ensures memory { result ≡ 2 → IsSomeAnd handle.old.hidden.value
+        (CommandMayRunOut Send_echo) }
 {
     if handle.count == 0 {
         return EMPTY;

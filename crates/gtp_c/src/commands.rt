@@ -1,12 +1,13 @@
 //! Commands to a gateway.
 
-ghost use Rattle.std.specs.Prelude.{◌≡◌, ◌≢◌, ◌+◌, ◌≤◌, ◌++◌, [], ◌∷◌, Err, IsOkAnd, OnOk};
+ghost use Rattle.std.specs.Prelude.{◌≡◌, ◌≢◌, ◌↔◌, ◌+◌, ◌≤◌, ◌++◌, [], ◌∷◌, Err, IsOkAnd, OnOk};
 ghost use Rattle.std.specs.VecDeque.{deque_len, deque_capacity};
 ghost use Rattle.gtp_gateway.specs.command.CreateSession.{specification};
-ghost use Rattle.gtp_gateway.specs.declared.fault.CommandFault.TheVariants.{Refused};
+ghost use Rattle.gtp_gateway.specs.declared.fault.CommandFault.TheVariants.{Refused, Memory};
 ghost use Rattle.gtp_machine.specs.Input.{Create_session, Delete_session, Create_bearer, Delete_bearer};
 ghost use Rattle.gtp_machine.specs.Input.{Release_session, Mark_end, Send_echo, Send_user};
 ghost use Rattle.gtp_machine.specs.declared.outcome.Refusal.{Refusal};
+ghost use Rattle.gtp_c.specs.Statuses.{IsOneOf, IsFull, CommandMayRunOut};
 ghost use Rattle.gtp_c.specs.Steps.{Keeps, HasBegun, IsRefused};
 ghost use Rattle.gtp_c.specs.Told.{begun_told, refused_told};
 
@@ -35,7 +36,8 @@ impl Desk {
             × (told.new ≡ refused_told why (deque_len self.new.waiting)) }
         ensures kept { result ≢ 0 →
             OnOk begun ⊥ × (self.new.waiting.items ≡ self.old.waiting.items) }
-        ensures known { result ≤ 6 }
+        ensures memory { result ≡ 2 → begun ≡ Err Memory }
+        ensures known { IsOneOf (0 ∷ 2 ∷ 6 ∷ []) result }
     {
         match begun {
             Ok(begun) => {
@@ -66,7 +68,9 @@ impl Desk {
         ensures refused { result ≡ 6 →
             IsRefused (Create_session (specification spec.now)) told.new self.old self.new }
         ensures kept { result ≢ 0 → Keeps self.old self.new }
-        ensures known { result ≤ 6 }
+        ensures full { (result ≡ 3) ↔ IsFull self.old }
+        ensures memory { result ≡ 2 → CommandMayRunOut (Create_session (specification spec.now)) self.old }
+        ensures known { IsOneOf (0 ∷ 2 ∷ 3 ∷ 6 ∷ []) result }
     {
         let status = self.room_for(1);
         if status != DONE {
@@ -83,7 +87,9 @@ impl Desk {
         ensures refused { result ≡ 6 →
             IsRefused (Delete_session session.0) told.new self.old self.new }
         ensures kept { result ≢ 0 → Keeps self.old self.new }
-        ensures known { result ≤ 6 }
+        ensures full { (result ≡ 3) ↔ IsFull self.old }
+        ensures memory { result ≡ 2 → CommandMayRunOut (Delete_session session.0) self.old }
+        ensures known { IsOneOf (0 ∷ 2 ∷ 3 ∷ 6 ∷ []) result }
     {
         let status = self.room_for(1);
         if status != DONE {
@@ -107,7 +113,9 @@ impl Desk {
         ensures refused { result ≡ 6 →
             IsRefused (Create_bearer session.0 tft.now qos.now) told.new self.old self.new }
         ensures kept { result ≢ 0 → Keeps self.old self.new }
-        ensures known { result ≤ 6 }
+        ensures full { (result ≡ 3) ↔ IsFull self.old }
+        ensures memory { result ≡ 2 → CommandMayRunOut (Create_bearer session.0 tft.now qos.now) self.old }
+        ensures known { IsOneOf (0 ∷ 2 ∷ 3 ∷ 6 ∷ []) result }
     {
         let status = self.room_for(1);
         if status != DONE {
@@ -130,7 +138,9 @@ impl Desk {
         ensures refused { result ≡ 6 →
             IsRefused (Delete_bearer session.0 identity) told.new self.old self.new }
         ensures kept { result ≢ 0 → Keeps self.old self.new }
-        ensures known { result ≤ 6 }
+        ensures full { (result ≡ 3) ↔ IsFull self.old }
+        ensures memory { result ≡ 2 → CommandMayRunOut (Delete_bearer session.0 identity) self.old }
+        ensures known { IsOneOf (0 ∷ 2 ∷ 3 ∷ 6 ∷ []) result }
     {
         let status = self.room_for(1);
         if status != DONE {
@@ -147,7 +157,9 @@ impl Desk {
         ensures refused { result ≡ 6 →
             IsRefused (Release_session session.0) told.new self.old self.new }
         ensures kept { result ≢ 0 → Keeps self.old self.new }
-        ensures known { result ≤ 6 }
+        ensures full { (result ≡ 3) ↔ IsFull self.old }
+        ensures memory { result ≡ 2 → CommandMayRunOut (Release_session session.0) self.old }
+        ensures known { IsOneOf (0 ∷ 2 ∷ 3 ∷ 6 ∷ []) result }
     {
         let status = self.room_for(1);
         if status != DONE {
@@ -162,7 +174,9 @@ impl Desk {
         ensures done { result ≡ 0 → HasBegun Send_echo told.new self.old self.new }
         ensures refused { result ≡ 6 → IsRefused Send_echo told.new self.old self.new }
         ensures kept { result ≢ 0 → Keeps self.old self.new }
-        ensures known { result ≤ 6 }
+        ensures full { (result ≡ 3) ↔ IsFull self.old }
+        ensures memory { result ≡ 2 → CommandMayRunOut Send_echo self.old }
+        ensures known { IsOneOf (0 ∷ 2 ∷ 3 ∷ 6 ∷ []) result }
     {
         let status = self.room_for(1);
         if status != DONE {
@@ -178,7 +192,9 @@ impl Desk {
         ensures refused { result ≡ 6 → IsRefused (Mark_end bearer.0)
             told.new self.old self.new }
         ensures kept { result ≢ 0 → Keeps self.old self.new }
-        ensures known { result ≤ 6 }
+        ensures full { (result ≡ 3) ↔ IsFull self.old }
+        ensures memory { result ≡ 2 → CommandMayRunOut (Mark_end bearer.0) self.old }
+        ensures known { IsOneOf (0 ∷ 2 ∷ 3 ∷ 6 ∷ []) result }
     {
         let status = self.room_for(1);
         if status != DONE {
@@ -201,7 +217,9 @@ impl Desk {
         ensures refused { result ≡ 6 →
             IsRefused (Send_user bearer.0 payload.now) told.new self.old self.new }
         ensures kept { result ≢ 0 → Keeps self.old self.new }
-        ensures known { result ≤ 6 }
+        ensures full { (result ≡ 3) ↔ IsFull self.old }
+        ensures memory { result ≡ 2 → CommandMayRunOut (Send_user bearer.0 payload.now) self.old }
+        ensures known { IsOneOf (0 ∷ 2 ∷ 3 ∷ 6 ∷ []) result }
     {
         let status = self.room_for(1);
         if status != DONE {

@@ -1,9 +1,10 @@
 //! The sessions and bearers of a gateway behind a handle.
 
-ghost use Rattle.std.specs.Prelude.{◌≡◌, ◌↔◌, None, drop};
+ghost use Rattle.std.specs.Prelude.{◌≡◌, ◌↔◌, [], ◌∷◌, None, drop};
 ghost use Rattle.std.specs.FinMap as map;
 ghost use Rattle.gtp_c.specs.Contexts.{HasSession, HasBearer, SessionAt, BearerAt, NoSession, NoBearer};
 ghost use Rattle.gtp_c.specs.Contexts.{SessionsEnd, BearersEnd, EntryIs, BearerEntryIs};
+ghost use Rattle.gtp_c.specs.Statuses.{IsOneOf};
 
 use crate::handle::Handle;
 use crate::rows::{BearerRow, SessionRow};
@@ -45,6 +46,7 @@ pub extern "C" fn gtp_gateway_session(handle: &mut Handle, teid: u32, row: &mut 
     ensures none { result ≡ 4 → NoSession teid handle.old.hidden.value }
     ensures kept { handle.new.hidden.value ≡ handle.old.hidden.value }
     ensures empty { (result ≡ 7) ↔ (handle.old.hidden.value ≡ None) }
+    ensures known { IsOneOf (0 ∷ 4 ∷ 7 ∷ []) result }
 {
     if handle.count == 0 {
         return EMPTY;
@@ -66,6 +68,7 @@ pub extern "C" fn gtp_gateway_bearer(handle: &mut Handle, teid: u32, row: &mut B
     ensures none { result ≡ 4 → NoBearer teid handle.old.hidden.value }
     ensures kept { handle.new.hidden.value ≡ handle.old.hidden.value }
     ensures empty { (result ≡ 7) ↔ (handle.old.hidden.value ≡ None) }
+    ensures known { IsOneOf (0 ∷ 4 ∷ 7 ∷ []) result }
 {
     if handle.count == 0 {
         return EMPTY;
@@ -91,6 +94,7 @@ pub extern "C" fn gtp_gateway_session_at(
     ensures none { result ≡ 4 → SessionsEnd place handle.old.hidden.value }
     ensures kept { handle.new.hidden.value ≡ handle.old.hidden.value }
     ensures empty { (result ≡ 7) ↔ (handle.old.hidden.value ≡ None) }
+    ensures known { IsOneOf (0 ∷ 4 ∷ 7 ∷ []) result }
 {
     if handle.count == 0 {
         return EMPTY;
@@ -112,6 +116,7 @@ pub extern "C" fn gtp_gateway_bearer_at(handle: &mut Handle, place: u64, row: &m
     ensures none { result ≡ 4 → BearersEnd place handle.old.hidden.value }
     ensures kept { handle.new.hidden.value ≡ handle.old.hidden.value }
     ensures empty { (result ≡ 7) ↔ (handle.old.hidden.value ≡ None) }
+    ensures known { IsOneOf (0 ∷ 4 ∷ 7 ∷ []) result }
 {
     if handle.count == 0 {
         return EMPTY;

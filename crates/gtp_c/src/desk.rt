@@ -1,7 +1,8 @@
 //! A gateway with the datagrams that it has to send and that nobody took yet.
 
-ghost use Rattle.std.specs.Prelude.{◌≡◌, ◌≢◌, ◌+◌, ◌≤◌, ◌++◌, [], length, option_to_list};
+ghost use Rattle.std.specs.Prelude.{◌≡◌, ◌≢◌, ◌↔◌, ◌+◌, ◌≤◌, ◌++◌, [], ◌∷◌, length, option_to_list};
 ghost use Rattle.std.specs.VecDeque.{deque_len, deque_capacity};
+ghost use Rattle.gtp_c.specs.Statuses.{IsOneOf, IsFull, LacksRoom, ReceiveMayRunOut, TickMayRunOut};
 ghost use Rattle.gtp_c.specs.Steps.{Keeps, HasReceived, HasTicked};
 
 use crate::status::{DONE, FULL, NO_MEMORY};
@@ -40,7 +41,9 @@ impl Desk {
         ensures kept { Keeps self.old self.new }
         ensures room { result ≡ 0
             → deque_len self.new.waiting + count ≤ deque_capacity self.new.waiting }
-        ensures known { result ≤ 3 }
+        ensures full { (result ≡ 3) ↔ IsFull self.old }
+        ensures memory { result ≡ 2 → LacksRoom count self.old }
+        ensures known { IsOneOf (0 ∷ 2 ∷ 3 ∷ []) result }
     {
         if self.waiting.len() > MOST_WAITING {
             return FULL;
@@ -88,7 +91,9 @@ impl Desk {
         ensures done { result ≡ 0
             → HasReceived plane source octets.now told.new self.old self.new }
         ensures kept { result ≢ 0 → Keeps self.old self.new }
-        ensures known { result ≤ 3 }
+        ensures full { (result ≡ 3) ↔ IsFull self.old }
+        ensures memory { result ≡ 2 → ReceiveMayRunOut plane source octets.now self.old }
+        ensures known { IsOneOf (0 ∷ 2 ∷ 3 ∷ []) result }
     {
         let status = self.room_for(1);
         if status != DONE {
@@ -109,7 +114,9 @@ impl Desk {
     pub(crate) fn tick(&mut self, alloc: Global, told: &mut Told) -> u8
         ensures done { result ≡ 0 → HasTicked told.new self.old self.new }
         ensures kept { result ≢ 0 → Keeps self.old self.new }
-        ensures known { result ≤ 3 }
+        ensures full { (result ≡ 3) ↔ IsFull self.old }
+        ensures memory { result ≡ 2 → TickMayRunOut self.old }
+        ensures known { IsOneOf (0 ∷ 2 ∷ 3 ∷ []) result }
     {
         let status = self.room_for(MOST_RESENT);
         if status != DONE {

@@ -1,6 +1,6 @@
 //! Addresses and ends, as C has them.
 
-ghost use Rattle.std.specs.Prelude.{◌≡◌, Some, IfSome, take};
+ghost use Rattle.std.specs.Prelude.{◌≡◌, ◌↔◌, ◌<◌, Some, None, IfSome, take};
 ghost use Rattle.gtp_c.specs.Ends.{ip_at, endpoint_at, plane_at};
 
 use gtp_gateway::{Endpoint, Ip, Plane};
@@ -86,7 +86,8 @@ impl End {
 
 /// The plane of this number.
 pub(crate) fn plane_of(number: u8) -> Option<Plane>
-    ensures { IfSome result (λ plane. plane_at plane ≡ number) }
+    ensures some { IfSome result (λ plane. plane_at plane ≡ number) }
+    ensures none { (result ≡ None) ↔ (1 < number) }
 {
     match number {
         0 => Some(Plane::Control),

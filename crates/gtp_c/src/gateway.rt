@@ -1,9 +1,11 @@
 //! A gateway behind a handle.
 
-ghost use Rattle.std.specs.Prelude.{◌≡◌, ◌≢◌, ◌↔◌, [], None, IsSome, IsSomeAnd, length};
+ghost use Rattle.std.specs.Prelude.{◌≡◌, ◌≢◌, ◌↔◌, [], ◌∷◌, None, IsSome, IsSomeAnd, length};
 ghost use Rattle.gtp_c.specs.Handles.{Goes, Stays};
-ghost use Rattle.gtp_c.specs.Setups.{Starts};
-ghost use Rattle.gtp_c.specs.Steps.{HasTicked, Hands, IsTooSmall, Comes};
+ghost use Rattle.gtp_c.specs.Setups.{Starts, IsGoodSetup, new_statuses};
+ghost use Rattle.gtp_c.specs.Statuses.{HasStatus, IsOneOf, step_statuses, IsBadArrival};
+ghost use Rattle.gtp_c.specs.Statuses.{ComingMayRunOut, TickMayRunOut};
+ghost use Rattle.gtp_c.specs.Steps.{HasTicked, Hands, IsTooSmall, Comes, NothingWaits};
 
 use crate::desk::Desk;
 use crate::ends::{End, plane_of};
@@ -45,8 +47,11 @@ pub extern "C" fn gtp_gateway_new(
     access_points: &[u8],
 ) -> u8
     ensures done { result ≡ 0 → IsSomeAnd handle.new.hidden.value (Starts setup.now access_points.now) }
-    ensures full { (result ≡ 8) ↔ (IsSome handle.old.hidden.value) }
     ensures kept { result ≢ 0 → Stays handle.old.hidden.value handle.new.hidden.value }
+    ensures open { (result ≡ 8) ↔ (IsSome handle.old.hidden.value) }
+    ensures good { result ≡ 0 → IsGoodSetup setup.now access_points.now }
+    ensures bad { result ≡ 1 → ¬ IsGoodSetup setup.now access_points.now }
+    ensures known { IsOneOf new_statuses result }
 {
     if handle.count != 0 {
         return NOT_EMPTY;
@@ -70,7 +75,10 @@ pub extern "C" fn gtp_gateway_receive(
     ensures done { result ≡ 0 → Goes (Comes plane source.now octets.now told.new)
         handle.old.hidden.value handle.new.hidden.value }
     ensures kept { result ≢ 0 → Stays handle.old.hidden.value handle.new.hidden.value }
-    ensures empty { (result ≡ 7) ↔ (handle.old.hidden.value ≡ None) }
+    ensures status { HasStatus step_statuses (IsBadArrival plane source.now)
+        handle.old.hidden.value result }
+    ensures memory { result ≡ 2 → IsSomeAnd handle.old.hidden.value
+        (ComingMayRunOut plane source.now octets.now) }
 {
     if handle.count == 0 {
         return EMPTY;
@@ -93,7 +101,8 @@ pub extern "C" fn gtp_gateway_tick(alloc: Global, handle: &mut Handle, told: &mu
     ensures done { result ≡ 0 → Goes (HasTicked told.new)
         handle.old.hidden.value handle.new.hidden.value }
     ensures kept { result ≢ 0 → Stays handle.old.hidden.value handle.new.hidden.value }
-    ensures empty { (result ≡ 7) ↔ (handle.old.hidden.value ≡ None) }
+    ensures status { HasStatus step_statuses ⊥ handle.old.hidden.value result }
+    ensures memory { result ≡ 2 → IsSomeAnd handle.old.hidden.value TickMayRunOut }
 {
     if handle.count == 0 {
         return EMPTY;
@@ -116,6 +125,8 @@ pub extern "C" fn gtp_gateway_take(
     ensures buffer { result ≢ 0 → buffer.new ≡ buffer.old }
     ensures kept { result ≢ 0 → handle.new.hidden.value ≡ handle.old.hidden.value }
     ensures empty { (result ≡ 7) ↔ (handle.old.hidden.value ≡ None) }
+    ensures none { (result ≡ 4) ↔ IsSomeAnd handle.old.hidden.value NothingWaits }
+    ensures known { IsOneOf (0 ∷ 4 ∷ 5 ∷ 7 ∷ []) result }
 {
     if handle.count == 0 {
         return EMPTY;
@@ -128,6 +139,7 @@ pub extern "C" fn gtp_gateway_take(
 pub extern "C" fn gtp_gateway_free(alloc: Global, handle: &mut Handle) -> u8
     ensures gone { handle.new.hidden.value ≡ None }
     ensures empty { (result ≡ 7) ↔ (handle.old.hidden.value ≡ None) }
+    ensures known { IsOneOf (0 ∷ 7 ∷ []) result }
 {
     if handle.count == 0 {
         return EMPTY;

@@ -1,30 +1,44 @@
 //! The access points of a text, with commas between them.
 
-ghost use Rattle.std.specs.Prelude.{IfOk, IfErr, OnOk};
-ghost use Rattle.gtp_c.specs.Names.{AreNames, IsCut, IsPut};
-ghost use Rattle.gtp_c.specs.Setups.{IsRefusal};
+ghost use Rattle.std.specs.Prelude.{◌≡◌, ◌≤◌, length, IfOk, IfErr, OnOk, OnErr, IsErrOf};
+ghost use Rattle.gtp_values.specs.Apn.{IsApnText};
+ghost use Rattle.gtp_c.specs.Names.{AreNames, AreGoodNames, IsCut, IsPut, word_length as spec_word_length};
+ghost use Rattle.gtp_c.specs.Setups.{no_gateway};
+ghost use Rattle.gtp_c.specs.Statuses.{IsOneOf};
 
 use crate::session::access_point_of;
 use crate::status::{BAD_VALUE, NO_MEMORY};
 use gtp_gateway::Apn;
 use std::alloc::Global;
 
+/// How many octets stand before the first comma.
+fn word_length(octets: &[u8]) -> usize
+    ensures value { result ≡ spec_word_length octets.now }
+    ensures most { result ≤ length octets.now }
+{
+    octets
+        .iter()
+        .position(|octet| *octet == b',')
+        .unwrap_or(octets.len())
+}
+
 /// The octets before the first comma, and those after it, where there is one.
 fn cut(octets: &[u8]) -> (&[u8], Option<&[u8]>)
     ensures { IsCut octets.now result.0.now result.1 }
 {
-    for place in 0..octets.len() {
-        if octets[place] == b',' {
-            return (&octets[..place], Some(&octets[place + 1..]));
-        }
+    let len = word_length(octets);
+    if len == octets.len() {
+        return (octets, None);
     }
-    (octets, None)
+    (&octets[..len], Some(&octets[len + 1..]))
 }
 
 /// A name more, which a text writes.
 fn put_name(names: &mut Vec<Apn>, text: &[u8]) -> Result<(), u8>
     ensures ok { OnOk result (IsPut names.old.items text.now names.new.items) }
-    ensures err { IfErr result IsRefusal }
+    ensures good { OnOk result (IsApnText text.now) }
+    ensures err { IfErr result (IsOneOf no_gateway) }
+    ensures bad { IsErrOf result 1 → ¬ IsApnText text.now }
 {
     let Some(name) = access_point_of(text) else {
         return Err(BAD_VALUE);
@@ -38,7 +52,9 @@ fn put_name(names: &mut Vec<Apn>, text: &[u8]) -> Result<(), u8>
 /// The access points of a text; none of an empty one.
 pub(crate) fn access_points_of(alloc: Global, octets: &[u8]) -> Result<Vec<Apn>, u8>
     ensures ok { IfOk result (λ names. AreNames octets.now names.items) }
-    ensures err { IfErr result IsRefusal }
+    ensures good { OnOk result (AreGoodNames octets.now) }
+    ensures err { IfErr result (IsOneOf no_gateway) }
+    ensures bad { IsErrOf result 1 → ¬ AreGoodNames octets.now }
 {
     let mut names = Vec::new(alloc);
     if octets.is_empty() {

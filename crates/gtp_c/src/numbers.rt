@@ -1,8 +1,9 @@
 //! What the bodies of elements say that are one number.
 
-ghost use Rattle.std.specs.Prelude.{◌≡◌, ◌↔◌};
+ghost use Rattle.std.specs.Prelude.{◌≡◌, ◌↔◌, [], ◌∷◌};
 ghost use Rattle.gtp_ie.specs.Spelling.{IsShort, IsBad};
 ghost use Rattle.gtp_c.specs.Values.{SaysNumber};
+ghost use Rattle.gtp_c.specs.Statuses.{IsOneOf};
 
 use crate::status::{DONE, NO_VALUE, SHORT_VALUE};
 use gtp_ie::{ChargingId, EbiValue, IeValue, PdnType, Pti, Rat, ReadFault, Recovery, Selection};
@@ -13,6 +14,7 @@ pub extern "C" fn gtp_recovery_read(body: &[u8], number: &mut u32) -> u8
     ensures value { result ≡ 0 → SaysNumber 3 body.now number.new }
     ensures short { (result ≡ 10) ↔ IsShort 3 body.now }
     ensures bad { (result ≡ 11) ↔ IsBad 3 body.now }
+    ensures known { IsOneOf (0 ∷ 10 ∷ 11 ∷ []) result }
 {
     match Recovery::read(body) {
         Ok(read) => {
@@ -30,6 +32,7 @@ pub extern "C" fn gtp_ebi_read(body: &[u8], number: &mut u32) -> u8
     ensures value { result ≡ 0 → SaysNumber 73 body.now number.new }
     ensures short { (result ≡ 10) ↔ IsShort 73 body.now }
     ensures bad { (result ≡ 11) ↔ IsBad 73 body.now }
+    ensures known { IsOneOf (0 ∷ 10 ∷ 11 ∷ []) result }
 {
     match EbiValue::read(body) {
         Ok(read) => {
@@ -47,6 +50,7 @@ pub extern "C" fn gtp_rat_read(body: &[u8], number: &mut u32) -> u8
     ensures value { result ≡ 0 → SaysNumber 82 body.now number.new }
     ensures short { (result ≡ 10) ↔ IsShort 82 body.now }
     ensures bad { (result ≡ 11) ↔ IsBad 82 body.now }
+    ensures known { IsOneOf (0 ∷ 10 ∷ 11 ∷ []) result }
 {
     match Rat::read(body) {
         Ok(read) => {
@@ -64,6 +68,7 @@ pub extern "C" fn gtp_charging_id_read(body: &[u8], number: &mut u32) -> u8
     ensures value { result ≡ 0 → SaysNumber 94 body.now number.new }
     ensures short { (result ≡ 10) ↔ IsShort 94 body.now }
     ensures bad { (result ≡ 11) ↔ IsBad 94 body.now }
+    ensures known { IsOneOf (0 ∷ 10 ∷ 11 ∷ []) result }
 {
     match ChargingId::read(body) {
         Ok(read) => {
@@ -81,6 +86,7 @@ pub extern "C" fn gtp_pdn_type_read(body: &[u8], number: &mut u32) -> u8
     ensures value { result ≡ 0 → SaysNumber 99 body.now number.new }
     ensures short { (result ≡ 10) ↔ IsShort 99 body.now }
     ensures bad { (result ≡ 11) ↔ IsBad 99 body.now }
+    ensures known { IsOneOf (0 ∷ 10 ∷ 11 ∷ []) result }
 {
     match PdnType::read(body) {
         Ok(read) => {
@@ -98,6 +104,7 @@ pub extern "C" fn gtp_pti_read(body: &[u8], number: &mut u32) -> u8
     ensures value { result ≡ 0 → SaysNumber 100 body.now number.new }
     ensures short { (result ≡ 10) ↔ IsShort 100 body.now }
     ensures bad { (result ≡ 11) ↔ IsBad 100 body.now }
+    ensures known { IsOneOf (0 ∷ 10 ∷ 11 ∷ []) result }
 {
     match Pti::read(body) {
         Ok(read) => {
@@ -115,6 +122,7 @@ pub extern "C" fn gtp_selection_read(body: &[u8], number: &mut u32) -> u8
     ensures value { result ≡ 0 → SaysNumber 128 body.now number.new }
     ensures short { (result ≡ 10) ↔ IsShort 128 body.now }
     ensures bad { (result ≡ 11) ↔ IsBad 128 body.now }
+    ensures known { IsOneOf (0 ∷ 10 ∷ 11 ∷ []) result }
 {
     match Selection::read(body) {
         Ok(read) => {

@@ -1,9 +1,12 @@
 //! With what a session or a bearer is asked for, as C says it.
 
-ghost use Rattle.std.specs.Prelude.{◌≡◌, IfSome, map};
-ghost use Rattle.gtp_values.specs.Apn.{apn_text};
-ghost use Rattle.gtp_values.specs.Imsi.{value_of_digit};
+ghost use Rattle.std.specs.Prelude.{◌≡◌, ◌↔◌, ◌<◌, ◌^◌, IsSome, IfSome, map};
+ghost use Rattle.gtp_values.specs.Apn.{apn_text, IsApnText};
+ghost use Rattle.gtp_values.specs.Ebi.{IsEbi};
+ghost use Rattle.gtp_values.specs.Imsi.{value_of_digit, IsImsiText};
+ghost use Rattle.gtp_values.specs.Plmn.{IsNetwork};
 ghost use Rattle.gtp_c.specs.Sessions.{rates_at, quality_at, network_in, IsSubscriber, IsSpecified};
+ghost use Rattle.gtp_c.specs.Sessions.{IsGoodQuality, IsGoodSession};
 
 use gtp_gateway::{Ambr, Apn, Ebi, PdnType, Plmn, Qos, Rat, Selection, SessionSpec, Subscriber};
 use gtp_values::{Below, Imsi, Rate, Rates};
@@ -38,7 +41,8 @@ pub struct Session {
 
 /// The bit rates of two numbers.
 fn rates_of(up: u64, down: u64) -> Option<Rates>
-    ensures { IfSome result (λ rates. rates ≡ rates_at up down) }
+    ensures some { IsSome result ↔ ((up < 2 ^ 40) × (down < 2 ^ 40)) }
+    ensures value { IfSome result (λ rates. rates ≡ rates_at up down) }
 {
     let Ok(up) = Rate::try_new(up) else {
         return None;
@@ -52,7 +56,8 @@ fn rates_of(up: u64, down: u64) -> Option<Rates>
 impl Quality {
     /// The quality, where its numbers are in their ranges.
     pub(crate) fn qos(&self) -> Option<Qos>
-        ensures { IfSome result (λ qos. qos ≡ quality_at self.now) }
+        ensures some { IsSome result ↔ IsGoodQuality self.now }
+        ensures value { IfSome result (λ qos. qos ≡ quality_at self.now) }
     {
         let mbr = rates_of(self.mbr_up, self.mbr_down)?;
         let gbr = rates_of(self.gbr_up, self.gbr_down)?;
@@ -72,7 +77,8 @@ impl Quality {
 
 /// The network of these digits: the last is 15 where the second code has two.
 fn network_of(digits: &[u8; 6]) -> Option<Plmn>
-    ensures { IfSome result (λ network. network ≡ network_in digits.now) }
+    ensures some { IsSome result ↔ IsNetwork (network_in digits.now) }
+    ensures value { IfSome result (λ network. network ≡ network_in digits.now) }
 {
     let [a, b, c, d, e, last] = *digits;
     let second = [d, e, last];
@@ -85,7 +91,8 @@ fn network_of(digits: &[u8; 6]) -> Option<Plmn>
 
 /// The digits that a text writes.
 fn imsi_of(octets: &[u8]) -> Option<Imsi>
-    ensures { IfSome result (λ imsi. imsi ≡ map value_of_digit octets.now) }
+    ensures some { IsSome result ↔ IsImsiText octets.now }
+    ensures value { IfSome result (λ imsi. imsi ≡ map value_of_digit octets.now) }
 {
     let Ok(text) = std::str::from_utf8(octets) else {
         return None;
@@ -98,7 +105,8 @@ fn imsi_of(octets: &[u8]) -> Option<Imsi>
 
 /// The name that a text writes.
 pub(crate) fn access_point_of(octets: &[u8]) -> Option<Apn>
-    ensures { IfSome result (λ name. apn_text name ≡ octets.now) }
+    ensures some { IsSome result ↔ IsApnText octets.now }
+    ensures value { IfSome result (λ name. apn_text name ≡ octets.now) }
 {
     let Ok(text) = std::str::from_utf8(octets) else {
         return None;
@@ -111,7 +119,8 @@ pub(crate) fn access_point_of(octets: &[u8]) -> Option<Apn>
 
 /// Who asks.
 fn subscriber_of(identity: u8, imsi: &[u8], access_point: &[u8]) -> Option<Subscriber>
-    ensures { IfSome result (IsSubscriber identity imsi.now access_point.now) }
+    ensures some { IsSome result ↔ (IsImsiText imsi.now × IsApnText access_point.now × IsEbi identity) }
+    ensures value { IfSome result (IsSubscriber identity imsi.now access_point.now) }
 {
     let Some(imsi) = imsi_of(imsi) else {
         return None;
@@ -132,7 +141,8 @@ fn subscriber_of(identity: u8, imsi: &[u8], access_point: &[u8]) -> Option<Subsc
 impl Session {
     /// The session that is asked for.
     pub(crate) fn specification(&self, imsi: &[u8], access_point: &[u8]) -> Option<SessionSpec>
-        ensures { IfSome result (IsSpecified self.now imsi.now access_point.now) }
+        ensures some { IsSome result ↔ IsGoodSession self.now imsi.now access_point.now }
+        ensures value { IfSome result (IsSpecified self.now imsi.now access_point.now) }
     {
         let subscriber = subscriber_of(self.identity, imsi, access_point)?;
         let plmn = network_of(&self.network)?;

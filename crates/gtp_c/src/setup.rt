@@ -1,7 +1,9 @@
 //! How a gateway is set up, as C says it.
 
-ghost use Rattle.std.specs.Prelude.{◌≡◌, IfOk, IfErr, IfSome, Some, None};
-ghost use Rattle.gtp_c.specs.Setups.{role_at, AreAddresses, IsConfigured, IsRefusal, IsStarted, timers_at};
+ghost use Rattle.std.specs.Prelude.{◌≡◌, ◌↔◌, ◌≤◌, IfOk, IfErr, OnOk, IsErrOf, IfSome, IsSome};
+ghost use Rattle.gtp_c.specs.Setups.{role_at, AreAddresses, IsConfigured, IsStarted, timers_at};
+ghost use Rattle.gtp_c.specs.Setups.{HasAddresses, IsGoodConfig, IsGoodSetup, no_gateway};
+ghost use Rattle.gtp_c.specs.Statuses.{IsOneOf};
 
 use crate::ends::Address;
 use crate::names::access_points_of;
@@ -32,7 +34,8 @@ pub struct Setup {
 
 /// The role of this number.
 fn role_of(number: u8) -> Option<Role>
-    ensures { IfSome result (λ role. role_at role ≡ number) }
+    ensures some { IsSome result ↔ (number ≤ 1) }
+    ensures value { IfSome result (λ role. role_at role ≡ number) }
 {
     match number {
         0 => Some(Role::Serving),
@@ -43,7 +46,8 @@ fn role_of(number: u8) -> Option<Role>
 
 /// The addresses of a gateway on each plane.
 fn addresses_of(control: &Address, user: &Address) -> Option<Addresses>
-    ensures { IfSome result (AreAddresses control.now user.now) }
+    ensures some { IsSome result ↔ HasAddresses control.now user.now }
+    ensures value { IfSome result (AreAddresses control.now user.now) }
 {
     let control = control.ip()?;
     let user = user.ip()?;
@@ -63,7 +67,8 @@ impl Setup {
 
     /// The settings that are asked for.
     fn config(&self, names: Vec<Apn>) -> Option<Config>
-        ensures { IfSome result (IsConfigured self.now names.items) }
+        ensures some { IsSome result ↔ IsGoodConfig self.now names.items }
+        ensures value { IfSome result (IsConfigured self.now names.items) }
     {
         let own = addresses_of(&self.own_control, &self.own_user)?;
         let peer = addresses_of(&self.peer_control, &self.peer_user)?;
@@ -82,7 +87,9 @@ impl Setup {
     /// A gateway as it is asked for, or the status that says why there is none.
     pub(crate) fn start(&self, alloc: Global, octets: &[u8]) -> Result<Gateway, u8>
         ensures ok { IfOk result (IsStarted self.now octets.now) }
-        ensures err { IfErr result IsRefusal }
+        ensures good { OnOk result (IsGoodSetup self.now octets.now) }
+        ensures err { IfErr result (IsOneOf no_gateway) }
+        ensures bad { IsErrOf result 1 → ¬ IsGoodSetup self.now octets.now }
     {
         let Some(role) = role_of(self.role) else {
             return Err(BAD_VALUE);

@@ -1,7 +1,8 @@
 //! Datagrams that are taken, to be sent.
 
-ghost use Rattle.std.specs.Prelude.{◌≡◌, ◌≢◌, ◌<◌, ◌≤◌, length, take};
-ghost use Rattle.gtp_c.specs.Steps.{Says, Hands, IsTooSmall};
+ghost use Rattle.std.specs.Prelude.{◌≡◌, ◌≢◌, ◌↔◌, ◌<◌, [], ◌∷◌, length, take};
+ghost use Rattle.gtp_c.specs.Statuses.{IsOneOf};
+ghost use Rattle.gtp_c.specs.Steps.{Says, Hands, IsTooSmall, NothingWaits};
 
 use crate::desk::Desk;
 use crate::ends::{End, plane_number};
@@ -56,7 +57,8 @@ impl Desk {
             → IsTooSmall (length buffer.old) datagram.new self.old self.new }
         ensures buffer { result ≢ 0 → buffer.new ≡ buffer.old }
         ensures kept { result ≢ 0 → self.new ≡ self.old }
-        ensures known { result ≤ 5 }
+        ensures none { (result ≡ 4) ↔ NothingWaits self.old }
+        ensures known { IsOneOf (0 ∷ 4 ∷ 5 ∷ []) result }
     {
         let Some(sent) = self.waiting.front() else {
             return NONE;

@@ -1,7 +1,8 @@
 //! Writing to a caller's buffer. A call that lacks room writes nothing, and says how much it needs.
 
-ghost use Rattle.std.specs.Prelude.{◌≡◌, ◌≢◌, ◌↔◌, ◌⊎◌, ◌+◌, ◌<◌, ◌≤◌, ◌++◌, length, take};
+ghost use Rattle.std.specs.Prelude.{◌≡◌, ◌≢◌, ◌↔◌, ◌⊎◌, ◌+◌, ◌<◌, ◌≤◌, ◌++◌, [], ◌∷◌, length, take};
 ghost use Rattle.gtp_ie.specs.Text.{element_encoding};
+ghost use Rattle.gtp_c.specs.Statuses.{IsOneOf};
 ghost use Rattle.gtp_c.specs.Writing.{IsWritten, Needs, IsBadMessage, packet_encoding, message_encoding};
 ghost use Rattle.gtp_c.specs.Writing.{headed_plain, headed_by_teid};
 
@@ -43,6 +44,7 @@ pub extern "C" fn gtp_element_write(
     ensures kept { result ≢ 0 → buffer.new ≡ buffer.old }
     ensures bad { (result ≡ 1)
         ↔ ((15 < instance) ⊎ ((65535 < length body.now) ⊎ (length buffer.old < place))) }
+    ensures known { IsOneOf (0 ∷ 1 ∷ 5 ∷ []) result }
 {
     let place = place as usize;
     if instance > 15 || body.len() > LONGEST || place > buffer.len() {
@@ -72,6 +74,7 @@ pub extern "C" fn gtp_packet_write(
         (length buffer.old) size.new }
     ensures kept { result ≢ 0 → buffer.new ≡ buffer.old }
     ensures bad { (result ≡ 1) ↔ (65535 < length packet.now) }
+    ensures known { IsOneOf (0 ∷ 1 ∷ 5 ∷ []) result }
 {
     if packet.len() > LONGEST {
         return BAD_VALUE;
@@ -149,6 +152,7 @@ pub extern "C" fn gtp_control_write(
         (length buffer.old) size.new }
     ensures kept { result ≢ 0 → buffer.new ≡ buffer.old }
     ensures bad { (result ≡ 1) ↔ IsBadMessage head.now list.now }
+    ensures known { IsOneOf (0 ∷ 1 ∷ 5 ∷ []) result }
 {
     let is_lone_priority = head.has_priority != 0 && head.has_teid == 0;
     if head.seq >= 0x100_0000

@@ -1,9 +1,11 @@
-use Rattle.std.proofs.Common.{◌≡◌, ◌++◌, length}
-use Rattle.gtp_c.specs.Names.{with_commas}
+use Rattle.std.proofs.Common.{◌≡◌, ◌++◌, length, map}
+use Rattle.std.specs.List.{AllByRecursion}
+use Rattle.gtp_values.specs.Apn.{apn_text, IsApnText}
+use Rattle.gtp_c.specs.Names.{words_of}
 use Rattle.gtp_c.proofs.names.access_points_of.Given as goal
 
 abbrev pub invariant-loop-names : goal.invariant-loop-names
-invariant-loop-names l = l.octets ≡ with_commas l.names.items ++ l.rest
+invariant-loop-names l = (map apn_text l.names.items ++ words_of l.rest ≡ words_of l.octets) × AllByRecursion IsApnText (map apn_text l.names.items)
 
 abbrev pub decreases-loop-names : goal.decreases-loop-names
-decreases-loop-names l = length l.rest
+decreases-loop-names l = length (words_of l.rest)

@@ -1,0 +1,137 @@
+//! With what a gateway starts, and with what a session is asked for.
+
+use crate::ffi;
+use crate::{Ambr, Quality};
+use std::net::{IpAddr, Ipv4Addr, Ipv6Addr};
+
+/// Which gateway it is.
+#[derive(Clone, Copy, Debug, PartialEq, Eq, Hash)]
+pub enum Role {
+    /// The serving gateway.
+    Serving,
+    /// The packet gateway.
+    Packet,
+}
+
+/// The addresses of a gateway.
+#[derive(Clone, Copy, Debug, PartialEq, Eq)]
+pub struct Addresses {
+    /// For the control plane.
+    pub control: IpAddr,
+    /// For the user plane.
+    pub user: IpAddr,
+}
+
+impl From<IpAddr> for Addresses {
+    /// One address for both planes.
+    fn from(address: IpAddr) -> Addresses {
+        Addresses { control: address, user: address }
+    }
+}
+
+/// Times, in ticks (TS 29.274 7.6).
+#[derive(Clone, Copy, Debug, PartialEq, Eq)]
+pub struct Timers {
+    /// T3-RESPONSE: after so many ticks a request goes out again, 1 to 1,000.
+    pub t3: u32,
+    /// N3-REQUESTS: so often, 0 to 100.
+    pub n3: u32,
+    /// For so many ticks an answer is held, 1 to 100,000.
+    pub hold: u32,
+}
+
+/// With what a gateway starts.
+#[derive(Clone, Debug, PartialEq, Eq)]
+pub struct Setup<'a> {
+    /// Which gateway it is.
+    pub role: Role,
+    /// Its own addresses.
+    pub own: Addresses,
+    /// Those of the other gateway.
+    pub peer: Addresses,
+    /// The restart counter, one more at each start (TS 23.007 18).
+    pub counter: u8,
+    /// Times.
+    pub timers: Timers,
+    /// Names of the access points that a packet gateway serves, at most 16.
+    pub access_points: &'a [&'a str],
+    /// The first IPv4 address that a packet gateway gives to sessions, and how many, at most 65,536.
+    pub pool: (Ipv4Addr, u32),
+    /// The first IPv6 address, and how many, each with a prefix of 64 bits of its own, at most 65,536.
+    pub pool6: (Ipv6Addr, u32),
+}
+
+impl Setup<'_> {
+    pub(crate) fn raw(&self) -> ffi::Setup {
+        ffi::Setup {
+            own_control: ffi::Address::of(self.own.control),
+            own_user: ffi::Address::of(self.own.user),
+            peer_control: ffi::Address::of(self.peer.control),
+            peer_user: ffi::Address::of(self.peer.user),
+            pool6: self.pool6.0.octets(),
+            pool6_count: self.pool6.1,
+            pool: self.pool.0.into(),
+            pool_count: self.pool.1,
+            t3: self.timers.t3,
+            n3: self.timers.n3,
+            hold: self.timers.hold,
+            role: match self.role {
+                Role::Serving => 0,
+                Role::Packet => 1,
+            },
+            counter: self.counter,
+        }
+    }
+}
+
+/// With what a session is asked for (TS 29.274 table 7.2.1-1).
+#[derive(Clone, Debug, PartialEq, Eq)]
+pub struct SessionRequest<'a> {
+    /// The subscriber: 6 to 15 digits.
+    pub imsi: &'a str,
+    /// The name of the access point.
+    pub access_point: &'a str,
+    /// The EPS bearer identity of the default bearer, 5 to 15.
+    pub identity: u8,
+    /// The mobile country code of the serving network, three digits.
+    pub mcc: &'a str,
+    /// Its mobile network code, two digits or three.
+    pub mnc: &'a str,
+    /// The radio access technology (8.17).
+    pub rat: u8,
+    /// The selection mode, below 4 (8.58).
+    pub selection: u8,
+    /// The PDN type (8.34): 1 IPv4, 2 IPv6, 3 both.
+    pub pdn: u8,
+    /// The total bit rates.
+    pub ambr: Ambr,
+    /// The quality of service of the default bearer.
+    pub quality: Quality,
+}
+
+/// The digits of a network's codes: 001 and 01 are 0, 0, 1 and 0, 1, 15. What is no code has a digit that is none.
+fn digits_of(mcc: &str, mnc: &str) -> [u8; 6] {
+    let mut digits = [15; 6];
+    if mcc.len() != 3 || !(2..=3).contains(&mnc.len()) {
+        return digits;
+    }
+    for (digit, octet) in digits.iter_mut().zip(mcc.bytes().chain(mnc.bytes())) {
+        *digit = if octet.is_ascii_digit() { octet - b'0' } else { 14 };
+    }
+    digits
+}
+
+impl SessionRequest<'_> {
+    pub(crate) fn raw(&self) -> ffi::Session {
+        ffi::Session {
+            quality: self.quality.raw(),
+            ambr_up: self.ambr.up,
+            ambr_down: self.ambr.down,
+            network: digits_of(self.mcc, self.mnc),
+            identity: self.identity,
+            rat: self.rat,
+            selection: self.selection,
+            pdn: self.pdn,
+        }
+    }
+}

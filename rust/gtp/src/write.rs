@@ -1,0 +1,73 @@
+//! Writing to a buffer.
+
+use crate::ffi;
+use crate::WriteError;
+
+/// The header of a message of the control plane (TS 29.274 5.1).
+#[derive(Clone, Copy, Debug, Default, PartialEq, Eq)]
+pub struct Header {
+    /// The type of the message.
+    pub kind: u8,
+    /// The receiver's TEID.
+    pub teid: Option<u32>,
+    /// The sequence number, below 2^24.
+    pub sequence: u32,
+    /// The message priority, below 16; only beside a TEID.
+    pub priority: Option<u8>,
+}
+
+fn result_of(status: u8, size: u64) -> Result<usize, WriteError> {
+    match status {
+        ffi::DONE => Ok(size as usize),
+        _ => Err(WriteError::of(status, size)),
+    }
+}
+
+/// Writes an element at a place of the buffer, and returns how many octets it has.
+///
+/// # Errors
+/// `BadValue` for an instance above 15, a body of more than 65,535 octets or a place past the buffer; `TooSmall` says how many octets
+/// the element has. The buffer is as it was then.
+pub fn write_element(buffer: &mut [u8], place: usize, kind: u8, instance: u8, body: &[u8]) -> Result<usize, WriteError> {
+    let mut size = 0;
+    let (to, room) = (buffer.as_mut_ptr(), buffer.len());
+    // SAFETY: the pointers are to slices of these lengths and to a place of its own, and the buffer is borrowed alone.
+    let status =
+        unsafe { ffi::gtp_element_write(to, room, place as u64, kind, instance, body.as_ptr(), body.len(), &mut size) };
+    result_of(status, size)
+}
+
+/// Writes a message of the control plane that carries these octets, which may be elements, and returns how many octets it has. It is
+/// written as it is asked for: [`ControlMessage::read`](crate::ControlMessage::read) says whether it is one.
+///
+/// # Errors
+/// `BadValue` for a value of the header out of its range, or more than 65,527 octets to carry; `TooSmall` says how many octets the
+/// message has. The buffer is as it was then.
+pub fn write_message(buffer: &mut [u8], header: &Header, payload: &[u8]) -> Result<usize, WriteError> {
+    let head = ffi::Head {
+        kind: header.kind,
+        has_teid: header.teid.is_some().into(),
+        teid: header.teid.unwrap_or(0),
+        seq: header.sequence,
+        has_priority: header.priority.is_some().into(),
+        priority: header.priority.unwrap_or(0),
+        ..ffi::Head::default()
+    };
+    let mut size = 0;
+    let (to, room) = (buffer.as_mut_ptr(), buffer.len());
+    // SAFETY: the pointers are to slices of these lengths and to places of their own, and the buffer is borrowed alone.
+    let status = unsafe { ffi::gtp_control_write(to, room, &head, payload.as_ptr(), payload.len(), &mut size) };
+    result_of(status, size)
+}
+
+/// Writes a G-PDU without extension headers (TS 29.281 5.1), and returns how many octets it has.
+///
+/// # Errors
+/// `BadValue` for a packet of more than 65,535 octets; `TooSmall` says how many octets the G-PDU has. The buffer is as it was then.
+pub fn write_packet(buffer: &mut [u8], teid: u32, packet: &[u8]) -> Result<usize, WriteError> {
+    let mut size = 0;
+    let (to, room) = (buffer.as_mut_ptr(), buffer.len());
+    // SAFETY: the pointers are to slices of these lengths and to a place of its own, and the buffer is borrowed alone.
+    let status = unsafe { ffi::gtp_packet_write(to, room, teid, packet.as_ptr(), packet.len(), &mut size) };
+    result_of(status, size)
+}

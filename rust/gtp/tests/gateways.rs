@@ -1,0 +1,221 @@
+//! Two gateways in one process: what one sends the other receives.
+
+use gtp::*;
+use std::net::{IpAddr, Ipv4Addr, Ipv6Addr, SocketAddr};
+use std::thread;
+
+const SERVING: IpAddr = IpAddr::V4(Ipv4Addr::new(192, 0, 2, 1));
+const PACKET: IpAddr = IpAddr::V6(Ipv6Addr::new(0x2001, 0xdb8, 0, 0, 0, 0, 0, 1));
+
+fn setup(role: Role) -> Setup<'static> {
+    let (own, peer) = match role {
+        Role::Serving => (SERVING, PACKET),
+        Role::Packet => (PACKET, SERVING),
+    };
+    Setup {
+        role,
+        own: own.into(),
+        peer: peer.into(),
+        counter: 7,
+        timers: Timers { t3: 3, n3: 2, hold: 20 },
+        access_points: &["internet", "ims"],
+        pool: (Ipv4Addr::new(10, 1, 0, 1), 10),
+        pool6: ("2001:db8:1::1".parse().unwrap(), 10),
+    }
+}
+
+fn request() -> SessionRequest<'static> {
+    SessionRequest {
+        imsi: "001010123456789",
+        access_point: "internet",
+        identity: 5,
+        mcc: "001",
+        mnc: "01",
+        rat: 6,
+        selection: 0,
+        pdn: 3,
+        ambr: Ambr { up: 1000, down: 2000 },
+        quality: Quality { pl: 8, qci: 9, ..Quality::default() },
+    }
+}
+
+/// Two gateways, and the packets that they accepted.
+struct Pair {
+    serving: Gateway,
+    packet: Gateway,
+    accepted: Vec<Vec<u8>>,
+}
+
+impl Pair {
+    fn new() -> Pair {
+        let open = |role| Gateway::new(&setup(role)).unwrap();
+        Pair { serving: open(Role::Serving), packet: open(Role::Packet), accepted: Vec::new() }
+    }
+
+    /// Hands each the datagrams of the other, until none waits.
+    fn settle(&mut self) {
+        while forward(&mut self.serving, &mut self.packet, &mut self.accepted)
+            || forward(&mut self.packet, &mut self.serving, &mut self.accepted)
+        {}
+    }
+
+    fn open_session(&mut self) -> u32 {
+        let teid = self.serving.create_session(&request()).unwrap();
+        self.settle();
+        teid
+    }
+}
+
+/// Hands on the datagram that waits longest.
+fn forward(from: &mut Gateway, to: &mut Gateway, accepted: &mut Vec<Vec<u8>>) -> bool {
+    let mut room = [0; 2048];
+    let Some(sent) = from.take(&mut room).unwrap() else {
+        return false;
+    };
+    let received = to.receive(sent.from, sent.plane, sent.octets).unwrap();
+    if let Outcome::Accepted { packet, .. } = received.outcome {
+        accepted.push(packet.to_vec());
+    }
+    true
+}
+
+#[test]
+fn a_session_opens_carries_packets_and_ends() {
+    let mut pair = Pair::new();
+    let teid = pair.open_session();
+    let session = pair.serving.session(teid).unwrap();
+    assert_eq!(session.state, State::Active);
+    assert_eq!((session.imsi.as_str(), session.access_point.as_str()), ("001010123456789", "internet"));
+    assert_eq!(session.v4, Some(Ipv4Addr::new(10, 1, 0, 1)));
+    assert_eq!(session.v6, Some("2001:db8:1::1".parse().unwrap()));
+    let other = pair.packet.sessions().next().unwrap();
+    assert_eq!((other.v4, other.v6, other.remote), (session.v4, session.v6, Some(teid)));
+
+    let up = pair.serving.bearers().next().unwrap().teid;
+    let down = pair.packet.bearers().next().unwrap().teid;
+    pair.serving.send_user(up, b"up").unwrap();
+    pair.packet.send_user(down, b"").unwrap();
+    pair.settle();
+    assert_eq!(pair.accepted, [b"up".to_vec(), Vec::new()]);
+
+    pair.serving.delete_session(teid).unwrap();
+    pair.settle();
+    assert_eq!((pair.serving.sessions().count(), pair.packet.sessions().count()), (0, 0));
+}
+
+#[test]
+fn a_dedicated_bearer_opens_and_ends() {
+    let mut pair = Pair::new();
+    pair.open_session();
+    let session = pair.packet.sessions().next().unwrap().teid;
+    let bearer = pair.packet.create_bearer(session, &request().quality, &[0x21]).unwrap();
+    pair.settle();
+    let found = pair.packet.bearer(bearer).unwrap();
+    assert_eq!((found.state, found.is_dedicated, found.session), (State::Active, true, session));
+    assert_eq!(pair.serving.bearers().filter(|bearer| bearer.is_dedicated).count(), 1);
+    pair.packet.end_marker(bearer).unwrap();
+    assert_eq!(pair.packet.end_marker(bearer), Err(CommandError::Refused(Refusal::BearerEnded)));
+    pair.packet.delete_bearer(session, found.identity.unwrap()).unwrap();
+    pair.settle();
+    assert_eq!((pair.packet.bearers().count(), pair.serving.bearers().count()), (1, 1));
+    pair.packet.release_session(session).unwrap();
+    pair.settle();
+    assert_eq!(pair.serving.sessions().count(), 0);
+}
+
+#[test]
+fn what_is_refused_changes_nothing() {
+    let mut pair = Pair::new();
+    assert_eq!(pair.serving.delete_session(1), Err(CommandError::Refused(Refusal::NoSuchContext)));
+    assert_eq!(pair.packet.create_session(&request()), Err(CommandError::Refused(Refusal::WrongRole)));
+    for bad in [
+        SessionRequest { imsi: "12345", ..request() },
+        SessionRequest { imsi: "00101012345678x", ..request() },
+        SessionRequest { access_point: "a..b", ..request() },
+        SessionRequest { identity: 4, ..request() },
+        SessionRequest { mcc: "01", ..request() },
+        SessionRequest { mnc: "0x", ..request() },
+        SessionRequest { mnc: "01f", ..request() },
+        SessionRequest { pdn: 8, ..request() },
+        SessionRequest { quality: Quality { pl: 16, ..Quality::default() }, ..request() },
+    ] {
+        assert_eq!(pair.serving.create_session(&bad), Err(CommandError::BadValue), "{bad:?}");
+    }
+    assert_eq!(pair.serving.sessions().count(), 0);
+    assert!(matches!(Gateway::new(&Setup { access_points: &["a,b", ""], ..setup(Role::Packet) }), Err(Error::BadValue)));
+    assert!(matches!(
+        Gateway::new(&Setup { timers: Timers { t3: 0, n3: 0, hold: 1 }, ..setup(Role::Packet) }),
+        Err(Error::BadValue)
+    ));
+}
+
+#[test]
+fn a_datagram_that_does_not_fit_waits() {
+    let mut pair = Pair::new();
+    pair.serving.echo().unwrap();
+    assert_eq!(pair.serving.take(&mut [0; 12]), Err(TooSmall { needed: 13 }));
+    let mut room = [0; 13];
+    let sent = pair.serving.take(&mut room).unwrap().unwrap();
+    assert_eq!((sent.plane, sent.from, sent.to.ip()), (Plane::Control, SocketAddr::new(SERVING, 2123), PACKET));
+    let message = ControlMessage::read(sent.octets).unwrap();
+    assert_eq!((message.kind(), message.element(3, 0).unwrap().value()), (1, Ok(Value::Recovery(7))));
+    assert_eq!(pair.serving.take(&mut []), Ok(None));
+}
+
+#[test]
+fn a_request_goes_out_again_and_is_given_up() {
+    let mut pair = Pair::new();
+    pair.serving.echo().unwrap();
+    let mut waiting = Vec::new();
+    let mut gave_up = 0;
+    for _ in 0..9 {
+        let ticked = pair.serving.tick().unwrap();
+        waiting.push(ticked.waiting);
+        gave_up += ticked.gave_up;
+    }
+    assert_eq!((waiting, gave_up), (vec![1, 1, 2, 2, 2, 3, 3, 3, 3], 1));
+}
+
+#[test]
+fn strangers_and_garbage_are_dropped() {
+    let mut pair = Pair::new();
+    let stranger = SocketAddr::new(Ipv4Addr::new(203, 0, 113, 1).into(), 2123);
+    for (source, octets, rule, fault) in
+        [(stranger, &[0x40, 1, 0, 4, 0, 0, 1, 0][..], 11, None), (SocketAddr::new(SERVING, 2123), &[0x40][..], 1, Some(1))]
+    {
+        let received = pair.packet.receive(source, Plane::Control, octets).unwrap();
+        assert_eq!(received.outcome, Outcome::Dropped { rule, fault });
+        assert_eq!(received.waiting, 0);
+    }
+}
+
+#[test]
+fn a_gateway_goes_to_another_thread() {
+    let mut pair = Pair::new();
+    let mut serving = thread::spawn(move || {
+        pair.serving.echo().unwrap();
+        pair.serving
+    })
+    .join()
+    .unwrap();
+    assert_eq!(serving.tick().unwrap().waiting, 1);
+}
+
+#[test]
+fn what_is_written_is_read() {
+    let mut room = [0; 64];
+    let mut elements = [0; 16];
+    let size = write_element(&mut elements, 0, 3, 0, &[9]).unwrap();
+    let header = Header { kind: 2, teid: None, sequence: 77, priority: None };
+    let len = write_message(&mut room, &header, &elements[..size]).unwrap();
+    let message = ControlMessage::read(&room[..len]).unwrap();
+    assert_eq!((message.kind(), message.teid(), message.sequence(), message.priority()), (2, None, 77, None));
+    assert_eq!(message.elements().collect::<Vec<_>>(), [Element { kind: 3, instance: 0, spare: 0, at: 0, body: &[9] }]);
+    assert_eq!(write_message(&mut room[..4], &header, &[]), Err(WriteError::TooSmall(TooSmall { needed: 8 })));
+    assert_eq!(write_message(&mut room, &Header { sequence: 1 << 24, ..header }, &[]), Err(WriteError::BadValue));
+
+    let len = write_packet(&mut room, 0x01020304, b"packet").unwrap();
+    let message = UserMessage::read(&room[..len]).unwrap();
+    assert_eq!((message.kind(), message.teid(), message.payload()), (UserMessage::G_PDU, 0x01020304, &b"packet"[..]));
+    assert_eq!(UserMessage::read(&room[..len - 1]).unwrap_err(), UserFault::Length { stated: 6, held: 5 });
+}
