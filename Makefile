@@ -45,6 +45,7 @@ install: $(program) $(library)
 	$(INSTALL) -m 644 docs/PROTOCOL.md docs/FORMATS.md docs/JSON.md docs/C.md docs/PROVED.md docs/BELIEVE.md docs/CHANGELOG.md $(pages)
 	cp -R examples/scenarios examples/captures examples/datagrams examples/c examples/rust $(pages)/examples
 	rm -rf $(pages)/examples/rust/target
+	sed -i 's|"../../rust/gtp"|"../../../../gtp/rust"|' $(pages)/examples/rust/Cargo.toml
 	$(INSTALL) -d $(rust)/src
 	$(INSTALL) -m 644 rust/gtp/Cargo.toml rust/gtp/build.rs $(rust)
 	$(INSTALL) -m 644 $(wildcard rust/gtp/src/*.rs) $(rust)/src

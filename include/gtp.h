@@ -7,7 +7,8 @@
  *  2. One call at a time for a gateway. Calls from several threads are ordered, by a lock, by the start or join of a thread, or
  *     by an atomic with sequential consistency. A gateway may go to another thread; there is no global state.
  *  3. Pointers are not NULL, not even with a length of 0; each is to as much memory as its length says, aligned for its type, and
- *     initialised (zeroes do). What a call writes overlaps nothing else that the same call is handed. A bool is 0 or 1.
+ *     initialised (zeroes do), also a struct or buffer that a call only writes. What a call writes overlaps nothing else that the
+ *     same call is handed. A bool is 0 or 1.
  *  4. malloc, realloc and free are one allocator, the C library's or as good. No call from a signal handler, nor in the child of
  *     a fork of a process with threads.
  * No call keeps a pointer, reads past a length, writes past one, or waits. Every call ends. Nothing here needs a clock or a
@@ -40,6 +41,18 @@ enum gtp_status {
     GTP_NO_VALUE = 11       /* the body is long enough, and says nothing */
 };
 enum gtp_role { GTP_SERVING = 0, GTP_PACKET = 1 };
+/* Types of messages that are read here (TS 29.274 table 6.1-1), and of elements (table 8.1-1). */
+enum gtp_message {
+    GTP_ECHO_REQUEST = 1, GTP_ECHO_RESPONSE = 2, GTP_VERSION_NOT_SUPPORTED = 3, GTP_CREATE_SESSION_REQUEST = 32,
+    GTP_CREATE_SESSION_RESPONSE = 33, GTP_DELETE_SESSION_REQUEST = 36, GTP_DELETE_SESSION_RESPONSE = 37,
+    GTP_CREATE_BEARER_REQUEST = 95, GTP_CREATE_BEARER_RESPONSE = 96, GTP_DELETE_BEARER_REQUEST = 99,
+    GTP_DELETE_BEARER_RESPONSE = 100
+};
+enum gtp_element_type {
+    GTP_IMSI = 1, GTP_CAUSE = 2, GTP_RECOVERY = 3, GTP_APN = 71, GTP_AMBR = 72, GTP_EBI = 73, GTP_PAA = 79, GTP_BEARER_QOS = 80,
+    GTP_RAT_TYPE = 82, GTP_SERVING_NETWORK = 83, GTP_BEARER_TFT = 84, GTP_FTEID = 87, GTP_BEARER_CONTEXT = 93,
+    GTP_CHARGING_ID = 94, GTP_PDN_TYPE = 99, GTP_PTI = 100, GTP_SELECTION_MODE = 128
+};
 enum gtp_plane { GTP_CONTROL = 0, GTP_USER = 1 };           /* UDP ports 2123 and 2152 */
 
 /* An address: of IP version 4 its four octets stand first, of version 6 it has sixteen, in the order in which they are sent. */
@@ -94,7 +107,8 @@ struct gtp_user_head {          /* of a message of the user plane (TS 29.281 5.1
 };
 uint8_t gtp_user_read(const uint8_t *octets, size_t len, struct gtp_user_head *head, struct gtp_fault *fault);
 
-/* What the body of an element says (TS 29.274 clause 8). GTP_SHORT_VALUE, GTP_NO_VALUE: it says nothing. */
+/* What the body of an element says (TS 29.274 clause 8). GTP_SHORT_VALUE, GTP_NO_VALUE: it says nothing. Where a has_.. is 0, or pdn
+ * has no such address, the octets that belong to it say nothing. */
 struct gtp_imsi { uint8_t count, digits[15]; };             /* count: 6 to 15; digits: 0 to 9 */
 struct gtp_cause { uint8_t value, pce, bce, cs, has_offending, offending, instance; };
 struct gtp_apn { uint8_t len, octets[100]; };               /* labels, each after an octet with its length */
@@ -152,7 +166,8 @@ struct gtp_setup {
     uint32_t pool, pool_count;          /* IPv4 addresses for sessions: 10.1.0.1 is 0x0a010001; at most 65,536 */
     uint32_t t3, n3, hold;              /* TS 29.274 7.6: ticks until a request goes out again, 1 to 1,000; how often, 0 to 100;
                                            ticks for which an answer is held, 1 to 100,000 */
-    uint8_t role;                       /* enum gtp_role; a serving gateway uses no pool and no access points */
+    uint8_t role;                       /* enum gtp_role; a serving gateway uses no pool and no access points, but they have to be good:
+                                           no pool goes past the last address */
     uint8_t counter;                    /* the restart counter, one more at each start (TS 23.007 18) */
 };
 /* Opens a gateway in `gateway`, which is empty. access_points: names with commas between them, as "internet,ims", at most 16. */
@@ -175,7 +190,7 @@ enum gtp_outcome_kind {
     GTP_ACCEPTED,           /* a packet came on the bearer told->teid */
     GTP_ENDED,              /* an End Marker came */
     GTP_BROKEN,             /* an Error Indication came, and its session or bearer is gone */
-    GTP_DROPPED,            /* a datagram was dropped; cause: X1 to X11; of X1, fault is its number after H or U */
+    GTP_DROPPED,            /* a datagram was dropped; cause: X1 to X11 (docs/PROTOCOL.md); of X1, fault is its number after H or U */
     GTP_TICKED              /* a tick passed */
 };
 struct gtp_outcome { uint8_t kind, cause, fault; };
@@ -184,7 +199,8 @@ struct gtp_told {                       /* what a call came to */
     uint64_t waiting;                   /* so many datagrams wait to be taken */
     uint64_t payload_len;               /* of GTP_ACCEPTED: the packet, the last octets that were handed in */
     uint64_t gave_up, forgot;           /* of a tick: requests that were given up, and answers that are held no more */
-    uint32_t teid;                      /* the session or bearer that a command is about, or the bearer of a packet; 0: none */
+    uint32_t teid;                      /* the session or bearer that a request was sent for, or the bearer on which a packet came; 0:
+                                           neither. gtp_gateway_session_at and its kind tell what else has changed */
     struct gtp_outcome outcome, second; /* second: of a datagram's second message; kind 0: none */
     uint8_t made;                       /* 1: a session or bearer was made for a request */
     uint8_t counted, counter;           /* 1: the peer told its restart counter, and it */
@@ -206,13 +222,13 @@ struct gtp_session {                    /* with what a session is asked for (TS 
     uint32_t ambr_up, ambr_down;        /* kilobits a second */
     uint8_t network[6];                 /* the digits of the serving network: 001 01 is 0, 0, 1, 0, 1, 15 */
     uint8_t identity;                   /* EPS bearer identity of the default bearer, 5 to 15 */
-    uint8_t rat, selection, pdn;        /* 8.17; 8.58, below 4; 8.34: 1 IPv4, 2 IPv6, 3 both */
+    uint8_t rat, selection, pdn;        /* 8.17; 8.58, below 4; 8.34, below 8: 1 IPv4, 2 IPv6, 3 both */
 };
 /* Commands of the serving gateway. imsi: 6 to 15 digits; access_point: a name, as "internet". */
 uint8_t gtp_gateway_create_session(gtp_gateway *gateway, const struct gtp_session *session, const uint8_t *imsi, size_t imsi_len,
                                    const uint8_t *access_point, size_t access_point_len, struct gtp_told *told);
 uint8_t gtp_gateway_delete_session(gtp_gateway *gateway, uint32_t session, struct gtp_told *told);
-/* Commands of the packet gateway. tft: a traffic flow template of at most 255 octets. */
+/* Commands of the packet gateway. tft: a traffic flow template of at most 255 octets; identity: 5 to 15. */
 uint8_t gtp_gateway_create_bearer(gtp_gateway *gateway, uint32_t session, const struct gtp_quality *quality,
                                   const uint8_t *tft, size_t len, struct gtp_told *told);
 uint8_t gtp_gateway_delete_bearer(gtp_gateway *gateway, uint32_t session, uint8_t identity, struct gtp_told *told);
@@ -237,7 +253,7 @@ struct gtp_bearer_row {
 /* By the gateway's own TEID. */
 uint8_t gtp_gateway_session(gtp_gateway *gateway, uint32_t teid, struct gtp_session_row *row);
 uint8_t gtp_gateway_bearer(gtp_gateway *gateway, uint32_t teid, struct gtp_bearer_row *row);
-/* By place, from 0, in the order of the gateway's own TEIDs. GTP_NONE: behind the last. */
+/* By place, from 0, in the order of the gateway's own TEIDs, in time in proportion to the place. GTP_NONE: behind the last. */
 uint8_t gtp_gateway_session_at(gtp_gateway *gateway, uint64_t place, struct gtp_session_row *row);
 uint8_t gtp_gateway_bearer_at(gtp_gateway *gateway, uint64_t place, struct gtp_bearer_row *row);
 

@@ -10,8 +10,9 @@ fn folders() -> Vec<PathBuf> {
     if let Some(dirs) = env::var_os("GTP_LIB_DIR") {
         return env::split_paths(&dirs).collect();
     }
-    let beside = Path::new(&env::var_os("CARGO_MANIFEST_DIR").expect("cargo sets it")).join("../../../lib");
-    if beside.join("libgtp_c.a").exists() {
+    let here = env::var_os("CARGO_MANIFEST_DIR").expect("cargo sets it");
+    let beside = Path::new(&here).join("../../../lib");
+    if Path::new(&here).ends_with("share/gtp/rust") && beside.join("libgtp_c.a").exists() {
         return vec![beside];
     }
     let found = Command::new("pkg-config").args(["--variable=libdir", "gtp"]).output();
@@ -24,7 +25,12 @@ fn folders() -> Vec<PathBuf> {
 fn main() {
     println!("cargo::rerun-if-env-changed=GTP_LIB_DIR");
     for folder in folders() {
-        println!("cargo::rerun-if-changed={}", folder.display());
+        for library in ["libgtp_c.a", "liblibc_c.a"] {
+            let file = folder.join(library);
+            if file.exists() {
+                println!("cargo::rerun-if-changed={}", file.display());
+            }
+        }
         println!("cargo::rustc-link-search=native={}", folder.display());
     }
     println!("cargo::rustc-link-lib=static=gtp_c");

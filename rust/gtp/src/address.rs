@@ -29,10 +29,10 @@ impl Plane {
     }
 
     pub(crate) fn of(number: u8) -> Plane {
-        if number == 0 {
-            Plane::Control
-        } else {
-            Plane::User
+        match number {
+            0 => Plane::Control,
+            1 => Plane::User,
+            _ => unreachable!("the library has no plane {number}"),
         }
     }
 }
@@ -40,7 +40,8 @@ impl Plane {
 impl ffi::Address {
     pub(crate) fn of(address: IpAddr) -> ffi::Address {
         let mut octets = [0; 16];
-        match address {
+        // A socket for both IP versions gives an IPv4 address in the form of an IPv6 address.
+        match address.to_canonical() {
             IpAddr::V4(v4) => {
                 octets[..4].copy_from_slice(&v4.octets());
                 ffi::Address { version: 4, octets }

@@ -20,7 +20,8 @@ impl State {
         match number {
             0 => State::Pending,
             1 => State::Active,
-            _ => State::Closing,
+            2 => State::Closing,
+            _ => unreachable!("the library has no state {number}"),
         }
     }
 }

@@ -70,7 +70,7 @@ impl<'a> ControlMessage<'a> {
 
     /// The elements of the message.
     pub fn elements(&self) -> Elements<'a> {
-        Elements::of(self.payload())
+        Elements::new(self.payload())
     }
 
     /// The first element of a type and instance.

@@ -13,7 +13,7 @@ pub struct Element<'a> {
     pub instance: u8,
     /// The spare half octet before the instance.
     pub spare: u8,
-    /// The place of its first octet in the octets that were read.
+    /// The place of its first octet in the payload of the message, or in the body of the group.
     pub at: usize,
     /// Its body.
     pub body: &'a [u8],
@@ -41,7 +41,7 @@ impl<'a> Element<'a> {
 
     /// The elements in the body of a group, as a Bearer Context (93).
     pub fn elements(&self) -> Elements<'a> {
-        Elements::of(self.body)
+        Elements::new(self.body)
     }
 }
 
@@ -53,7 +53,8 @@ pub struct Elements<'a> {
 }
 
 impl<'a> Elements<'a> {
-    pub(crate) fn of(octets: &'a [u8]) -> Elements<'a> {
+    /// The elements at the front of any octets.
+    pub fn new(octets: &'a [u8]) -> Elements<'a> {
         Elements { octets, place: 0 }
     }
 

@@ -70,7 +70,8 @@ impl Refusal {
             5 => Refusal::TeidsUsed,
             6 => Refusal::PendingFull,
             7 => Refusal::BearerEnded,
-            _ => Refusal::PacketTooLong,
+            8 => Refusal::PacketTooLong,
+            _ => unreachable!("the library has no refusal {number}"),
         }
     }
 }

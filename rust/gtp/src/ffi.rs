@@ -1,5 +1,8 @@
 //! What include/gtp.h declares, in its order. tests/rust compares the sizes and places with those of the header.
 
+// The library is for x86-64, and lengths are converted by `as`.
+const _: () = assert!(usize::BITS == 64);
+
 #[repr(C)]
 #[derive(Clone, Copy, Debug, Default)]
 pub struct Address {

@@ -31,8 +31,12 @@ impl Gateway {
     /// A gateway that has just started.
     ///
     /// # Errors
-    /// `BadValue` if a value of the setup is out of its range or an access point's name is none; `NoMemory`.
+    /// `BadValue` if a value of the setup is out of its range or an access point's name is none, or has a comma; `NoMemory`.
     pub fn new(setup: &Setup<'_>) -> Result<Gateway, Error> {
+        // The library cuts a text at each comma, and an empty one has no names.
+        if setup.access_points.iter().any(|name| name.is_empty() || name.contains(',')) {
+            return Err(Error::BadValue);
+        }
         let names = setup.access_points.join(",");
         let mut gateway = Gateway { raw: ffi::Gateway { hidden: ptr::null_mut(), count: 0 } };
         // SAFETY: the gateway is zeroes, and the pointers are to a struct and to a slice of this length.
@@ -102,7 +106,7 @@ impl Gateway {
     /// Asks for a session, and returns its own control plane TEID. A command of the serving gateway.
     ///
     /// # Errors
-    /// Nothing has happened.
+    /// Nothing has happened. [`CommandError`] says why.
     pub fn create_session(&mut self, request: &SessionRequest<'_>) -> Result<u32, CommandError> {
         let (session, imsi, name) = (request.raw(), request.imsi, request.access_point);
         // SAFETY: the gateway is one that the library made, and the pointers are to structs and to slices of these lengths.
@@ -111,10 +115,10 @@ impl Gateway {
         })
     }
 
-    /// Ends an active session, by its own TEID. A command of the serving gateway.
+    /// Ends an active session, by its own TEID, which is returned. A command of the serving gateway.
     ///
     /// # Errors
-    /// Nothing has happened.
+    /// Nothing has happened. [`CommandError`] says why.
     pub fn delete_session(&mut self, session: u32) -> Result<u32, CommandError> {
         // SAFETY: the gateway is one that the library made, and the pointer is to a struct.
         self.command(|gateway, told| unsafe { ffi::gtp_gateway_delete_session(gateway, session, told) })
@@ -124,7 +128,7 @@ impl Gateway {
     /// TEID. A command of the packet gateway.
     ///
     /// # Errors
-    /// Nothing has happened.
+    /// Nothing has happened. [`CommandError`] says why.
     pub fn create_bearer(&mut self, session: u32, quality: &Quality, tft: &[u8]) -> Result<u32, CommandError> {
         let quality = quality.raw();
         // SAFETY: the gateway is one that the library made, and the pointers are to structs and to a slice of this length.
@@ -133,19 +137,20 @@ impl Gateway {
         })
     }
 
-    /// Ends a dedicated bearer of a session, by its EPS bearer identity. A command of the packet gateway.
+    /// Ends a dedicated bearer of a session, by its EPS bearer identity, 5 to 15, and returns its own user plane TEID. A command of the
+    /// packet gateway.
     ///
     /// # Errors
-    /// Nothing has happened.
+    /// Nothing has happened. [`CommandError`] says why.
     pub fn delete_bearer(&mut self, session: u32, identity: u8) -> Result<u32, CommandError> {
         // SAFETY: the gateway is one that the library made, and the pointer is to a struct.
         self.command(|gateway, told| unsafe { ffi::gtp_gateway_delete_bearer(gateway, session, identity, told) })
     }
 
-    /// Ends an active session, by its own TEID. A command of the packet gateway.
+    /// Ends an active session, by its own TEID, which is returned. A command of the packet gateway.
     ///
     /// # Errors
-    /// Nothing has happened.
+    /// Nothing has happened. [`CommandError`] says why.
     pub fn release_session(&mut self, session: u32) -> Result<u32, CommandError> {
         // SAFETY: the gateway is one that the library made, and the pointer is to a struct.
         self.command(|gateway, told| unsafe { ffi::gtp_gateway_release_session(gateway, session, told) })
@@ -154,7 +159,7 @@ impl Gateway {
     /// Sends an End Marker on a bearer, once for each. A command of the packet gateway.
     ///
     /// # Errors
-    /// Nothing has happened.
+    /// Nothing has happened. [`CommandError`] says why.
     pub fn end_marker(&mut self, bearer: u32) -> Result<(), CommandError> {
         // SAFETY: the gateway is one that the library made, and the pointer is to a struct.
         self.command(|gateway, told| unsafe { ffi::gtp_gateway_end_marker(gateway, bearer, told) }).map(drop)
@@ -163,7 +168,7 @@ impl Gateway {
     /// Sends a packet of at most 65,000 octets on a bearer.
     ///
     /// # Errors
-    /// Nothing has happened.
+    /// Nothing has happened. [`CommandError`] says why.
     pub fn send_user(&mut self, bearer: u32, packet: &[u8]) -> Result<(), CommandError> {
         // SAFETY: the gateway is one that the library made, and the pointers are to a slice of this length and to a struct.
         self.command(|gateway, told| unsafe {
@@ -175,7 +180,7 @@ impl Gateway {
     /// Asks whether the peer is alive.
     ///
     /// # Errors
-    /// Nothing has happened.
+    /// Nothing has happened. [`CommandError`] says why.
     pub fn echo(&mut self) -> Result<(), CommandError> {
         // SAFETY: the gateway is one that the library made, and the pointer is to a struct.
         self.command(|gateway, told| unsafe { ffi::gtp_gateway_echo(gateway, told) }).map(drop)

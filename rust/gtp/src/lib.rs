@@ -5,12 +5,13 @@
 //! [`Gateway::tick`] at even intervals.
 //!
 //! ```
+//! use gtp::kinds::{element::RECOVERY, message::ECHO_REQUEST};
 //! use gtp::{ControlMessage, Value};
 //!
 //! let octets = [0x40, 1, 0, 9, 0, 0, 5, 0, 3, 0, 1, 0, 7];
 //! let message = ControlMessage::read(&octets)?;
-//! assert_eq!((message.kind(), message.sequence()), (1, 5));
-//! let counter = message.element(3, 0).expect("an Echo Request has a counter").value()?;
+//! assert_eq!((message.kind(), message.sequence()), (ECHO_REQUEST, 5));
+//! let counter = message.element(RECOVERY, 0).expect("an Echo Request has a counter").value()?;
 //! assert_eq!(counter, Value::Recovery(7));
 //! # Ok::<(), Box<dyn std::error::Error>>(())
 //! ```
@@ -23,6 +24,7 @@ mod element;
 mod error;
 mod ffi;
 mod gateway;
+pub mod kinds;
 mod report;
 mod setup;
 mod user;

@@ -101,7 +101,7 @@ pub struct SessionRequest<'a> {
     pub rat: u8,
     /// The selection mode, below 4 (8.58).
     pub selection: u8,
-    /// The PDN type (8.34): 1 IPv4, 2 IPv6, 3 both.
+    /// The PDN type, below 8 (8.34): 1 IPv4, 2 IPv6, 3 both.
     pub pdn: u8,
     /// The total bit rates.
     pub ambr: Ambr,

@@ -142,7 +142,12 @@ fn what_is_refused_changes_nothing() {
         assert_eq!(pair.serving.create_session(&bad), Err(CommandError::BadValue), "{bad:?}");
     }
     assert_eq!(pair.serving.sessions().count(), 0);
-    assert!(matches!(Gateway::new(&Setup { access_points: &["a,b", ""], ..setup(Role::Packet) }), Err(Error::BadValue)));
+    for names in [&["a,b"][..], &[""], &["a", ""]] {
+        assert!(
+            matches!(Gateway::new(&Setup { access_points: names, ..setup(Role::Packet) }), Err(Error::BadValue)),
+            "{names:?}"
+        );
+    }
     assert!(matches!(
         Gateway::new(&Setup { timers: Timers { t3: 0, n3: 0, hold: 1 }, ..setup(Role::Packet) }),
         Err(Error::BadValue)
@@ -187,6 +192,17 @@ fn strangers_and_garbage_are_dropped() {
         assert_eq!(received.outcome, Outcome::Dropped { rule, fault });
         assert_eq!(received.waiting, 0);
     }
+}
+
+#[test]
+fn an_ipv4_end_in_the_form_of_ipv6_is_the_same_end() {
+    let mut pair = Pair::new();
+    pair.serving.echo().unwrap();
+    let mut room = [0; 64];
+    let sent = pair.serving.take(&mut room).unwrap().unwrap();
+    let IpAddr::V4(own) = sent.from.ip() else { panic!("the serving gateway has an IPv4 address") };
+    let mapped = SocketAddr::new(own.to_ipv6_mapped().into(), sent.from.port());
+    assert_eq!(pair.packet.receive(mapped, Plane::Control, sent.octets).unwrap().outcome, Outcome::Echoed);
 }
 
 #[test]
