@@ -71,7 +71,7 @@ static void exchange(bool six) {
 
     CHECK(bearers(&serving, &bearer) == 1 && bearer.state == 1 && bearer.identity == 5 && !bearer.dedicated);
     uint32_t up = bearer.teid, down = bearer.remote;
-    CHECK(gtp_gateway_send_user(&serving, up, text("p1"), 2, &told) == GTP_DONE && told.outcome.kind == GTP_GONE_OUT);
+    CHECK(gtp_gateway_send_user(&serving, up, text("p1"), 2, &told) == GTP_DONE && told.outcome.kind == GTP_GONE_OUT && told.teid == 0);
     CHECK(carry(&serving, &packet, &told) == 1 && told.outcome.kind == GTP_ACCEPTED && told.teid == down && told.payload_len == 2);
     CHECK(gtp_gateway_send_user(&packet, down, text("p"), 1, &told) == GTP_DONE);
     CHECK(carry(&packet, &serving, &told) == 1 && told.outcome.kind == GTP_ACCEPTED && told.teid == up);
@@ -82,7 +82,7 @@ static void exchange(bool six) {
     CHECK(carry(&packet, &serving, &told) == 1 && told.outcome.kind == GTP_ANSWERED && told.made);
     CHECK(carry(&serving, &packet, &told) == 1 && told.outcome.kind == GTP_OPENED);
     CHECK(bearers(&packet, &bearer) == 2 && bearer.dedicated && bearer.session == packet_session && bearer.identity >= 5);
-    CHECK(gtp_gateway_end_marker(&packet, bearer.teid, &told) == GTP_DONE && told.outcome.kind == GTP_GONE_OUT);
+    CHECK(gtp_gateway_end_marker(&packet, bearer.teid, &told) == GTP_DONE && told.outcome.kind == GTP_GONE_OUT && told.teid == 0);
     CHECK(carry(&packet, &serving, &told) == 1 && told.outcome.kind == GTP_ENDED);
     CHECK(gtp_gateway_end_marker(&packet, bearer.teid, &told) == GTP_REFUSED && told.outcome.cause == 7 && told.waiting == 0);
     CHECK(gtp_gateway_delete_bearer(&packet, packet_session, bearer.identity, &told) == GTP_DONE);
