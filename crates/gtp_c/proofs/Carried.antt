@@ -12,7 +12,7 @@ use Rattle.gtp_gateway.specs.declared.fault.CommandFault.TheVariants.{Refused, M
 use Rattle.gtp_gateway.specs.declared.sent.Begun.{Begun}
 use Rattle.gtp_gateway.specs.declared.sent.Sent.{Sent}
 use Rattle.gtp_c.specs.Statuses.{CommandMayRunOut}
-use Rattle.gtp_c.specs.Steps.{Keeps, HasBegun, IsRefused, IsTimed, begun_number}
+use Rattle.gtp_c.specs.Steps.{Keeps, HasBegun, IsRefused, IsTimed, IsUntold, begun_number}
 use Rattle.gtp_c.specs.Told.{begun_told, refused_told}
 use Rattle.gtp_c.specs.declared.desk.Desk.{Desk}
 use Rattle.gtp_c.specs.declared.told.Told.{Told}
@@ -20,16 +20,18 @@ use Rattle.gtp_c.specs.declared.told.Told.{Told}
 -- from before the room was made on
 module _ (command : Command) (old mid new : Desk) (told : Told) (kept : Keeps old mid) where
   pub has_begun : (after : GatewayState) (r : Result Begun CommandFault) → IfOk r (λ b. IsCarriedOut command mid.gateway b after) → IfOk r (λ b. IsTimed command mid.gateway b after) → new.gateway ≡ after
-      → IsOkAnd r (λ b. new.waiting.items ≡ mid.waiting.items ++ b.out ∷ []) → IsOkAnd r (λ b. told ≡ begun_told (begun_number command) b (deque_len new.waiting)) → HasBegun command told old new
-  has_begun after (Ok b) done timed same waits tells =
+      → IsOkAnd r (λ b. new.waiting.items ≡ mid.waiting.items ++ b.out ∷ []) → IsOkAnd r (λ b. told ≡ begun_told (begun_number command) b (deque_len new.waiting))
+      → IfOk r (λ b. IsUntold command b) → HasBegun command told old new
+  has_begun after (Ok b) done timed same waits tells untold =
       record {
         begun = b;
         done = subst (λ (g : GatewayState). IsCarriedOut command g b new.gateway) kept.0 (subst (λ (g : GatewayState). IsCarriedOut command mid.gateway b g) (sym same) done);
         timed = subst (λ (g : GatewayState). IsTimed command g b new.gateway) kept.0 (subst (λ (g : GatewayState). IsTimed command mid.gateway b g) (sym same) timed);
+        untold = untold;
         waiting = waits ∙ ap (λ (xs : List Sent). xs ++ b.out ∷ []) kept.1;
         tells = tells;
       }
-  has_begun after (Err f) done timed same waits tells = absurd waits
+  has_begun after (Err f) done timed same waits tells untold = absurd waits
 
   pub is_refused : (r : Result Begun CommandFault) → IsRefusedWhere command mid.gateway r
       → (why : Refusal) × (r ≡ Err (Refused why)) × (told ≡ refused_told why (deque_len new.waiting)) → IsRefused command told old new

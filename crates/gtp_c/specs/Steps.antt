@@ -1,5 +1,5 @@
 -- What happens to a gateway and to the datagrams that wait to be taken.
-use Rattle.std.specs.Prelude.{◌≡◌, ℕ, List, [], ◌∷◌, ◌++◌, ◌<◌, drop, take, length, Some, slice_index_or, option_to_list}
+use Rattle.std.specs.Prelude.{◌≡◌, ℕ, List, [], ◌∷◌, ◌++◌, ◌<◌, drop, take, length, Some, None, slice_index_or, option_to_list}
 use Rattle.std.specs.VecDeque.{deque_len}
 use Rattle.gtp_values.specs.declared.address.Endpoint.{Endpoint}
 use Rattle.gtp_machine.specs.Input.{Command, Mark_end, Send_user, Commanded, refused}
@@ -55,11 +55,18 @@ IsTimed (Mark_end bearer) old begun new = new.queues ≡ old.queues
 IsTimed (Send_user bearer payload) old begun new = new.queues ≡ old.queues
 IsTimed command old begun new = SendsRequestNext old begun new
 
+-- a packet or an End Marker is sent for no context of its own, so there is no TEID of one
+abbrev pub IsUntold : Command → Begun → Type 0
+IsUntold (Mark_end bearer) begun = begun.teid ≡ None
+IsUntold (Send_user bearer payload) begun = begun.teid ≡ None
+IsUntold command begun = Unit {0}
+
 -- a command was carried out: that is a step of the machine, what it sends waits behind all that waited, and what it came to is told
 pub record HasBegun (command : Command) (told : Told) (old new : Desk) : Type 0 where
   pub begun : Begun
   pub done : IsCarriedOut command old.gateway begun new.gateway
   pub timed : IsTimed command old.gateway begun new.gateway
+  pub untold : IsUntold command begun
   pub waiting : new.waiting.items ≡ old.waiting.items ++ begun.out ∷ []
   pub tells : told ≡ begun_told (begun_number command) begun (deque_len new.waiting)
 

@@ -6,7 +6,7 @@ use Rattle.gtp_c.proofs.desk.Desk.send_user.Goals as goal
 pub returns-clause-done : goal.returns-clause-done
 returns-clause-done c =
     λ z. has_begun (Send_user c.args.bearer.0 c.args.payload.now) c.args.self.now c.room_for-status.new.self c.settle.new.self c.settle.new.told c.room_for-status.ensures.kept c.room_for-status.new.self.gateway c.send_user-begun.result c.send_user-begun.ensures.done (always c.send_user-begun.result refl) c.settle.ensures.gateway
-    (c.settle.ensures.waiting z) (c.settle.ensures.told z)
+    (c.settle.ensures.waiting z) (c.settle.ensures.told z) c.send_user-begun.ensures.untold
 
 pub returns-clause-refused : goal.returns-clause-refused
 returns-clause-refused c =
