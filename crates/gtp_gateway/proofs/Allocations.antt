@@ -17,9 +17,9 @@ use Rattle.gtp_machine.specs.Element.{IsAccepting, teid_in}
 use Rattle.gtp_machine.specs.Input.{Came_to, Effect, FaultyRequest, ControlReading, Control_message, Faulty}
 use Rattle.gtp_machine.specs.Message.{Message, CreateSessionRequest, CreateSessionResponse, CreatedBearer, DeleteSessionRequest, CreateBearerRequest, CreateBearerResponse, GivenBearer, DeleteBearerRequest, Echo, Echo_request, Create_session_request, Create_session_response, Delete_session_request, Create_bearer_request, Create_bearer_response, Delete_bearer_request, recovery_of}
 use Rattle.gtp_machine.specs.Node.{Active, Pending, Session, PendingRequest, Arrival, Held, Node}
-use Rattle.gtp_machine.specs.Packet.{AnswersWith, session_cause, session_response, made_session, session_made, SessionJudged, SessionAsked, DeletionJudged, DeletionAsked, BearerAnswered, FitsBearer, DescribesBearer, CanOpen}
+use Rattle.gtp_machine.specs.Packet.{AnswersWith, session_cause, session_response, made_session, session_made, SessionJudged, CreateSessionAsked, DeleteSessionJudged, DeleteSessionAsked, CreateBearerAnswered, FitsCreateBearer, DescribesBearer, CanOpen}
 use Rattle.gtp_machine.specs.Recovery.{Judges, Weighs, Hears}
-use Rattle.gtp_machine.specs.Serving.{BearerJudged, BearerAsked, RemovalTaken, RemovalJudged, RemovalAsked, SessionAnswered, FitsSession, DescribesSession}
+use Rattle.gtp_machine.specs.Serving.{BearerJudged, CreateBearerAsked, DeleteBearerTaken, DeleteBearerJudged, DeleteBearerAsked, CreateSessionAnswered, FitsCreateSession, DescribesSession}
 use Rattle.gtp_machine.proofs.Basics.Facts.{one_value}
 use Rattle.gtp_machine.specs.declared.message_type.MessageType.TheVariants as types
 use Rattle.gtp_gateway.specs.receive.Answer.{answering}
@@ -55,18 +55,18 @@ session_judged request q old e (inr (a, inr (b, inr (c, inr (d, inl f))))) = sen
 session_judged request q old e (inr (a, inr (b, inr (c, inr (d, inr (g, inl f)))))) = sends (λ none. cc) f.1
 session_judged request q old e (inr (a, inr (b, inr (c, inr (d, inr (g, inr (h, makes))))))) = answered_with (template_for q.access_point old.config.templates) request (session_response old q makes.control makes.user makes.address) (session_cause q.pdn makes.address) makes.control (made_session q makes.address) (session_made old q makes.control makes.user makes.address) e makes.gives
 
-pub session_asked : (request : Arrival) (q : CreateSessionRequest) (old : Node) → HasHeldRoom old → AlwaysSendsOrOpens (SessionAsked request q) old
-session_asked request q old room e (inl f) = absurd (f.0 room)
-session_asked request q old room e (inr (few, judged)) = session_judged request q old e judged
+pub create_session_asked : (request : Arrival) (q : CreateSessionRequest) (old : Node) → HasHeldRoom old → AlwaysSendsOrOpens (CreateSessionAsked request q) old
+create_session_asked request q old room e (inl f) = absurd (f.0 room)
+create_session_asked request q old room e (inr (few, judged)) = session_judged request q old e judged
 
-deletion_judged : (request : Arrival) (d : DeleteSessionRequest) (old : Node) (e : Effect) → DeletionJudged request d old e → SendsOrOpens e
-deletion_judged request d old e (inl f) = sends (λ none. cc) f.1
-deletion_judged request d old e (inr (a, inl f)) = sends (λ none. cc) f.1
-deletion_judged request d old e (inr (a, inr (b, is))) = sends (λ none. cc) is
+delete_session_judged : (request : Arrival) (d : DeleteSessionRequest) (old : Node) (e : Effect) → DeleteSessionJudged request d old e → SendsOrOpens e
+delete_session_judged request d old e (inl f) = sends (λ none. cc) f.1
+delete_session_judged request d old e (inr (a, inl f)) = sends (λ none. cc) f.1
+delete_session_judged request d old e (inr (a, inr (b, is))) = sends (λ none. cc) is
 
-pub deletion_asked : (request : Arrival) (d : DeleteSessionRequest) (old : Node) → HasHeldRoom old → AlwaysSendsOrOpens (DeletionAsked request d) old
-deletion_asked request d old room e (inl f) = absurd (f.0 room)
-deletion_asked request d old room e (inr (few, judged)) = deletion_judged request d old e judged
+pub delete_session_asked : (request : Arrival) (d : DeleteSessionRequest) (old : Node) → HasHeldRoom old → AlwaysSendsOrOpens (DeleteSessionAsked request d) old
+delete_session_asked request d old room e (inl f) = absurd (f.0 room)
+delete_session_asked request d old room e (inr (few, judged)) = delete_session_judged request d old e judged
 
 -- its session is active, if it stands
 abbrev IsOpen : Node → ℕ → Type 0
@@ -86,34 +86,34 @@ bearer_open request r old made m cause left (inl f) at = absurd (f.0 at)
 bearer_open request r old made m cause left (inr (a, inl f)) at = absurd (let none : (record { destination = request.source; messages = m ∷ [] } ∷ []) ≡ [] = ap (λ (x : Effect). x.out.sent) f.1 in cc)
 bearer_open request r old made m cause left (inr (a, inr (active, rest))) at = subst (λ (s : Session). s.state ≡ Active) (one_value (get old.sessions r.header) a.session at.session a.stands at.stands) active
 
-pub bearer_asked : (request : Arrival) (r : CreateBearerRequest) (old : Node) (made : _) (m : Message) (cause : ℕ) (left : Node) → HasHeldRoom old → BearerJudged request r old (answering made request (m ∷ []) cause left) → AlwaysSendsOrOpens (BearerAsked request r) old
-bearer_asked request r old made m cause left room judged e (inl f) = absurd (f.0 room)
-bearer_asked request r old made m cause left room judged e (inr (few, is)) = bearer_judged request r old (bearer_open request r old made m cause left judged) e is
+pub create_bearer_asked : (request : Arrival) (r : CreateBearerRequest) (old : Node) (made : _) (m : Message) (cause : ℕ) (left : Node) → HasHeldRoom old → BearerJudged request r old (answering made request (m ∷ []) cause left) → AlwaysSendsOrOpens (CreateBearerAsked request r) old
+create_bearer_asked request r old made m cause left room judged e (inl f) = absurd (f.0 room)
+create_bearer_asked request r old made m cause left room judged e (inr (few, is)) = bearer_judged request r old (bearer_open request r old made m cause left judged) e is
 
 -- its session was opened, if it stands
 abbrev pub WasOpened : Node → ℕ → Type 0
 WasOpened old session = (at : HasSession old session) → at.session.state ≡ Pending → ⊥
 
-removal_taken : (request : Arrival) (d : DeleteBearerRequest) (linked : Option ℕ) (old : Node) (s : Session) (e : Effect) → RemovalTaken request d linked old s e → SendsOrOpens e
-removal_taken request d (Some identity) old s e (inl f) = sends (λ none. cc) f.1
-removal_taken request d (Some identity) old s e (inr (a, is)) = sends (λ none. cc) is
-removal_taken request d None old s e (inl f) = sends (λ none. cc) f.1
-removal_taken request d None old s e (inr (a, removes)) = sends (λ none. cc) removes.gives
+delete_bearer_taken : (request : Arrival) (d : DeleteBearerRequest) (linked : Option ℕ) (old : Node) (s : Session) (e : Effect) → DeleteBearerTaken request d linked old s e → SendsOrOpens e
+delete_bearer_taken request d (Some identity) old s e (inl f) = sends (λ none. cc) f.1
+delete_bearer_taken request d (Some identity) old s e (inr (a, is)) = sends (λ none. cc) is
+delete_bearer_taken request d None old s e (inl f) = sends (λ none. cc) f.1
+delete_bearer_taken request d None old s e (inr (a, removes)) = sends (λ none. cc) removes.gives
 
-removal_judged : (request : Arrival) (d : DeleteBearerRequest) (old : Node) → WasOpened old d.header → (e : Effect) → RemovalJudged request d old e → SendsOrOpens e
-removal_judged request d old opened e (inl f) = sends (λ none. cc) f.1
-removal_judged request d old opened e (inr (a, inl f)) = absurd (f.0 (opened a))
-removal_judged request d old opened e (inr (a, inr (b, taken))) = removal_taken request d d.linked old a.session e taken
+delete_bearer_judged : (request : Arrival) (d : DeleteBearerRequest) (old : Node) → WasOpened old d.header → (e : Effect) → DeleteBearerJudged request d old e → SendsOrOpens e
+delete_bearer_judged request d old opened e (inl f) = sends (λ none. cc) f.1
+delete_bearer_judged request d old opened e (inr (a, inl f)) = absurd (f.0 (opened a))
+delete_bearer_judged request d old opened e (inr (a, inr (b, taken))) = delete_bearer_taken request d d.linked old a.session e taken
 
 -- so it was where the request is answered
-pub removal_opened : (request : Arrival) (d : DeleteBearerRequest) (old : Node) (m : Message) (cause : ℕ) (left : Node) → RemovalJudged request d old (answered request m cause left) → WasOpened old d.header
-removal_opened request d old m cause left (inl f) at = absurd (f.0 at)
-removal_opened request d old m cause left (inr (a, inl f)) at = absurd (let none : (record { destination = request.source; messages = m ∷ [] } ∷ []) ≡ [] = ap (λ (x : Effect). x.out.sent) f.1 in cc)
-removal_opened request d old m cause left (inr (a, inr (opened, rest))) at = subst (λ (s : Session). s.state ≡ Pending → ⊥) (one_value (get old.sessions d.header) a.session at.session a.stands at.stands) opened
+pub delete_bearer_opened : (request : Arrival) (d : DeleteBearerRequest) (old : Node) (m : Message) (cause : ℕ) (left : Node) → DeleteBearerJudged request d old (answered request m cause left) → WasOpened old d.header
+delete_bearer_opened request d old m cause left (inl f) at = absurd (f.0 at)
+delete_bearer_opened request d old m cause left (inr (a, inl f)) at = absurd (let none : (record { destination = request.source; messages = m ∷ [] } ∷ []) ≡ [] = ap (λ (x : Effect). x.out.sent) f.1 in cc)
+delete_bearer_opened request d old m cause left (inr (a, inr (opened, rest))) at = subst (λ (s : Session). s.state ≡ Pending → ⊥) (one_value (get old.sessions d.header) a.session at.session a.stands at.stands) opened
 
-pub removal_asked : (request : Arrival) (d : DeleteBearerRequest) (old : Node) → HasHeldRoom old → WasOpened old d.header → AlwaysSendsOrOpens (RemovalAsked request d) old
-removal_asked request d old room opened e (inl f) = absurd (f.0 room)
-removal_asked request d old room opened e (inr (few, judged)) = removal_judged request d old opened e judged
+pub delete_bearer_asked : (request : Arrival) (d : DeleteBearerRequest) (old : Node) → HasHeldRoom old → WasOpened old d.header → AlwaysSendsOrOpens (DeleteBearerAsked request d) old
+delete_bearer_asked request d old room opened e (inl f) = absurd (f.0 room)
+delete_bearer_asked request d old room opened e (inr (few, judged)) = delete_bearer_judged request d old opened e judged
 
 -- ---- responses that open what was asked for
 
@@ -124,12 +124,12 @@ is_opened opened same = ap (λ (x : Effect). x.outcome) (sym same) ∙ opened
 -- an accepting response that describes the session
 record SessionAccepted (a : CreateSessionResponse) (old : Node) : Type 0 where
   at : HasPending old a.number
-  fits : FitsSession at.pending a
+  fits : FitsCreateSession at.pending a
   accepts : IsAccepting a.cause
   new : DescribesSession old fits.session a
   both : IsAccepting new.context.cause
 
-session_accepted : (a : CreateSessionResponse) (old : Node) (f : Effect) → f.outcome ≡ Came_to Opened → SessionAnswered a old f → SessionAccepted a old
+session_accepted : (a : CreateSessionResponse) (old : Node) (f : Effect) → f.outcome ≡ Came_to Opened → CreateSessionAnswered a old f → SessionAccepted a old
 session_accepted a old f opened (inl n) = absurd (let is = is_opened opened n.1 in cc)
 session_accepted a old f opened (inr (at, inl n)) = absurd (let is = is_opened opened n.1 in cc)
 session_accepted a old f opened (inr (at, inr (fits, inl n))) = absurd (let is = is_opened opened n.1 in cc)
@@ -140,9 +140,9 @@ session_accepted a old f opened (inr (at, inr (fits, inr (accepts, inr (new, inr
 one_pending : (old : Node) (number : ℕ) (a b : HasPending old number) → a.pending ≡ b.pending
 one_pending old number a b = one_value (get old.pending number) a.pending b.pending a.waits b.waits
 
-session_by : (a : CreateSessionResponse) (old : Node) → SessionAccepted a old → (e : Effect) → SessionAnswered a old e → e.outcome ≡ Came_to Opened
+session_by : (a : CreateSessionResponse) (old : Node) → SessionAccepted a old → (e : Effect) → CreateSessionAnswered a old e → e.outcome ≡ Came_to Opened
 session_by a old w e (inl n) = absurd (n.0 w.at)
-session_by a old w e (inr (at, inl n)) = absurd (n.0 (subst (λ (p : PendingRequest). FitsSession p a) (one_pending old a.number w.at at) w.fits))
+session_by a old w e (inr (at, inl n)) = absurd (n.0 (subst (λ (p : PendingRequest). FitsCreateSession p a) (one_pending old a.number w.at at) w.fits))
 session_by a old w e (inr (at, inr (fits, inl n))) = absurd (n.0 w.accepts)
 session_by a old w e (inr (at, inr (fits, inr (accepts, inl n)))) = absurd (n.0 (subst (λ (s : ℕ). DescribesSession old s a) (one_value at.pending.session w.fits.session fits.session (ap (λ (p : PendingRequest). p.session) (sym (one_pending old a.number w.at at)) ∙ w.fits.about) fits.about) w.new))
 session_by a old w e (inr (at, inr (fits, inr (accepts, inr (new, inl n))))) =
@@ -151,20 +151,20 @@ session_by a old w e (inr (at, inr (fits, inr (accepts, inr (new, inl n))))) =
 session_by a old w e (inr (at, inr (fits, inr (accepts, inr (new, inr (both, opens)))))) = ap (λ (x : Effect). x.outcome) opens.gives
 
 -- where one answer opens the session, each does
-pub session_answered : (a : CreateSessionResponse) (old : Node) (f : Effect) → f.outcome ≡ Came_to Opened → SessionAnswered a old f → AlwaysSendsOrOpens (SessionAnswered a) old
-session_answered a old f opened is e answers = inr (session_by a old (session_accepted a old f opened is) e answers)
+pub create_session_answered : (a : CreateSessionResponse) (old : Node) (f : Effect) → f.outcome ≡ Came_to Opened → CreateSessionAnswered a old f → AlwaysSendsOrOpens (CreateSessionAnswered a) old
+create_session_answered a old f opened is e answers = inr (session_by a old (session_accepted a old f opened is) e answers)
 
 -- an accepting response that describes the bearer, which can be opened
 record BearerAccepted (x : CreateBearerResponse) (old : Node) : Type 0 where
   at : HasPending old x.number
-  fits : FitsBearer at.pending x
+  fits : FitsCreateBearer at.pending x
   accepts : IsAccepting x.cause
   new : DescribesBearer x
   both : IsAccepting new.context.cause
   returned : teid_in new.context.packet_user ≡ Some fits.bearer
   can : CanOpen old fits.session new.context.identity
 
-bearer_accepted : (x : CreateBearerResponse) (old : Node) (f : Effect) → f.outcome ≡ Came_to Opened → BearerAnswered x old f → BearerAccepted x old
+bearer_accepted : (x : CreateBearerResponse) (old : Node) (f : Effect) → f.outcome ≡ Came_to Opened → CreateBearerAnswered x old f → BearerAccepted x old
 bearer_accepted x old f opened (inl n) = absurd (let is = is_opened opened n.1 in cc)
 bearer_accepted x old f opened (inr (at, inl n)) = absurd (let is = is_opened opened n.1 in cc)
 bearer_accepted x old f opened (inr (at, inr (fits, inl n))) = absurd (let is = is_opened opened n.1 in cc)
@@ -181,15 +181,15 @@ module _ (x : CreateBearerResponse) (old : Node) (w : BearerAccepted x old) wher
   same_request : (at : HasPending old x.number) → w.at.pending ≡ at.pending
   same_request at = one_pending old x.number w.at at
 
-  same_session : (at : HasPending old x.number) (fits : FitsBearer at.pending x) → w.fits.session ≡ fits.session
+  same_session : (at : HasPending old x.number) (fits : FitsCreateBearer at.pending x) → w.fits.session ≡ fits.session
   same_session at fits = one_value at.pending.session w.fits.session fits.session (ap (λ (p : PendingRequest). p.session) (sym (same_request at)) ∙ w.fits.about) fits.about
 
-  same_bearer : (at : HasPending old x.number) (fits : FitsBearer at.pending x) → w.fits.bearer ≡ fits.bearer
+  same_bearer : (at : HasPending old x.number) (fits : FitsCreateBearer at.pending x) → w.fits.bearer ≡ fits.bearer
   same_bearer at fits = one_value at.pending.bearer w.fits.bearer fits.bearer (ap (λ (p : PendingRequest). p.bearer) (sym (same_request at)) ∙ w.fits.about_bearer) fits.about_bearer
 
-  bearer_by : (e : Effect) → BearerAnswered x old e → e.outcome ≡ Came_to Opened
+  bearer_by : (e : Effect) → CreateBearerAnswered x old e → e.outcome ≡ Came_to Opened
   bearer_by e (inl n) = absurd (n.0 w.at)
-  bearer_by e (inr (at, inl n)) = absurd (n.0 (subst (λ (p : PendingRequest). FitsBearer p x) (same_request at) w.fits))
+  bearer_by e (inr (at, inl n)) = absurd (n.0 (subst (λ (p : PendingRequest). FitsCreateBearer p x) (same_request at) w.fits))
   bearer_by e (inr (at, inr (fits, inl n))) = absurd (n.0 w.accepts)
   bearer_by e (inr (at, inr (fits, inr (accepts, inl n)))) = absurd (n.0 w.new)
   bearer_by e (inr (at, inr (fits, inr (accepts, inr (new, inl n))))) = absurd (n.0 (subst (λ (k : GivenBearer). IsAccepting k.cause) (one_context new) w.both))
@@ -200,8 +200,8 @@ module _ (x : CreateBearerResponse) (old : Node) (w : BearerAccepted x old) wher
   bearer_by e (inr (at, inr (fits, inr (accepts, inr (new, inr (both, inr (returned, inr (can, opens)))))))) = ap (λ (y : Effect). y.outcome) opens.gives
 
 -- where one answer opens the bearer, each does
-pub bearer_answered : (x : CreateBearerResponse) (old : Node) (f : Effect) → f.outcome ≡ Came_to Opened → BearerAnswered x old f → AlwaysSendsOrOpens (BearerAnswered x) old
-bearer_answered x old f opened is e answers = inr (bearer_by x old (bearer_accepted x old f opened is) e answers)
+pub create_bearer_answered : (x : CreateBearerResponse) (old : Node) (f : Effect) → f.outcome ≡ Came_to Opened → CreateBearerAnswered x old f → AlwaysSendsOrOpens (CreateBearerAnswered x) old
+create_bearer_answered x old f opened is e answers = inr (bearer_by x old (bearer_accepted x old f opened is) e answers)
 
 -- ---- wired to the kinds of message
 
@@ -212,22 +212,22 @@ module _ (role : Role) (request : Arrival) (m : Message) (n : Node) where
   pub needs_echo : (q : Echo) → m ≡ Echo_request q → Always role m
   needs_echo q is = at_both Always role m (Echo_request q) is (λ e same. sends (λ none. cc) same) (λ e same. sends (λ none. cc) same)
 
-  pub needs_session : (q : CreateSessionRequest) → takes_type role types.CreateSessionRequest ≡ true → m ≡ Create_session_request q → AlwaysSendsOrOpens (SessionAsked request q) n → Always role m
+  pub needs_session : (q : CreateSessionRequest) → takes_type role types.CreateSessionRequest ≡ true → m ≡ Create_session_request q → AlwaysSendsOrOpens (CreateSessionAsked request q) n → Always role m
   needs_session q has_it is needs = at_taker Always Packet role m (Create_session_request q) has_it is needs
 
-  pub needs_deletion : (d : DeleteSessionRequest) → takes_type role types.DeleteSessionRequest ≡ true → m ≡ Delete_session_request d → AlwaysSendsOrOpens (DeletionAsked request d) n → Always role m
-  needs_deletion d has_it is needs = at_taker Always Packet role m (Delete_session_request d) has_it is needs
+  pub needs_delete_session : (d : DeleteSessionRequest) → takes_type role types.DeleteSessionRequest ≡ true → m ≡ Delete_session_request d → AlwaysSendsOrOpens (DeleteSessionAsked request d) n → Always role m
+  needs_delete_session d has_it is needs = at_taker Always Packet role m (Delete_session_request d) has_it is needs
 
-  pub needs_bearer : (q : CreateBearerRequest) → takes_type role types.CreateBearerRequest ≡ true → m ≡ Create_bearer_request q → AlwaysSendsOrOpens (BearerAsked request q) n → Always role m
+  pub needs_bearer : (q : CreateBearerRequest) → takes_type role types.CreateBearerRequest ≡ true → m ≡ Create_bearer_request q → AlwaysSendsOrOpens (CreateBearerAsked request q) n → Always role m
   needs_bearer q has_it is needs = at_taker Always Serving role m (Create_bearer_request q) has_it is needs
 
-  pub needs_removal : (d : DeleteBearerRequest) → takes_type role types.DeleteBearerRequest ≡ true → m ≡ Delete_bearer_request d → AlwaysSendsOrOpens (RemovalAsked request d) n → Always role m
-  needs_removal d has_it is needs = at_taker Always Serving role m (Delete_bearer_request d) has_it is needs
+  pub needs_delete_bearer : (d : DeleteBearerRequest) → takes_type role types.DeleteBearerRequest ≡ true → m ≡ Delete_bearer_request d → AlwaysSendsOrOpens (DeleteBearerAsked request d) n → Always role m
+  needs_delete_bearer d has_it is needs = at_taker Always Serving role m (Delete_bearer_request d) has_it is needs
 
-  pub needs_session_response : (a : CreateSessionResponse) → takes_type role types.CreateSessionResponse ≡ true → m ≡ Create_session_response a → AlwaysSendsOrOpens (SessionAnswered a) n → Always role m
+  pub needs_session_response : (a : CreateSessionResponse) → takes_type role types.CreateSessionResponse ≡ true → m ≡ Create_session_response a → AlwaysSendsOrOpens (CreateSessionAnswered a) n → Always role m
   needs_session_response a has_it is needs = at_taker Always Serving role m (Create_session_response a) has_it is needs
 
-  pub needs_bearer_response : (x : CreateBearerResponse) → takes_type role types.CreateBearerResponse ≡ true → m ≡ Create_bearer_response x → AlwaysSendsOrOpens (BearerAnswered x) n → Always role m
+  pub needs_bearer_response : (x : CreateBearerResponse) → takes_type role types.CreateBearerResponse ≡ true → m ≡ Create_bearer_response x → AlwaysSendsOrOpens (CreateBearerAnswered x) n → Always role m
   needs_bearer_response x has_it is needs = at_taker Always Packet role m (Create_bearer_response x) has_it is needs
 
 -- ---- before the message is taken

@@ -17,9 +17,9 @@ use Rattle.gtp_machine.specs.Node.{Arrival, Node, written}
 use Rattle.gtp_machine.specs.Answer.{echoed}
 use Rattle.gtp_machine.specs.Decoded.{contexts_in, row_in, number_of, first_in, cause_at, content_message, message_of}
 use Rattle.gtp_machine.specs.Input.{Effect}
-use Rattle.gtp_machine.specs.Packet.{SessionAsked as SessionAskedRow, DeletionAsked as DeletionAskedRow, RemovalAnswered as RemovalRow}
+use Rattle.gtp_machine.specs.Packet.{CreateSessionAsked as CreateSessionAskedRow, DeleteSessionAsked as DeleteSessionAskedRow, DeleteBearerAnswered as DeleteBearerRow}
 use Rattle.gtp_machine.specs.Response.{EchoAnswered as EchoRow}
-use Rattle.gtp_machine.specs.Serving.{DeletionAnswered as DeletionRow}
+use Rattle.gtp_machine.specs.Serving.{DeleteSessionAnswered as DeleteSessionRow}
 use Rattle.gtp_machine.specs.declared.message_type.MessageType.{MessageType}
 use Rattle.gtp_machine.specs.declared.message_type.MessageType.TheVariants as types
 use Rattle.gtp_machine.proofs.Basics.Types.{type_kind}
@@ -32,7 +32,7 @@ use Rattle.gtp_gateway.specs.receive.Row.{IsWeighed}
 use Rattle.gtp_gateway.specs.GatewayState.{GatewayState}
 use Rattle.gtp_machine.specs.MessageType.{type_at, takes_type, takes_message, type_row}
 use Rattle.gtp_machine.specs.Step.{TakesBy}
-use Rattle.gtp_gateway.proofs.InPlace.{says_by, Says, reads_so, row_so, its_row, echo_asked, echo_answered, session_asked, session_answered, bearer_asked, bearer_answered}
+use Rattle.gtp_gateway.proofs.InPlace.{says_by, Says, reads_so, row_so, its_row, echo_asked, echo_answered, create_session_asked, create_session_answered, create_bearer_asked, create_bearer_answered}
 use Rattle.gtp_gateway.proofs.Procedures.{at_both, at_taker}
 
 -- ---- Echo Request and Echo Response
@@ -70,12 +70,12 @@ deletion_request_is octets m r is at reads =
     let linked = linked_is (unwrap_or (values_by 73 0 (table_of 36) (Fields a.0)) []) r.linked (reads.linked (ap (λ k. has_row k 73 0) of) ∙ ap front_value (its_row 36 73 0 a.0 m a.1)) in
     reads_so 36 a.0 m a.1 ∙ (λ i. Delete_session_request (record { header = sym reads.header i; number = sym reads.number i; linked = linked i }))
 
-pub takes_deletion_request : (role : Role) (request : Arrival) (d : DeleteSessionRequest) (m : Message) → takes_type role types.DeleteSessionRequest ≡ true → m ≡ Delete_session_request d → (n : Node) (e : Effect) → DeletionAskedRow request d n e → TakesBy role request m n e
+pub takes_deletion_request : (role : Role) (request : Arrival) (d : DeleteSessionRequest) (m : Message) → takes_type role types.DeleteSessionRequest ≡ true → m ≡ Delete_session_request d → (n : Node) (e : Effect) → DeleteSessionAskedRow request d n e → TakesBy role request m n e
 takes_deletion_request role request d m has_it is n e takes = at_taker (λ r k. TakesBy r request k n e) Packet role m (Delete_session_request d) has_it is takes
 
 -- ---- Create Session Request
 
-pub takes_session_request : (role : Role) (request : Arrival) (q : CreateSessionRequest) (m : Message) → takes_type role types.CreateSessionRequest ≡ true → m ≡ Create_session_request q → (n : Node) (e : Effect) → SessionAskedRow request q n e → TakesBy role request m n e
+pub takes_session_request : (role : Role) (request : Arrival) (q : CreateSessionRequest) (m : Message) → takes_type role types.CreateSessionRequest ≡ true → m ≡ Create_session_request q → (n : Node) (e : Effect) → CreateSessionAskedRow request q n e → TakesBy role request m n e
 takes_session_request role request q m has_it is n e takes = at_taker (λ r k. TakesBy r request k n e) Packet role m (Create_session_request q) has_it is takes
 
 -- the message tells no counter, and so nothing was heard
@@ -103,7 +103,7 @@ deletion_response_is octets m c is at read =
     let a = says_by 37 delete_session_response octets m refl (type_kind m.kind types.DeleteSessionResponse at) is in
     record { response = _; is = reads_so 37 a.0 m a.1; header = refl; number = refl; cause = cause_is (values_by 2 0 (table_of 37) (Fields a.0)) c (sym (row_so 37 2 0 a.0 m a.1) ∙ read) }
 
-pub takes_deletion_response : (role : Role) (request : Arrival) (d : DeleteSessionResponse) (m : Message) → takes_type role types.DeleteSessionResponse ≡ true → m ≡ Delete_session_response d → (n : Node) (e : Effect) → DeletionRow d n e → TakesBy role request m n e
+pub takes_deletion_response : (role : Role) (request : Arrival) (d : DeleteSessionResponse) (m : Message) → takes_type role types.DeleteSessionResponse ≡ true → m ≡ Delete_session_response d → (n : Node) (e : Effect) → DeleteSessionRow d n e → TakesBy role request m n e
 takes_deletion_response role request d m has_it is n e takes = at_taker (λ r k. TakesBy r request k n e) Serving role m (Delete_session_response d) has_it is takes
 
 pub removal_response_is : (octets : List ℕ) (m : MessageValue) (c : Cause) → IsMessage octets m → type_at m.kind ≡ Some types.DeleteBearerResponse → in_row 2 0 m ≡ Some (OfCause c ∷ []) → IsResponse Delete_bearer_response (λ d. d.header) (λ d. d.number) (λ d. d.cause) m c
@@ -112,7 +112,7 @@ removal_response_is octets m c is at read =
     let a = says_by 100 delete_bearer_response octets m refl (type_kind m.kind types.DeleteBearerResponse at) is in
     record { response = _; is = reads_so 100 a.0 m a.1; header = refl; number = refl; cause = cause_is (values_by 2 0 (table_of 100) (Fields a.0)) c (sym (row_so 100 2 0 a.0 m a.1) ∙ read) }
 
-pub takes_removal_response : (role : Role) (request : Arrival) (d : DeleteBearerResponse) (m : Message) → takes_type role types.DeleteBearerResponse ≡ true → m ≡ Delete_bearer_response d → (n : Node) (e : Effect) → RemovalRow d n e → TakesBy role request m n e
+pub takes_removal_response : (role : Role) (request : Arrival) (d : DeleteBearerResponse) (m : Message) → takes_type role types.DeleteBearerResponse ≡ true → m ≡ Delete_bearer_response d → (n : Node) (e : Effect) → DeleteBearerRow d n e → TakesBy role request m n e
 takes_removal_response role request d m has_it is n e takes = at_taker (λ r k. TakesBy r request k n e) Packet role m (Delete_bearer_response d) has_it is takes
 
 -- ---- a gateway takes the messages for which types it takes
@@ -127,11 +127,11 @@ is_taken role octets m p is at has_it = by p (type_kind m.kind p at) has_it
     by : (p : MessageType) → m.kind ≡ (type_row p).kind → takes_type role p ≡ true → takes_message role (message_of m) ≡ true
     by types.EchoRequest of has_it = so 1 _ (echo_asked octets m of is).says has_it
     by types.EchoResponse of has_it = so 2 _ (echo_answered octets m of is).says has_it
-    by types.CreateSessionRequest of has_it = so 32 _ (session_asked octets m of is).says has_it
-    by types.CreateSessionResponse of has_it = so 33 _ (session_answered octets m of is).says has_it
+    by types.CreateSessionRequest of has_it = so 32 _ (create_session_asked octets m of is).says has_it
+    by types.CreateSessionResponse of has_it = so 33 _ (create_session_answered octets m of is).says has_it
     by types.DeleteSessionRequest of has_it = let a = says_by 36 delete_session_request octets m refl of is in so 36 a.0 a.1 has_it
     by types.DeleteSessionResponse of has_it = let a = says_by 37 delete_session_response octets m refl of is in so 37 a.0 a.1 has_it
-    by types.CreateBearerRequest of has_it = so 95 _ (bearer_asked octets m of is).says has_it
-    by types.CreateBearerResponse of has_it = so 96 _ (bearer_answered octets m of is).says has_it
+    by types.CreateBearerRequest of has_it = so 95 _ (create_bearer_asked octets m of is).says has_it
+    by types.CreateBearerResponse of has_it = so 96 _ (create_bearer_answered octets m of is).says has_it
     by types.DeleteBearerRequest of has_it = let a = says_by 99 delete_bearer_request octets m refl of is in so 99 a.0 a.1 has_it
     by types.DeleteBearerResponse of has_it = let a = says_by 100 delete_bearer_response octets m refl of is in so 100 a.0 a.1 has_it

@@ -15,7 +15,7 @@ use Rattle.gtp_machine.specs.Decoded.{row_in, contexts_in, row, number_at, end_a
 use Rattle.gtp_machine.specs.Input.{Effect}
 use Rattle.gtp_machine.specs.Message.{Message, CreateBearerRequest, Create_bearer_request}
 use Rattle.gtp_machine.specs.Node.{Arrival, Node}
-use Rattle.gtp_machine.specs.Serving.{BearerAsked as BearerAskedRow}
+use Rattle.gtp_machine.specs.Serving.{CreateBearerAsked as BearerAskedRow}
 use Rattle.gtp_machine.proofs.Basics.Types.{type_kind}
 use Rattle.gtp_machine.specs.declared.role.Role.TheVariants.{Serving}
 use Rattle.gtp_gateway.specs.declared.receive.create_bearer_request.BearerRequest.{BearerRequest}
@@ -23,7 +23,7 @@ use Rattle.gtp_machine.specs.declared.message_type.MessageType.TheVariants as ty
 use Rattle.gtp_gateway.specs.receive.CreateBearerRequest.{HasBearerContext, ReadsCreateBearer, SaysCreateBearer}
 use Rattle.gtp_machine.specs.MessageType.{type_at, takes_type}
 use Rattle.gtp_machine.specs.Step.{TakesBy}
-use Rattle.gtp_gateway.proofs.InPlace.{reads_so, row_so, groups_so, bearer_asked}
+use Rattle.gtp_gateway.proofs.InPlace.{reads_so, row_so, groups_so, create_bearer_asked}
 use Rattle.gtp_gateway.proofs.Procedures.{at_taker}
 
 -- no further item came
@@ -57,7 +57,7 @@ none_free node session all free =
 -- its rows are there
 pub has_context : (octets : List ℕ) (m : MessageValue) → IsMessage octets m → type_at m.kind ≡ Some types.CreateBearerRequest → HasBearerContext m
 has_context octets m is at =
-    let a = bearer_asked octets m (type_kind m.kind types.CreateBearerRequest at) is in
+    let a = create_bearer_asked octets m (type_kind m.kind types.CreateBearerRequest at) is in
     record { linked = ap (λ (k : ℕ). always_has k 73 0) (type_kind m.kind types.CreateBearerRequest at); first = a.first; further = a.further; user = a.user; groups = groups_so 95 93 0 _ m a.says; ends = a.ends }
 
 pub record IsCreateBearer (m : MessageValue) (r : BearerRequest) : Type 0 where
@@ -75,7 +75,7 @@ alone_so alone (g ∷ further) test = (λ yes. absurd (let some : g ∷ further 
 pub create_bearer_is : (octets : List ℕ) (m : MessageValue) (r : BearerRequest) → IsMessage octets m → type_at m.kind ≡ Some types.CreateBearerRequest → ReadsCreateBearer m r → IsCreateBearer m r
 unfolding row_in contexts_in
 create_bearer_is octets m r is at reads =
-    let a = bearer_asked octets m (type_kind m.kind types.CreateBearerRequest at) is in
+    let a = create_bearer_asked octets m (type_kind m.kind types.CreateBearerRequest at) is in
     let contexts = reads.contexts a.first a.further (groups_so 95 93 0 _ m a.says) in
     record {
       request = _;

@@ -21,7 +21,7 @@ use Rattle.gtp_machine.specs.Element.{IsAccepting, teid_in}
 use Rattle.gtp_machine.specs.Input.{Came_to, Effect, nothing}
 use Rattle.gtp_machine.specs.Message.{Message, CreateBearerRequest, CreateBearerResponse, GivenBearer, Create_bearer_request, Create_bearer_response, header_of, first_given, first_identity}
 use Rattle.gtp_machine.specs.Node.{Active, Closing, Session, Bearer, Arrival, Node}
-use Rattle.gtp_machine.specs.Packet.{FitsBearer, DescribesBearer, CanOpen, opened_dedicated, BearerAnswered as BearerRow}
+use Rattle.gtp_machine.specs.Packet.{FitsCreateBearer, DescribesBearer, CanOpen, opened_dedicated, CreateBearerAnswered as BearerRow}
 use Rattle.gtp_machine.specs.Response.{Named}
 use Rattle.gtp_machine.specs.Sound.{IsSound, IsWanted}
 use Rattle.gtp_machine.proofs.Sound.Changes.{is_bearer}
@@ -47,7 +47,7 @@ use Rattle.gtp_machine.specs.Step.{TakesBy}
 use Rattle.gtp_gateway.specs.tables.Opening.{IsWaiting, effect_by}
 use Rattle.gtp_gateway.specs.messages.Spelled.{is_for}
 use Rattle.gtp_gateway.proofs.Unopened.{IsBlank, stands_there, blank_there}
-use Rattle.gtp_gateway.proofs.InPlace.{groups_so, bearer_answered}
+use Rattle.gtp_gateway.proofs.InPlace.{groups_so, create_bearer_answered}
 use Rattle.gtp_gateway.proofs.Pendings.{names_here, names_there}
 use Rattle.gtp_gateway.proofs.Opened.{heard_sound}
 use Rattle.gtp_gateway.proofs.Procedures.{at_taker}
@@ -58,9 +58,9 @@ use Rattle.gtp_gateway.proofs.Procedures.{at_taker}
 abbrev pub given_others : List Element → List (List Value)
 given_others es = option_to_list (optional_at 87 2 es) ∷ option_to_list (optional_at 87 3 es) ∷ []
 
-pub given_contexts : (octets : List ℕ) (m : MessageValue) (is : IsMessage octets m) (at : type_at m.kind ≡ Some types.CreateBearerResponse) → AreContexts m given_others (bearer_answered octets m (type_kind m.kind types.CreateBearerResponse at) is).groups
+pub given_contexts : (octets : List ℕ) (m : MessageValue) (is : IsMessage octets m) (at : type_at m.kind ≡ Some types.CreateBearerResponse) → AreContexts m given_others (create_bearer_answered octets m (type_kind m.kind types.CreateBearerResponse at) is).groups
 given_contexts octets m is at =
-    let a = bearer_answered octets m (type_kind m.kind types.CreateBearerResponse at) is in
+    let a = create_bearer_answered octets m (type_kind m.kind types.CreateBearerResponse at) is in
     record {
       stand = subst (λ o. IsSomeAnd o (λ p. (p.1 ≡ a.groups) × ((es : List Element) → values_in p.0 es ≡ context_values given_others es))) (sym (groups_so 96 93 0 _ m a.says)) (refl, λ es. refl);
       each = a.each;
@@ -96,7 +96,7 @@ asks_bearer session bearer named (Create_bearer_request q) meant =
     record { request = q; is = refl; user = eqb-true q.context.user.teid bearer.0 says.left; told = says.right }
 asks_bearer session bearer named m meant = absurd cc
 
-bearer_here : (purpose : Purpose) (m : Message) (r : Response) (x : CreateBearerResponse) → is_for purpose m ≡ true → x.header ≡ r.header.0 → x.cause ≡ r.cause → FitsBearer (about purpose m) x → FitsCreateBearerOf purpose r
+bearer_here : (purpose : Purpose) (m : Message) (r : Response) (x : CreateBearerResponse) → is_for purpose m ≡ true → x.header ≡ r.header.0 → x.cause ≡ r.cause → FitsCreateBearer (about purpose m) x → FitsCreateBearerOf purpose r
 bearer_here (CreateBearer session bearer named) (Create_bearer_request q) r x meant at of fits =
     names_here session.0 x.header q.header x.cause named r (both (q.context.user.teid == bearer.0) (beq named (not (q.header == 0))) meant).right at of fits.named
 bearer_here purpose m r x meant at of fits = absurd (let asked = fits.asked in cc)
@@ -128,7 +128,7 @@ module _ (n : Node) (r : BearerResponse) (x : CreateBearerResponse) (says : Says
           by (inl same) = inl (ap session_of asked.is ∙ same)
           by (inr (zero, unknown, some)) = inr (zero, unknown, λ is. some (sym (ap header_of request.is) ∙ is))
 
-      abbrev fits : FitsBearer at.pending x
+      abbrev fits : FitsCreateBearer at.pending x
       fits = record { request = request.request; asked = request.is; session = k.session.0; about = ap session_of asked.is; bearer = k.bearer.0; about_bearer = ap bearer_of asked.is; named = is_named }
 
       pub is_refused : (IsAccepting r.response.cause → ⊥) → BearerRow x n (effect_by (Finishes purpose (Rejected r.response.cause.value)) x.number n)
@@ -217,8 +217,8 @@ record IsBearerAsked (n : Node) (session bearer : ℕ) : Type 0 where
   pub stands : get n.bearers bearer ≡ Some at
   pub blank : (s : Session) → get n.sessions session ≡ Some s → s.state ≢ Closing → at.remote ≡ None
 
-bearer_asked : (role : Role) (n : Node) → IsSound role n → (number : ℕ) (purpose : Purpose) (w : IsWaiting n number purpose) (r : Response) (k : AskedBearer) → IsAskedBearer purpose r k → IsBearerAsked n k.session.0 k.bearer.0
-bearer_asked role n sound number purpose w r k asked =
+create_bearer_asked : (role : Role) (n : Node) → IsSound role n → (number : ℕ) (purpose : Purpose) (w : IsWaiting n number purpose) (r : Response) (k : AskedBearer) → IsAskedBearer purpose r k → IsBearerAsked n k.session.0 k.bearer.0
+create_bearer_asked role n sound number purpose w r k asked =
     let q = asks_bearer k.session k.bearer asked.named w.message (ap (λ (p : Purpose). is_for p w.message) (sym asked.is) ∙ w.meant) in
     let is = is_bearer role n sound number (about purpose w.message) q.request w.waits q.is in
     let user : is.0.request.context.user.teid ≡ k.bearer.0 = ap (λ (y : CreateBearerRequest). y.context.user.teid) is.1 ∙ q.user in
@@ -241,13 +241,13 @@ module _ (role : Role) (heard : Heard) (old : Node) (whole : ∥ IsSound role ol
   bearer_stands = stands_there whole (node_heard heard old) k.bearer.0 (λ sound. let d = by sound in (d.at, d.stands))
     where
       by : IsSound role old → IsBearerAsked (node_heard heard old) k.session.0 k.bearer.0
-      by sound = bearer_asked role (node_heard heard old) (heard_sound role heard old sound) number purpose w r k asked
+      by sound = create_bearer_asked role (node_heard heard old) (heard_sound role heard old sound) number purpose w r k asked
 
   pub bearer_blank : (s : Session) → get (node_heard heard old).sessions k.session.0 ≡ Some s → s.state ≢ Closing → (b : Bearer) → get (node_heard heard old).bearers k.bearer.0 ≡ Some b → b.remote ≡ None
   bearer_blank s here opened = blank_there whole (node_heard heard old) k.bearer.0 by
     where
       by : IsSound role old → IsBlank (node_heard heard old) k.bearer.0
-      by sound = let d = bearer_asked role (node_heard heard old) (heard_sound role heard old sound) number purpose w r k asked in record { at = d.at; stands = d.stands; blank = d.blank s here opened }
+      by sound = let d = create_bearer_asked role (node_heard heard old) (heard_sound role heard old sound) number purpose w r k asked in record { at = d.at; stands = d.stands; blank = d.blank s here opened }
 
 -- ---- wired to the kinds of message
 

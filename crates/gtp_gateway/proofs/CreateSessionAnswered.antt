@@ -11,7 +11,7 @@ use Rattle.gtp_machine.specs.Element.{tunnel_end, cause_of}
 use Rattle.gtp_machine.specs.Input.{Effect}
 use Rattle.gtp_machine.specs.Message.{CreateSessionRequest, RequestedBearer, Message, Create_session_response, Create_bearer_request}
 use Rattle.gtp_machine.specs.Node.{Active, Default, Node}
-use Rattle.gtp_machine.specs.Command.{bearer_asked}
+use Rattle.gtp_machine.specs.Command.{create_bearer_asked}
 use Rattle.gtp_machine.specs.Packet.{session_cause, session_response, made_session, session_made}
 use Rattle.gtp_machine.specs.Spelling.{datagram_of}
 use Rattle.gtp_gateway.specs.declared.receive.restart_counter.Heard.{Heard}
@@ -79,6 +79,6 @@ module _ (r : SessionRequest) (q : CreateSessionRequest) (says : SaysCreateSessi
     pub both_same : (a : AddedBearer) → grants_with r g a node ≡ Create_session_response (session_response left q g.drawn.control.0 g.drawn.user.0 g.address) ∷ Create_bearer_request (asked_with (made_session q g.address) a (session_made left q g.drawn.control.0 g.drawn.user.0 g.address)) ∷ []
     both_same a = λ i. grant_same i ∷ Create_bearer_request (asked_same a i) ∷ []
 
-    pub begun_same : (a : AddedBearer) → bearer_asked (changed_by (change_of r g) left) g.drawn.control.0 (asked_with (session_granted r g) a node) a.drawn.teid.0
-        ≡ bearer_asked (session_made left q g.drawn.control.0 g.drawn.user.0 g.address) g.drawn.control.0 (asked_with (made_session q g.address) a (session_made left q g.drawn.control.0 g.drawn.user.0 g.address)) a.drawn.teid.0
-    begun_same a = λ i. bearer_asked (made_same i) g.drawn.control.0 (asked_same a i) a.drawn.teid.0
+    pub begun_same : (a : AddedBearer) → create_bearer_asked (changed_by (change_of r g) left) g.drawn.control.0 (asked_with (session_granted r g) a node) a.drawn.teid.0
+        ≡ create_bearer_asked (session_made left q g.drawn.control.0 g.drawn.user.0 g.address) g.drawn.control.0 (asked_with (made_session q g.address) a (session_made left q g.drawn.control.0 g.drawn.user.0 g.address)) a.drawn.teid.0
+    begun_same a = λ i. create_bearer_asked (made_same i) g.drawn.control.0 (asked_same a i) a.drawn.teid.0

@@ -23,7 +23,7 @@ use Rattle.gtp_machine.specs.Input.{Came_to, Effect, nothing}
 use Rattle.gtp_machine.specs.Message.{Message, CreateSessionRequest, CreateSessionResponse, CreatedBearer, Create_session_request, Create_session_response, header_of, first_created}
 use Rattle.gtp_machine.specs.Node.{Active, Session, Bearer, Arrival, Node}
 use Rattle.gtp_machine.specs.Response.{Named}
-use Rattle.gtp_machine.specs.Serving.{FitsSession, DescribesSession, opened_session, opened_bearer, SessionAnswered as SessionRow}
+use Rattle.gtp_machine.specs.Serving.{FitsCreateSession, DescribesSession, opened_session, opened_bearer, CreateSessionAnswered as SessionRow}
 use Rattle.gtp_machine.specs.Sound.{IsSound}
 use Rattle.gtp_machine.proofs.Sound.Changes.{is_session}
 use Rattle.gtp_machine.proofs.Basics.Types.{type_kind}
@@ -49,7 +49,7 @@ use Rattle.gtp_machine.specs.Step.{TakesBy}
 use Rattle.gtp_gateway.specs.receive.CreateSessionResponse.{SaysCreated, SaysOnlyCreated, SaysCreateSessionResponse, FitsCreateSessionOf, IsAskedSession, IsDescribed}
 use Rattle.gtp_gateway.specs.tables.Opening.{IsWaiting, effect_by}
 use Rattle.gtp_gateway.specs.messages.Spelled.{is_for}
-use Rattle.gtp_gateway.proofs.InPlace.{groups_so, session_answered}
+use Rattle.gtp_gateway.proofs.InPlace.{groups_so, create_session_answered}
 use Rattle.gtp_gateway.proofs.Procedures.{at_taker}
 
 -- ---- what the message says, where it lies
@@ -58,9 +58,9 @@ use Rattle.gtp_gateway.proofs.Procedures.{at_taker}
 abbrev pub created_others : List Element → List (List Value)
 created_others es = option_to_list (optional_at 87 2 es) ∷ option_to_list (optional_at 80 0 es) ∷ option_to_list (optional_at 94 0 es) ∷ []
 
-pub created_contexts : (octets : List ℕ) (m : MessageValue) (is : IsMessage octets m) (at : type_at m.kind ≡ Some types.CreateSessionResponse) → AreContexts m created_others (session_answered octets m (type_kind m.kind types.CreateSessionResponse at) is).groups
+pub created_contexts : (octets : List ℕ) (m : MessageValue) (is : IsMessage octets m) (at : type_at m.kind ≡ Some types.CreateSessionResponse) → AreContexts m created_others (create_session_answered octets m (type_kind m.kind types.CreateSessionResponse at) is).groups
 created_contexts octets m is at =
-    let a = session_answered octets m (type_kind m.kind types.CreateSessionResponse at) is in
+    let a = create_session_answered octets m (type_kind m.kind types.CreateSessionResponse at) is in
     record {
       stand = subst (λ o. IsSomeAnd o (λ p. (p.1 ≡ a.groups) × ((es : List Element) → values_in p.0 es ≡ context_values created_others es))) (sym (groups_so 33 93 0 _ m a.says)) (refl, λ es. refl);
       each = a.each;
@@ -107,7 +107,7 @@ asks_session session bearer m meant = absurd cc
 abbrev one : ℕ → Option ℕ
 one n = Some n
 
-session_here : (purpose : Purpose) (m : Message) (r : Response) (a : CreateSessionResponse) → is_for purpose m ≡ true → a.header ≡ r.header.0 → FitsSession (about purpose m) a → FitsCreateSessionOf purpose r
+session_here : (purpose : Purpose) (m : Message) (r : Response) (a : CreateSessionResponse) → is_for purpose m ≡ true → a.header ≡ r.header.0 → FitsCreateSession (about purpose m) a → FitsCreateSessionOf purpose r
 session_here (CreateSession session bearer) (Create_session_request q) r a meant at fits = by fits.named
   where
     by : Named (about (CreateSession session bearer) (Create_session_request q)) a.header a.cause → session.0 ≡ r.header.0
@@ -164,7 +164,7 @@ module _ (n : Node) (r : SessionResponse) (a : CreateSessionResponse) (says : Sa
       request : AsksFor w.message k.bearer.0
       request = asks_session k.session k.bearer w.message (ap (λ (p : Purpose). is_for p w.message) (sym asked.is) ∙ w.meant)
 
-      abbrev fits : FitsSession at.pending a
+      abbrev fits : FitsCreateSession at.pending a
       fits = record { request = request.request; asked = request.is; session = k.session.0; about = ap session_of asked.is; named = inl (ap session_of asked.is ∙ ap one (asked.named ∙ sym says.header)) }
 
       pub is_refused : (IsAccepting r.response.cause → ⊥) → SessionRow a n (effect_by (Finishes purpose (Rejected r.response.cause.value)) a.number n)

@@ -32,8 +32,8 @@ use Rattle.gtp_machine.specs.Node.{Arrival, Bearer, Node}
 use Rattle.gtp_machine.specs.declared.role.Role.{Role}
 use Rattle.gtp_machine.specs.Reading.{control_message, removed_bearer}
 use Rattle.gtp_machine.proofs.Octets.ByName.{removed_read}
-use Rattle.gtp_machine.specs.Serving.{RemovesEach, RemovalTaken, RemovalJudged, all_removed, any_removed, removal_cause}
-use Rattle.gtp_machine.specs.Serving.{RemovalAsked as RemovalAskedRow}
+use Rattle.gtp_machine.specs.Serving.{RemovesEach, DeleteBearerTaken, DeleteBearerJudged, all_removed, any_removed, removal_cause}
+use Rattle.gtp_machine.specs.Serving.{DeleteBearerAsked as DeleteBearerAskedRow}
 use Rattle.gtp_machine.specs.Spelling.{removed_rows, typed, where_there}
 use Rattle.gtp_machine.proofs.Basics.Types.{type_kind}
 use Rattle.gtp_machine.specs.declared.role.Role.TheVariants.{Serving}
@@ -193,17 +193,17 @@ linked_read None = refl
 linked_read (Some e) = refl
 
 -- what it says
-pub removal_said : (header : Teid) (number : ℕ) (cause : Cause) (linked : Option EbiValue) (cs : List RemovalResponseContext) (counter : Counter)
+pub delete_bearer_said : (header : Teid) (number : ℕ) (cause : Cause) (linked : Option EbiValue) (cs : List RemovalResponseContext) (counter : Counter)
     → control_message (record { teid = Some header; seq = number; priority = None; body = bodies.DeleteBearerResponse (record { cause = cause; linked_ebi = linked; contexts = cs; recovery = Some (record { 0 = counter }) }) })
     ≡ Delete_bearer_response (record { header = header.0; number = number; cause = cause; linked = option_map (λ (e : EbiValue). e.0) linked; contexts = map removed_bearer cs; recovery = Some counter.0 })
 unfolding row_in contexts_in
-removal_said header number cause linked cs counter = λ i. Delete_bearer_response (record { header = header.0; number = number; cause = cause; linked = linked_read linked i; contexts = removed_read cs i; recovery = Some counter.0 })
+delete_bearer_said header number cause linked cs counter = λ i. Delete_bearer_response (record { header = header.0; number = number; cause = cause; linked = linked_read linked i; contexts = removed_read cs i; recovery = Some counter.0 })
 
 -- it is one that a gateway sends
-pub removal_own : (header : Teid) (number : ℕ) (cause : Cause) (linked : Option EbiValue) (cs : List RemovalResponseContext) (counter : Counter) → length cs ≤ 11
+pub delete_bearer_own : (header : Teid) (number : ℕ) (cause : Cause) (linked : Option EbiValue) (cs : List RemovalResponseContext) (counter : Counter) → length cs ≤ 11
     → IsOwn (record { teid = Some header; seq = number; priority = None; body = bodies.DeleteBearerResponse (record { cause = cause; linked_ebi = linked; contexts = cs; recovery = Some (record { 0 = counter }) }) })
 unfolding row_in contexts_in
-removal_own header number cause linked cs counter few =
+delete_bearer_own header number cause linked cs counter few =
     record {
       header = search rules;
       kind = tt;
@@ -218,7 +218,7 @@ removal_own header number cause linked cs counter few =
 
 -- bearers that are named go
 pub ends_judged : (request : Arrival) (r : DeleteRequest) (d : DeleteBearerRequest) (old : Node) (header : ℕ) (ids : List EbiValue) (ns : List NamedBearer) → SaysDeleteBearer r d → SaysIdentities ids d → IsForBearers r header old → length ids ≤ 11 → map identity_named ns ≡ map number_in ids → NamesEach old r.header.0 [] ns
-    → RemovalJudged request d old (answered request (Delete_bearer_response (record { header = header; number = d.number; cause = cause_of (removal_cause (map removed_by ns)); linked = None; contexts = map removed_by ns; recovery = Some old.counter })) (removal_cause (map removed_by ns)) (without_each ns old))
+    → DeleteBearerJudged request d old (answered request (Delete_bearer_response (record { header = header; number = d.number; cause = cause_of (removal_cause (map removed_by ns)); linked = None; contexts = map removed_by ns; recovery = Some old.counter })) (removal_cause (map removed_by ns)) (without_each ns old))
 ends_judged request r d old header ids ns says listed asked few same names =
     let contexts = map removed_by ns in
     let left = without_each ns old in
@@ -229,7 +229,7 @@ ends_judged request r d old header ids ns says listed asked few same names =
       record { session = asked.session; stands = ap (get old.sessions) says.header ∙ asked.stands },
       inr (
         asked.opened,
-        subst (λ (o : Option ℕ). RemovalTaken request d o old asked.session effect) (sym (says.linked ∙ asked.unlinked))
+        subst (λ (o : Option ℕ). DeleteBearerTaken request d o old asked.session effect) (sym (says.linked ∙ asked.unlinked))
             (inr (
               omega (arith, few, count, length-map ids number_in),
               record {
@@ -244,14 +244,14 @@ ends_judged request r d old header ids ns says listed asked few same names =
 
 -- too many are named
 pub many_judged : (request : Arrival) (r : DeleteRequest) (d : DeleteBearerRequest) (old : Node) (header : Teid) (ids : List EbiValue) → SaysDeleteBearer r d → SaysIdentities ids d → IsForBearers r header.0 old → 11 < length ids
-    → RemovalJudged request d old (delete_bearer_effect request d (record { header = header; cause = 94; linked = None; change = Stays }) old)
+    → DeleteBearerJudged request d old (delete_bearer_effect request d (record { header = header; cause = 94; linked = None; change = Stays }) old)
 many_judged request r d old header ids says listed asked many =
     let count : length d.identities ≡ length (map number_in ids) = ap length listed in
     inr (
       record { session = asked.session; stands = ap (get old.sessions) says.header ∙ asked.stands },
       inr (
         asked.opened,
-        subst (λ (o : Option ℕ). RemovalTaken request d o old asked.session (delete_bearer_effect request d (record { header = header; cause = 94; linked = None; change = Stays }) old)) (sym (says.linked ∙ asked.unlinked))
+        subst (λ (o : Option ℕ). DeleteBearerTaken request d o old asked.session (delete_bearer_effect request d (record { header = header; cause = 94; linked = None; change = Stays }) old)) (sym (says.linked ∙ asked.unlinked))
             (inl (
               λ few. omega (arith, few, many, count, length-map ids number_in),
               λ i. answered request (Delete_bearer_response (record { header = asked.named i; number = d.number; cause = cause_of 94; linked = None; contexts = []; recovery = Some old.counter })) 94 old,
@@ -262,15 +262,15 @@ many_judged request r d old header ids says listed asked many =
 -- ---- the message, by what was read of it
 
 -- a Delete Bearer Request
-record IsRemovalRequest (m : MessageValue) : Type 0 where
+record IsDeleteBearerRequest (m : MessageValue) : Type 0 where
   pub linked : List Value
   pub identities : List Value
   pub says : Says 99 (Plain linked ∷ Plain identities ∷ []) m
 
-removal_asked : (octets : List ℕ) (m : MessageValue) → m.kind ≡ 99 → IsMessage octets m → IsRemovalRequest m
-removal_asked octets m of is = let f = fields_of 99 delete_bearer_request octets m refl of is in by f.fields f.elements f.are f.content
+delete_bearer_asked : (octets : List ℕ) (m : MessageValue) → m.kind ≡ 99 → IsMessage octets m → IsDeleteBearerRequest m
+delete_bearer_asked octets m of is = let f = fields_of 99 delete_bearer_request octets m refl of is in by f.fields f.elements f.are f.content
   where
-    by : (fs : List Field) (es : List Element) → LinesAre start delete_bearer_request.lines es fs → m.content ≡ Fields fs → IsRemovalRequest m
+    by : (fs : List Field) (es : List Element) → LinesAre start delete_bearer_request.lines es fs → m.content ≡ Fields fs → IsDeleteBearerRequest m
     by [] es are content = absurd are
     by (a ∷ []) es are content = absurd are.1
     by (a ∷ b ∷ []) es are content = record { linked = are.0.0; identities = are.1.0.0; says = record { of = of; content = content ∙ (λ i. Fields (are.0.2 i ∷ are.1.0.2 i ∷ [])) } }
@@ -292,7 +292,7 @@ same_list linked identities others values content is read = cc
 pub delete_bearer_is : (octets : List ℕ) (m : MessageValue) (r : DeleteRequest) → IsMessage octets m → type_at m.kind ≡ Some types.DeleteBearerRequest → ReadsDeleteSession m r → IsDeleteBearer m r
 unfolding row_in list_in
 delete_bearer_is octets m r is at reads =
-    let a = removal_asked octets m (type_kind m.kind types.DeleteBearerRequest at) is in
+    let a = delete_bearer_asked octets m (type_kind m.kind types.DeleteBearerRequest at) is in
     record {
       request = _;
       is = reads_so 99 _ m a.says;
@@ -300,5 +300,5 @@ delete_bearer_is octets m r is at reads =
       reads = λ ids listed. ap (map (λ (v : Value). unwrap_or (number_of v) 0)) (same_list a.linked a.identities listed.0 (map (λ (i : EbiValue). OfEbi i.0) ids) m.content a.says.content listed.1) ∙ numbers_read ids;
     }
 
-pub takes_removal_request : (role : Role) (request : Arrival) (d : DeleteBearerRequest) (m : Message) → takes_type role types.DeleteBearerRequest ≡ true → m ≡ Delete_bearer_request d → (n : Node) (e : Effect) → RemovalAskedRow request d n e → TakesBy role request m n e
+pub takes_removal_request : (role : Role) (request : Arrival) (d : DeleteBearerRequest) (m : Message) → takes_type role types.DeleteBearerRequest ≡ true → m ≡ Delete_bearer_request d → (n : Node) (e : Effect) → DeleteBearerAskedRow request d n e → TakesBy role request m n e
 takes_removal_request role request d m has_it is n e takes = at_taker (λ r k. TakesBy r request k n e) Serving role m (Delete_bearer_request d) has_it is takes

@@ -32,7 +32,7 @@ use Rattle.gtp_gateway.specs.declared.step.Step.{Step}
 use Rattle.gtp_gateway.specs.receive.Choosing.{MakesLowestSession, MakesLowestBearer, MakesLowest, ChoosesLowest}
 use Rattle.gtp_machine.specs.Reading.{Both, datagram_reading}
 use Rattle.gtp_machine.specs.Step.{Step as MachineStep, TakesPair}
-use Rattle.gtp_machine.specs.Serving.{SessionAnswered}
+use Rattle.gtp_machine.specs.Serving.{CreateSessionAnswered}
 use Rattle.gtp_machine.specs.Answer.{Repeats}
 use Rattle.gtp_machine.specs.Recovery.{Judges, Weighs, Hears, peer_restarted}
 use Rattle.gtp_machine.specs.Removal.{finished}
@@ -209,7 +209,7 @@ finished_bearer old number p t none = by (get (finished old number p).bearers t)
     by None is = refl
     by (Some b) is = let stood = (Shrunk-finished old number p.session p.bearer).shrinks.bearers t b is in let both : None ≡ Some stood.before = sym none ∙ stood.stood in absurd (cc both)
 
-answered_bearer : (a : CreateSessionResponse) (old : Node) (e : Effect) (t : ℕ) → SessionAnswered a old e → get old.bearers t ≡ None → get e.node.bearers t ≡ None
+answered_bearer : (a : CreateSessionResponse) (old : Node) (e : Effect) (t : ℕ) → CreateSessionAnswered a old e → get old.bearers t ≡ None → get e.node.bearers t ≡ None
 answered_bearer a old e t (inl f) none = ap (λ (x : Effect). get x.node.bearers t) f.1 ∙ none
 answered_bearer a old e t (inr (b, inl f)) none = ap (λ (x : Effect). get x.node.bearers t) f.1 ∙ none
 answered_bearer a old e t (inr (b, inr (c, inl f))) none = ap (λ (x : Effect). get x.node.bearers t) f.1 ∙ finished_bearer old a.number b.pending t none
@@ -225,16 +225,16 @@ restarted_bearer old counter t none = by (get (peer_restarted old counter).beare
     by None is = refl
     by (Some b) is = let both : None ≡ Some b = sym none ∙ (found-kept _ old.bearers t b is).1 in absurd (cc both)
 
-judged_bearer : (a : CreateSessionResponse) (old : Node) (counter : ℕ) (age : Age) (e : Effect) (t : ℕ) → Judges (SessionAnswered a) old counter age e → get old.bearers t ≡ None → get e.node.bearers t ≡ None
+judged_bearer : (a : CreateSessionResponse) (old : Node) (counter : ℕ) (age : Age) (e : Effect) (t : ℕ) → Judges (CreateSessionAnswered a) old counter age e → get old.bearers t ≡ None → get e.node.bearers t ≡ None
 judged_bearer a old counter ages.Same e t r none = answered_bearer a old e t r none
 judged_bearer a old counter ages.Later e t r none = answered_bearer a (peer_restarted old counter) e t r (restarted_bearer old counter t none)
 judged_bearer a old counter ages.Earlier e t r none = ap (λ (x : Effect). get x.node.bearers t) r ∙ none
 
-weighed_bearer : (a : CreateSessionResponse) (old : Node) (counter : ℕ) (known : Option ℕ) (e : Effect) (t : ℕ) → Weighs (SessionAnswered a) old counter known e → get old.bearers t ≡ None → get e.node.bearers t ≡ None
+weighed_bearer : (a : CreateSessionResponse) (old : Node) (counter : ℕ) (known : Option ℕ) (e : Effect) (t : ℕ) → Weighs (CreateSessionAnswered a) old counter known e → get old.bearers t ≡ None → get e.node.bearers t ≡ None
 weighed_bearer a old counter None e t r none = answered_bearer a (record old { known = Some counter }) e t r none
 weighed_bearer a old counter (Some known) e t r none = judged_bearer a old counter (age_of known counter) e t r none
 
-heard_bearer : (a : CreateSessionResponse) (old : Node) (recovery : Option ℕ) (e : Effect) (t : ℕ) → Hears (SessionAnswered a) old recovery e → get old.bearers t ≡ None → get e.node.bearers t ≡ None
+heard_bearer : (a : CreateSessionResponse) (old : Node) (recovery : Option ℕ) (e : Effect) (t : ℕ) → Hears (CreateSessionAnswered a) old recovery e → get old.bearers t ≡ None → get e.node.bearers t ≡ None
 heard_bearer a old None e t r none = answered_bearer a old e t r none
 heard_bearer a old (Some counter) e t (x, weighs, is) none = ap (λ (k : Effect). get k.node.bearers t) is ∙ weighed_bearer a old counter old.known x t weighs none
 

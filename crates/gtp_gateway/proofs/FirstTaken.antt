@@ -14,10 +14,10 @@ use Rattle.gtp_machine.specs.Input.{Came_to, Control_message, Control_came, Move
 use Rattle.gtp_machine.specs.Message.{CreateSessionResponse, Message, Create_session_response, recovery_of}
 use Rattle.gtp_machine.specs.Node.{Arrival, Node}
 use Rattle.gtp_machine.specs.Recovery.{Judges, Weighs, Hears, peer_restarted}
-use Rattle.gtp_machine.specs.Serving.{SessionAnswered}
+use Rattle.gtp_machine.specs.Serving.{CreateSessionAnswered}
 use Rattle.gtp_machine.specs.Step.{Step as MachineStep}
 use Rattle.gtp_machine.proofs.Changes.Shrinking.{Shrunk-finished}
-use Rattle.gtp_machine.proofs.Determined.Responses.{session_answered}
+use Rattle.gtp_machine.proofs.Determined.Responses.{create_session_answered}
 use Rattle.gtp_gateway.specs.declared.receive.restart_counter.Heard.{Heard}
 use Rattle.gtp_gateway.specs.declared.receive.restart_counter.Heard.TheVariants as heards
 use Rattle.gtp_machine.specs.declared.message_type.MessageType.TheVariants as types
@@ -67,7 +67,7 @@ earlier_changes_none (heards.Earlier counter) n early = refl
 
 -- ---- a response chooses nothing
 
-answered_drawn : (a : CreateSessionResponse) (old : Node) (e : Effect) → SessionAnswered a old e → e.node.drawn ≡ old.drawn
+answered_drawn : (a : CreateSessionResponse) (old : Node) (e : Effect) → CreateSessionAnswered a old e → e.node.drawn ≡ old.drawn
 answered_drawn a old e (inl f) = ap (λ (x : Effect). x.node.drawn) f.1
 answered_drawn a old e (inr (b, inl f)) = ap (λ (x : Effect). x.node.drawn) f.1
 answered_drawn a old e (inr (b, inr (c, inl f))) = ap (λ (x : Effect). x.node.drawn) f.1 ∙ (Shrunk-finished old a.number b.pending.session b.pending.bearer).drawn
@@ -75,9 +75,9 @@ answered_drawn a old e (inr (b, inr (c, inr (d, inl f)))) = ap (λ (x : Effect).
 answered_drawn a old e (inr (b, inr (c, inr (d, inr (g, inl f))))) = ap (λ (x : Effect). x.node.drawn) f.1 ∙ (Shrunk-finished old a.number b.pending.session b.pending.bearer).drawn
 answered_drawn a old e (inr (b, inr (c, inr (d, inr (g, inr (h, r)))))) = ap (λ (x : Effect). x.node.drawn) r.gives
 
-one_answered : (a : CreateSessionResponse) (old : Node) (e f : Effect) → SessionAnswered a old e → SessionAnswered a old f → e.node ≡ f.node
+one_answered : (a : CreateSessionResponse) (old : Node) (e f : Effect) → CreateSessionAnswered a old e → CreateSessionAnswered a old f → e.node ≡ f.node
 one_answered a old e f first second =
-    ap (λ (x : Effect). x.node) ((session_answered {role = Serving} {first = old} {input = Moves_on (Resend 0)} old a e f first second).one (record {
+    ap (λ (x : Effect). x.node) ((create_session_answered {role = Serving} {first = old} {input = Moves_on (Resend 0)} old a e f first second).one (record {
       drawn = answered_drawn a old e first ∙ sym (answered_drawn a old f second);
       addresses = λ request reading is. absurd (cc is);
       identities = λ request reading is. absurd (cc is);
@@ -125,17 +125,17 @@ module _ (source : Endpoint) (octets : List ℕ) (old : GatewayState) (serving :
   has_it : takes_type old.role types.CreateSessionResponse ≡ true
   has_it = ap (λ (k : Role). takes_type k types.CreateSessionResponse) serving
 
-  by_counter : IsEarlier heard ⊎ (IsEarlier heard → ⊥) → Hears (SessionAnswered a) old.node (option_map (λ (c : Counter). c.0) recovery) first_effect
-  by_counter (inr on) = hears (SessionAnswered a) old.node recovery (effect_by v a.number left) on (j.judged on a says)
+  by_counter : IsEarlier heard ⊎ (IsEarlier heard → ⊥) → Hears (CreateSessionAnswered a) old.node (option_map (λ (c : Counter). c.0) recovery) first_effect
+  by_counter (inr on) = hears (CreateSessionAnswered a) old.node recovery (effect_by v a.number left) on (j.judged on a says)
   by_counter (inl early) =
       let is : effect_by v a.number left ≡ dropped old.node OldCounter =
       ap (λ (w : ResponseVerdict). effect_by w a.number left) (j.early early) ∙ (λ i. record { out = nothing; outcome = Came_to (Dropped OldCounter); node = earlier_changes_none heard old.node early i }) in
-      subst (λ (e : Effect). Hears (SessionAnswered a) old.node (option_map (λ (c : Counter). c.0) recovery) (told recovery old.node.known e)) (sym is) (hears_early (SessionAnswered a) old.node recovery early)
+      subst (λ (e : Effect). Hears (CreateSessionAnswered a) old.node (option_map (λ (c : Counter). c.0) recovery) (told recovery old.node.known e)) (sym is) (hears_early (CreateSessionAnswered a) old.node recovery early)
 
   heard_first : Hears (TakesBy old.role request message) old.node (recovery_of message) first_effect
   heard_first =
       subst (λ (k : Role). Hears (TakesBy k request message) old.node (recovery_of message) first_effect) (sym serving)
-      (subst (λ (o : Option ℕ). Hears (SessionAnswered a) old.node o first_effect) counted (by_counter (earlier_or_not heard)))
+      (subst (λ (o : Option ℕ). Hears (CreateSessionAnswered a) old.node o first_effect) counted (by_counter (earlier_or_not heard)))
 
   pub first_step : MachineStep old.role old.node (Control_came request (Control_message message)) first_effect
   first_step = message_taken old.role old.node request message first_effect peer fresh takes_it heard_first
@@ -155,11 +155,11 @@ module _ (source : Endpoint) (octets : List ℕ) (old : GatewayState) (serving :
       by (inr (from, inl repeats)) = absurd (fresh repeats.held repeats.stands repeats.same)
       by (inr (from, inr (none, inl f))) = absurd (f.0 refl)
       by (inr (from, inr (none, inr (takes, hears)))) =
-          one_heard (SessionAnswered a) (λ n x y. one_answered a n x y) old.node a.recovery e first_effect hears (subst (λ (o : Option ℕ). Hears (SessionAnswered a) old.node o first_effect) counted (by_counter (earlier_or_not heard)))
+          one_heard (CreateSessionAnswered a) (λ n x y. one_answered a n x y) old.node a.recovery e first_effect hears (subst (λ (o : Option ℕ). Hears (CreateSessionAnswered a) old.node o first_effect) counted (by_counter (earlier_or_not heard)))
 
   -- where a session is opened, it is so by whatever step
   pub first_needs : outcome_by v ≡ Opened → StepSendsOrOpens request (Control_message message) old
   first_needs opened =
       let on = λ (early : IsEarlier heard). (let is : Dropped OldCounter ≡ Opened = sym (ap outcome_by (j.early early)) ∙ opened in let never : ⊥ = cc is in never) in
       message_needs request old message recovery peer takes_it counted on
-      (needs_session_response old.role request message left a has_it refl (needing.session_answered a left (effect_by v a.number left) (ap (λ o. Came_to o) opened) (j.judged on a says)))
+      (needs_session_response old.role request message left a has_it refl (needing.create_session_answered a left (effect_by v a.number left) (ap (λ o. Came_to o) opened) (j.judged on a says)))

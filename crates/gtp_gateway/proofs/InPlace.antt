@@ -96,8 +96,8 @@ pub record IsBearerAnswer (m : MessageValue) : Type 0 where
   pub recovery : List Value
   pub says : Says 96 (Plain (cause ∷ []) ∷ Groups groups ∷ Plain recovery ∷ []) m
 
-pub bearer_answered : (octets : List ℕ) (m : MessageValue) → m.kind ≡ 96 → IsMessage octets m → IsBearerAnswer m
-bearer_answered octets m of is = let f = fields_of 96 create_bearer_response octets m refl of is in by f.fields f.elements f.are f.content
+pub create_bearer_answered : (octets : List ℕ) (m : MessageValue) → m.kind ≡ 96 → IsMessage octets m → IsBearerAnswer m
+create_bearer_answered octets m of is = let f = fields_of 96 create_bearer_response octets m refl of is in by f.fields f.elements f.are f.content
   where
     by : (fs : List Field) (es : List Element) → LinesAre start create_bearer_response.lines es fs → m.content ≡ Fields fs → IsBearerAnswer m
     by [] es are content = absurd are
@@ -123,8 +123,8 @@ pub record IsSessionAnswer (m : MessageValue) : Type 0 where
   pub recovery : List Value
   pub says : Says 33 (Plain (cause ∷ []) ∷ Plain control ∷ Plain address ∷ Plain ambr ∷ Groups groups ∷ Plain recovery ∷ []) m
 
-pub session_answered : (octets : List ℕ) (m : MessageValue) → m.kind ≡ 33 → IsMessage octets m → IsSessionAnswer m
-session_answered octets m of is = let f = fields_of 33 create_session_response octets m refl of is in by f.fields f.elements f.are f.content
+pub create_session_answered : (octets : List ℕ) (m : MessageValue) → m.kind ≡ 33 → IsMessage octets m → IsSessionAnswer m
+create_session_answered octets m of is = let f = fields_of 33 create_session_response octets m refl of is in by f.fields f.elements f.are f.content
   where
     by : (fs : List Field) (es : List Element) → LinesAre start create_session_response.lines es fs → m.content ≡ Fields fs → IsSessionAnswer m
     by [] es are content = absurd are
@@ -208,8 +208,8 @@ pub record IsBearerRequest (m : MessageValue) : Type 0 where
   pub says : Says 95 (Plain transaction ∷ Plain (linked ∷ []) ∷ Groups (first ∷ further) ∷ []) m
   pub ends : row 2 first ≡ user ∷ []
 
-pub bearer_asked : (octets : List ℕ) (m : MessageValue) → m.kind ≡ 95 → IsMessage octets m → IsBearerRequest m
-bearer_asked octets m of is = let f = fields_of 95 create_bearer_request octets m refl of is in by f.fields f.elements f.are f.content
+pub create_bearer_asked : (octets : List ℕ) (m : MessageValue) → m.kind ≡ 95 → IsMessage octets m → IsBearerRequest m
+create_bearer_asked octets m of is = let f = fields_of 95 create_bearer_request octets m refl of is in by f.fields f.elements f.are f.content
   where
     by : (fs : List Field) (es : List Element) → LinesAre start create_bearer_request.lines es fs → m.content ≡ Fields fs → IsBearerRequest m
     by [] es are content = absurd are
@@ -230,8 +230,8 @@ bearer_asked octets m of is = let f = fields_of 95 create_bearer_request octets 
         }
     by (a ∷ b ∷ c ∷ d ∷ fs) es are content = absurd cc
 
-pub session_asked : (octets : List ℕ) (m : MessageValue) → m.kind ≡ 32 → IsMessage octets m → IsSessionRequest m
-session_asked octets m of is = let f = fields_of 32 create_session_request octets m refl of is in by f.fields f.elements f.are f.content
+pub create_session_asked : (octets : List ℕ) (m : MessageValue) → m.kind ≡ 32 → IsMessage octets m → IsSessionRequest m
+create_session_asked octets m of is = let f = fields_of 32 create_session_request octets m refl of is in by f.fields f.elements f.are f.content
   where
     by : (fs : List Field) (es : List Element) → LinesAre start create_session_request.lines es fs → m.content ≡ Fields fs → IsSessionRequest m
     by [] es are content = absurd are
@@ -273,7 +273,7 @@ session_asked octets m of is = let f = fields_of 32 create_session_request octet
     by (a ∷ b ∷ c ∷ d ∷ e ∷ f ∷ g ∷ h ∷ i ∷ j ∷ k ∷ l ∷ fs) es are content = absurd cc
 
 pub asked : (m : MessageValue) (spelled : (octets : List ℕ) × IsMessage octets m) → m.kind ≡ 32 → IsSessionRequest m
-asked m (octets, is) of = session_asked octets m of is
+asked m (octets, is) of = create_session_asked octets m of is
 
 -- ---- the sender's restart counter
 
@@ -299,7 +299,7 @@ counter_read octets m p r is at tells reads = by p (type_kind m.kind p at) tells
     by : (p : MessageType) → m.kind ≡ (type_row p).kind → (type_row p).has_counter ≡ true → option_map (λ (x : Recovery). x.0.0) r ≡ recovery_of (message_of m)
     by types.EchoRequest of tells = let a = echo_asked octets m of is in needed a.counter r (reads (ap (λ k. has_row k 3 0) of) ∙ ap front_value (its_row 1 3 0 _ m a.says)) ∙ ap recovery_of (sym (reads_so 1 _ m a.says))
     by types.EchoResponse of tells = let a = echo_answered octets m of is in needed a.counter r (reads (ap (λ k. has_row k 3 0) of) ∙ ap front_value (its_row 2 3 0 _ m a.says)) ∙ ap recovery_of (sym (reads_so 2 _ m a.says))
-    by types.CreateSessionRequest of tells = so 32 _ (session_asked octets m of is).says refl refl
+    by types.CreateSessionRequest of tells = so 32 _ (create_session_asked octets m of is).says refl refl
     by types.CreateSessionResponse of tells = let a = says_by 33 create_session_response octets m refl of is in so 33 a.0 a.1 refl refl
     by types.DeleteSessionResponse of tells = let a = says_by 37 delete_session_response octets m refl of is in so 37 a.0 a.1 refl refl
     by types.CreateBearerResponse of tells = let a = says_by 96 create_bearer_response octets m refl of is in so 96 a.0 a.1 refl refl

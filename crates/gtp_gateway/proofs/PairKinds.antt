@@ -8,7 +8,7 @@ use Rattle.gtp_machine.specs.declared.message_type.MessageType.TheVariants as ty
 use Rattle.gtp_machine.specs.MessageType.{type_at, type_of}
 use Rattle.gtp_machine.proofs.Basics.Types.{type_kind}
 use Rattle.gtp_gateway.proofs.Procedures.{type_said}
-use Rattle.gtp_gateway.proofs.InPlace.{reads_so, session_answered, bearer_asked}
+use Rattle.gtp_gateway.proofs.InPlace.{reads_so, create_session_answered, create_bearer_asked}
 
 pub answer_kind : (a : CreateSessionResponse) (m : MessageValue) → message_of m ≡ Create_session_response a → type_at m.kind ≡ Some types.CreateSessionResponse
 answer_kind a m is = type_said m types.CreateSessionResponse (ap type_of is)
@@ -19,8 +19,8 @@ request_kind q m is = type_said m types.CreateBearerRequest (ap type_of is)
 -- octets that spell a message of either type read as one
 pub answer_of : (octets : List ℕ) (m : MessageValue) → IsMessage octets m → type_at m.kind ≡ Some types.CreateSessionResponse → (a : CreateSessionResponse) × (message_of m ≡ Create_session_response a)
 unfolding row_in contexts_in
-answer_of octets m is at = (_, reads_so 33 _ m (session_answered octets m (type_kind m.kind types.CreateSessionResponse at) is).says)
+answer_of octets m is at = (_, reads_so 33 _ m (create_session_answered octets m (type_kind m.kind types.CreateSessionResponse at) is).says)
 
 pub request_of : (octets : List ℕ) (m : MessageValue) → IsMessage octets m → type_at m.kind ≡ Some types.CreateBearerRequest → (q : CreateBearerRequest) × (message_of m ≡ Create_bearer_request q)
 unfolding row_in contexts_in
-request_of octets m is at = (_, reads_so 95 _ m (bearer_asked octets m (type_kind m.kind types.CreateBearerRequest at) is).says)
+request_of octets m is at = (_, reads_so 95 _ m (create_bearer_asked octets m (type_kind m.kind types.CreateBearerRequest at) is).says)

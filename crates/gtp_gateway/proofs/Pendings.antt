@@ -16,8 +16,8 @@ use Rattle.gtp_reliable.specs.Pending.{purpose_of}
 use Rattle.gtp_machine.specs.Message.{Message, DeleteSessionResponse, DeleteBearerResponse, Echo_request, Delete_session_request, Delete_bearer_request}
 use Rattle.gtp_machine.specs.Node.{PendingRequest}
 use Rattle.gtp_machine.specs.Response.{IsEcho}
-use Rattle.gtp_machine.specs.Serving.{FitsDeletion}
-use Rattle.gtp_machine.specs.Packet.{FitsRemoval}
+use Rattle.gtp_machine.specs.Serving.{FitsDeleteSession}
+use Rattle.gtp_machine.specs.Packet.{FitsDeleteBearer}
 use Rattle.gtp_gateway.specs.declared.command.purpose.Purpose.{Purpose}
 use Rattle.gtp_gateway.specs.declared.command.purpose.Purpose.TheVariants.{Echo, DeleteSession, ReleaseSession, DeleteBearer}
 use Rattle.gtp_gateway.specs.declared.receive.response.Response.{Response}
@@ -119,26 +119,26 @@ pub names_there : (session header asked : ℕ) (cause : Cause) (named : Bool) (r
 names_there session header asked cause named r told at of (inl same) = inl (ap (λ (t : ℕ). one t) (same ∙ sym at))
 names_there session header asked cause named r told at of (inr (zero, unknown, is)) = inr (at ∙ zero, ap (λ (c : Cause). c.value) of ∙ unknown, named_some named asked told is)
 
-pub deletion_there : (purpose : Purpose) (m : Message) (r : Response) (d : DeleteSessionResponse) → is_for purpose m ≡ true → d.header ≡ r.header.0 → d.cause ≡ r.cause → FitsDeleteSessionOf purpose r → FitsDeletion (about purpose m) d
-deletion_there (DeleteSession session named) (Delete_session_request q) r d meant at of names = record { request = q; asked = refl; named = names_there session.0 d.header q.header d.cause named r meant at of names }
-deletion_there (DeleteSession session named) m r d meant at of names = absurd cc
-deletion_there purpose m r d meant at of names = absurd names
+pub delete_session_there : (purpose : Purpose) (m : Message) (r : Response) (d : DeleteSessionResponse) → is_for purpose m ≡ true → d.header ≡ r.header.0 → d.cause ≡ r.cause → FitsDeleteSessionOf purpose r → FitsDeleteSession (about purpose m) d
+delete_session_there (DeleteSession session named) (Delete_session_request q) r d meant at of names = record { request = q; asked = refl; named = names_there session.0 d.header q.header d.cause named r meant at of names }
+delete_session_there (DeleteSession session named) m r d meant at of names = absurd cc
+delete_session_there purpose m r d meant at of names = absurd names
 
-pub deletion_here : (purpose : Purpose) (m : Message) (r : Response) (d : DeleteSessionResponse) → is_for purpose m ≡ true → d.header ≡ r.header.0 → d.cause ≡ r.cause → FitsDeletion (about purpose m) d → FitsDeleteSessionOf purpose r
-deletion_here (DeleteSession session named) (Delete_session_request q) r d meant at of fits = names_here session.0 d.header q.header d.cause named r meant at of fits.named
-deletion_here purpose m r d meant at of fits = absurd (let asked = fits.asked in cc)
+pub delete_session_here : (purpose : Purpose) (m : Message) (r : Response) (d : DeleteSessionResponse) → is_for purpose m ≡ true → d.header ≡ r.header.0 → d.cause ≡ r.cause → FitsDeleteSession (about purpose m) d → FitsDeleteSessionOf purpose r
+delete_session_here (DeleteSession session named) (Delete_session_request q) r d meant at of fits = names_here session.0 d.header q.header d.cause named r meant at of fits.named
+delete_session_here purpose m r d meant at of fits = absurd (let asked = fits.asked in cc)
 
-pub removal_there : (purpose : Purpose) (m : Message) (r : Response) (d : DeleteBearerResponse) → is_for purpose m ≡ true → d.header ≡ r.header.0 → d.cause ≡ r.cause → FitsDeleteBearerOf purpose r → FitsRemoval (about purpose m) d
-removal_there (ReleaseSession session named) (Delete_bearer_request q) r d meant at of names = record { request = q; asked = refl; named = names_there session.0 d.header q.header d.cause named r meant at of names }
-removal_there (ReleaseSession session named) m r d meant at of names = absurd cc
-removal_there (DeleteBearer session bearer named) (Delete_bearer_request q) r d meant at of names = record { request = q; asked = refl; named = names_there session.0 d.header q.header d.cause named r meant at of names }
-removal_there (DeleteBearer session bearer named) m r d meant at of names = absurd cc
-removal_there purpose m r d meant at of names = absurd names
+pub delete_bearer_there : (purpose : Purpose) (m : Message) (r : Response) (d : DeleteBearerResponse) → is_for purpose m ≡ true → d.header ≡ r.header.0 → d.cause ≡ r.cause → FitsDeleteBearerOf purpose r → FitsDeleteBearer (about purpose m) d
+delete_bearer_there (ReleaseSession session named) (Delete_bearer_request q) r d meant at of names = record { request = q; asked = refl; named = names_there session.0 d.header q.header d.cause named r meant at of names }
+delete_bearer_there (ReleaseSession session named) m r d meant at of names = absurd cc
+delete_bearer_there (DeleteBearer session bearer named) (Delete_bearer_request q) r d meant at of names = record { request = q; asked = refl; named = names_there session.0 d.header q.header d.cause named r meant at of names }
+delete_bearer_there (DeleteBearer session bearer named) m r d meant at of names = absurd cc
+delete_bearer_there purpose m r d meant at of names = absurd names
 
-pub removal_here : (purpose : Purpose) (m : Message) (r : Response) (d : DeleteBearerResponse) → is_for purpose m ≡ true → d.header ≡ r.header.0 → d.cause ≡ r.cause → FitsRemoval (about purpose m) d → FitsDeleteBearerOf purpose r
-removal_here (ReleaseSession session named) (Delete_bearer_request q) r d meant at of fits = names_here session.0 d.header q.header d.cause named r meant at of fits.named
-removal_here (DeleteBearer session bearer named) (Delete_bearer_request q) r d meant at of fits = names_here session.0 d.header q.header d.cause named r meant at of fits.named
-removal_here purpose m r d meant at of fits = absurd (let asked = fits.asked in cc)
+pub delete_bearer_here : (purpose : Purpose) (m : Message) (r : Response) (d : DeleteBearerResponse) → is_for purpose m ≡ true → d.header ≡ r.header.0 → d.cause ≡ r.cause → FitsDeleteBearer (about purpose m) d → FitsDeleteBearerOf purpose r
+delete_bearer_here (ReleaseSession session named) (Delete_bearer_request q) r d meant at of fits = names_here session.0 d.header q.header d.cause named r meant at of fits.named
+delete_bearer_here (DeleteBearer session bearer named) (Delete_bearer_request q) r d meant at of fits = names_here session.0 d.header q.header d.cause named r meant at of fits.named
+delete_bearer_here purpose m r d meant at of fits = absurd (let asked = fits.asked in cc)
 
 -- under another name of the number, too
 pub waits_at : (ws : List (Waiting Purpose)) (n k : ℕ) (purpose : Purpose) (w : Waits ws n purpose) → k ≡ n → get (pending_in ws) k ≡ Some (about purpose w.message)

@@ -68,8 +68,8 @@ module _ (old : Node) (ws : List (Waiting Purpose)) (distinct : AreDistinct ws) 
 pub echo_goes_on : (old : Node) (why : Refusal) → SendsEcho old (refused old why) → ⊥
 echo_goes_on old why sends = asks_on old old sends.number (record { session = None; bearer = None; request = Echo_request (record { number = sends.number; recovery = old.counter }) }) None why sends.gives
 
-pub deletion_goes_on : (old : Node) (session : ℕ) (at : Session) (why : Refusal) → ClosesSession old session at (refused old why) → ⊥
-deletion_goes_on old session at why closes = asks_on old (session_closing old session at) closes.number (record { session = Some session; bearer = None; request = Delete_session_request (record { header = written at.remote; number = closes.number; linked = Some at.subscriber.identity }) }) (Some session) why closes.gives
+pub delete_session_goes_on : (old : Node) (session : ℕ) (at : Session) (why : Refusal) → ClosesSession old session at (refused old why) → ⊥
+delete_session_goes_on old session at why closes = asks_on old (session_closing old session at) closes.number (record { session = Some session; bearer = None; request = Delete_session_request (record { header = written at.remote; number = closes.number; linked = Some at.subscriber.identity }) }) (Some session) why closes.gives
 
 pub release_goes_on : (old : Node) (session : ℕ) (at : Session) (why : Refusal) → ReleasesSession old session at (refused old why) → ⊥
 release_goes_on old session at why closes = asks_on old (session_closing old session at) closes.number (record { session = Some session; bearer = None; request = Delete_bearer_request (record { header = written at.remote; number = closes.number; linked = Some at.subscriber.identity; identities = [] }) }) (Some session) why closes.gives

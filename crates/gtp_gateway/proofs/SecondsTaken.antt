@@ -15,7 +15,7 @@ use Rattle.gtp_machine.specs.Config.{Config}
 use Rattle.gtp_machine.specs.Input.{Came_to, ControlReading, Control_message, nothing, says_all, Effect}
 use Rattle.gtp_machine.specs.Message.{Message, CreateBearerRequest, Create_bearer_request}
 use Rattle.gtp_machine.specs.Node.{Session, Arrival, Held, Node}
-use Rattle.gtp_machine.specs.Serving.{BearerJudged, BearerAsked}
+use Rattle.gtp_machine.specs.Serving.{BearerJudged, CreateBearerAsked}
 use Rattle.gtp_gateway.specs.declared.step.ControlStep.{ControlStep}
 use Rattle.gtp_gateway.specs.declared.receive.create_bearer_request.judge.CreateBearerAnswer.{CreateBearerAnswer}
 use Rattle.gtp_gateway.specs.declared.receive.create_bearer_request.judge.CreateBearerAnswer.TheVariants.{Refused, NoResources, Granted}
@@ -34,7 +34,7 @@ use Rattle.gtp_gateway.specs.messages.Sent.{datagram_by, AreSent}
 use Rattle.gtp_gateway.specs.GatewayState.{GatewayState}
 use Rattle.gtp_gateway.specs.receive.Taken.{plain_report, IsTakenAs, IsSentAgain}
 use Rattle.gtp_gateway.proofs.CreateBearerRequests.{takes_bearer_request}
-use Rattle.gtp_gateway.proofs.Allocations.{needs_bearer, message_needs, repeated_needs, bearer_asked}
+use Rattle.gtp_gateway.proofs.Allocations.{needs_bearer, message_needs, repeated_needs, create_bearer_asked}
 use Rattle.gtp_gateway.proofs.Rows.{ends, message_taken}
 use Rattle.gtp_gateway.proofs.CreateSessionRequests.{none_above}
 use Rattle.gtp_gateway.proofs.Taking.{by_role}
@@ -83,7 +83,7 @@ module _ (source : Endpoint) (octets : List ℕ) (q : CreateBearerRequest) (old 
   takes_it : takes_message old.role message ≡ true
   takes_it = ap (λ (r : Role). takes_message r message) serving
 
-  pub row_is_taken : IsNew old.node request → (step : ControlStep) (new : GatewayState) → IsRow (BearerAsked request q) request old.role old.node step new → IsTakenAs (Control_message message) source octets old step new
+  pub row_is_taken : IsNew old.node request → (step : ControlStep) (new : GatewayState) → IsRow (CreateBearerAsked request q) request old.role old.node step new → IsTakenAs (Control_message message) source octets old step new
   row_is_taken fresh step new row =
       let t = row.tells in
       record {
@@ -103,14 +103,14 @@ module _ (source : Endpoint) (octets : List ℕ) (q : CreateBearerRequest) (old 
       }
 
   -- it is dropped
-  pub drop_is_taken : IsNew old.node request → (step : ControlStep) (new : GatewayState) (outcome : Outcome) → step ≡ record { out = None; report = plain_report outcome } → new.node ≡ old.node → new.role ≡ old.role → BearerAsked request q old.node (record { out = nothing; outcome = Came_to outcome; node = old.node })
+  pub drop_is_taken : IsNew old.node request → (step : ControlStep) (new : GatewayState) (outcome : Outcome) → step ≡ record { out = None; report = plain_report outcome } → new.node ≡ old.node → new.role ≡ old.role → CreateBearerAsked request q old.node (record { out = nothing; outcome = Came_to outcome; node = old.node })
       → IsTakenAs (Control_message message) source octets old step new
-  drop_is_taken fresh step new outcome is becomes role takes = row_is_taken fresh step new (ends (BearerAsked request q) request old new step outcome old.node is becomes role takes)
+  drop_is_taken fresh step new outcome is becomes role takes = row_is_taken fresh step new (ends (CreateBearerAsked request q) request old new step outcome old.node is becomes role takes)
 
   -- where it is answered, something is sent
   pub answer_needs : (made : Bool) (m : Message) (cause : ℕ) (left : Node) → HasHeldRoom old.node → BearerJudged request q old.node (answering made request (m ∷ []) cause left) → StepSendsOrOpens request (Control_message message) old
   answer_needs made m cause left room judged =
-      message_needs request old message None peer takes_it refl (λ early. early) (needs_bearer old.role request message old.node q has_it refl (bearer_asked request q old.node made m cause left room judged))
+      message_needs request old message None peer takes_it refl (λ early. early) (needs_bearer old.role request message old.node q has_it refl (create_bearer_asked request q old.node made m cause left room judged))
 
   pub again_needs : (ps : List HeldPair) → old.node.held ≡ map held_of ps → IsHeld source octets ps → StepSendsOrOpens request (Control_message message) old
   again_needs ps is held =

@@ -127,8 +127,8 @@ abbrev pub pending_dedicated : ℕ → Bearer
 pending_dedicated session = record { remote = None; session = session; identity = None; kind = Dedicated; state = Pending; ended = false }
 
 -- a draw, and a pending dedicated bearer of the session, whose request waits
-abbrev pub bearer_asked : Node → ℕ → CreateBearerRequest → ℕ → Node
-bearer_asked node session r user =
+abbrev pub create_bearer_asked : Node → ℕ → CreateBearerRequest → ℕ → Node
+create_bearer_asked node session r user =
     record node {
       drawn = user ∷ node.drawn;
       bearers = insert node.bearers user (pending_dedicated session);
@@ -144,7 +144,7 @@ pub record BeginsBearer (old : Node) (session : ℕ) (at : Session) (tft : List 
   pub gives : e ≡ record {
     out = says (control_end old.config.peer.control) (Create_bearer_request (bearer_request old at tft qos user number));
     outcome = Came_to (Begun (Some user));
-    node = bearer_asked old session (bearer_request old at tft qos user number) user;
+    node = create_bearer_asked old session (bearer_request old at tft qos user number) user;
   }
 
 -- the session's dedicated bearer with this identity

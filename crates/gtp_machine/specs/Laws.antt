@@ -16,8 +16,8 @@ use Rattle.gtp_machine.specs.Input.{Entry, Effect, Specification, Create_session
 use Rattle.gtp_machine.specs.Choice.{counter_of}
 use Rattle.gtp_machine.specs.Recovery.{Hears}
 use Rattle.gtp_machine.specs.Safety.{MutualSessions, MutualBearers}
-use Rattle.gtp_machine.specs.Serving.{granted_bearer, BearerAsked}
-use Rattle.gtp_machine.specs.Packet.{response_and_request, made_session, made_bearer, SessionAsked}
+use Rattle.gtp_machine.specs.Serving.{granted_bearer, CreateBearerAsked}
+use Rattle.gtp_machine.specs.Packet.{response_and_request, made_session, made_bearer, CreateSessionAsked}
 use Rattle.gtp_machine.specs.Step.{Step, Done, Steps}
 use Rattle.gtp_machine.specs.Once.{Makes, TookRequest, NeverForgets, SecondAddsNothing}
 use Rattle.gtp_machine.specs.Spelling.{spelled_all, last_part, IsSendable}
@@ -108,8 +108,8 @@ pub record Moment (first : World) (events : List Event) (last : World) : Type 0 
 
 -- what a gateway does by its rules with a request by which it makes a context, as it comes
 abbrev pub CreateAsked : Role → Message → Arrival → Node → Effect → Type 0
-CreateAsked Serving (Create_bearer_request r) request old e = BearerAsked request r old e
-CreateAsked Packet (Create_session_request q) request old e = Hears (SessionAsked request q) old q.recovery e
+CreateAsked Serving (Create_bearer_request r) request old e = CreateBearerAsked request r old e
+CreateAsked Packet (Create_session_request q) request old e = Hears (CreateSessionAsked request q) old q.recovery e
 CreateAsked role m request old e = ⊥
 
 -- the request comes to a gateway that stands so: as the one message of a datagram, or as the second of two, once the first was
@@ -251,7 +251,7 @@ AtMostOnce x (y ∷ ys) = (y ≡ x → Among x ys → ⊥) × AtMostOnce x ys
 
 -- where no delivery of a create request was late, its gateway made at most one context for it since it started
 abbrev pub OneContextPerRequest : World → Type 0
-OneContextPerRequest w = (role : Role) (request : Arrival) → (Among request (side_of w role).came_late → ⊥) → AtMostOnce request (side_of w role).made
+OneContextPerRequest w = (role : Role) (request : Arrival) → (Among request (side_of w role).late_requests → ⊥) → AtMostOnce request (side_of w role).made
 
 -- the steps that are kept of each gateway lead from its start, configured as it is, to what it is now
 abbrev pub StepsAreKept : World → Type 0
@@ -273,7 +273,7 @@ abbrev pub EachRequestActsOnce : World → Type 0
 EachRequestActsOnce w =
     (role : Role) (request : Arrival) (message : Message) (first second : Done) (two : Follow (steps_of w role) first second) →
     Makes role message → TookRequest first request message → TookRequest second request message →
-    (Among request (side_of w role).came_late → ⊥) ⊎ NeverForgets two.between request → SecondAddsNothing first second
+    (Among request (side_of w role).late_requests → ⊥) ⊎ NeverForgets two.between request → SecondAddsNothing first second
 
 -- a context has a remote once it is active, and a pending session has none
 pub record EachOpened (w : World) : Type 0 where

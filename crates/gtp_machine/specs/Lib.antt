@@ -1,5 +1,6 @@
 pub mod Ordered
 pub mod Element
+pub mod messages
 pub mod Message
 pub mod MessageType
 pub mod Config

@@ -24,7 +24,7 @@ use Rattle.gtp_machine.specs.Choice.{IsFree, HasDraws, IsFreeNumber, IsGiven, Ca
 use Rattle.gtp_machine.specs.Choice.{HasPendingRoom, HasSession, HasBearer, HasPending}
 use Rattle.gtp_machine.specs.Removal.{without_session}
 use Rattle.gtp_machine.specs.Response.{Named, finishing, EchoAnswered}
-use Rattle.gtp_machine.specs.Command.{bearer_request, bearer_asked}
+use Rattle.gtp_machine.specs.Command.{bearer_request, create_bearer_asked}
 use Rattle.gtp_machine.specs.Answer.{UnlessFull, answered, making, echoed, request_refused}
 
 -- the cause of the answer to a session that is made (8.4): a new PDN type where both versions were asked for and one is given
@@ -91,7 +91,7 @@ pub record AddsBearer
   pub user_free : IsFree made user
   pub number_free : IsFreeNumber made number
   pub gives : e ≡ making request (response_and_request a (bearer_request made s t.tft t.qos user number)) cause
-      (bearer_asked made session (bearer_request made s t.tft t.qos user number) user)
+      (create_bearer_asked made session (bearer_request made s t.tft t.qos user number) user)
 
 -- The answer to a session that is made, and held: where its access point has a template, one more TEID can be drawn and one more
 -- request can wait, it goes with the request of the template's bearer, and else alone.
@@ -131,8 +131,8 @@ module _ (request : Arrival) (q : CreateSessionRequest) where
       MakesSession request old q e))))))
 
   -- A Create Session Request.
-  abbrev pub SessionAsked : Node → Effect → Type 0
-  SessionAsked old e = UnlessFull SessionJudged old e
+  abbrev pub CreateSessionAsked : Node → Effect → Type 0
+  CreateSessionAsked old e = UnlessFull SessionJudged old e
 
 -- the linked identity is absent, or the session's default
 abbrev pub IsLinkedTo : Option ℕ → Session → Type 0
@@ -146,22 +146,22 @@ deletion_response node d s =
 
 module _ (request : Arrival) (d : DeleteSessionRequest) where
   -- refused with this cause: the response goes to this TEID, and nothing changes
-  abbrev pub deletion_refused : ℕ → ℕ → Node → Effect
-  deletion_refused header cause old = request_refused request types.DeleteSessionRequest header d.number (cause_of cause) old
+  abbrev pub delete_session_refused : ℕ → ℕ → Node → Effect
+  delete_session_refused header cause old = request_refused request types.DeleteSessionRequest header d.number (cause_of cause) old
 
   -- A Delete Session Request (7.2.9.1) whose answer can be held, in any state of the session.
-  abbrev pub DeletionJudged : Node → Effect → Type 0
-  DeletionJudged old e =
-      Unless (HasSession old d.header) (e ≡ deletion_refused 0 CONTEXT_NOT_FOUND old) (λ at.
-      Unless (IsLinkedTo d.linked at.session) (e ≡ deletion_refused (written at.session.remote) CONTEXT_NOT_FOUND old) (λ linked.
+  abbrev pub DeleteSessionJudged : Node → Effect → Type 0
+  DeleteSessionJudged old e =
+      Unless (HasSession old d.header) (e ≡ delete_session_refused 0 CONTEXT_NOT_FOUND old) (λ at.
+      Unless (IsLinkedTo d.linked at.session) (e ≡ delete_session_refused (written at.session.remote) CONTEXT_NOT_FOUND old) (λ linked.
       e ≡ answered request (Delete_session_response (deletion_response old d at.session)) REQUEST_ACCEPTED (without_session old d.header)))
 
   -- A Delete Session Request.
-  abbrev pub DeletionAsked : Node → Effect → Type 0
-  DeletionAsked old e = UnlessFull DeletionJudged old e
+  abbrev pub DeleteSessionAsked : Node → Effect → Type 0
+  DeleteSessionAsked old e = UnlessFull DeleteSessionJudged old e
 
 -- the request is a Create Bearer Request for the session that the response names
-pub record FitsBearer (p : PendingRequest) (x : CreateBearerResponse) : Type 0 where
+pub record FitsCreateBearer (p : PendingRequest) (x : CreateBearerResponse) : Type 0 where
   pub request : CreateBearerRequest
   pub asked : p.request ≡ Create_bearer_request request
   pub session : ℕ
@@ -196,10 +196,10 @@ pub record OpensBearer (old : Node) (x : CreateBearerResponse) (bearer : ℕ) (e
   }
 
 -- A Create Bearer Response (7.2.4). What does not accept, or clashes, removes the pending bearer.
-abbrev pub BearerAnswered : CreateBearerResponse → Node → Effect → Type 0
-BearerAnswered x old e =
+abbrev pub CreateBearerAnswered : CreateBearerResponse → Node → Effect → Type 0
+CreateBearerAnswered x old e =
     Unless (HasPending old x.number) (e ≡ dropped old NoPending) (λ at.
-    Unless (FitsBearer at.pending x) (e ≡ dropped old Mismatch) (λ fits.
+    Unless (FitsCreateBearer at.pending x) (e ≡ dropped old Mismatch) (λ fits.
     Unless (IsAccepting x.cause) (e ≡ finishing old x.number at.pending (Rejected x.cause.value)) (λ accepts.
     Unless (DescribesBearer x) (e ≡ dropped old Mismatch) (λ new.
     Unless (IsAccepting new.context.cause) (e ≡ finishing old x.number at.pending (Rejected new.context.cause.value)) (λ all.
@@ -208,24 +208,24 @@ BearerAnswered x old e =
     OpensBearer old x fits.bearer e)))))))
 
 -- the request is a Delete Bearer Request for the session that the response names
-pub record FitsRemoval (p : PendingRequest) (d : DeleteBearerResponse) : Type 0 where
+pub record FitsDeleteBearer (p : PendingRequest) (d : DeleteBearerResponse) : Type 0 where
   pub request : DeleteBearerRequest
   pub asked : p.request ≡ Delete_bearer_request request
   pub named : Named p d.header d.cause
 
 -- A Delete Bearer Response (7.2.10.2): with any cause the closing session or bearer goes.
-abbrev pub RemovalAnswered : DeleteBearerResponse → Node → Effect → Type 0
-RemovalAnswered d old e =
+abbrev pub DeleteBearerAnswered : DeleteBearerResponse → Node → Effect → Type 0
+DeleteBearerAnswered d old e =
     Unless (HasPending old d.number) (e ≡ dropped old NoPending) (λ at.
-    Unless (FitsRemoval at.pending d) (e ≡ dropped old Mismatch) (λ fits.
+    Unless (FitsDeleteBearer at.pending d) (e ≡ dropped old Mismatch) (λ fits.
     e ≡ finishing old d.number at.pending Closed))
 
 -- what the packet gateway does with a message of a kind that it takes, once the peer's counter was heard
 abbrev pub PacketTakes : Arrival → Message → Node → Effect → Type 0
 PacketTakes request (Echo_request q) old e = e ≡ echoed request q old
 PacketTakes request (Echo_response a) old e = EchoAnswered a old e
-PacketTakes request (Create_session_request q) old e = SessionAsked request q old e
-PacketTakes request (Delete_session_request d) old e = DeletionAsked request d old e
-PacketTakes request (Create_bearer_response x) old e = BearerAnswered x old e
-PacketTakes request (Delete_bearer_response d) old e = RemovalAnswered d old e
+PacketTakes request (Create_session_request q) old e = CreateSessionAsked request q old e
+PacketTakes request (Delete_session_request d) old e = DeleteSessionAsked request d old e
+PacketTakes request (Create_bearer_response x) old e = CreateBearerAnswered x old e
+PacketTakes request (Delete_bearer_response d) old e = DeleteBearerAnswered d old e
 PacketTakes request _ old e = e ≡ dropped old Unexpected

@@ -20,7 +20,7 @@ use Rattle.gtp_machine.specs.Command.{NamesBearer}
 use Rattle.gtp_machine.specs.Answer.{UnlessFull, answered, making, echoed, request_refused}
 
 -- the request is a Create Session Request for the session that the response names
-pub record FitsSession (p : PendingRequest) (a : CreateSessionResponse) : Type 0 where
+pub record FitsCreateSession (p : PendingRequest) (a : CreateSessionResponse) : Type 0 where
   pub request : CreateSessionRequest
   pub asked : p.request ≡ Create_session_request request
   pub session : ℕ
@@ -60,26 +60,26 @@ pub record OpensSession
   }
 
 -- A Create Session Response (7.2.2). What does not accept removes the pending session.
-abbrev pub SessionAnswered : CreateSessionResponse → Node → Effect → Type 0
-SessionAnswered a old e =
+abbrev pub CreateSessionAnswered : CreateSessionResponse → Node → Effect → Type 0
+CreateSessionAnswered a old e =
     Unless (HasPending old a.number) (e ≡ dropped old NoPending) (λ at.
-    Unless (FitsSession at.pending a) (e ≡ dropped old Mismatch) (λ fits.
+    Unless (FitsCreateSession at.pending a) (e ≡ dropped old Mismatch) (λ fits.
     Unless (IsAccepting a.cause) (e ≡ finishing old a.number at.pending (Rejected a.cause.value)) (λ accepts.
     Unless (DescribesSession old fits.session a) (e ≡ dropped old Mismatch) (λ new.
     Unless (IsAccepting new.context.cause) (e ≡ finishing old a.number at.pending (Rejected new.context.cause.value)) (λ both.
     OpensSession old a fits.request fits.session new.at.session new.address e)))))
 
 -- the request is a Delete Session Request for the session that the response names
-pub record FitsDeletion (p : PendingRequest) (d : DeleteSessionResponse) : Type 0 where
+pub record FitsDeleteSession (p : PendingRequest) (d : DeleteSessionResponse) : Type 0 where
   pub request : DeleteSessionRequest
   pub asked : p.request ≡ Delete_session_request request
   pub named : Named p d.header d.cause
 
 -- A Delete Session Response (7.2.10.1): with any cause the closing session goes.
-abbrev pub DeletionAnswered : DeleteSessionResponse → Node → Effect → Type 0
-DeletionAnswered d old e =
+abbrev pub DeleteSessionAnswered : DeleteSessionResponse → Node → Effect → Type 0
+DeleteSessionAnswered d old e =
     Unless (HasPending old d.number) (e ≡ dropped old NoPending) (λ at.
-    Unless (FitsDeletion at.pending d) (e ≡ dropped old Mismatch) (λ fits.
+    Unless (FitsDeleteSession at.pending d) (e ≡ dropped old Mismatch) (λ fits.
     e ≡ finishing old d.number at.pending Closed))
 
 -- the answer that makes a bearer: any free TEID and any free identity, and the request's F-TEID as it came
@@ -149,8 +149,8 @@ module _ (request : Arrival) (r : CreateBearerRequest) where
       MakesBearer request old r at.session e)))))
 
   -- A Create Bearer Request.
-  abbrev pub BearerAsked : Node → Effect → Type 0
-  BearerAsked old e = UnlessFull BearerJudged old e
+  abbrev pub CreateBearerAsked : Node → Effect → Type 0
+  CreateBearerAsked old e = UnlessFull BearerJudged old e
 
 -- Each identity in turn: the session's dedicated bearer that has it is removed, and its context says so or that there is none.
 abbrev pub RemovesEach : ℕ → List ℕ → Node → List RemovedBearer → Node → Type 0
@@ -209,35 +209,35 @@ pub record RemovesBearers (request : Arrival) (d : DeleteBearerRequest) (old : N
 
 module _ (request : Arrival) (d : DeleteBearerRequest) where
   -- refused with this cause: the response goes to this TEID, and nothing changes
-  abbrev pub removal_refused : ℕ → ℕ → Node → Effect
-  removal_refused header cause old = request_refused request types.DeleteBearerRequest header d.number (cause_of cause) old
+  abbrev pub delete_bearer_refused : ℕ → ℕ → Node → Effect
+  delete_bearer_refused header cause old = request_refused request types.DeleteBearerRequest header d.number (cause_of cause) old
 
   -- with a linked identity the session is removed, and else the bearers of the list, at most 11
-  abbrev pub RemovalTaken : Option ℕ → Node → Session → Effect → Type 0
-  RemovalTaken (Some identity) old s e =
-      Unless (identity ≡ s.subscriber.identity) (e ≡ removal_refused (written s.remote) CONTEXT_NOT_FOUND old) (λ linked.
+  abbrev pub DeleteBearerTaken : Option ℕ → Node → Session → Effect → Type 0
+  DeleteBearerTaken (Some identity) old s e =
+      Unless (identity ≡ s.subscriber.identity) (e ≡ delete_bearer_refused (written s.remote) CONTEXT_NOT_FOUND old) (λ linked.
       e ≡ answered request (Delete_bearer_response (session_removed old d s identity)) REQUEST_ACCEPTED (without_session old d.header))
-  RemovalTaken None old s e =
-      Unless (length d.identities ≤ 11) (e ≡ removal_refused (written s.remote) REQUEST_REJECTED old) (λ few.
+  DeleteBearerTaken None old s e =
+      Unless (length d.identities ≤ 11) (e ≡ delete_bearer_refused (written s.remote) REQUEST_REJECTED old) (λ few.
       RemovesBearers request d old s e)
 
   -- A Delete Bearer Request (7.2.9.2) whose answer can be held, with its refusals in their order.
-  abbrev pub RemovalJudged : Node → Effect → Type 0
-  RemovalJudged old e =
-      Unless (HasSession old d.header) (e ≡ removal_refused 0 CONTEXT_NOT_FOUND old) (λ at.
+  abbrev pub DeleteBearerJudged : Node → Effect → Type 0
+  DeleteBearerJudged old e =
+      Unless (HasSession old d.header) (e ≡ delete_bearer_refused 0 CONTEXT_NOT_FOUND old) (λ at.
       Unless (at.session.state ≢ Pending) (e ≡ dropped old ContextNotActive) (λ opened.
-      RemovalTaken d.linked old at.session e))
+      DeleteBearerTaken d.linked old at.session e))
 
   -- A Delete Bearer Request.
-  abbrev pub RemovalAsked : Node → Effect → Type 0
-  RemovalAsked old e = UnlessFull RemovalJudged old e
+  abbrev pub DeleteBearerAsked : Node → Effect → Type 0
+  DeleteBearerAsked old e = UnlessFull DeleteBearerJudged old e
 
 -- what the serving gateway does with a message of a kind that it takes, once the peer's counter was heard
 abbrev pub ServingTakes : Arrival → Message → Node → Effect → Type 0
 ServingTakes request (Echo_request q) old e = e ≡ echoed request q old
 ServingTakes request (Echo_response a) old e = EchoAnswered a old e
-ServingTakes request (Create_session_response a) old e = SessionAnswered a old e
-ServingTakes request (Delete_session_response d) old e = DeletionAnswered d old e
-ServingTakes request (Create_bearer_request r) old e = BearerAsked request r old e
-ServingTakes request (Delete_bearer_request d) old e = RemovalAsked request d old e
+ServingTakes request (Create_session_response a) old e = CreateSessionAnswered a old e
+ServingTakes request (Delete_session_response d) old e = DeleteSessionAnswered d old e
+ServingTakes request (Create_bearer_request r) old e = CreateBearerAsked request r old e
+ServingTakes request (Delete_bearer_request d) old e = DeleteBearerAsked request d old e
 ServingTakes request _ old e = e ≡ dropped old Unexpected

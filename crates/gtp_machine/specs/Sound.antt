@@ -164,19 +164,19 @@ pub record IsSound (role : Role) (node : Node) : Type 0 where
   pub within : IsWithin node.sessions node.pending node.held node.drawn
 
 -- a response that accepts names the F-TEIDs that its table asks for then
-abbrev pub IsWhole : Message → Type 0
-IsWhole (Create_session_response a) =
+abbrev pub NamesItsEnds : Message → Type 0
+NamesItsEnds (Create_session_response a) =
     IsAccepting a.cause →
     ((t : ℕ) × (teid_in a.control ≡ Some t)) × ((c : CreatedBearer) → Among c a.contexts → IsAccepting c.cause → (t : ℕ) × (teid_in c.user ≡ Some t))
-IsWhole (Create_bearer_response x) =
+NamesItsEnds (Create_bearer_response x) =
     IsAccepting x.cause → (c : GivenBearer) → Among c x.contexts → IsAccepting c.cause →
     (t : ℕ) × (teid_in c.serving_user ≡ Some t)
-IsWhole _ = Unit {0}
+NamesItsEnds _ = Unit {0}
 
 -- what comes was read from octets, whoever sent them, and a command names an identity of 5 to 15 for the default bearer
 abbrev pub IsWellFormed : Input → Type 0
 IsWellFormed (Commanded (Create_session spec)) = IsIdentity spec.subscriber.identity
-IsWellFormed (Control_came request (Control_message message)) = IsWhole message
+IsWellFormed (Control_came request (Control_message message)) = NamesItsEnds message
 IsWellFormed _ = Unit {0}
 
 -- Each step from a sound gateway leaves it sound.
@@ -260,7 +260,7 @@ ReadsWhole = (request : Arrival) (reading : ControlReading) → ControlReads req
 
 -- So are two messages of one datagram.
 abbrev pub PairReadsWhole : Type 0
-PairReadsWhole = (octets : List ℕ) (first second : Message) → DatagramReads octets (Both first second) → IsWhole first × IsWhole second
+PairReadsWhole = (octets : List ℕ) (first second : Message) → DatagramReads octets (Both first second) → NamesItsEnds first × NamesItsEnds second
 
 -- So is what a gateway takes a datagram for.
 abbrev pub TakenWhole : Type 0

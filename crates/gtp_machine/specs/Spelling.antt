@@ -1,8 +1,6 @@
 -- The octets that a gateway sends for a message: the canonical encoding of what it says, field by field (TS 29.274, 5 to 8; TS 29.281, 5, 7 and 8).
-use Rattle.std.specs.Prelude.{◌≡◌, ℕ, ◌<◌, List, [], ◌∷◌, All, map, Option, Some, None, option_map, option_to_list}
+use Rattle.std.specs.Prelude.{◌≡◌, ℕ, ◌<◌, List, [], ◌∷◌, All, Option, Some, None}
 use Rattle.gtp_values.specs.declared.address.Endpoint.{Endpoint}
-use Rattle.gtp_ie.specs.Value.{Value, OfImsi, OfCause, OfRecovery, OfApn, OfAmbr, OfEbi, OfPaa, OfQos, OfRat, OfPlmn, OfTft, OfFTeid}
-use Rattle.gtp_ie.specs.Value.{OfChargingId, OfPdnType, OfPti, OfSelection}
 use Rattle.gtp_v2.specs.EchoRequest.{echo_request}
 use Rattle.gtp_v2.specs.EchoResponse.{echo_response}
 use Rattle.gtp_v2.specs.CreateSessionRequest.{create_session_request}
@@ -13,106 +11,43 @@ use Rattle.gtp_v2.specs.CreateBearerRequest.{create_bearer_request}
 use Rattle.gtp_v2.specs.CreateBearerResponse.{create_bearer_response}
 use Rattle.gtp_v2.specs.DeleteBearerRequest.{delete_bearer_request}
 use Rattle.gtp_v2.specs.DeleteBearerResponse.{delete_bearer_response}
-use Rattle.gtp_v2.specs.Table.{Field, Plain, Groups}
-use Rattle.gtp_v2.specs.Message.{Fields, Raw, MessageValue}
+use Rattle.gtp_v2.specs.Message.{Raw, MessageValue}
 use Rattle.gtp_v2.specs.Encoding.{canonical_encoding, Meets}
 use Rattle.gtp_v2.specs.Pair.{Announces, paired}
 use Rattle.gtp_user.specs.Message as user_messages
 use Rattle.gtp_user.specs.Encoding as user_encodings
-use Rattle.gtp_machine.specs.Message.{RequestedBearer, CreatedBearer, WantedBearer, GivenBearer, RemovedBearer, Message, Echo_request}
+use Rattle.gtp_machine.specs.Message.{Message, Echo_request}
 use Rattle.gtp_machine.specs.Message.{Echo_response, Create_session_request, Create_session_response, Delete_session_request}
 use Rattle.gtp_machine.specs.Message.{Delete_session_response, Create_bearer_request, Create_bearer_response, Delete_bearer_request}
 use Rattle.gtp_machine.specs.Message.{Delete_bearer_response, Other_control, Packet_data, End_marker, Error_indication, User_echo_request}
 use Rattle.gtp_machine.specs.Message.{User_echo_response, Supported_extensions, Other_user, Plane, Control, User, plane_of}
+pub use Rattle.gtp_machine.specs.messages.Rows.{where_there, typed}
+pub use Rattle.gtp_machine.specs.messages.Echo.{echo_fields}
+pub use Rattle.gtp_machine.specs.messages.CreateSessionRequest.{requested_rows, create_session_request_fields}
+pub use Rattle.gtp_machine.specs.messages.CreateSessionResponse.{created_rows, create_session_response_fields}
+pub use Rattle.gtp_machine.specs.messages.DeleteSessionRequest.{delete_session_request_fields}
+pub use Rattle.gtp_machine.specs.messages.DeleteSessionResponse.{delete_session_response_fields}
+pub use Rattle.gtp_machine.specs.messages.CreateBearerRequest.{wanted_rows, create_bearer_request_fields}
+pub use Rattle.gtp_machine.specs.messages.CreateBearerResponse.{given_rows, create_bearer_response_fields}
+pub use Rattle.gtp_machine.specs.messages.DeleteBearerRequest.{delete_bearer_request_fields}
+pub use Rattle.gtp_machine.specs.messages.DeleteBearerResponse.{removed_rows, delete_bearer_response_fields}
 use Rattle.gtp_machine.specs.Config.{Config, own_end}
 use Rattle.gtp_machine.specs.Input.{Control_message, User_message, Sending}
 use Rattle.gtp_machine.specs.Reading.{ControlReads, DatagramReads, Both, UserReads}
 
--- the value of a row that may be absent
-abbrev pub where_there : {X : Type 0} → (X → Value) → Option X → List Value
-where_there is value = option_to_list (option_map is value)
-
--- the rows of a bearer context of a Create Session Request (table 7.2.1-2)
-abbrev pub requested_rows : RequestedBearer → List (List Value)
-requested_rows c = (OfEbi c.identity ∷ []) ∷ (OfQos c.qos ∷ []) ∷ (OfFTeid c.user ∷ []) ∷ []
-
--- the rows of a bearer context of a Create Session Response (table 7.2.2-2)
-abbrev pub created_rows : CreatedBearer → List (List Value)
-created_rows c =
-    (OfEbi c.identity ∷ []) ∷ (OfCause c.cause ∷ []) ∷ where_there OfFTeid c.user ∷ where_there OfQos c.qos ∷ where_there OfChargingId c.charging ∷ []
-
--- the rows of a bearer context of a Create Bearer Request (table 7.2.3-2)
-abbrev pub wanted_rows : WantedBearer → List (List Value)
-wanted_rows c = (OfEbi c.identity ∷ []) ∷ (OfTft c.tft ∷ []) ∷ (OfFTeid c.user ∷ []) ∷ (OfQos c.qos ∷ []) ∷ where_there OfChargingId c.charging ∷ []
-
--- the rows of a bearer context of a Create Bearer Response (table 7.2.4-2)
-abbrev pub given_rows : GivenBearer → List (List Value)
-given_rows c = (OfEbi c.identity ∷ []) ∷ (OfCause c.cause ∷ []) ∷ where_there OfFTeid c.serving_user ∷ where_there OfFTeid c.packet_user ∷ []
-
--- the rows of a bearer context of a Delete Bearer Response (table 7.2.10.2-2)
-abbrev pub removed_rows : RemovedBearer → List (List Value)
-removed_rows c = (OfEbi c.identity ∷ []) ∷ (OfCause c.cause ∷ []) ∷ []
-
--- a message of this type, with this TEID and sequence number in its header, no priority, and these fields
-abbrev pub typed : ℕ → Option ℕ → ℕ → List Field → MessageValue
-typed kind teid number fields = record { kind = kind; teid = teid; seq = number; priority = None; content = Fields fields }
-
--- What a message of the control plane says, by the fields of its table (7.1, 7.2). Of a message of another type nothing is known but its type.
+-- What a message of the control plane says, by the fields of its table (7.1, 7.2), which stand in its file in `messages`. Of a message of another
+-- type nothing is known but its type.
 abbrev pub control_value : Message → MessageValue
-control_value (Echo_request e) = typed echo_request.kind None e.number (Plain (OfRecovery e.recovery ∷ []) ∷ [])
-control_value (Echo_response e) = typed echo_response.kind None e.number (Plain (OfRecovery e.recovery ∷ []) ∷ [])
-control_value (Create_session_request q) =
-    typed create_session_request.kind (Some q.header) q.number (
-    Plain (OfImsi q.imsi ∷ [])
-    ∷ Plain (OfRat q.rat ∷ [])
-    ∷ Plain (where_there OfPlmn q.network)
-    ∷ Plain (OfFTeid q.control ∷ [])
-    ∷ Plain (OfApn q.access_point ∷ [])
-    ∷ Plain (where_there OfSelection q.selection)
-    ∷ Plain (OfPdnType q.pdn ∷ [])
-    ∷ Plain (where_there OfPaa q.address)
-    ∷ Plain (where_there OfAmbr q.ambr)
-    ∷ Groups (map requested_rows (q.context ∷ q.further))
-    ∷ Plain (where_there OfRecovery q.recovery)
-    ∷ []
-    )
-control_value (Create_session_response a) =
-    typed create_session_response.kind (Some a.header) a.number (
-    Plain (OfCause a.cause ∷ [])
-    ∷ Plain (where_there OfFTeid a.control)
-    ∷ Plain (where_there OfPaa a.address)
-    ∷ Plain (where_there OfAmbr a.ambr)
-    ∷ Groups (map created_rows a.contexts)
-    ∷ Plain (where_there OfRecovery a.recovery)
-    ∷ []
-    )
-control_value (Delete_session_request d) = typed delete_session_request.kind (Some d.header) d.number (Plain (where_there OfEbi d.linked) ∷ [])
-control_value (Delete_session_response d) =
-    typed delete_session_response.kind (Some d.header) d.number (Plain (OfCause d.cause ∷ []) ∷ Plain (where_there OfRecovery d.recovery) ∷ [])
-control_value (Create_bearer_request r) =
-    typed create_bearer_request.kind (Some r.header) r.number (
-    Plain (where_there OfPti r.transaction)
-    ∷ Plain (OfEbi r.linked ∷ [])
-    ∷ Groups (map wanted_rows (r.context ∷ r.further))
-    ∷ []
-    )
-control_value (Create_bearer_response x) =
-    typed create_bearer_response.kind (Some x.header) x.number (
-    Plain (OfCause x.cause ∷ [])
-    ∷ Groups (map given_rows x.contexts)
-    ∷ Plain (where_there OfRecovery x.recovery)
-    ∷ []
-    )
-control_value (Delete_bearer_request d) =
-    typed delete_bearer_request.kind (Some d.header) d.number (Plain (where_there OfEbi d.linked) ∷ Plain (map OfEbi d.identities) ∷ [])
-control_value (Delete_bearer_response d) =
-    typed delete_bearer_response.kind (Some d.header) d.number (
-    Plain (OfCause d.cause ∷ [])
-    ∷ Plain (where_there OfEbi d.linked)
-    ∷ Groups (map removed_rows d.contexts)
-    ∷ Plain (where_there OfRecovery d.recovery)
-    ∷ []
-    )
+control_value (Echo_request e) = typed echo_request.kind None e.number (echo_fields e)
+control_value (Echo_response e) = typed echo_response.kind None e.number (echo_fields e)
+control_value (Create_session_request q) = typed create_session_request.kind (Some q.header) q.number (create_session_request_fields q)
+control_value (Create_session_response a) = typed create_session_response.kind (Some a.header) a.number (create_session_response_fields a)
+control_value (Delete_session_request d) = typed delete_session_request.kind (Some d.header) d.number (delete_session_request_fields d)
+control_value (Delete_session_response d) = typed delete_session_response.kind (Some d.header) d.number (delete_session_response_fields d)
+control_value (Create_bearer_request r) = typed create_bearer_request.kind (Some r.header) r.number (create_bearer_request_fields r)
+control_value (Create_bearer_response x) = typed create_bearer_response.kind (Some x.header) x.number (create_bearer_response_fields x)
+control_value (Delete_bearer_request d) = typed delete_bearer_request.kind (Some d.header) d.number (delete_bearer_request_fields d)
+control_value (Delete_bearer_response d) = typed delete_bearer_response.kind (Some d.header) d.number (delete_bearer_response_fields d)
 control_value (Other_control kind) = record { kind = kind; teid = None; seq = 0; priority = None; content = Raw [] }
 control_value _ = record { kind = 0; teid = None; seq = 0; priority = None; content = Raw [] }
 

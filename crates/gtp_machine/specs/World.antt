@@ -39,7 +39,7 @@ pub record Side : Type 0 where
   pub restarts : ℕ  -- how often it was restarted
   pub seen : List ℕ  -- counters heard since it started
   pub forgotten : List Arrival  -- requests whose answers were given up since it started
-  pub came_late : List Arrival  -- requests that came late since it started
+  pub late_requests : List Arrival  -- requests that came late since it started
   pub made : List Arrival  -- create requests for which a context was made since it started
 
 -- what is kept of an event
@@ -227,9 +227,9 @@ IsLateOn Control from side datagram = Among (come_from from (last_part datagram)
 IsLateOn User from side datagram = ⊥
 
 -- the world where one more delivery was late: of this request, to that gateway
-abbrev pub late_once : World → Role → Arrival → World
-late_once w role request =
-    record (with_side w role (record (side_of w role) { came_late = request ∷ (side_of w role).came_late })) { late = 1 + w.late }
+abbrev pub marked_late : World → Role → Arrival → World
+marked_late w role request =
+    record (with_side w role (record (side_of w role) { late_requests = request ∷ (side_of w role).late_requests })) { late = 1 + w.late }
 
 -- A datagram comes to a gateway: the two messages of a pair that it takes, one after the other, and else the datagram as a whole.
 abbrev pub ComesTo : World → Role → Addresses → List Message → World → Type 0
@@ -243,7 +243,7 @@ abbrev pub Delivers : World → Role → List Message → World → Type 0
 Delivers old sender datagram new =
     Unless (IsLateOn (datagram_plane datagram) (side_of old sender).node.config.own (side_of old (other sender)) datagram)
     (ComesTo old (other sender) (side_of old sender).node.config.own datagram new) (λ late.
-    ComesTo (late_once old (other sender) (come_from (side_of old sender).node.config.own (last_part datagram)))
+    ComesTo (marked_late old (other sender) (come_from (side_of old sender).node.config.own (last_part datagram)))
     (other sender) (side_of old sender).node.config.own datagram new)
 
 -- The first octets of a datagram come to the gateway that did not send it.
@@ -266,7 +266,7 @@ restarted side = record side {
   restarts = side.restarts + 1;
   seen = [];
   forgotten = [];
-  came_late = [];
+  late_requests = [];
   made = [];
 }
 
@@ -293,7 +293,7 @@ Run old (event ∷ events) new = (mid : World) × Happens old event mid × Run m
 -- a gateway that has just started for the first time
 abbrev pub begun : Config → ℕ → Side
 begun config first =
-    record { node = fresh_node config (first % 256); first = first; restarts = 0; seen = []; forgotten = []; came_late = []; made = [] }
+    record { node = fresh_node config (first % 256); first = first; restarts = 0; seen = []; forgotten = []; late_requests = []; made = [] }
 
 -- two gateways that have just started, so configured and with these counters
 abbrev pub start : Config → Config → ℕ → ℕ → World

@@ -12,7 +12,7 @@ use Rattle.gtp_machine.specs.Reading.{control_reading, ControlReads, Both, datag
 use Rattle.gtp_machine.specs.Spelling.{Datagram, datagram_plane, spelled, spelled_all, announcing, last_part}
 use Rattle.gtp_machine.specs.Step.{Step, TakesPair, Done, tick_steps}
 use Rattle.gtp_machine.specs.Tick.{TickStep, ticked}
-use Rattle.gtp_machine.specs.World.{By, SentDatagram, World, Note, Event, Does, Tick, Deliver, Cut, Restart, Happens, ComesTo, Delivers, Moves, MovesTwice, TicksOn, Run, come_from, first_came, second_came, delivered_on, late_once, logged, moved, noted, other, side_of, signed, steps_of}
+use Rattle.gtp_machine.specs.World.{By, SentDatagram, World, Note, Event, Does, Tick, Deliver, Cut, Restart, Happens, ComesTo, Delivers, Moves, MovesTwice, TicksOn, Run, come_from, first_came, second_came, delivered_on, marked_late, logged, moved, noted, other, side_of, signed, steps_of}
 use Rattle.gtp_machine.specs.declared.role.Role.{Role}
 use Rattle.gtp_machine.specs.declared.role.Role.TheVariants.{Serving, Packet}
 use Rattle.gtp_machine.proofs.Basics.Datagrams.{IsFew}
@@ -159,23 +159,23 @@ tick_forgets (move ∷ moves) old out new (e, rest, step, others, is) done a (in
 ticks_grown : (role mover : Role) (old new : World) → TicksOn old mover new → HasGrown role old new
 ticks_grown role mover old new t = step_grown role mover old (ticked t.out t.after) _ _ new t.becomes (tick_forgets t.moves (side_of old mover).node t.out t.after t.tick)
 
-same_steps : (w : World) (role receiver : Role) (a : Arrival) → steps_of (late_once w receiver a) role ≡ steps_of w role
+same_steps : (w : World) (role receiver : Role) (a : Arrival) → steps_of (marked_late w receiver a) role ≡ steps_of w role
 same_steps w Serving Serving a = refl
 same_steps w Serving Packet a = refl
 same_steps w Packet Serving a = refl
 same_steps w Packet Packet a = refl
 
-same_forgotten : (w : World) (role receiver : Role) (a : Arrival) → (side_of (late_once w receiver a) role).forgotten ≡ (side_of w role).forgotten
+same_forgotten : (w : World) (role receiver : Role) (a : Arrival) → (side_of (marked_late w receiver a) role).forgotten ≡ (side_of w role).forgotten
 same_forgotten w Serving Serving a = refl
 same_forgotten w Serving Packet a = refl
 same_forgotten w Packet Serving a = refl
 same_forgotten w Packet Packet a = refl
 
-same_datagrams : (w : World) (receiver : Role) (a : Arrival) → (late_once w receiver a).datagrams ≡ w.datagrams
+same_datagrams : (w : World) (receiver : Role) (a : Arrival) → (marked_late w receiver a).datagrams ≡ w.datagrams
 same_datagrams w Serving a = refl
 same_datagrams w Packet a = refl
 
-late_grown : (role receiver : Role) (a : Arrival) (old new : World) → HasGrown role (late_once old receiver a) new → HasGrown role old new
+late_grown : (role receiver : Role) (a : Arrival) (old new : World) → HasGrown role (marked_late old receiver a) new → HasGrown role old new
 late_grown role receiver a old new g = record {
   steps = g.steps;
   sent = g.sent;
@@ -318,13 +318,13 @@ few_taken old role from new held = by_few (λ datagram. (m : Message) → datagr
     serving_makes Serving r makes = refl
     serving_makes Packet r makes = absurd makes
 
-still_held : (w : World) (role : Role) (a : Arrival) → HeldOfSent w → HeldOfSent (late_once w role a)
+still_held : (w : World) (role : Role) (a : Arrival) → HeldOfSent w → HeldOfSent (marked_late w role a)
 still_held w Serving a held Serving = held Serving
 still_held w Serving a held Packet = held Packet
 still_held w Packet a held Serving = held Serving
 still_held w Packet a held Packet = held Packet
 
-late_taken : (old : World) (role : Role) (a : Arrival) (request : Arrival) (m : Message) (new : World) → TakenOr (late_once old role a) role request m new → TakenOr old role request m new
+late_taken : (old : World) (role : Role) (a : Arrival) (request : Arrival) (m : Message) (new : World) → TakenOr (marked_late old role a) role request m new → TakenOr old role request m new
 late_taken old role a request m new (inl t) = inl (record {
   front = t.front;
   quiet = t.quiet;
@@ -339,7 +339,7 @@ taken_by : (old : World) (s : SentDatagram) (new : World) (m : Message) → Held
 taken_by old s new m held few control holds makes (inl d) = few_taken old (other s.role) _ new held s.what few m control holds makes d.1
 taken_by old s new m held few control holds makes (inr d) =
     let a = come_from (side_of old s.role).node.config.own (last_part s.what) in
-    late_taken old (other s.role) a _ m new (few_taken (late_once old (other s.role) a) (other s.role) _ new (still_held old (other s.role) a held) s.what few m control holds makes d.1)
+    late_taken old (other s.role) a _ m new (few_taken (marked_late old (other s.role) a) (other s.role) _ new (still_held old (other s.role) a held) s.what few m control holds makes d.1)
 
 taken : (old : World) (number : ℕ) (s : SentDatagram) (new : World) (m : Message) → HeldOfSent old → IsFew s.what → datagram_plane s.what ≡ Control → HoldLast (reading_of s.what) m → Makes (other s.role) m → Happens old (Deliver number) new → slice_get old.datagrams number ≡ Some s → TakenOr old (other s.role) (come_from (side_of old s.role).node.config.own (last_part s.what)) m new
 taken old number s new m held few control holds makes (inl none) is = absurd (none.0 (record { sent = s; is = is }))

@@ -8,7 +8,7 @@ use Rattle.gtp_machine.specs.Input.{Sending, Out, Effect, nothing, datagrams}
 use Rattle.gtp_machine.specs.Spelling.{Datagram, datagram_of}
 use Rattle.gtp_machine.specs.Step.{Done}
 use Rattle.gtp_machine.specs.World as machine
-use Rattle.gtp_machine.specs.World.{By, World, Side, EventOutcome, Restarted, Note, note_of, note_of_both, outcome_in, quiet_note, noted, moved, stepped, with_heard, logged, with_steps, with_side, late_once, side_of, restarted, next_counter, signed}
+use Rattle.gtp_machine.specs.World.{By, World, Side, EventOutcome, Restarted, Note, note_of, note_of_both, outcome_in, quiet_note, noted, moved, stepped, with_heard, logged, with_steps, with_side, marked_late, side_of, restarted, next_counter, signed}
 use Rattle.gtp_gateway.specs.GatewayState.{GatewayState}
 use Rattle.gtp_world.specs.Kept.{oldest_first, Half, Told, Kept, half_in, with_half, counted}
 use Rattle.gtp_world.specs.Runs.{Setup, config_in, AreFor, told_in, HalfStands, StandsFor}
@@ -54,7 +54,7 @@ half_begins config role half side stands same = record {
 -- the world where this delivery was late, or not
 abbrev pub lates : Bool → World → Role → Arrival → World
 lates false w role a = w
-lates true w role a = late_once w role a
+lates true w role a = marked_late w role a
 
 -- the world after a step, with what is told of it
 abbrev pub world_after : World → Role → Effect → EventOutcome → List Done → World

@@ -9,14 +9,14 @@ use Rattle.gtp_machine.specs.Step.{Done, tick_steps}
 use Rattle.gtp_machine.specs.Tick.{ticked}
 use Rattle.gtp_machine.specs.declared.role.Role.{Role}
 use Rattle.gtp_machine.specs.declared.role.Role.TheVariants.{Serving, Packet}
-use Rattle.gtp_machine.specs.World.{World, Event, Does, Tick, Deliver, Cut, Restart, Ticked, Restarted, No_such_datagram, Cut_too_long, Restarts_used, Note, note_of, note_of_both, quiet_note, next_counter, Happens, ComesTo, Delivers, Moves, MovesTwice, TicksOn, Run, start, side_of, moved, noted, logged, late_once, restarted, with_side, with_steps}
+use Rattle.gtp_machine.specs.World.{World, Event, Does, Tick, Deliver, Cut, Restart, Ticked, Restarted, No_such_datagram, Cut_too_long, Restarts_used, Note, note_of, note_of_both, quiet_note, next_counter, Happens, ComesTo, Delivers, Moves, MovesTwice, TicksOn, Run, start, side_of, moved, noted, logged, marked_late, restarted, with_side, with_steps}
 use Rattle.gtp_machine.proofs.Basics.Facts.{one_more}
 
 -- where no delivery was late, none is kept as late
 abbrev pub NoneLate : World → Type 0
-NoneLate w = w.late ≡ 0 → (role : Role) (a : Arrival) → Among a (side_of w role).came_late → ⊥
+NoneLate w = w.late ≡ 0 → (role : Role) (a : Arrival) → Among a (side_of w role).late_requests → ⊥
 
-stays : (old new : World) → new.late ≡ old.late → ((role : Role) → (side_of new role).came_late ≡ (side_of old role).came_late) → NoneLate old → NoneLate new
+stays : (old new : World) → new.late ≡ old.late → ((role : Role) → (side_of new role).late_requests ≡ (side_of old role).late_requests) → NoneLate old → NoneLate new
 stays old new late same timely none role a has = timely (sym late ∙ none) role a (subst (λ l. Among a l) (same role) has)
 
 -- the world after a step of a gateway
@@ -27,7 +27,7 @@ late_after : (w : World) (role : Role) (e : Effect) (note : Note) (steps : List 
 late_after w Serving e note steps = refl
 late_after w Packet e note steps = refl
 
-came_after : (w : World) (role : Role) (e : Effect) (note : Note) (steps : List Done) (r : Role) → (side_of (after w role e note steps) r).came_late ≡ (side_of w r).came_late
+came_after : (w : World) (role : Role) (e : Effect) (note : Note) (steps : List Done) (r : Role) → (side_of (after w role e note steps) r).late_requests ≡ (side_of w r).late_requests
 came_after w Serving e note steps Serving = refl
 came_after w Serving e note steps Packet = refl
 came_after w Packet e note steps Serving = refl
@@ -42,7 +42,7 @@ moves_timely old role input new timely m =
     subst NoneLate (sym m.becomes) (after_timely old role m.effect (note_of m.effect.outcome m.effect.out) steps timely)
 
 -- two steps leave as many late deliveries as one
-came_moved : (w : World) (role : Role) (e : Effect) (r : Role) → (side_of (moved w role e) r).came_late ≡ (side_of w r).came_late
+came_moved : (w : World) (role : Role) (e : Effect) (r : Role) → (side_of (moved w role e) r).late_requests ≡ (side_of w r).late_requests
 came_moved w Serving e Serving = refl
 came_moved w Serving e Packet = refl
 came_moved w Packet e Serving = refl
@@ -60,7 +60,7 @@ ticks_timely old role new timely t =
     let steps = tick_steps (side_of old role).node t.moves t.out t.after t.tick in
     subst NoneLate (sym t.becomes) (after_timely old role (ticked t.out t.after) (note_of Ticked t.out) steps timely)
 
-same_noted : (w : World) (note : Note) (r : Role) → (side_of (noted w note) r).came_late ≡ (side_of w r).came_late
+same_noted : (w : World) (note : Note) (r : Role) → (side_of (noted w note) r).late_requests ≡ (side_of w r).late_requests
 same_noted w note Serving = refl
 same_noted w note Packet = refl
 
@@ -68,7 +68,7 @@ noted_timely : (w : World) (note : Note) → NoneLate w → NoneLate (noted w no
 noted_timely w note timely = stays w (noted w note) refl (same_noted w note) timely
 
 -- one was late
-late_timely : (w : World) (role : Role) (a : Arrival) → NoneLate (late_once w role a)
+late_timely : (w : World) (role : Role) (a : Arrival) → NoneLate (marked_late w role a)
 late_timely w role a none = absurd (one_more w.late none)
 
 restarted_timely : (w : World) (role : Role) (note : Note) → NoneLate w → NoneLate (with_steps (noted (with_side w role (restarted (side_of w role))) note) role [])

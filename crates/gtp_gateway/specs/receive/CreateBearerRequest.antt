@@ -21,7 +21,7 @@ use Rattle.gtp_machine.specs.declared.outcome.DropReason.TheVariants.{ContextNot
 use Rattle.gtp_machine.specs.Message.{Message, Create_bearer_response}
 use Rattle.gtp_machine.specs.Message as messages
 use Rattle.gtp_machine.specs.Node.{Arrival, Node, Session, Bearer, Dedicated, Active, written}
-use Rattle.gtp_machine.specs.Serving.{no_resources, BearerJudged, BearerAsked}
+use Rattle.gtp_machine.specs.Serving.{no_resources, BearerJudged, CreateBearerAsked}
 use Rattle.gtp_gateway.specs.declared.tables.change.Change.{Change}
 use Rattle.gtp_gateway.specs.declared.tables.change.Change.TheVariants.{Stays, MakesBearer}
 use Rattle.gtp_gateway.specs.declared.receive.create_bearer_request.BearerRequest.{BearerRequest}
@@ -152,4 +152,4 @@ CanGive found (Granted g) node = (s : Session) × (found ≡ Some s) × (s.state
 
 -- a Create Bearer Request was taken
 abbrev pub TakesCreateBearerRequest : Endpoint → List ℕ → BearerRequest → GatewayState → ControlStep → GatewayState → Type 0
-TakesCreateBearerRequest source octets r old step new = (q : messages.CreateBearerRequest) → SaysCreateBearer r q → IsRow (BearerAsked (arrival_of source octets) q) (arrival_of source octets) old.role old.node step new
+TakesCreateBearerRequest source octets r old step new = (q : messages.CreateBearerRequest) → SaysCreateBearer r q → IsRow (CreateBearerAsked (arrival_of source octets) q) (arrival_of source octets) old.role old.node step new

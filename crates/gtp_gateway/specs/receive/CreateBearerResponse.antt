@@ -10,7 +10,7 @@ use Rattle.gtp_machine.specs.Element.{teid_in}
 use Rattle.gtp_machine.specs.Message.{GivenBearer, Create_bearer_response}
 use Rattle.gtp_machine.specs.Message as messages
 use Rattle.gtp_machine.specs.Node.{Closing, Session, Bearer, Arrival, Node}
-use Rattle.gtp_machine.specs.Packet.{BearerAnswered}
+use Rattle.gtp_machine.specs.Packet.{CreateBearerAnswered}
 use Rattle.gtp_gateway.specs.declared.receive.create_bearer_response.AskedBearer.{AskedBearer}
 use Rattle.gtp_gateway.specs.declared.receive.create_bearer_response.BearerResponse.{BearerResponse}
 use Rattle.gtp_gateway.specs.declared.receive.response_context.ResponseContext.{ResponseContext}
@@ -72,9 +72,9 @@ pub record CanOpenIn (sessions : FiniteMap Session) (bearers : FiniteMap Bearer)
 
 -- the verdict is the machine's, and can be carried out
 pub record JudgesCreateBearerResponse (r : BearerResponse) (old : Node) (v : ResponseVerdict) : Type 0 where
-  pub judged : (x : messages.CreateBearerResponse) → SaysCreateBearerResponse r x → BearerAnswered x old (effect_by v x.number old)
+  pub judged : (x : messages.CreateBearerResponse) → SaysCreateBearerResponse r x → CreateBearerAnswered x old (effect_by v x.number old)
   pub can : CanApply v old
 
 -- a Create Bearer Response was taken
 abbrev pub TakesCreateBearerResponse : BearerResponse → Heard → GatewayState → ControlStep → GatewayState → Type 0
-TakesCreateBearerResponse r heard old step new = (request : Arrival) (x : messages.CreateBearerResponse) → SaysCreateBearerResponse r x → IsRow (BearerAnswered x) request old.role (node_heard heard old.node) step new
+TakesCreateBearerResponse r heard old step new = (request : Arrival) (x : messages.CreateBearerResponse) → SaysCreateBearerResponse r x → IsRow (CreateBearerAnswered x) request old.role (node_heard heard old.node) step new

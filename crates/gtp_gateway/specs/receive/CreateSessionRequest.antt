@@ -12,14 +12,14 @@ use Rattle.gtp_machine.specs.declared.causes.TheConstants.{NO_RESOURCES_AVAILABL
 use Rattle.gtp_machine.specs.declared.outcome.Outcome.TheVariants.{Answered}
 use Rattle.gtp_machine.specs.Choice.{HasDraws, HasSessionRoom, asked_by, CanGive}
 use Rattle.gtp_machine.specs.Element.{cause_of, tunnel_end}
-use Rattle.gtp_machine.specs.Command.{bearer_request, bearer_asked, pending_dedicated}
+use Rattle.gtp_machine.specs.Command.{bearer_request, create_bearer_asked, pending_dedicated}
 use Rattle.gtp_machine.specs.Config.{template_for}
 use Rattle.gtp_machine.specs.Input.{Effect}
 use Rattle.gtp_machine.specs.Message.{Message, Create_session_response, Create_bearer_request}
 use Rattle.gtp_machine.specs.Message as messages
 use Rattle.gtp_machine.specs.Node.{Active, Default, Session, Bearer, Arrival, Node, holding}
 use Rattle.gtp_machine.specs.Ordered.{Unless}
-use Rattle.gtp_machine.specs.Packet.{SessionJudged, SessionAsked, MakesSession, AnswersWith, session_cause, session_refused, session_response, made_session, session_made}
+use Rattle.gtp_machine.specs.Packet.{SessionJudged, CreateSessionAsked, MakesSession, AnswersWith, session_cause, session_refused, session_response, made_session, session_made}
 use Rattle.gtp_machine.specs.Answer.{making, refusing}
 use Rattle.gtp_machine.specs.Spelling.{datagram_of}
 use Rattle.gtp_gateway.specs.declared.tables.change.Change.{Change}
@@ -118,7 +118,7 @@ asked_with s a made = bearer_request made s a.template.tft a.template.qos a.draw
 
 -- a session that was made is answered together with that request, which waits from now on
 abbrev pub with_bearer : Arrival → messages.CreateSessionResponse → ℕ → ℕ → Session → AddedBearer → Node → Effect
-with_bearer request answer cause session s a made = making request (Create_session_response answer ∷ Create_bearer_request (asked_with s a made) ∷ []) cause (bearer_asked made session (asked_with s a made) a.drawn.teid.0)
+with_bearer request answer cause session s a made = making request (Create_session_response answer ∷ Create_bearer_request (asked_with s a made) ∷ []) cause (create_bearer_asked made session (asked_with s a made) a.drawn.teid.0)
 
 -- bearers with the default bearer of a session that is granted, and the bearer of the template
 abbrev pub bearers_with : SessionRequest → SessionGrant → AddedBearer → FiniteMap Bearer → FiniteMap Bearer
@@ -207,8 +207,8 @@ grants_with r g a node = grants r g node ∷ Create_bearer_request (asked_with (
 abbrev pub IsGrantedWith : Endpoint → List ℕ → SessionRequest → SessionGrant → AddedBearer → Heard → GatewayState → ControlStep → GatewayState → Type 0
 IsGrantedWith source octets r g a heard old step new =
     IsAnsweredSo source octets (grants_with r g a old.node) (session_cause r.pdn.0 g.address) true
-    (bearer_asked (changed_by (change_of r g) (node_heard heard old.node)) g.drawn.control.0 (asked_with (session_granted r g) a old.node) a.drawn.teid.0) old step new
+    (create_bearer_asked (changed_by (change_of r g) (node_heard heard old.node)) g.drawn.control.0 (asked_with (session_granted r g) a old.node) a.drawn.teid.0) old step new
 
 -- a Create Session Request was taken
 abbrev pub TakesCreateSessionRequest : Endpoint → List ℕ → SessionRequest → Heard → GatewayState → ControlStep → GatewayState → Type 0
-TakesCreateSessionRequest source octets r heard old step new = (q : messages.CreateSessionRequest) → SaysCreateSession r q → IsRow (SessionAsked (arrival_of source octets) q) (arrival_of source octets) old.role (node_heard heard old.node) step new
+TakesCreateSessionRequest source octets r heard old step new = (q : messages.CreateSessionRequest) → SaysCreateSession r q → IsRow (CreateSessionAsked (arrival_of source octets) q) (arrival_of source octets) old.role (node_heard heard old.node) step new

@@ -9,7 +9,7 @@ use Rattle.gtp_machine.specs.Message.{CreatedBearer, Create_session_response}
 use Rattle.gtp_machine.specs.Message as messages
 use Rattle.gtp_machine.specs.declared.outcome.DropReason.TheVariants.{OldCounter}
 use Rattle.gtp_machine.specs.Node.{Session, Bearer, Arrival, Node}
-use Rattle.gtp_machine.specs.Serving.{SessionAnswered}
+use Rattle.gtp_machine.specs.Serving.{CreateSessionAnswered}
 use Rattle.gtp_gateway.specs.declared.receive.response_context.ResponseContext.{ResponseContext}
 use Rattle.gtp_gateway.specs.declared.receive.restart_counter.Heard.{Heard}
 use Rattle.gtp_gateway.specs.declared.command.purpose.Purpose.{Purpose}
@@ -79,17 +79,17 @@ IsOfSession (OpensBearer teid bearer) node = ⊥
 
 -- the verdict is the machine's, and can be carried out
 pub record JudgesCreateSessionResponse (r : SessionResponse) (old : Node) (v : ResponseVerdict) : Type 0 where
-  pub judged : (a : messages.CreateSessionResponse) → SaysCreateSessionResponse r a → SessionAnswered a old (effect_by v a.number old)
+  pub judged : (a : messages.CreateSessionResponse) → SaysCreateSessionResponse r a → CreateSessionAnswered a old (effect_by v a.number old)
   pub can : CanApply v old
   pub of : IsOfSession v old
 
 -- the verdict is the machine's once the counter was heard, and can be carried out: with a counter of an earlier start the response is dropped
 pub record JudgesAnswer (r : SessionResponse) (heard : Heard) (old : Node) (v : ResponseVerdict) : Type 0 where
   pub early : IsEarlier heard → v ≡ Drops OldCounter
-  pub judged : (IsEarlier heard → ⊥) → (a : messages.CreateSessionResponse) → SaysCreateSessionResponse r a → SessionAnswered a (node_heard heard old) (effect_by v a.number (node_heard heard old))
+  pub judged : (IsEarlier heard → ⊥) → (a : messages.CreateSessionResponse) → SaysCreateSessionResponse r a → CreateSessionAnswered a (node_heard heard old) (effect_by v a.number (node_heard heard old))
   pub can : CanApply v (node_heard heard old)
   pub of : IsOfSession v (node_heard heard old)
 
 -- a Create Session Response was taken
 abbrev pub TakesCreateSessionResponse : SessionResponse → Heard → GatewayState → ControlStep → GatewayState → Type 0
-TakesCreateSessionResponse r heard old step new = (request : Arrival) (a : messages.CreateSessionResponse) → SaysCreateSessionResponse r a → IsRow (SessionAnswered a) request old.role (node_heard heard old.node) step new
+TakesCreateSessionResponse r heard old step new = (request : Arrival) (a : messages.CreateSessionResponse) → SaysCreateSessionResponse r a → IsRow (CreateSessionAnswered a) request old.role (node_heard heard old.node) step new

@@ -19,7 +19,7 @@ use Rattle.gtp_machine.specs.Message.{RemovedBearer, Delete_bearer_response}
 use Rattle.gtp_machine.specs.Message as messages
 use Rattle.gtp_machine.specs.Node.{Arrival, Session, Node, Pending, written}
 use Rattle.gtp_machine.specs.Removal.{without_bearer}
-use Rattle.gtp_machine.specs.Serving.{RemovalJudged, RemovalAsked}
+use Rattle.gtp_machine.specs.Serving.{DeleteBearerJudged, DeleteBearerAsked}
 use Rattle.gtp_gateway.specs.declared.receive.delete_session_request.DeleteRequest.{DeleteRequest}
 use Rattle.gtp_gateway.specs.declared.receive.delete_bearer_request.identities.NamedBearer.{NamedBearer}
 use Rattle.gtp_gateway.specs.declared.receive.delete_bearer_request.DeleteBearerAnswer.{DeleteBearerAnswer}
@@ -116,12 +116,12 @@ pub record IsForBearers (r : DeleteRequest) (header : ℕ) (old : Node) : Type 0
 
 -- an answer is the machine's, and what it changes can change
 pub record JudgesAnswer (r : DeleteRequest) (old : Node) (a : DeleteBearerAnswer) : Type 0 where
-  pub judged : (request : Arrival) (d : messages.DeleteBearerRequest) → SaysDeleteBearer r d → RemovalJudged request d old (delete_bearer_effect request d a old)
+  pub judged : (request : Arrival) (d : messages.DeleteBearerRequest) → SaysDeleteBearer r d → DeleteBearerJudged request d old (delete_bearer_effect request d a old)
   pub can : CanChange a.change old
 
 -- the verdict is the machine's, as far as the list is not looked at
 abbrev pub JudgesDeleteBearer : DeleteRequest → Node → DeleteBearerVerdict → Type 0
-JudgesDeleteBearer r old NotOpened = (request : Arrival) (d : messages.DeleteBearerRequest) → SaysDeleteBearer r d → RemovalJudged request d old (dropped old ContextNotActive)
+JudgesDeleteBearer r old NotOpened = (request : Arrival) (d : messages.DeleteBearerRequest) → SaysDeleteBearer r d → DeleteBearerJudged request d old (dropped old ContextNotActive)
 JudgesDeleteBearer r old (Answered answer) = JudgesAnswer r old answer
 JudgesDeleteBearer r old (Bearers header) = IsForBearers r header.0 old
 
@@ -131,9 +131,9 @@ AnswersDeleteBearer source octets number answer old step new = (d : messages.Del
 
 -- a Delete Bearer Request with these identities was taken
 abbrev pub EndsNamed : Endpoint → List ℕ → DeleteRequest → List EbiValue → GatewayState → ControlStep → GatewayState → Type 0
-EndsNamed source octets r identities old step new = (d : messages.DeleteBearerRequest) → SaysDeleteBearer r d → SaysIdentities identities d → IsRow (RemovalJudged (arrival_of source octets) d) (arrival_of source octets) old.role old.node step new
+EndsNamed source octets r identities old step new = (d : messages.DeleteBearerRequest) → SaysDeleteBearer r d → SaysIdentities identities d → IsRow (DeleteBearerJudged (arrival_of source octets) d) (arrival_of source octets) old.role old.node step new
 
 -- a Delete Bearer Request was taken, whatever identities are read in its list
 abbrev pub TakesDeleteBearerRequest : Endpoint → List ℕ → MessageValue → DeleteRequest → GatewayState → ControlStep → GatewayState → Type 0
 TakesDeleteBearerRequest source octets m r old step new =
-    (d : messages.DeleteBearerRequest) → SaysDeleteBearer r d → ((identities : List EbiValue) → ReadsIdentities m identities → SaysIdentities identities d) → IsRow (RemovalAsked (arrival_of source octets) d) (arrival_of source octets) old.role old.node step new
+    (d : messages.DeleteBearerRequest) → SaysDeleteBearer r d → ((identities : List EbiValue) → ReadsIdentities m identities → SaysIdentities identities d) → IsRow (DeleteBearerAsked (arrival_of source octets) d) (arrival_of source octets) old.role old.node step new

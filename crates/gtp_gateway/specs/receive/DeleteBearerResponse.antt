@@ -1,7 +1,7 @@
 -- Delete Bearer Responses that the packet gateway gets.
 use Rattle.std.specs.Prelude.{◌≡◌}
 use Rattle.gtp_machine.specs.Message as messages
-use Rattle.gtp_machine.specs.Packet.{RemovalAnswered}
+use Rattle.gtp_machine.specs.Packet.{DeleteBearerAnswered}
 use Rattle.gtp_machine.specs.Node.{Arrival}
 use Rattle.gtp_gateway.specs.declared.command.purpose.Purpose.{Purpose}
 use Rattle.gtp_gateway.specs.declared.command.purpose.Purpose.TheVariants.{ReleaseSession, DeleteBearer}
@@ -19,4 +19,4 @@ FitsDeleteBearerOf purpose r = ⊥
 
 -- a Delete Bearer Response was taken
 abbrev pub TakesDeleteBearerResponse : Response → GatewayState → ControlStep → GatewayState → Type 0
-TakesDeleteBearerResponse r old step new = (request : Arrival) (d : messages.DeleteBearerResponse) → d.header ≡ r.header.0 → d.number ≡ r.seq → d.cause ≡ r.cause → IsRow (RemovalAnswered d) request old.role old.node step new
+TakesDeleteBearerResponse r old step new = (request : Arrival) (d : messages.DeleteBearerResponse) → d.header ≡ r.header.0 → d.number ≡ r.seq → d.cause ≡ r.cause → IsRow (DeleteBearerAnswered d) request old.role old.node step new

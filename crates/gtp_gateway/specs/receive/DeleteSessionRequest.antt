@@ -12,7 +12,7 @@ use Rattle.gtp_machine.specs.Input.{Effect}
 use Rattle.gtp_machine.specs.Message.{Delete_session_response}
 use Rattle.gtp_machine.specs.Message as messages
 use Rattle.gtp_machine.specs.Node.{Arrival, Node, written}
-use Rattle.gtp_machine.specs.Packet.{DeletionJudged, DeletionAsked}
+use Rattle.gtp_machine.specs.Packet.{DeleteSessionJudged, DeleteSessionAsked}
 use Rattle.gtp_gateway.specs.declared.receive.delete_session_request.DeleteRequest.{DeleteRequest}
 use Rattle.gtp_gateway.specs.declared.receive.delete_session_request.DeleteSessionVerdict.{DeleteSessionVerdict}
 use Rattle.gtp_gateway.specs.declared.step.ControlStep.{ControlStep}
@@ -37,9 +37,9 @@ delete_session_effect request d v old = answered request (Delete_session_respons
 
 -- the verdict is the machine's, and what it changes can change
 pub record JudgesDeleteSession (r : DeleteRequest) (old : Node) (v : DeleteSessionVerdict) : Type 0 where
-  pub judged : (request : Arrival) → DeletionJudged request (delete_session_by r) old (delete_session_effect request (delete_session_by r) v old)
+  pub judged : (request : Arrival) → DeleteSessionJudged request (delete_session_by r) old (delete_session_effect request (delete_session_by r) v old)
   pub can : CanChange v.change old
 
 -- a Delete Session Request was taken
 abbrev pub TakesDeleteSessionRequest : Endpoint → List ℕ → DeleteRequest → GatewayState → ControlStep → GatewayState → Type 0
-TakesDeleteSessionRequest source octets r old step new = IsRow (DeletionAsked (arrival_of source octets) (delete_session_by r)) (arrival_of source octets) old.role old.node step new
+TakesDeleteSessionRequest source octets r old step new = IsRow (DeleteSessionAsked (arrival_of source octets) (delete_session_by r)) (arrival_of source octets) old.role old.node step new

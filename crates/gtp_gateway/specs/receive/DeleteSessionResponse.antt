@@ -1,7 +1,7 @@
 -- Delete Session Responses that the serving gateway gets.
 use Rattle.std.specs.Prelude.{◌≡◌}
 use Rattle.gtp_machine.specs.Message as messages
-use Rattle.gtp_machine.specs.Serving.{DeletionAnswered}
+use Rattle.gtp_machine.specs.Serving.{DeleteSessionAnswered}
 use Rattle.gtp_machine.specs.Node.{Arrival}
 use Rattle.gtp_gateway.specs.declared.command.purpose.Purpose.{Purpose}
 use Rattle.gtp_gateway.specs.declared.command.purpose.Purpose.TheVariants.{DeleteSession}
@@ -18,4 +18,4 @@ FitsDeleteSessionOf purpose r = ⊥
 
 -- a Delete Session Response was taken
 abbrev pub TakesDeleteSessionResponse : Response → GatewayState → ControlStep → GatewayState → Type 0
-TakesDeleteSessionResponse r old step new = (request : Arrival) (d : messages.DeleteSessionResponse) → d.header ≡ r.header.0 → d.number ≡ r.seq → d.cause ≡ r.cause → IsRow (DeletionAnswered d) request old.role old.node step new
+TakesDeleteSessionResponse r old step new = (request : Arrival) (d : messages.DeleteSessionResponse) → d.header ≡ r.header.0 → d.number ≡ r.seq → d.cause ≡ r.cause → IsRow (DeleteSessionAnswered d) request old.role old.node step new

@@ -9,7 +9,7 @@ ghost use Rattle.gtp_machine.specs.Message as messages;
 ghost use Rattle.gtp_gateway.specs.receive.Choosing.{MakesLowestBearer};
 ghost use Rattle.gtp_gateway.specs.receive.CreateBearerRequest.{HasBearerContext, ReadsCreateBearer, SaysCreateBearer, HasFitCause, bearer_answer, TakesCreateBearerRequest};
 ghost use Rattle.gtp_machine.specs.Node.{Arrival};
-ghost use Rattle.gtp_machine.specs.Serving.{BearerAsked};
+ghost use Rattle.gtp_machine.specs.Serving.{CreateBearerAsked};
 ghost use Rattle.gtp_gateway.specs.receive.Allocations.{AlwaysSendsOrOpens};
 ghost use Rattle.gtp_gateway.specs.messages.Own.{IsOwn};
 ghost use Rattle.gtp_gateway.specs.Parts.{node_of};
@@ -126,7 +126,7 @@ impl Parts {
             step.report.made ≡ true → MakesLowestBearer (node_of self.old) (node_of self.new)) }
         ensures memory { OnErr result ((arrival : Arrival) (q : messages.CreateBearerRequest)
             → SaysCreateBearer request.now q
-            → AlwaysSendsOrOpens (BearerAsked arrival q) (node_of self.old)) }
+            → AlwaysSendsOrOpens (CreateBearerAsked arrival q) (node_of self.old)) }
         ensures err { OnErr result (state_of self.new ≡ state_of self.old) }
     {
         if self.held.is_full() {

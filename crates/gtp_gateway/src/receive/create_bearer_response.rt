@@ -6,7 +6,7 @@ ghost use Rattle.gtp_v2.specs.Datagram.{IsMessage};
 ghost use Rattle.gtp_values.specs.declared.counter.Counter.{Counter as AnyCounter};
 ghost use Rattle.gtp_machine.specs.Message as messages;
 ghost use Rattle.gtp_machine.specs.Node.{Active};
-ghost use Rattle.gtp_machine.specs.Packet.{BearerAnswered};
+ghost use Rattle.gtp_machine.specs.Packet.{CreateBearerAnswered};
 ghost use Rattle.gtp_machine.specs.declared.message_type.MessageType.TheVariants as types;
 ghost use Rattle.gtp_gateway.specs.receive.CreateBearerResponse.{ReadsCreateBearerResponse, FitsCreateBearerOf, IsAskedBearer, CanOpenIn, SaysCreateBearerResponse, JudgesCreateBearerResponse, TakesCreateBearerResponse};
 ghost use Rattle.gtp_gateway.specs.receive.RestartCounter.{weighed_by, node_heard};
@@ -173,7 +173,7 @@ impl Parts {
         ensures unmade { IfOk result (λ step. step.report.made ≡ false) }
         ensures memory { OnErr result ((x : messages.CreateBearerResponse)
             → SaysCreateBearerResponse answer.now x
-            → AlwaysSendsOrOpens (BearerAnswered x) (node_heard heard (node_of self.old))) }
+            → AlwaysSendsOrOpens (CreateBearerAnswered x) (node_heard heard (node_of self.old))) }
         ensures err { OnErr result (state_of self.new ≡ state_of self.old) }
     {
         let verdict = self.judge_create_bearer_response(answer, heard);

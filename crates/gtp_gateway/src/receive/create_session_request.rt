@@ -12,7 +12,7 @@ ghost use Rattle.gtp_gateway.specs.receive.Choosing.{MakesLowestSession};
 ghost use Rattle.gtp_gateway.specs.receive.CreateSessionRequest.{session_granted, bearer_granted, change_of, grants, CanGrant, IsRefusedSession, IsGrantedSession, TakesCreateSessionRequest};
 ghost use Rattle.gtp_machine.specs.Message as messages;
 ghost use Rattle.gtp_machine.specs.Node.{Arrival};
-ghost use Rattle.gtp_machine.specs.Packet.{SessionAsked};
+ghost use Rattle.gtp_machine.specs.Packet.{CreateSessionAsked};
 ghost use Rattle.gtp_machine.specs.Reading.{control_message};
 ghost use Rattle.gtp_gateway.specs.messages.Own.{IsOwn};
 ghost use Rattle.gtp_gateway.specs.receive.RestartCounter.{weighed_by, node_heard};
@@ -209,7 +209,7 @@ impl Parts {
         ensures choices { IfOk result (λ step.
             step.report.made ≡ true → MakesLowestSession (node_of self.old) (node_of self.new)) }
         ensures memory { OnErr result ((arrival : Arrival) (q : messages.CreateSessionRequest)
-            → AlwaysSendsOrOpens (SessionAsked arrival q) (node_heard heard (node_of self.old))) }
+            → AlwaysSendsOrOpens (CreateSessionAsked arrival q) (node_heard heard (node_of self.old))) }
         ensures err { OnErr result (state_of self.new ≡ state_of self.old) }
     {
         if self.held.is_full() {

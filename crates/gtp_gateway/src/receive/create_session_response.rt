@@ -6,7 +6,7 @@ ghost use Rattle.gtp_v2.specs.Datagram.{IsMessage};
 ghost use Rattle.gtp_values.specs.declared.counter.Counter.{Counter as AnyCounter};
 ghost use Rattle.gtp_machine.specs.Message as messages;
 ghost use Rattle.gtp_machine.specs.Node.{Active};
-ghost use Rattle.gtp_machine.specs.Serving.{SessionAnswered};
+ghost use Rattle.gtp_machine.specs.Serving.{CreateSessionAnswered};
 ghost use Rattle.gtp_machine.specs.declared.message_type.MessageType.TheVariants as types;
 ghost use Rattle.gtp_gateway.specs.receive.RestartCounter.{weighed_by, node_heard};
 ghost use Rattle.gtp_gateway.specs.receive.Allocations.{AlwaysSendsOrOpens};
@@ -208,7 +208,7 @@ impl Parts {
         ensures unmade { IfOk result (λ step. step.report.made ≡ false) }
         ensures memory { OnErr result ((a : messages.CreateSessionResponse)
             → SaysCreateSessionResponse answer.now a
-            → AlwaysSendsOrOpens (SessionAnswered a) (node_heard heard (node_of self.old))) }
+            → AlwaysSendsOrOpens (CreateSessionAnswered a) (node_heard heard (node_of self.old))) }
         ensures err { OnErr result (state_of self.new ≡ state_of self.old) }
     {
         let verdict = self.judge_create_session_response(answer, heard);

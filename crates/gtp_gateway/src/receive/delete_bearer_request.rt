@@ -10,7 +10,7 @@ ghost use Rattle.gtp_v2.specs.Datagram.{IsMessage};
 ghost use Rattle.gtp_v2.specs.Viewed.{Carries};
 ghost use Rattle.gtp_machine.specs.Message as messages;
 ghost use Rattle.gtp_machine.specs.Node.{Arrival};
-ghost use Rattle.gtp_machine.specs.Serving.{RemovalAsked};
+ghost use Rattle.gtp_machine.specs.Serving.{DeleteBearerAsked};
 ghost use Rattle.gtp_gateway.specs.receive.DeleteBearerRequest.{JudgesDeleteBearer, SaysDeleteBearer, AnswersDeleteBearer, TakesDeleteBearerRequest};
 ghost use Rattle.gtp_gateway.specs.tables.Change.{CanChange};
 ghost use Rattle.gtp_gateway.specs.receive.Allocations.{AlwaysSendsOrOpens};
@@ -143,7 +143,7 @@ impl Parts {
         ensures unmade { IfOk result (λ step. step.report.made ≡ false) }
         ensures memory { OnErr result ((arrival : Arrival) (d : messages.DeleteBearerRequest)
             → SaysDeleteBearer request.now d
-            → AlwaysSendsOrOpens (RemovalAsked arrival d) (node_of self.old)) }
+            → AlwaysSendsOrOpens (DeleteBearerAsked arrival d) (node_of self.old)) }
         ensures err { OnErr result (state_of self.new ≡ state_of self.old) }
     {
         if self.held.is_full() {

@@ -3,7 +3,7 @@
 ghost use Rattle.gtp_gateway.specs.receive.Queues.{QueuesAfterMessage};
 ghost use Rattle.std.specs.Prelude.{◌≡◌, ◌↔◌, false, IsTrue, IfOk, OnOk, OnErr, option_map};
 ghost use Rattle.gtp_machine.specs.Node.{Arrival};
-ghost use Rattle.gtp_machine.specs.Packet.{IsLinkedTo, DeletionAsked};
+ghost use Rattle.gtp_machine.specs.Packet.{IsLinkedTo, DeleteSessionAsked};
 ghost use Rattle.gtp_gateway.specs.receive.DeleteSessionRequest.{ReadsDeleteSession, delete_session_by, JudgesDeleteSession, TakesDeleteSessionRequest};
 ghost use Rattle.gtp_gateway.specs.receive.Allocations.{AlwaysSendsOrOpens};
 ghost use Rattle.gtp_gateway.specs.Parts.{node_of};
@@ -113,7 +113,7 @@ impl Parts {
             (QueuesAfterMessage source octets.now (state_of self.old) (state_of self.new)) }
         ensures unmade { IfOk result (λ step. step.report.made ≡ false) }
         ensures memory { OnErr result ((arrival : Arrival)
-            → AlwaysSendsOrOpens (DeletionAsked arrival (delete_session_by request.now))
+            → AlwaysSendsOrOpens (DeleteSessionAsked arrival (delete_session_by request.now))
             (node_of self.old)) }
         ensures err { OnErr result (state_of self.new ≡ state_of self.old) }
     {

@@ -2,16 +2,16 @@
 use Rattle.std.proofs.Common.{◌≡◌, inl, inr, ℕ, ◌==◌, Bool, true, false, List, ◌∷◌, [], Option, Some, None, refl, sym, ◌∙◌, ap, subst}
 use Rattle.gtp_values.specs.PdnAddress.{PdnAddress}
 use Rattle.gtp_machine.specs.Choice.{IsFree, IsFreeNumber}
-use Rattle.gtp_machine.specs.Command.{bearer_request, bearer_asked as begun_bearer}
+use Rattle.gtp_machine.specs.Command.{bearer_request, create_bearer_asked as begun_bearer}
 use Rattle.gtp_machine.specs.Element.{cause_of}
 use Rattle.gtp_machine.specs.Message.{CreateSessionRequest, DeleteSessionRequest, CreateBearerRequest, DeleteBearerRequest, RemovedBearer, Create_session_response, Create_bearer_request}
 use Rattle.gtp_machine.specs.Node.{Role, Serving, Packet, Session, Arrival, Node}
 use Rattle.gtp_machine.specs.Input.{Answered, EventOutcome, Came_to, ControlReading, Control_came, Input, FaultyRequest}
 use Rattle.gtp_machine.specs.Removal.{without_bearer}
-use Rattle.gtp_machine.specs.Serving.{MakesBearer, BearerAsked, RemovesEach, RemovesBearers, RemovalTaken, RemovalAsked}
+use Rattle.gtp_machine.specs.Serving.{MakesBearer, CreateBearerAsked, RemovesEach, RemovesBearers, DeleteBearerTaken, DeleteBearerAsked}
 use Rattle.gtp_machine.specs.Config.{Template, template_for}
 use Rattle.gtp_machine.specs.Answer.{making, Faulted}
-use Rattle.gtp_machine.specs.Packet.{session_cause, session_response, made_session, session_made, AddsBearer, AnswersWith, MakesSession, SessionAsked, DeletionAsked}
+use Rattle.gtp_machine.specs.Packet.{session_cause, session_response, made_session, session_made, AddsBearer, AnswersWith, MakesSession, CreateSessionAsked, DeleteSessionAsked}
 use Rattle.gtp_machine.specs.Sound.{AreApart}
 use Rattle.gtp_machine.proofs.Determined.Alike.{Fits, WaitsBeside, Alike, Determines, the_same, says_it, by_effects, unless_plain, unless_one}
 use Rattle.gtp_machine.proofs.Determined.Witnesses.{IsLeft, was_session, was_bearer, undrawn_before, apart_left, one_session, one_named}
@@ -106,15 +106,15 @@ module _ {first : Node} {reading : ControlReading} (request : Arrival) (old : No
         cc;
   })
 
-  pub session_asked : (q : CreateSessionRequest) → Determines (Alike Packet first (Control_came request reading)) (SessionAsked request q old)
-  session_asked q = unless_plain says_it (unless_plain says_it (unless_plain says_it (unless_plain says_it (unless_plain says_it (unless_plain says_it (unless_plain says_it (makes_session q)))))))
+  pub create_session_asked : (q : CreateSessionRequest) → Determines (Alike Packet first (Control_came request reading)) (CreateSessionAsked request q old)
+  create_session_asked q = unless_plain says_it (unless_plain says_it (unless_plain says_it (unless_plain says_it (unless_plain says_it (unless_plain says_it (unless_plain says_it (makes_session q)))))))
 
-  pub bearer_asked : (q : CreateBearerRequest) → Determines (Alike Serving first (Control_came request reading)) (BearerAsked request q old)
-  bearer_asked q = unless_plain says_it (unless_one (one_session old q.header) says_it (λ at. unless_plain says_it (unless_plain says_it (unless_plain says_it (unless_plain says_it (makes_bearer q at.session))))))
+  pub create_bearer_asked : (q : CreateBearerRequest) → Determines (Alike Serving first (Control_came request reading)) (CreateBearerAsked request q old)
+  create_bearer_asked q = unless_plain says_it (unless_one (one_session old q.header) says_it (λ at. unless_plain says_it (unless_plain says_it (unless_plain says_it (unless_plain says_it (makes_bearer q at.session))))))
 
 module _ {role : Role} {first : Node} {input : Input} (request : Arrival) (old : Node) where
-  pub deletion_asked : (d : DeleteSessionRequest) → Determines (Alike role first input) (DeletionAsked request d old)
-  deletion_asked d = unless_plain says_it (unless_one (one_session old d.header) says_it (λ at. unless_plain says_it says_it))
+  pub delete_session_asked : (d : DeleteSessionRequest) → Determines (Alike role first input) (DeleteSessionAsked request d old)
+  delete_session_asked d = unless_plain says_it (unless_one (one_session old d.header) says_it (λ at. unless_plain says_it says_it))
 
   module _ (apart : AreApart old.bearers) where
     removes_bearers : (d : DeleteBearerRequest) (at : Session) → Determines (Alike role first input) (RemovesBearers request d old at)
@@ -124,12 +124,12 @@ module _ {role : Role} {first : Node} {input : Input} (request : Arrival) (old :
         let node : r.left ≡ s.left = found.1 in
         the_same e f cc
 
-    removal_taken : (d : DeleteBearerRequest) (linked : Option ℕ) (at : Session) → Determines (Alike role first input) (RemovalTaken request d linked old at)
-    removal_taken d (Some identity) at = unless_plain says_it says_it
-    removal_taken d None at = unless_plain says_it (removes_bearers d at)
+    delete_bearer_taken : (d : DeleteBearerRequest) (linked : Option ℕ) (at : Session) → Determines (Alike role first input) (DeleteBearerTaken request d linked old at)
+    delete_bearer_taken d (Some identity) at = unless_plain says_it says_it
+    delete_bearer_taken d None at = unless_plain says_it (removes_bearers d at)
 
-    pub removal_asked : (d : DeleteBearerRequest) → Determines (Alike role first input) (RemovalAsked request d old)
-    removal_asked d = unless_plain says_it (unless_one (one_session old d.header) says_it (λ at. unless_plain says_it (removal_taken d d.linked at.session)))
+    pub delete_bearer_asked : (d : DeleteBearerRequest) → Determines (Alike role first input) (DeleteBearerAsked request d old)
+    delete_bearer_asked d = unless_plain says_it (unless_one (one_session old d.header) says_it (λ at. unless_plain says_it (delete_bearer_taken d d.linked at.session)))
 
   pub faulted_once : (q : FaultyRequest) (answered : Bool) → Determines (Alike role first input) (Faulted answered request q old)
   faulted_once q true = says_it

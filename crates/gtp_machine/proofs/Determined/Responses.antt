@@ -5,8 +5,8 @@ use Rattle.gtp_machine.specs.Message.{Echo, CreateSessionRequest, CreateSessionR
 use Rattle.gtp_machine.specs.Node.{Role, Session, Node}
 use Rattle.gtp_machine.specs.Input.{Input}
 use Rattle.gtp_machine.specs.Response.{EchoAnswered}
-use Rattle.gtp_machine.specs.Serving.{OpensSession, SessionAnswered, DeletionAnswered}
-use Rattle.gtp_machine.specs.Packet.{OpensBearer, BearerAnswered, RemovalAnswered}
+use Rattle.gtp_machine.specs.Serving.{OpensSession, CreateSessionAnswered, DeleteSessionAnswered}
+use Rattle.gtp_machine.specs.Packet.{OpensBearer, CreateBearerAnswered, DeleteBearerAnswered}
 use Rattle.gtp_machine.proofs.Basics.Facts.{one_value}
 use Rattle.gtp_machine.proofs.Determined.Alike.{Alike, Determines, the_same, says_it, unless_plain, unless_moved, unless_one}
 use Rattle.gtp_machine.proofs.Determined.Witnesses.{one_pending}
@@ -20,8 +20,8 @@ module _ {role : Role} {first : Node} {input : Input} (old : Node) where
       let bearer : r.default.bearer ≡ s.default.bearer = one_value _ _ _ r.default.stands s.default.stands in
       the_same e f cc
 
-  pub session_answered : (a : CreateSessionResponse) → Determines (Alike role first input) (SessionAnswered a old)
-  session_answered a =
+  pub create_session_answered : (a : CreateSessionResponse) → Determines (Alike role first input) (CreateSessionAnswered a old)
+  create_session_answered a =
       unless_one (one_pending old a.number) says_it (λ at.
       unless_moved
       (λ fits other f s.
@@ -39,16 +39,16 @@ module _ {role : Role} {first : Node} {input : Input} (old : Node) where
       says_it (λ new.
       unless_plain says_it (opens_session a fits.request fits.session new.at.session new.address)))))
 
-  pub deletion_answered : (d : DeleteSessionResponse) → Determines (Alike role first input) (DeletionAnswered d old)
-  deletion_answered d = unless_one (one_pending old d.number) says_it (λ at. unless_plain says_it says_it)
+  pub delete_session_answered : (d : DeleteSessionResponse) → Determines (Alike role first input) (DeleteSessionAnswered d old)
+  delete_session_answered d = unless_one (one_pending old d.number) says_it (λ at. unless_plain says_it says_it)
 
   opens_bearer : (x : CreateBearerResponse) (bearer : ℕ) → Determines (Alike role first input) (OpensBearer old x bearer)
   opens_bearer x bearer e f r s =
       let found : r.at.bearer ≡ s.at.bearer = one_value _ _ _ r.at.stands s.at.stands in
       the_same e f cc
 
-  pub bearer_answered : (x : CreateBearerResponse) → Determines (Alike role first input) (BearerAnswered x old)
-  bearer_answered x =
+  pub create_bearer_answered : (x : CreateBearerResponse) → Determines (Alike role first input) (CreateBearerAnswered x old)
+  create_bearer_answered x =
       unless_one (one_pending old x.number) says_it (λ at.
       unless_moved
       (λ fits other f s.
@@ -64,5 +64,5 @@ module _ {role : Role} {first : Node} {input : Input} (old : Node) where
       says_it (λ new.
       unless_plain says_it (unless_plain says_it (unless_plain says_it (opens_bearer x fits.bearer)))))))
 
-  pub removal_answered : (d : DeleteBearerResponse) → Determines (Alike role first input) (RemovalAnswered d old)
-  removal_answered d = unless_one (one_pending old d.number) says_it (λ at. unless_plain says_it says_it)
+  pub delete_bearer_answered : (d : DeleteBearerResponse) → Determines (Alike role first input) (DeleteBearerAnswered d old)
+  delete_bearer_answered d = unless_one (one_pending old d.number) says_it (λ at. unless_plain says_it says_it)

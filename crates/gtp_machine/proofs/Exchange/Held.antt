@@ -12,7 +12,7 @@ use Rattle.gtp_machine.specs.Tick.{TickStep, ticked}
 use Rattle.gtp_machine.specs.Step.{Step}
 use Rattle.gtp_machine.specs.Answer.{IsNew}
 use Rattle.gtp_machine.specs.Spelling.{spelled, announcing, datagram_plane}
-use Rattle.gtp_machine.specs.World.{World, Sent, HasSent, Note, Event, Does, Tick, Deliver, Cut, Restart, Happens, Delivers, Moves, ComesTo, fault_of_cut, first_came, second_came, note_of_both, Run, other, side_of, with_side, with_steps, signed, moved, noted, late_once, arrival, delivered_on, cut_on, restarted, start, quiet_note, No_such_datagram, Cut_too_long, Restarts_used}
+use Rattle.gtp_machine.specs.World.{World, Sent, HasSent, Note, Event, Does, Tick, Deliver, Cut, Restart, Happens, Delivers, Moves, ComesTo, fault_of_cut, first_came, second_came, note_of_both, Run, other, side_of, with_side, with_steps, signed, moved, noted, marked_late, arrival, delivered_on, cut_on, restarted, start, quiet_note, No_such_datagram, Cut_too_long, Restarts_used}
 use Rattle.gtp_machine.proofs.Basics.FiniteMaps.{Among-one_more}
 use Rattle.gtp_machine.proofs.Origins.Drawing.{by_before}
 use Rattle.gtp_machine.proofs.Changes.Shrinking.{Shrunk-finished}
@@ -122,7 +122,7 @@ noted_held : (w : World) (note : Note) → HeldOfSent w → HeldOfSent (noted w 
 noted_held w note held Serving = held Serving
 noted_held w note held Packet = held Packet
 
-late_held : (w : World) (role : Role) (a : Arrival) → HeldOfSent w → HeldOfSent (late_once w role a)
+late_held : (w : World) (role : Role) (a : Arrival) → HeldOfSent w → HeldOfSent (marked_late w role a)
 late_held w Serving a held Serving = held Serving
 late_held w Serving a held Packet = held Packet
 late_held w Packet a held Serving = held Serving
@@ -151,9 +151,9 @@ module _ (own : Addresses) where
   -- a datagram of one message that its sender sent comes, on time or late
   delivers : (w : World) → run.Invariant own w → HeldOfSent w → (sender : Role) (m : Message) → HasSent w.history sender m → (new : World) → Delivers w sender (m ∷ []) new → HeldOfSent new
   delivers w inv held Packet m sent new (inl d) = brought w inv held Serving (plane_of m) m sent refl new (alone_comes w Serving w.packet.node.config.own new m d.1)
-  delivers w inv held Packet m sent new (inr d) = let w1 = late_once w Serving (arrival w.packet.node.config.own m) in brought w1 (run.late_keeps own w inv Serving _) (late_held w Serving _ held) Serving (plane_of m) m sent refl new (alone_comes w1 Serving w.packet.node.config.own new m d.1)
+  delivers w inv held Packet m sent new (inr d) = let w1 = marked_late w Serving (arrival w.packet.node.config.own m) in brought w1 (run.late_keeps own w inv Serving _) (late_held w Serving _ held) Serving (plane_of m) m sent refl new (alone_comes w1 Serving w.packet.node.config.own new m d.1)
   delivers w inv held Serving m sent new (inl d) = brought w inv held Packet (plane_of m) m sent refl new (alone_comes w Packet w.serving.node.config.own new m d.1)
-  delivers w inv held Serving m sent new (inr d) = let w1 = late_once w Packet (arrival w.serving.node.config.own m) in brought w1 (run.late_keeps own w inv Packet _) (late_held w Packet _ held) Packet (plane_of m) m sent refl new (alone_comes w1 Packet w.serving.node.config.own new m d.1)
+  delivers w inv held Serving m sent new (inr d) = let w1 = marked_late w Packet (arrival w.serving.node.config.own m) in brought w1 (run.late_keeps own w inv Packet _) (late_held w Packet _ held) Packet (plane_of m) m sent refl new (alone_comes w1 Packet w.serving.node.config.own new m d.1)
 
   -- a pair comes as a whole, and nothing comes to be held
   whole_held : (w : World) → run.Invariant own w → HeldOfSent w → (role : Role) (request : Arrival) (new : World) → Moves w role (Control_came request (Control_message (Other_control 0))) new → HeldOfSent new
@@ -181,9 +181,9 @@ module _ (own : Addresses) where
 
   delivers_pair : (w : World) → run.Invariant own w → HeldOfSent w → (sender : Role) (a : CreateSessionResponse) (r : CreateBearerRequest) → HasSent w.history sender (Create_session_response a) → HasSent w.history sender (Create_bearer_request r) → (new : World) → Delivers w sender (Create_session_response a ∷ Create_bearer_request r ∷ []) new → HeldOfSent new
   delivers_pair w inv held Packet a r a_sent r_sent new (inl d) = pair_held w inv held a r a_sent r_sent new d.1
-  delivers_pair w inv held Packet a r a_sent r_sent new (inr d) = let x = arrival w.packet.node.config.own (Create_bearer_request r) in pair_held (late_once w Serving x) (run.late_keeps own w inv Serving x) (late_held w Serving x held) a r a_sent r_sent new d.1
+  delivers_pair w inv held Packet a r a_sent r_sent new (inr d) = let x = arrival w.packet.node.config.own (Create_bearer_request r) in pair_held (marked_late w Serving x) (run.late_keeps own w inv Serving x) (late_held w Serving x held) a r a_sent r_sent new d.1
   delivers_pair w inv held Serving a r a_sent r_sent new (inl d) = whole_held w inv held Packet _ new (run.to_packet own w w.serving.node.config.own a r new d.1)
-  delivers_pair w inv held Serving a r a_sent r_sent new (inr d) = let x = arrival w.serving.node.config.own (Create_bearer_request r) in whole_held (late_once w Packet x) (run.late_keeps own w inv Packet x) (late_held w Packet x held) Packet _ new (run.to_packet own (late_once w Packet x) w.serving.node.config.own a r new d.1)
+  delivers_pair w inv held Serving a r a_sent r_sent new (inr d) = let x = arrival w.serving.node.config.own (Create_bearer_request r) in whole_held (marked_late w Packet x) (run.late_keeps own w inv Packet x) (late_held w Packet x held) Packet _ new (run.to_packet own (marked_late w Packet x) w.serving.node.config.own a r new d.1)
 
   delivers_few : (w : World) → run.Invariant own w → HeldOfSent w → (sender : Role) (datagram : List Message) → IsFew datagram → ((m : Message) → Among m datagram → HasSent w.history sender m) → (new : World) → Delivers w sender datagram new → HeldOfSent new
   delivers_few w inv held sender =

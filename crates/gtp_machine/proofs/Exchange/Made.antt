@@ -25,7 +25,7 @@ use Rattle.gtp_machine.specs.Recovery.{heard_by}
 use Rattle.gtp_machine.specs.Reading.{control_reading}
 use Rattle.gtp_machine.specs.Spelling.{ReadsAs, spelled, announcing, IsSendable}
 use Rattle.gtp_machine.specs.Step.{Step}
-use Rattle.gtp_machine.specs.World.{World, Sent, SentDatagram, HasSent, Side, Event, Does, Deliver, Happens, Delivers, Moves, Run, other, side_of, signed, late_once, come_from, arrival, first_came, second_came, delivered_on, start}
+use Rattle.gtp_machine.specs.World.{World, Sent, SentDatagram, HasSent, Side, Event, Does, Deliver, Happens, Delivers, Moves, Run, other, side_of, signed, marked_late, come_from, arrival, first_came, second_came, delivered_on, start}
 use Rattle.gtp_machine.specs.Exchange.{AllRead, IsOnePath, IsTemplate, IsConfigured, IsSpecified, CanExchange, CameTo, Carries, IsMade, Exchanged, FairExchange, ExchangeSendable}
 use Rattle.gtp_machine.proofs.Basics.Ages.{earlier_start}
 use Rattle.gtp_machine.proofs.Basics.FiniteMaps.{get-insert_same, Among-left, Among-right, Among-last}
@@ -78,8 +78,8 @@ record IsBrought (old : World) (sender : Role) (m : Message) (new : World) : Typ
 
 delivered_is : (old : World) (sender : Role) (m : Message) (new : World) → Delivers old sender (m ∷ []) new → IsBrought old sender m new
 delivered_is old sender m new (inl d) = record { before = old; serving = refl; packet = refl; history = refl; listed = refl; accepted = refl; moves = alone_comes old (other sender) (side_of old sender).node.config.own new m d.1 }
-delivered_is old Serving m new (inr d) = let late = late_once old Packet (arrival old.serving.node.config.own m) in record { before = late; serving = refl; packet = refl; history = refl; listed = refl; accepted = refl; moves = alone_comes late Packet old.serving.node.config.own new m d.1 }
-delivered_is old Packet m new (inr d) = let late = late_once old Serving (arrival old.packet.node.config.own m) in record { before = late; serving = refl; packet = refl; history = refl; listed = refl; accepted = refl; moves = alone_comes late Serving old.packet.node.config.own new m d.1 }
+delivered_is old Serving m new (inr d) = let late = marked_late old Packet (arrival old.serving.node.config.own m) in record { before = late; serving = refl; packet = refl; history = refl; listed = refl; accepted = refl; moves = alone_comes late Packet old.serving.node.config.own new m d.1 }
+delivered_is old Packet m new (inr d) = let late = marked_late old Serving (arrival old.packet.node.config.own m) in record { before = late; serving = refl; packet = refl; history = refl; listed = refl; accepted = refl; moves = alone_comes late Serving old.packet.node.config.own new m d.1 }
 
 delivered_so : (old : World) (sender : Role) (datagram : List Message) (number : ℕ) (new : World) → slice_get old.datagrams number ≡ Some (record { role = sender; what = datagram }) → Happens old (Deliver number) new → Delivers old sender datagram new
 delivered_so old sender datagram number new stands h =
@@ -105,7 +105,7 @@ brought_apart old a r new peer (inl d) =
     let m = (peer_comes old Serving old.packet.node.config.own new a r refl peer d.1).moves in
     record { effect = m.effect; step = m.step; next = m.next; follows = m.follows; node = ap (λ (w : World). w.serving.node) m.becomes; elsewhere = ap (λ (w : World). w.packet.node) m.becomes; history = ap (λ (w : World). w.history) m.becomes; note = record { note = _; before = _; notes = ap (λ (w : World). w.notes) m.becomes; is = refl } }
 brought_apart old a r new peer (inr d) =
-    let m = (peer_comes (late_once old Serving (arrival old.packet.node.config.own (Create_bearer_request r))) Serving old.packet.node.config.own new a r refl peer d.1).moves in
+    let m = (peer_comes (marked_late old Serving (arrival old.packet.node.config.own (Create_bearer_request r))) Serving old.packet.node.config.own new a r refl peer d.1).moves in
     record { effect = m.effect; step = m.step; next = m.next; follows = m.follows; node = ap (λ (w : World). w.serving.node) m.becomes; elsewhere = ap (λ (w : World). w.packet.node) m.becomes; history = ap (λ (w : World). w.history) m.becomes; note = record { note = _; before = _; notes = ap (λ (w : World). w.notes) m.becomes; is = refl } }
 
 -- the counter that a gateway tells is not earlier than one that was heard of it

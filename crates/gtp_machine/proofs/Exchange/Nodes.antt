@@ -20,10 +20,10 @@ use Rattle.gtp_machine.specs.Input.{Came_to, Specification, Control_came, Contro
 use Rattle.gtp_machine.specs.Choice.{IsFree, HasDraws, HasFreeIdentity, HasSession, HasFreeAddress, AsksFor, IsPart, IsGiven, CanGive, IsServed, IsIdentity, HasSessionRoom, HasPendingRoom, HasHeldRoom}
 use Rattle.gtp_machine.specs.Removal.{on, is_pending, is_opened}
 use Rattle.gtp_machine.specs.Recovery.{peer_restarted, Judges, Weighs, learned_by, Hears, heard_at_age, heard_from, heard_by}
-use Rattle.gtp_machine.specs.Command.{bearer_request, bearer_asked, pending_dedicated, BeginsSession, SessionBegun, pending_session, pending_bearer}
+use Rattle.gtp_machine.specs.Command.{bearer_request, create_bearer_asked, pending_dedicated, BeginsSession, SessionBegun, pending_session, pending_bearer}
 use Rattle.gtp_machine.specs.Answer.{IsNew, making}
-use Rattle.gtp_machine.specs.Serving.{bearer_refused, resources_refused, opened_session, opened_bearer, SessionAnswered, bearer_response, granted_bearer, MakesBearer, no_resources, BearerAsked, ServingTakes}
-use Rattle.gtp_machine.specs.Packet.{session_cause, session_response, made_session, made_bearer, session_made, MakesSession, SessionAsked, PacketTakes}
+use Rattle.gtp_machine.specs.Serving.{bearer_refused, resources_refused, opened_session, opened_bearer, CreateSessionAnswered, bearer_response, granted_bearer, MakesBearer, no_resources, CreateBearerAsked, ServingTakes}
+use Rattle.gtp_machine.specs.Packet.{session_cause, session_response, made_session, made_bearer, session_made, MakesSession, CreateSessionAsked, PacketTakes}
 use Rattle.gtp_machine.specs.Step.{Step}
 use Rattle.gtp_machine.proofs.Basics.Counting.{len-kept_most}
 use Rattle.gtp_machine.proofs.Basics.FiniteMaps.{get-kept, get-insert_same, get-insert_other, Among-cases}
@@ -152,7 +152,7 @@ can_still old mid ready q can = record {
   draws = record { left = subst (λ (l : List ℕ). length l + 2 ≤ 16777215) (sym ready.drawn) can.draws.left };
 }
 
-makes : (request : Arrival) (q : CreateSessionRequest) (old : Node) (e : Effect) → CanMake old q → CanGive old q.pdn → SessionAsked request q old e → MakesSession request old q e
+makes : (request : Arrival) (q : CreateSessionRequest) (old : Node) (e : Effect) → CanMake old q → CanGive old q.pdn → CreateSessionAsked request q old e → MakesSession request old q e
 makes request q old e can give r = (pass give (pass (can.few, can.draws) (pass (served old q.pdn give) (pass can.configured (pass can.identity (pass can.one (pass can.room r).1).1).1).1).1).1).1
 
 -- what the packet gateway makes of the request
@@ -207,7 +207,7 @@ pub record OpensBy (a : CreateSessionResponse) (q : CreateSessionRequest) (addre
   pub both : IsAccepting context.cause
   pub given : address_of a.address ≡ Some address
 
-opens : (a : CreateSessionResponse) (q : CreateSessionRequest) (mid : Node) (e : Effect) (address : PdnAddress) → Waits mid q → OpensBy a q address → SessionAnswered a mid e → e ≡ opening a q mid address
+opens : (a : CreateSessionResponse) (q : CreateSessionRequest) (mid : Node) (e : Effect) (address : PdnAddress) → Waits mid q → OpensBy a q address → CreateSessionAnswered a mid e → e ≡ opening a q mid address
 opens a q mid e address waits by r =
     let at = pass (record { pending = waiting_for q; waits = ap (λ n. get mid.pending n) by.number ∙ waits.request }) r in
     let same_p : waiting_for q ≡ at.0.pending = same_Some _ _ (sym (ap (λ n. get mid.pending n) by.number ∙ waits.request) ∙ at.0.waits) in
@@ -279,7 +279,7 @@ goes_out request q old e r = ⊎_elim alone added (goes request (session_respons
         let b = bearer_request (session_made old q r.control r.user r.address) (made_session q r.address) x.template.tft x.template.qos x.adds.user x.adds.number in
         record {
           more = Create_bearer_request b ∷ [];
-          left = bearer_asked (session_made old q r.control r.user r.address) r.control b x.adds.user;
+          left = create_bearer_asked (session_made old q r.control r.user r.address) r.control b x.adds.user;
           gives = x.adds.gives;
           config = refl;
           sessions = refl;
@@ -311,7 +311,7 @@ module _ (request : Arrival) (r : CreateBearerRequest) (s : Session) (old : Node
     says = λ m among. says m (subst (λ (k : Effect). Among m (messages k.out.sent)) gives among);
   }
 
-  asked_so : get old.sessions r.header ≡ Some s → s.state ≡ Active → r.further ≡ [] → r.linked ≡ s.subscriber.identity → BearerAsked request r old e → IsAsked r s old e
+  asked_so : get old.sessions r.header ≡ Some s → s.state ≡ Active → r.further ≡ [] → r.linked ≡ s.subscriber.identity → CreateBearerAsked request r old e → IsAsked r s old e
   asked_so stands active one linked (inl full) = stays_so _ full.1 refl refl refl (λ m none. absurd none)
   asked_so stands active one linked (inr (room, judged)) = by (pass (record { session = s; stands = stands }) judged)
     where

@@ -178,7 +178,7 @@ module _ (side : Side) (role : Role) (history : List Sent) (drawing : Drawing si
   }
 
   -- a late delivery that is noted changes nothing of this
-  pub Drawing-marked : (a : Arrival) → Drawing (record side { came_late = a ∷ side.came_late }) role history
+  pub Drawing-marked : (a : Arrival) → Drawing (record side { late_requests = a ∷ side.late_requests }) role history
   Drawing-marked a = record {
     counter = drawing.counter;
     few = drawing.few;

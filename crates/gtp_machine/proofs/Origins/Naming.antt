@@ -17,10 +17,10 @@ use Rattle.gtp_machine.specs.Command.{SessionBegun, SessionDeleted, BearerBegun,
 use Rattle.gtp_machine.specs.MessageType.{takes_message}
 use Rattle.gtp_machine.specs.Answer.{TakesReading, ControlStep}
 use Rattle.gtp_machine.specs.Move.{MoveStep}
-use Rattle.gtp_machine.specs.Serving.{SessionAnswered, DeletionAnswered, BearerAsked, RemovalTaken, RemovalAsked, ServingTakes}
+use Rattle.gtp_machine.specs.Serving.{CreateSessionAnswered, DeleteSessionAnswered, CreateBearerAsked, DeleteBearerTaken, DeleteBearerAsked, ServingTakes}
 use Rattle.gtp_machine.specs.Config.{template_for}
 use Rattle.gtp_machine.proofs.Basics.Templates.{goes}
-use Rattle.gtp_machine.specs.Packet.{session_cause, session_response, made_session, session_made, SessionAsked, DeletionAsked, BearerAnswered, RemovalAnswered, PacketTakes}
+use Rattle.gtp_machine.specs.Packet.{session_cause, session_response, made_session, session_made, CreateSessionAsked, DeleteSessionAsked, CreateBearerAnswered, DeleteBearerAnswered, PacketTakes}
 use Rattle.gtp_machine.specs.World.{other, Sent, HasSent, signed}
 use Rattle.gtp_machine.specs.Laws.{TeidWasDrawn, NamedTeidWasDrawn, EachNamedTeidWasDrawn}
 use Rattle.gtp_machine.proofs.Basics.FiniteMaps.{Among-cases}
@@ -219,97 +219,97 @@ module _ (history : List Sent) (role : Role) where
 
 module _ (history : List Sent) where
   module _ (old : Node) (back : Back history Serving old) where
-    session_answered : (a : _) (e : Effect) → SessionAnswered a old e → Told history Serving e
-    session_answered a e (inl f) = at history Serving e _ f.1 (silent history Serving)
-    session_answered a e (inr (b, inl f)) = at history Serving e _ f.1 (silent history Serving)
-    session_answered a e (inr (b, inr (c, inl f))) = at history Serving e _ f.1 (silent history Serving)
-    session_answered a e (inr (b, inr (c, inr (d, inl f)))) = at history Serving e _ f.1 (silent history Serving)
-    session_answered a e (inr (b, inr (c, inr (d, inr (g, inl f))))) = at history Serving e _ f.1 (silent history Serving)
-    session_answered a e (inr (b, inr (c, inr (d, inr (g, inr (h, r)))))) = at history Serving e _ r.gives (silent history Serving)
+    create_session_answered : (a : _) (e : Effect) → CreateSessionAnswered a old e → Told history Serving e
+    create_session_answered a e (inl f) = at history Serving e _ f.1 (silent history Serving)
+    create_session_answered a e (inr (b, inl f)) = at history Serving e _ f.1 (silent history Serving)
+    create_session_answered a e (inr (b, inr (c, inl f))) = at history Serving e _ f.1 (silent history Serving)
+    create_session_answered a e (inr (b, inr (c, inr (d, inl f)))) = at history Serving e _ f.1 (silent history Serving)
+    create_session_answered a e (inr (b, inr (c, inr (d, inr (g, inl f))))) = at history Serving e _ f.1 (silent history Serving)
+    create_session_answered a e (inr (b, inr (c, inr (d, inr (g, inr (h, r)))))) = at history Serving e _ r.gives (silent history Serving)
 
-    deletion_answered : (d : _) (e : Effect) → DeletionAnswered d old e → Told history Serving e
-    deletion_answered d e (inl f) = at history Serving e _ f.1 (silent history Serving)
-    deletion_answered d e (inr (a, inl f)) = at history Serving e _ f.1 (silent history Serving)
-    deletion_answered d e (inr (a, inr (b, r))) = at history Serving e _ r (silent history Serving)
+    delete_session_answered : (d : _) (e : Effect) → DeleteSessionAnswered d old e → Told history Serving e
+    delete_session_answered d e (inl f) = at history Serving e _ f.1 (silent history Serving)
+    delete_session_answered d e (inr (a, inl f)) = at history Serving e _ f.1 (silent history Serving)
+    delete_session_answered d e (inr (a, inr (b, r))) = at history Serving e _ r (silent history Serving)
 
-    bearer_asked : (request : Arrival) (q : CreateBearerRequest) (e : Effect) → BearerAsked request q old e → Told history Serving e
-    bearer_asked request q e (inl f) = at history Serving e _ f.1 (silent history Serving)
-    bearer_asked request q e (inr (a, inl f)) = at history Serving e _ f.1 (one history Serving _ (none_named history Serving))
-    bearer_asked request q e (inr (a, inr (b, inl f))) = at history Serving e _ f.1 (silent history Serving)
-    bearer_asked request q e (inr (a, inr (b, inr (c, inl f)))) = at history Serving e _ f.1 (one history Serving _ (there history Serving b.session.remote (back.sessions q.header b.session b.stands)))
-    bearer_asked request q e (inr (a, inr (b, inr (c, inr (d, inl f))))) = at history Serving e _ f.1 (one history Serving _ (there history Serving b.session.remote (back.sessions q.header b.session b.stands)))
-    bearer_asked request q e (inr (a, inr (b, inr (c, inr (d, inr (g, inl f)))))) = at history Serving e _ f.1 (one history Serving _ (there history Serving b.session.remote (back.sessions q.header b.session b.stands)))
-    bearer_asked request q e (inr (a, inr (b, inr (c, inr (d, inr (g, inr (h, r))))))) = at history Serving e _ r.gives (one history Serving _ (there history Serving b.session.remote (back.sessions q.header b.session b.stands)))
+    create_bearer_asked : (request : Arrival) (q : CreateBearerRequest) (e : Effect) → CreateBearerAsked request q old e → Told history Serving e
+    create_bearer_asked request q e (inl f) = at history Serving e _ f.1 (silent history Serving)
+    create_bearer_asked request q e (inr (a, inl f)) = at history Serving e _ f.1 (one history Serving _ (none_named history Serving))
+    create_bearer_asked request q e (inr (a, inr (b, inl f))) = at history Serving e _ f.1 (silent history Serving)
+    create_bearer_asked request q e (inr (a, inr (b, inr (c, inl f)))) = at history Serving e _ f.1 (one history Serving _ (there history Serving b.session.remote (back.sessions q.header b.session b.stands)))
+    create_bearer_asked request q e (inr (a, inr (b, inr (c, inr (d, inl f))))) = at history Serving e _ f.1 (one history Serving _ (there history Serving b.session.remote (back.sessions q.header b.session b.stands)))
+    create_bearer_asked request q e (inr (a, inr (b, inr (c, inr (d, inr (g, inl f)))))) = at history Serving e _ f.1 (one history Serving _ (there history Serving b.session.remote (back.sessions q.header b.session b.stands)))
+    create_bearer_asked request q e (inr (a, inr (b, inr (c, inr (d, inr (g, inr (h, r))))))) = at history Serving e _ r.gives (one history Serving _ (there history Serving b.session.remote (back.sessions q.header b.session b.stands)))
 
-    removal_taken : (request : Arrival) (d : DeleteBearerRequest) (linked : Option ℕ) (s : Session) → IsThere Control history Serving s.remote → (e : Effect) → RemovalTaken request d linked old s e → Told history Serving e
-    removal_taken request d (Some identity) s is e (inl f) = at history Serving e _ f.1 (one history Serving _ (there history Serving s.remote is))
-    removal_taken request d (Some identity) s is e (inr (a, r)) = at history Serving e _ r (one history Serving _ (there history Serving s.remote is))
-    removal_taken request d None s is e (inl f) = at history Serving e _ f.1 (one history Serving _ (there history Serving s.remote is))
-    removal_taken request d None s is e (inr (a, r)) = at history Serving e _ r.gives (one history Serving _ (there history Serving s.remote is))
+    delete_bearer_taken : (request : Arrival) (d : DeleteBearerRequest) (linked : Option ℕ) (s : Session) → IsThere Control history Serving s.remote → (e : Effect) → DeleteBearerTaken request d linked old s e → Told history Serving e
+    delete_bearer_taken request d (Some identity) s is e (inl f) = at history Serving e _ f.1 (one history Serving _ (there history Serving s.remote is))
+    delete_bearer_taken request d (Some identity) s is e (inr (a, r)) = at history Serving e _ r (one history Serving _ (there history Serving s.remote is))
+    delete_bearer_taken request d None s is e (inl f) = at history Serving e _ f.1 (one history Serving _ (there history Serving s.remote is))
+    delete_bearer_taken request d None s is e (inr (a, r)) = at history Serving e _ r.gives (one history Serving _ (there history Serving s.remote is))
 
-    removal_asked : (request : Arrival) (d : DeleteBearerRequest) (e : Effect) → RemovalAsked request d old e → Told history Serving e
-    removal_asked request d e (inl f) = at history Serving e _ f.1 (silent history Serving)
-    removal_asked request d e (inr (a, inl f)) = at history Serving e _ f.1 (one history Serving _ (none_named history Serving))
-    removal_asked request d e (inr (a, inr (b, inl f))) = at history Serving e _ f.1 (silent history Serving)
-    removal_asked request d e (inr (a, inr (b, inr (c, r)))) = removal_taken request d d.linked b.session (back.sessions d.header b.session b.stands) e r
+    delete_bearer_asked : (request : Arrival) (d : DeleteBearerRequest) (e : Effect) → DeleteBearerAsked request d old e → Told history Serving e
+    delete_bearer_asked request d e (inl f) = at history Serving e _ f.1 (silent history Serving)
+    delete_bearer_asked request d e (inr (a, inl f)) = at history Serving e _ f.1 (one history Serving _ (none_named history Serving))
+    delete_bearer_asked request d e (inr (a, inr (b, inl f))) = at history Serving e _ f.1 (silent history Serving)
+    delete_bearer_asked request d e (inr (a, inr (b, inr (c, r)))) = delete_bearer_taken request d d.linked b.session (back.sessions d.header b.session b.stands) e r
 
   serving_takes : (request : Arrival) (m : Message) (old : Node) → Back history Serving old → (e : Effect) → ServingTakes request m old e → Told history Serving e
   serving_takes request =
       by_serving (λ m. (old : Node) → Back history Serving old → (e : Effect) → ServingTakes request m old e → Told history Serving e)
       (λ q old back e r. at history Serving e _ r (one history Serving _ (none_named history Serving)))
       (λ a old back e r. echo_answered history Serving old back a e r)
-      (λ a old back e r. session_answered old back a e r)
-      (λ d old back e r. deletion_answered old back d e r)
-      (λ q old back e r. bearer_asked old back request q e r)
-      (λ d old back e r. removal_asked old back request d e r)
+      (λ a old back e r. create_session_answered old back a e r)
+      (λ d old back e r. delete_session_answered old back d e r)
+      (λ q old back e r. create_bearer_asked old back request q e r)
+      (λ d old back e r. delete_bearer_asked old back request d e r)
       (λ m drops old back e r. at history Serving e _ (drops.only request old e r) (silent history Serving))
 
   module _ (old : Node) (back : Back history Packet old) where
-    session_asked : (request : Arrival) (q : CreateSessionRequest) → HasSent history Serving (Create_session_request q) → (e : Effect) → SessionAsked request q old e → Told history Packet e
-    session_asked request q came e (inl f) = at history Packet e _ f.1 (silent history Packet)
-    session_asked request q came e (inr (a, inl f)) = at history Packet e _ f.1 (one history Packet _ (λ not. record { message = Create_session_request q; sent = came; owns = refl }))
-    session_asked request q came e (inr (a, inr (b, inl f))) = at history Packet e _ f.1 (one history Packet _ (λ not. record { message = Create_session_request q; sent = came; owns = refl }))
-    session_asked request q came e (inr (a, inr (b, inr (c, inl f)))) = at history Packet e _ f.1 (one history Packet _ (λ not. record { message = Create_session_request q; sent = came; owns = refl }))
-    session_asked request q came e (inr (a, inr (b, inr (c, inr (d, inl f))))) = at history Packet e _ f.1 (one history Packet _ (λ not. record { message = Create_session_request q; sent = came; owns = refl }))
-    session_asked request q came e (inr (a, inr (b, inr (c, inr (d, inr (g, inl f)))))) = at history Packet e _ f.1 (one history Packet _ (λ not. record { message = Create_session_request q; sent = came; owns = refl }))
-    session_asked request q came e (inr (a, inr (b, inr (c, inr (d, inr (g, inr (h, inl f))))))) = at history Packet e _ f.1 (one history Packet _ (λ not. record { message = Create_session_request q; sent = came; owns = refl }))
-    session_asked request q came e (inr (a, inr (b, inr (c, inr (d, inr (g, inr (h, inr (k, r)))))))) =
+    create_session_asked : (request : Arrival) (q : CreateSessionRequest) → HasSent history Serving (Create_session_request q) → (e : Effect) → CreateSessionAsked request q old e → Told history Packet e
+    create_session_asked request q came e (inl f) = at history Packet e _ f.1 (silent history Packet)
+    create_session_asked request q came e (inr (a, inl f)) = at history Packet e _ f.1 (one history Packet _ (λ not. record { message = Create_session_request q; sent = came; owns = refl }))
+    create_session_asked request q came e (inr (a, inr (b, inl f))) = at history Packet e _ f.1 (one history Packet _ (λ not. record { message = Create_session_request q; sent = came; owns = refl }))
+    create_session_asked request q came e (inr (a, inr (b, inr (c, inl f)))) = at history Packet e _ f.1 (one history Packet _ (λ not. record { message = Create_session_request q; sent = came; owns = refl }))
+    create_session_asked request q came e (inr (a, inr (b, inr (c, inr (d, inl f))))) = at history Packet e _ f.1 (one history Packet _ (λ not. record { message = Create_session_request q; sent = came; owns = refl }))
+    create_session_asked request q came e (inr (a, inr (b, inr (c, inr (d, inr (g, inl f)))))) = at history Packet e _ f.1 (one history Packet _ (λ not. record { message = Create_session_request q; sent = came; owns = refl }))
+    create_session_asked request q came e (inr (a, inr (b, inr (c, inr (d, inr (g, inr (h, inl f))))))) = at history Packet e _ f.1 (one history Packet _ (λ not. record { message = Create_session_request q; sent = came; owns = refl }))
+    create_session_asked request q came e (inr (a, inr (b, inr (c, inr (d, inr (g, inr (h, inr (k, r)))))))) =
         let back : (n : ℕ) → n ≢ 0 → TeidWasDrawn Control history Serving q.control.teid = λ n not. record { message = Create_session_request q; sent = came; owns = refl } in
         ⊎_elim
         (λ alone. at history Packet e _ alone (one history Packet _ (back _)))
         (λ x. at history Packet e _ x.adds.gives (two history Packet _ _ (back _) (back _)))
         (goes request (session_response old q r.control r.user r.address) (session_cause q.pdn r.address) r.control (made_session q r.address) (session_made old q r.control r.user r.address) e (template_for q.access_point old.config.templates) r.gives)
 
-    deletion_asked : (request : Arrival) (d : DeleteSessionRequest) (e : Effect) → DeletionAsked request d old e → Told history Packet e
-    deletion_asked request d e (inl f) = at history Packet e _ f.1 (silent history Packet)
-    deletion_asked request d e (inr (a, inl f)) = at history Packet e _ f.1 (one history Packet _ (none_named history Packet))
-    deletion_asked request d e (inr (a, inr (b, inl f))) = at history Packet e _ f.1 (one history Packet _ (there history Packet b.session.remote (back.sessions d.header b.session b.stands)))
-    deletion_asked request d e (inr (a, inr (b, inr (c, r)))) = at history Packet e _ r (one history Packet _ (there history Packet b.session.remote (back.sessions d.header b.session b.stands)))
+    delete_session_asked : (request : Arrival) (d : DeleteSessionRequest) (e : Effect) → DeleteSessionAsked request d old e → Told history Packet e
+    delete_session_asked request d e (inl f) = at history Packet e _ f.1 (silent history Packet)
+    delete_session_asked request d e (inr (a, inl f)) = at history Packet e _ f.1 (one history Packet _ (none_named history Packet))
+    delete_session_asked request d e (inr (a, inr (b, inl f))) = at history Packet e _ f.1 (one history Packet _ (there history Packet b.session.remote (back.sessions d.header b.session b.stands)))
+    delete_session_asked request d e (inr (a, inr (b, inr (c, r)))) = at history Packet e _ r (one history Packet _ (there history Packet b.session.remote (back.sessions d.header b.session b.stands)))
 
-    bearer_answered : (x : _) (e : Effect) → BearerAnswered x old e → Told history Packet e
-    bearer_answered x e (inl f) = at history Packet e _ f.1 (silent history Packet)
-    bearer_answered x e (inr (a, inl f)) = at history Packet e _ f.1 (silent history Packet)
-    bearer_answered x e (inr (a, inr (b, inl f))) = at history Packet e _ f.1 (silent history Packet)
-    bearer_answered x e (inr (a, inr (b, inr (c, inl f)))) = at history Packet e _ f.1 (silent history Packet)
-    bearer_answered x e (inr (a, inr (b, inr (c, inr (d, inl f))))) = at history Packet e _ f.1 (silent history Packet)
-    bearer_answered x e (inr (a, inr (b, inr (c, inr (d, inr (g, inl f)))))) = at history Packet e _ f.1 (silent history Packet)
-    bearer_answered x e (inr (a, inr (b, inr (c, inr (d, inr (g, inr (h, inl f))))))) = at history Packet e _ f.1 (silent history Packet)
-    bearer_answered x e (inr (a, inr (b, inr (c, inr (d, inr (g, inr (h, inr (k, r)))))))) = at history Packet e _ r.gives (silent history Packet)
+    create_bearer_answered : (x : _) (e : Effect) → CreateBearerAnswered x old e → Told history Packet e
+    create_bearer_answered x e (inl f) = at history Packet e _ f.1 (silent history Packet)
+    create_bearer_answered x e (inr (a, inl f)) = at history Packet e _ f.1 (silent history Packet)
+    create_bearer_answered x e (inr (a, inr (b, inl f))) = at history Packet e _ f.1 (silent history Packet)
+    create_bearer_answered x e (inr (a, inr (b, inr (c, inl f)))) = at history Packet e _ f.1 (silent history Packet)
+    create_bearer_answered x e (inr (a, inr (b, inr (c, inr (d, inl f))))) = at history Packet e _ f.1 (silent history Packet)
+    create_bearer_answered x e (inr (a, inr (b, inr (c, inr (d, inr (g, inl f)))))) = at history Packet e _ f.1 (silent history Packet)
+    create_bearer_answered x e (inr (a, inr (b, inr (c, inr (d, inr (g, inr (h, inl f))))))) = at history Packet e _ f.1 (silent history Packet)
+    create_bearer_answered x e (inr (a, inr (b, inr (c, inr (d, inr (g, inr (h, inr (k, r)))))))) = at history Packet e _ r.gives (silent history Packet)
 
-    removal_answered : (d : _) (e : Effect) → RemovalAnswered d old e → Told history Packet e
-    removal_answered d e (inl f) = at history Packet e _ f.1 (silent history Packet)
-    removal_answered d e (inr (a, inl f)) = at history Packet e _ f.1 (silent history Packet)
-    removal_answered d e (inr (a, inr (b, r))) = at history Packet e _ r (silent history Packet)
+    delete_bearer_answered : (d : _) (e : Effect) → DeleteBearerAnswered d old e → Told history Packet e
+    delete_bearer_answered d e (inl f) = at history Packet e _ f.1 (silent history Packet)
+    delete_bearer_answered d e (inr (a, inl f)) = at history Packet e _ f.1 (silent history Packet)
+    delete_bearer_answered d e (inr (a, inr (b, r))) = at history Packet e _ r (silent history Packet)
 
   packet_takes : (request : Arrival) (m : Message) → HasSent history Serving m → (old : Node) → Back history Packet old → (e : Effect) → PacketTakes request m old e → Told history Packet e
   packet_takes request =
       by_packet (λ m. HasSent history Serving m → (old : Node) → Back history Packet old → (e : Effect) → PacketTakes request m old e → Told history Packet e)
       (λ q came old back e r. at history Packet e _ r (one history Packet _ (none_named history Packet)))
       (λ a came old back e r. echo_answered history Packet old back a e r)
-      (λ q came old back e r. session_asked old back request q came e r)
-      (λ d came old back e r. deletion_asked old back request d e r)
-      (λ x came old back e r. bearer_answered old back x e r)
-      (λ d came old back e r. removal_answered old back d e r)
+      (λ q came old back e r. create_session_asked old back request q came e r)
+      (λ d came old back e r. delete_session_asked old back request d e r)
+      (λ x came old back e r. create_bearer_answered old back x e r)
+      (λ d came old back e r. delete_bearer_answered old back d e r)
       (λ m drops came old back e r. at history Packet e _ (drops.only request old e r) (silent history Packet))
 
   -- what was read, at either gateway

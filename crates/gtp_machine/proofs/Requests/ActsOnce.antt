@@ -13,10 +13,10 @@ use Rattle.gtp_machine.specs.Input.{Input, Commanded, Control_came, User_came, M
 use Rattle.gtp_machine.specs.Recovery.{Judges, Weighs, Hears, peer_restarted}
 use Rattle.gtp_machine.specs.Move.{Forgets}
 use Rattle.gtp_machine.specs.Answer.{making, Repeats, IsNew, TakesReading, ControlStep, answered}
-use Rattle.gtp_machine.specs.Serving.{BearerAsked, ServingTakes}
+use Rattle.gtp_machine.specs.Serving.{CreateBearerAsked, ServingTakes}
 use Rattle.gtp_machine.specs.Config.{template_for}
 use Rattle.gtp_machine.proofs.Basics.Templates.{goes}
-use Rattle.gtp_machine.specs.Packet.{session_cause, session_response, made_session, session_made, SessionAsked, PacketTakes}
+use Rattle.gtp_machine.specs.Packet.{session_cause, session_response, made_session, session_made, CreateSessionAsked, PacketTakes}
 use Rattle.gtp_machine.specs.Once.{TookRequest, Makes, NeverForgets, SecondAddsNothing, ActsOnce, ActsOnceInTime, HeldUntilForgotten}
 use Rattle.gtp_machine.specs.Determined.{OneAnswerPerRequest, ReachedHoldsOneAnswer}
 use Rattle.gtp_machine.proofs.Basics.FiniteMaps.{Among-left, Among-right, Among-last, Among-one_more}
@@ -112,24 +112,24 @@ made request old e m cause new gives = inr (record { answer = m; sends = ap (λ 
 gave : (request : Arrival) (old : Node) (e : Effect) (m : Message) (cause : ℕ) (new : Node) → e ≡ answered request m cause new → Responds request old e
 gave request old e m cause new gives = inr (record { answer = m ∷ []; sends = ap (λ (f : Effect). datagrams f.out.sent) gives; held = subst (λ (f : Effect). Among (record { request = request; answer = m ∷ [] }) f.node.held) (sym gives) (Among-last {X = Held} (record { request = request; answer = m ∷ [] }) new.held) })
 
-bearer_asked : (request : Arrival) (q : CreateBearerRequest) (old : Node) (e : Effect) → BearerAsked request q old e → Responds request old e
-bearer_asked request q old e (inl f) = quiet request old e _ f.1
-bearer_asked request q old e (inr (a, inl f)) = gave request old e _ _ _ f.1
-bearer_asked request q old e (inr (a, inr (b, inl f))) = quiet request old e _ f.1
-bearer_asked request q old e (inr (a, inr (b, inr (c, inl f)))) = gave request old e _ _ _ f.1
-bearer_asked request q old e (inr (a, inr (b, inr (c, inr (d, inl f))))) = gave request old e _ _ _ f.1
-bearer_asked request q old e (inr (a, inr (b, inr (c, inr (d, inr (g, inl f)))))) = gave request old e _ _ _ f.1
-bearer_asked request q old e (inr (a, inr (b, inr (c, inr (d, inr (g, inr (h, r))))))) = made request old e _ _ _ r.gives
+create_bearer_asked : (request : Arrival) (q : CreateBearerRequest) (old : Node) (e : Effect) → CreateBearerAsked request q old e → Responds request old e
+create_bearer_asked request q old e (inl f) = quiet request old e _ f.1
+create_bearer_asked request q old e (inr (a, inl f)) = gave request old e _ _ _ f.1
+create_bearer_asked request q old e (inr (a, inr (b, inl f))) = quiet request old e _ f.1
+create_bearer_asked request q old e (inr (a, inr (b, inr (c, inl f)))) = gave request old e _ _ _ f.1
+create_bearer_asked request q old e (inr (a, inr (b, inr (c, inr (d, inl f))))) = gave request old e _ _ _ f.1
+create_bearer_asked request q old e (inr (a, inr (b, inr (c, inr (d, inr (g, inl f)))))) = gave request old e _ _ _ f.1
+create_bearer_asked request q old e (inr (a, inr (b, inr (c, inr (d, inr (g, inr (h, r))))))) = made request old e _ _ _ r.gives
 
-session_asked : (request : Arrival) (q : CreateSessionRequest) (old : Node) (e : Effect) → SessionAsked request q old e → Responds request old e
-session_asked request q old e (inl f) = quiet request old e _ f.1
-session_asked request q old e (inr (a, inl f)) = gave request old e _ _ _ f.1
-session_asked request q old e (inr (a, inr (b, inl f))) = gave request old e _ _ _ f.1
-session_asked request q old e (inr (a, inr (b, inr (c, inl f)))) = gave request old e _ _ _ f.1
-session_asked request q old e (inr (a, inr (b, inr (c, inr (d, inl f))))) = gave request old e _ _ _ f.1
-session_asked request q old e (inr (a, inr (b, inr (c, inr (d, inr (g, inl f)))))) = gave request old e _ _ _ f.1
-session_asked request q old e (inr (a, inr (b, inr (c, inr (d, inr (g, inr (h, inl f))))))) = gave request old e _ _ _ f.1
-session_asked request q old e (inr (a, inr (b, inr (c, inr (d, inr (g, inr (h, inr (i, r)))))))) = ⊎_elim
+create_session_asked : (request : Arrival) (q : CreateSessionRequest) (old : Node) (e : Effect) → CreateSessionAsked request q old e → Responds request old e
+create_session_asked request q old e (inl f) = quiet request old e _ f.1
+create_session_asked request q old e (inr (a, inl f)) = gave request old e _ _ _ f.1
+create_session_asked request q old e (inr (a, inr (b, inl f))) = gave request old e _ _ _ f.1
+create_session_asked request q old e (inr (a, inr (b, inr (c, inl f)))) = gave request old e _ _ _ f.1
+create_session_asked request q old e (inr (a, inr (b, inr (c, inr (d, inl f))))) = gave request old e _ _ _ f.1
+create_session_asked request q old e (inr (a, inr (b, inr (c, inr (d, inr (g, inl f)))))) = gave request old e _ _ _ f.1
+create_session_asked request q old e (inr (a, inr (b, inr (c, inr (d, inr (g, inr (h, inl f))))))) = gave request old e _ _ _ f.1
+create_session_asked request q old e (inr (a, inr (b, inr (c, inr (d, inr (g, inr (h, inr (i, r)))))))) = ⊎_elim
     (λ alone. made request old e _ _ _ alone)
     (λ x. made request old e _ _ _ x.adds.gives)
     (goes request (session_response old q r.control r.user r.address) (session_cause q.pdn r.address) r.control (made_session q r.address) (session_made old q r.control r.user r.address) e (template_for q.access_point old.config.templates) r.gives)
@@ -178,8 +178,8 @@ control Reads request old e responds (inr (peer, inr r)) = responds r.1
 
 -- what a step on a create request does
 on_request : (role : Role) (request : Arrival) (m : Message) → Makes role m → (old : Node) (e : Effect) → Step role old (Control_came request (Control_message m)) e → Responds request old e
-on_request Serving request (Create_bearer_request q) makes old e r = control (TakesReading Serving ServingTakes (Control_message (Create_bearer_request q))) request old e (λ rows. ⊎_elim (λ f. quiet request old e _ f.1) (λ t. heard request (ServingTakes request (Create_bearer_request q)) (bearer_asked request q) old None e t.1) rows) r
-on_request Packet request (Create_session_request q) makes old e r = control (TakesReading Packet PacketTakes (Control_message (Create_session_request q))) request old e (λ rows. ⊎_elim (λ f. quiet request old e _ f.1) (λ t. heard request (PacketTakes request (Create_session_request q)) (session_asked request q) old q.recovery e t.1) rows) r
+on_request Serving request (Create_bearer_request q) makes old e r = control (TakesReading Serving ServingTakes (Control_message (Create_bearer_request q))) request old e (λ rows. ⊎_elim (λ f. quiet request old e _ f.1) (λ t. heard request (ServingTakes request (Create_bearer_request q)) (create_bearer_asked request q) old None e t.1) rows) r
+on_request Packet request (Create_session_request q) makes old e r = control (TakesReading Packet PacketTakes (Control_message (Create_session_request q))) request old e (λ rows. ⊎_elim (λ f. quiet request old e _ f.1) (λ t. heard request (PacketTakes request (Create_session_request q)) (create_session_asked request q) old q.recovery e t.1) rows) r
 on_request Serving request _ makes old e r = absurd makes
 on_request Packet request _ makes old e r = absurd makes
 

@@ -16,10 +16,10 @@ use Rattle.gtp_machine.specs.Step.{Step}
 use Rattle.gtp_machine.specs.Answer.{IsNew, TakesReading, ControlStep}
 use Rattle.gtp_machine.specs.MessageType.{answers_type}
 use Rattle.gtp_machine.specs.Command.{SessionBegun, SessionDeleted, BearerBegun, BearerDeleted, SessionReleased, EndMarked, EchoBegun, PacketSent, CommandStep}
-use Rattle.gtp_machine.specs.Serving.{SessionAnswered, DeletionAnswered, BearerAsked, RemovalTaken, RemovalAsked, removal_cause, ServingTakes}
+use Rattle.gtp_machine.specs.Serving.{CreateSessionAnswered, DeleteSessionAnswered, CreateBearerAsked, DeleteBearerTaken, DeleteBearerAsked, removal_cause, ServingTakes}
 use Rattle.gtp_machine.specs.Config.{template_for}
 use Rattle.gtp_machine.proofs.Basics.Templates.{goes}
-use Rattle.gtp_machine.specs.Packet.{session_cause, session_response, made_session, session_made, SessionAsked, DeletionAsked, BearerAnswered, RemovalAnswered, PacketTakes}
+use Rattle.gtp_machine.specs.Packet.{session_cause, session_response, made_session, session_made, CreateSessionAsked, DeleteSessionAsked, CreateBearerAnswered, DeleteBearerAnswered, PacketTakes}
 use Rattle.gtp_machine.proofs.Changes.Shrinking.{Shrunk-finished, removes_each}
 use Rattle.gtp_machine.proofs.Basics.Kinds.{creates, is_create_answer, faulted_leaves, by_serving, by_packet}
 
@@ -190,7 +190,7 @@ module _ (request : Arrival) (old : Node) (e : Effect) where
   echo_answered_answers a (inr (b, inl f)) = drops _ f.1 refl
   echo_answered_answers a (inr (b, inr (c, r))) = ends _ b.pending _ r
 
-  session_answered_answers : (a : _) → SessionAnswered a old e → Answers request false old e
+  session_answered_answers : (a : _) → CreateSessionAnswered a old e → Answers request false old e
   session_answered_answers a (inl f) = drops _ f.1 refl
   session_answered_answers a (inr (b, inl f)) = drops _ f.1 refl
   session_answered_answers a (inr (b, inr (c, inl f))) = ends _ b.pending _ f.1
@@ -198,12 +198,12 @@ module _ (request : Arrival) (old : Node) (e : Effect) where
   session_answered_answers a (inr (b, inr (c, inr (d, inr (g, inl f))))) = ends _ b.pending _ f.1
   session_answered_answers a (inr (b, inr (c, inr (d, inr (g, inr (h, r)))))) = drops _ r.gives refl
 
-  deletion_answered_answers : (d : _) → DeletionAnswered d old e → Answers request false old e
-  deletion_answered_answers d (inl f) = drops _ f.1 refl
-  deletion_answered_answers d (inr (b, inl f)) = drops _ f.1 refl
-  deletion_answered_answers d (inr (b, inr (c, r))) = ends _ b.pending _ r
+  delete_session_answered_answers : (d : _) → DeleteSessionAnswered d old e → Answers request false old e
+  delete_session_answered_answers d (inl f) = drops _ f.1 refl
+  delete_session_answered_answers d (inr (b, inl f)) = drops _ f.1 refl
+  delete_session_answered_answers d (inr (b, inr (c, r))) = ends _ b.pending _ r
 
-  bearer_asked_answers : (q : _) → BearerAsked request q old e → Answers request true old e
+  bearer_asked_answers : (q : _) → CreateBearerAsked request q old e → Answers request true old e
   bearer_asked_answers q (inl f) = drops _ f.1 refl
   bearer_asked_answers q (inr (a, inl f)) = answers _ _ f.1 refl refl refl
   bearer_asked_answers q (inr (a, inr (b, inl f))) = drops _ f.1 refl
@@ -212,21 +212,21 @@ module _ (request : Arrival) (old : Node) (e : Effect) where
   bearer_asked_answers q (inr (a, inr (b, inr (c, inr (d, inr (g, inl f)))))) = answers _ _ f.1 refl refl refl
   bearer_asked_answers q (inr (a, inr (b, inr (c, inr (d, inr (g, inr (h, r))))))) = answers _ _ r.gives refl refl refl
 
-  removal_taken_answers : (d : DeleteBearerRequest) (linked : Option ℕ) (s : Session) → RemovalTaken request d linked old s e → Answers request false old e
-  removal_taken_answers d (Some identity) s (inl f) = answers _ _ f.1 refl refl refl
-  removal_taken_answers d (Some identity) s (inr (a, r)) = answers _ _ r refl refl refl
-  removal_taken_answers d None s (inl f) = answers _ _ f.1 refl refl refl
-  removal_taken_answers d None s (inr (a, r)) =
+  delete_bearer_taken_answers : (d : DeleteBearerRequest) (linked : Option ℕ) (s : Session) → DeleteBearerTaken request d linked old s e → Answers request false old e
+  delete_bearer_taken_answers d (Some identity) s (inl f) = answers _ _ f.1 refl refl refl
+  delete_bearer_taken_answers d (Some identity) s (inr (a, r)) = answers _ _ r refl refl refl
+  delete_bearer_taken_answers d None s (inl f) = answers _ _ f.1 refl refl refl
+  delete_bearer_taken_answers d None s (inr (a, r)) =
       let m = Delete_bearer_response (record { header = written s.remote; number = d.number; cause = cause_of (removal_cause r.contexts); linked = None; contexts = r.contexts; recovery = Some old.counter }) in
       inr (record { answer = m; more = []; is = refl; plain = refl; sends = ap (λ (f : Effect). datagrams f.out.sent) r.gives; held = ap held_in r.gives ∙ ap (λ (hs : List Held). hs ++ (record { request = request; answer = m ∷ [] } ∷ [])) (removes_each d.header d.identities old r.contexts r.left r.removes).held })
 
-  removal_asked_answers : (d : DeleteBearerRequest) → RemovalAsked request d old e → Answers request false old e
-  removal_asked_answers d (inl f) = drops _ f.1 refl
-  removal_asked_answers d (inr (a, inl f)) = answers _ _ f.1 refl refl refl
-  removal_asked_answers d (inr (a, inr (b, inl f))) = drops _ f.1 refl
-  removal_asked_answers d (inr (a, inr (b, inr (c, r)))) = removal_taken_answers d d.linked b.session r
+  delete_bearer_asked_answers : (d : DeleteBearerRequest) → DeleteBearerAsked request d old e → Answers request false old e
+  delete_bearer_asked_answers d (inl f) = drops _ f.1 refl
+  delete_bearer_asked_answers d (inr (a, inl f)) = answers _ _ f.1 refl refl refl
+  delete_bearer_asked_answers d (inr (a, inr (b, inl f))) = drops _ f.1 refl
+  delete_bearer_asked_answers d (inr (a, inr (b, inr (c, r)))) = delete_bearer_taken_answers d d.linked b.session r
 
-  session_asked_answers : (q : _) → SessionAsked request q old e → Answers request true old e
+  session_asked_answers : (q : _) → CreateSessionAsked request q old e → Answers request true old e
   session_asked_answers q (inl f) = drops _ f.1 refl
   session_asked_answers q (inr (a, inl f)) = answers _ _ f.1 refl refl refl
   session_asked_answers q (inr (a, inr (b, inl f))) = answers _ _ f.1 refl refl refl
@@ -239,13 +239,13 @@ module _ (request : Arrival) (old : Node) (e : Effect) where
       (λ x. inr (record { answer = _; more = _; is = refl; plain = refl; held = ap held_in x.adds.gives; sends = ap (λ (f : Effect). datagrams f.out.sent) x.adds.gives }))
       (goes request (session_response old q r.control r.user r.address) (session_cause q.pdn r.address) r.control (made_session q r.address) (session_made old q r.control r.user r.address) e (template_for q.access_point old.config.templates) r.gives)
 
-  deletion_asked_answers : (d : _) → DeletionAsked request d old e → Answers request false old e
-  deletion_asked_answers d (inl f) = drops _ f.1 refl
-  deletion_asked_answers d (inr (a, inl f)) = answers _ _ f.1 refl refl refl
-  deletion_asked_answers d (inr (a, inr (b, inl f))) = answers _ _ f.1 refl refl refl
-  deletion_asked_answers d (inr (a, inr (b, inr (c, r)))) = answers _ _ r refl refl refl
+  delete_session_asked_answers : (d : _) → DeleteSessionAsked request d old e → Answers request false old e
+  delete_session_asked_answers d (inl f) = drops _ f.1 refl
+  delete_session_asked_answers d (inr (a, inl f)) = answers _ _ f.1 refl refl refl
+  delete_session_asked_answers d (inr (a, inr (b, inl f))) = answers _ _ f.1 refl refl refl
+  delete_session_asked_answers d (inr (a, inr (b, inr (c, r)))) = answers _ _ r refl refl refl
 
-  bearer_answered_answers : (x : _) → BearerAnswered x old e → Answers request false old e
+  bearer_answered_answers : (x : _) → CreateBearerAnswered x old e → Answers request false old e
   bearer_answered_answers x (inl f) = drops _ f.1 refl
   bearer_answered_answers x (inr (a, inl f)) = drops _ f.1 refl
   bearer_answered_answers x (inr (a, inr (b, inl f))) = ends _ a.pending _ f.1
@@ -255,10 +255,10 @@ module _ (request : Arrival) (old : Node) (e : Effect) where
   bearer_answered_answers x (inr (a, inr (b, inr (c, inr (d, inr (g, inr (h, inl f))))))) = ends _ a.pending _ f.1
   bearer_answered_answers x (inr (a, inr (b, inr (c, inr (d, inr (g, inr (h, inr (i, r)))))))) = drops _ r.gives refl
 
-  removal_answered_answers : (d : _) → RemovalAnswered d old e → Answers request false old e
-  removal_answered_answers d (inl f) = drops _ f.1 refl
-  removal_answered_answers d (inr (b, inl f)) = drops _ f.1 refl
-  removal_answered_answers d (inr (b, inr (c, r))) = ends _ b.pending _ r
+  delete_bearer_answered_answers : (d : _) → DeleteBearerAnswered d old e → Answers request false old e
+  delete_bearer_answered_answers d (inl f) = drops _ f.1 refl
+  delete_bearer_answered_answers d (inr (b, inl f)) = drops _ f.1 refl
+  delete_bearer_answered_answers d (inr (b, inr (c, r))) = ends _ b.pending _ r
 
   pub serving_answers : (m : Message) → ServingTakes request m old e → Answers request (creates Serving m) old e
   serving_answers =
@@ -266,9 +266,9 @@ module _ (request : Arrival) (old : Node) (e : Effect) where
       (λ q r. drops _ r refl)
       echo_answered_answers
       session_answered_answers
-      deletion_answered_answers
+      delete_session_answered_answers
       bearer_asked_answers
-      removal_asked_answers
+      delete_bearer_asked_answers
       (λ m dropped r. drops _ (dropped.only request old e r) refl)
 
   pub packet_answers : (m : Message) → PacketTakes request m old e → Answers request (creates Packet m) old e
@@ -277,9 +277,9 @@ module _ (request : Arrival) (old : Node) (e : Effect) where
       (λ q r. drops _ r refl)
       echo_answered_answers
       session_asked_answers
-      deletion_asked_answers
+      delete_session_asked_answers
       bearer_answered_answers
-      removal_answered_answers
+      delete_bearer_answered_answers
       (λ m dropped r. drops _ (dropped.only request old e r) refl)
 
 -- hearing the counter first changes nothing that is held

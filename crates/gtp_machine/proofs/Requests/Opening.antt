@@ -10,7 +10,7 @@ use Rattle.gtp_machine.specs.Input.{Sending, Outcome, Control_came, Control_mess
 use Rattle.gtp_machine.specs.Recovery.{peer_restarted, Judges, Weighs, Hears}
 use Rattle.gtp_machine.specs.Response.{finishing}
 use Rattle.gtp_machine.specs.Answer.{Repeats}
-use Rattle.gtp_machine.specs.Serving.{SessionAnswered, ServingTakes}
+use Rattle.gtp_machine.specs.Serving.{CreateSessionAnswered, ServingTakes}
 use Rattle.gtp_machine.specs.Step.{Step}
 use Rattle.gtp_machine.proofs.Changes.Shrinking.{Shrunk-finished}
 
@@ -32,7 +32,7 @@ IsMute old e = trace_of e ≡ record { sent = []; forgot = []; made = []; held =
 finished_mute : (old : Node) (number : ℕ) (p : PendingRequest) (outcome : Outcome) (e : Effect) → e ≡ finishing old number p outcome → IsMute old e
 finished_mute old number p outcome e gives = let s = Shrunk-finished old number p.session p.bearer in ap trace_of gives ∙ (λ i. record { sent = []; forgot = []; made = []; held = s.held i; drawn = s.drawn i })
 
-answered_mute : (a : CreateSessionResponse) (old : Node) (e : Effect) → SessionAnswered a old e → IsMute old e
+answered_mute : (a : CreateSessionResponse) (old : Node) (e : Effect) → CreateSessionAnswered a old e → IsMute old e
 answered_mute a old e (inl f) = ap trace_of f.1
 answered_mute a old e (inr (b, inl f)) = ap trace_of f.1
 answered_mute a old e (inr (b, inr (c, inl f))) = finished_mute old a.number b.pending _ e f.1

@@ -12,10 +12,10 @@ use Rattle.gtp_machine.specs.Input.{Came_to, Begun, Opened, Answered, Effect}
 use Rattle.gtp_machine.specs.Choice.{IsFree, HasPending, counter_of}
 use Rattle.gtp_machine.specs.Removal.{without_session}
 use Rattle.gtp_machine.specs.Config.{template_for}
-use Rattle.gtp_machine.specs.Command.{bearer_request, bearer_asked, pending_dedicated, BeginsBearer, BearerBegun}
+use Rattle.gtp_machine.specs.Command.{bearer_request, create_bearer_asked, pending_dedicated, BeginsBearer, BearerBegun}
 use Rattle.gtp_machine.specs.Answer.{answered, making}
 use Rattle.gtp_values.proofs.Allocations.{address_back}
-use Rattle.gtp_machine.specs.Packet.{session_cause, session_response, made_session, made_bearer, session_made, MakesSession, session_refused, SessionAsked, DeletionAsked, FitsBearer, DescribesBearer, CanOpen, opened_dedicated, OpensBearer, BearerAnswered, RemovalAnswered, PacketTakes}
+use Rattle.gtp_machine.specs.Packet.{session_cause, session_response, made_session, made_bearer, session_made, MakesSession, session_refused, CreateSessionAsked, DeleteSessionAsked, FitsCreateBearer, DescribesBearer, CanOpen, opened_dedicated, OpensBearer, CreateBearerAnswered, DeleteBearerAnswered, PacketTakes}
 use Rattle.gtp_machine.specs.World.{By, Sent, HasSent, signed}
 use Rattle.gtp_machine.proofs.Basics.FiniteMaps.{Each-insert, Each-remove, found-remove, get-insert_same, Among-left, Among-right, Among-cases, Among-last}
 use Rattle.gtp_machine.proofs.Origins.Drawing.{Extends, Extends-signed, Draws-nothing, Draws-new, pair_apart, one_more_drawn, two_more_drawn, TellsStart, IsProper, IsMadeNow, by_before, by_now, by_cases}
@@ -46,7 +46,7 @@ begun_now history old new session at tft qos user number free drawn = record { f
 
 -- what is known once a bearer was begun and its request was sent
 begun_known : (history after : List Sent) → Extends history after → (old : Node) → Knows Packet history old → NothingOwns history Packet old → (session : ℕ) (at : Session) (tft : List ℕ) (qos : Qos) (user number : ℕ) → IsFree old user → get old.sessions session ≡ Some at → at.state ≡ Active
-    → HasSent after Packet (Create_bearer_request (bearer_request old at tft qos user number)) → Knows Packet after (bearer_asked old session (bearer_request old at tft qos user number) user)
+    → HasSent after Packet (Create_bearer_request (bearer_request old at tft qos user number)) → Knows Packet after (create_bearer_asked old session (bearer_request old at tft qos user number) user)
 begun_known history after extends old knows unowned session at tft qos user number free stands active now =
     let q = bearer_request old at tft qos user number in
     let p : PendingRequest = record { session = Some session; bearer = Some user; request = Create_bearer_request q } in
@@ -89,7 +89,7 @@ module _ (history : List Sent) (taken : Arrival → Message → Type 0) (serving
   begins unowned session at tft qos e stands active r =
       let q = bearer_request old at tft qos r.user r.number in
       let m = Create_bearer_request q in
-      let new_node : Node = bearer_asked old session q r.user in
+      let new_node : Node = create_bearer_asked old session q r.user in
       at_result (After Packet history taken old) e _ r.gives (record {
         knows = begun_known history (history ++ signed Packet (m ∷ [])) (Extends-signed history Packet (m ∷ [])) old knows unowned session at tft qos r.user r.number r.user_free stands active (by_now history Packet (m ∷ []) m (inl refl));
         known = refl;
@@ -201,7 +201,7 @@ module _ (history : List Sent) (taken : Arrival → Message → Type 0) (serving
         sent_together = Create_session_response answer ∷ Create_bearer_request wanted ∷ []
 
         abbrev left : Node
-        left = holding request sent_together (bearer_asked made r.control wanted x.adds.user)
+        left = holding request sent_together (create_bearer_asked made r.control wanted x.adds.user)
 
         pair : ArePair (Create_session_response answer) (Create_bearer_request wanted)
         pair = record { answer = answer; request = wanted; first = refl; second = refl }
@@ -247,7 +247,7 @@ module _ (history : List Sent) (taken : Arrival → Message → Type 0) (serving
         makes_both =
             let alone = Create_session_response answer ∷ [] in
             took Packet history taken old knows e _ x.adds.gives refl (record {
-              knows = held_now Packet history taken old knows request sent_together (bearer_asked made r.control wanted x.adds.user) pair
+              knows = held_now Packet history taken old knows request sent_together (create_bearer_asked made r.control wanted x.adds.user) pair
                   (begun_known (history ++ signed Packet alone) (history ++ signed Packet sent_together) longer made (made_known (history ++ signed Packet alone) (Extends-signed history Packet alone) (by_now history Packet alone (Create_session_response answer) (inl refl))) unowned_made r.control session x.template.tft x.template.qos x.adds.user x.adds.number x.adds.user_free session_stands refl
                   (by_now history Packet sent_together (Create_bearer_request wanted) (inr (inl refl))));
               known = refl;
@@ -278,27 +278,27 @@ module _ (history : List Sent) (taken : Arrival → Message → Type 0) (serving
         impossible : cause.value < 64 → ⊥
         impossible low = omega (arith, high)
 
-    session_asked : (unowned : NothingOwns history Packet old) (request : Arrival) (q : CreateSessionRequest) (e : Effect) → HasSent history Serving (Create_session_request q) → taken request (Create_session_request q) → ((c : ℕ) → q.recovery ≡ Some c → old.known ≡ Some c) → SessionAsked request q old e → Took Packet history taken old e
-    session_asked unowned request q e came is told (inl f) = drops Packet history taken old knows _ e f.1
-    session_asked unowned request q e came is told (inr (room, inl f)) = refuses request q (cause_of 94) e (omega arith) f.1
-    session_asked unowned request q e came is told (inr (room, inr (one, inl f))) = refuses request q (cause_at 69 73 0) e (omega arith) f.1
-    session_asked unowned request q e came is told (inr (room, inr (one, inr (identity, inl f)))) = refuses request q (cause_of 78) e (omega arith) f.1
-    session_asked unowned request q e came is told (inr (room, inr (one, inr (identity, inr (configured, inl f))))) = refuses request q (cause_of 83) e (omega arith) f.1
-    session_asked unowned request q e came is told (inr (room, inr (one, inr (identity, inr (configured, inr (pdn, inl f)))))) = refuses request q (cause_of 73) e (omega arith) f.1
-    session_asked unowned request q e came is told (inr (room, inr (one, inr (identity, inr (configured, inr (pdn, inr (few, inl f))))))) = refuses request q (cause_of 84) e (omega arith) f.1
-    session_asked unowned request q e came is told (inr (room, inr (one, inr (identity, inr (configured, inr (pdn, inr (few, inr (address, r)))))))) = makes unowned request q e came is told r
+    create_session_asked : (unowned : NothingOwns history Packet old) (request : Arrival) (q : CreateSessionRequest) (e : Effect) → HasSent history Serving (Create_session_request q) → taken request (Create_session_request q) → ((c : ℕ) → q.recovery ≡ Some c → old.known ≡ Some c) → CreateSessionAsked request q old e → Took Packet history taken old e
+    create_session_asked unowned request q e came is told (inl f) = drops Packet history taken old knows _ e f.1
+    create_session_asked unowned request q e came is told (inr (room, inl f)) = refuses request q (cause_of 94) e (omega arith) f.1
+    create_session_asked unowned request q e came is told (inr (room, inr (one, inl f))) = refuses request q (cause_at 69 73 0) e (omega arith) f.1
+    create_session_asked unowned request q e came is told (inr (room, inr (one, inr (identity, inl f)))) = refuses request q (cause_of 78) e (omega arith) f.1
+    create_session_asked unowned request q e came is told (inr (room, inr (one, inr (identity, inr (configured, inl f))))) = refuses request q (cause_of 83) e (omega arith) f.1
+    create_session_asked unowned request q e came is told (inr (room, inr (one, inr (identity, inr (configured, inr (pdn, inl f)))))) = refuses request q (cause_of 73) e (omega arith) f.1
+    create_session_asked unowned request q e came is told (inr (room, inr (one, inr (identity, inr (configured, inr (pdn, inr (few, inl f))))))) = refuses request q (cause_of 84) e (omega arith) f.1
+    create_session_asked unowned request q e came is told (inr (room, inr (one, inr (identity, inr (configured, inr (pdn, inr (few, inr (address, r)))))))) = makes unowned request q e came is told r
 
     -- an answer to a Delete Session Request
     says_deleted : (request : Arrival) (cause : ℕ) (new : Node) (d : DeleteSessionResponse) (e : Effect) → e ≡ answered request (Delete_session_response d) cause new → Shrunk old new → ((r : ℕ) → d.recovery ≡ Some r → r ≡ old.counter) → Took Packet history taken old e
     says_deleted request cause new d e gives s told = gives_answer Packet history taken old knows request (Delete_session_response d) cause new e gives s tt (λ t none. none) told tt
 
-    deletion_asked : (request : Arrival) (d : DeleteSessionRequest) (e : Effect) → DeletionAsked request d old e → Took Packet history taken old e
-    deletion_asked request d e (inl f) = drops Packet history taken old knows _ e f.1
-    deletion_asked request d e (inr (room, inl f)) = says_deleted request 64 old _ e f.1 (Shrunk-itself old) (λ c e. cc e)
-    deletion_asked request d e (inr (room, inr (at, inl f))) = says_deleted request 64 old _ e f.1 (Shrunk-itself old) (λ c e. cc e)
-    deletion_asked request d e (inr (room, inr (at, inr (linked, gives)))) = says_deleted request 16 (without_session old d.header) _ e gives (Shrunk-without (λ t. eqb t d.header) (λ t. false) old) (λ c e. cc e)
+    delete_session_asked : (request : Arrival) (d : DeleteSessionRequest) (e : Effect) → DeleteSessionAsked request d old e → Took Packet history taken old e
+    delete_session_asked request d e (inl f) = drops Packet history taken old knows _ e f.1
+    delete_session_asked request d e (inr (room, inl f)) = says_deleted request 64 old _ e f.1 (Shrunk-itself old) (λ c e. cc e)
+    delete_session_asked request d e (inr (room, inr (at, inl f))) = says_deleted request 64 old _ e f.1 (Shrunk-itself old) (λ c e. cc e)
+    delete_session_asked request d e (inr (room, inr (at, inr (linked, gives)))) = says_deleted request 16 (without_session old d.header) _ e gives (Shrunk-without (λ t. eqb t d.header) (λ t. false) old) (λ c e. cc e)
 
-    module _ (x : CreateBearerResponse) (came : HasSent history Serving (Create_bearer_response x)) (at : HasPending old x.number) (fits : FitsBearer at.pending x) (accepts : IsAccepting x.cause) (new : DescribesBearer x) (both : IsAccepting new.context.cause) (returned : teid_in new.context.packet_user ≡ Some fits.bearer) (can : CanOpen old fits.session new.context.identity) where
+    module _ (x : CreateBearerResponse) (came : HasSent history Serving (Create_bearer_response x)) (at : HasPending old x.number) (fits : FitsCreateBearer at.pending x) (accepts : IsAccepting x.cause) (new : DescribesBearer x) (both : IsAccepting new.context.cause) (returned : teid_in new.context.packet_user ≡ Some fits.bearer) (can : CanOpen old fits.session new.context.identity) where
       pending : IsPending history Packet x.number at.pending
       pending = knows.pending x.number at.pending at.waits
 
@@ -379,28 +379,28 @@ module _ (history : List Sent) (taken : Arrival → Message → Type 0) (serving
             opened = λ t is. record { answer = x; sent = by_before history Serving Packet [] (Create_bearer_response x) came; header = session_is; echoed = ap first_returned new.alone ∙ returned; remote = refl; identity = refl };
           }
 
-    bearer_answered : (x : CreateBearerResponse) (e : Effect) → HasSent history Serving (Create_bearer_response x) → BearerAnswered x old e → Took Packet history taken old e
-    bearer_answered x e came (inl f) = drops Packet history taken old knows _ e f.1
-    bearer_answered x e came (inr (at, inl f)) = drops Packet history taken old knows _ e f.1
-    bearer_answered x e came (inr (at, inr (fits, inl f))) = ends Packet history taken old knows x.number at.pending _ e f.1
-    bearer_answered x e came (inr (at, inr (fits, inr (accepts, inl f)))) = drops Packet history taken old knows _ e f.1
-    bearer_answered x e came (inr (at, inr (fits, inr (accepts, inr (new, inl f))))) = ends Packet history taken old knows x.number at.pending _ e f.1
-    bearer_answered x e came (inr (at, inr (fits, inr (accepts, inr (new, inr (both, inl f)))))) = drops Packet history taken old knows _ e f.1
-    bearer_answered x e came (inr (at, inr (fits, inr (accepts, inr (new, inr (both, inr (returned, inl f))))))) = ends Packet history taken old knows x.number at.pending _ e f.1
-    bearer_answered x e came (inr (at, inr (fits, inr (accepts, inr (new, inr (both, inr (returned, inr (can, r)))))))) = opens x came at fits accepts new both returned can e r
+    create_bearer_answered : (x : CreateBearerResponse) (e : Effect) → HasSent history Serving (Create_bearer_response x) → CreateBearerAnswered x old e → Took Packet history taken old e
+    create_bearer_answered x e came (inl f) = drops Packet history taken old knows _ e f.1
+    create_bearer_answered x e came (inr (at, inl f)) = drops Packet history taken old knows _ e f.1
+    create_bearer_answered x e came (inr (at, inr (fits, inl f))) = ends Packet history taken old knows x.number at.pending _ e f.1
+    create_bearer_answered x e came (inr (at, inr (fits, inr (accepts, inl f)))) = drops Packet history taken old knows _ e f.1
+    create_bearer_answered x e came (inr (at, inr (fits, inr (accepts, inr (new, inl f))))) = ends Packet history taken old knows x.number at.pending _ e f.1
+    create_bearer_answered x e came (inr (at, inr (fits, inr (accepts, inr (new, inr (both, inl f)))))) = drops Packet history taken old knows _ e f.1
+    create_bearer_answered x e came (inr (at, inr (fits, inr (accepts, inr (new, inr (both, inr (returned, inl f))))))) = ends Packet history taken old knows x.number at.pending _ e f.1
+    create_bearer_answered x e came (inr (at, inr (fits, inr (accepts, inr (new, inr (both, inr (returned, inr (can, r)))))))) = opens x came at fits accepts new both returned can e r
 
-    removal_answered : (d : DeleteBearerResponse) (e : Effect) → RemovalAnswered d old e → Took Packet history taken old e
-    removal_answered d e (inl f) = drops Packet history taken old knows _ e f.1
-    removal_answered d e (inr (at, inl f)) = drops Packet history taken old knows _ e f.1
-    removal_answered d e (inr (at, inr (fits, gives))) = ends Packet history taken old knows d.number at.pending _ e gives
+    delete_bearer_answered : (d : DeleteBearerResponse) (e : Effect) → DeleteBearerAnswered d old e → Took Packet history taken old e
+    delete_bearer_answered d e (inl f) = drops Packet history taken old knows _ e f.1
+    delete_bearer_answered d e (inr (at, inl f)) = drops Packet history taken old knows _ e f.1
+    delete_bearer_answered d e (inr (at, inr (fits, gives))) = ends Packet history taken old knows d.number at.pending _ e gives
 
     pub packet_taken : (unowned : NothingOwns history Packet old) (request : Arrival) (m : Message) (e : Effect) → HasSent history Serving m → taken request m → ((c : ℕ) → recovery_of m ≡ Some c → old.known ≡ Some c) → PacketTakes request m old e → Took Packet history taken old e
     packet_taken unowned request =
         by_packet (λ m. (e : Effect) → HasSent history Serving m → taken request m → ((c : ℕ) → recovery_of m ≡ Some c → old.known ≡ Some c) → PacketTakes request m old e → Took Packet history taken old e)
         (λ q e came is told r. takes_echo Packet history taken old knows request q e r)
         (λ a e came is told r. takes_echo_response Packet history taken old knows a e r)
-        (λ q e came is told r. session_asked unowned request q e came is told r)
-        (λ d e came is told r. deletion_asked request d e r)
-        (λ x e came is told r. bearer_answered x e came r)
-        (λ d e came is told r. removal_answered d e r)
+        (λ q e came is told r. create_session_asked unowned request q e came is told r)
+        (λ d e came is told r. delete_session_asked request d e r)
+        (λ x e came is told r. create_bearer_answered x e came r)
+        (λ d e came is told r. delete_bearer_answered d e r)
         (λ m dropped e came is told r. drops Packet history taken old knows _ e (dropped.only request old e r))

@@ -11,7 +11,7 @@ use Rattle.gtp_machine.specs.Choice.{IsFree, HasPending, HasSession, counter_of}
 use Rattle.gtp_machine.specs.Removal.{without_session}
 use Rattle.gtp_machine.specs.Command.{session_request, pending_session, pending_bearer, session_begun, BeginsSession, SessionBegun}
 use Rattle.gtp_machine.specs.Answer.{answered}
-use Rattle.gtp_machine.specs.Serving.{FitsSession, DescribesSession, opened_session, opened_bearer, OpensSession, SessionAnswered, DeletionAnswered, bearer_response, granted_bearer, MakesBearer, no_resources, bearer_refused, BearerAsked, RemovalTaken, RemovalAsked, ServingTakes, removal_cause}
+use Rattle.gtp_machine.specs.Serving.{FitsCreateSession, DescribesSession, opened_session, opened_bearer, OpensSession, CreateSessionAnswered, DeleteSessionAnswered, bearer_response, granted_bearer, MakesBearer, no_resources, bearer_refused, CreateBearerAsked, DeleteBearerTaken, DeleteBearerAsked, ServingTakes, removal_cause}
 use Rattle.gtp_machine.specs.World.{Sent, HasSent, signed}
 use Rattle.gtp_machine.proofs.Basics.FiniteMaps.{Each-insert, Each-remove, found-remove, get-insert_same, get-insert_other, Among-left, Among-last}
 use Rattle.gtp_machine.proofs.Origins.Drawing.{Draws-nothing, Draws-new, one_more_drawn, two_more_drawn, TellsStart, IsProper, by_before, by_now}
@@ -104,7 +104,7 @@ module _ (history : List Sent) (taken : Arrival → Message → Type 0) (serving
   session_begun_here unowned spec e (inr (room, inr (draws, inr (few, r)))) = begins unowned spec e r
 
   module _ (dated : (m : Message) (t : ℕ) → HasSent history Packet m → TellsStart m → Owns m t → recovery_of m ≡ Some (counter_of t)) (proper : (m : Message) → HasSent history Packet m → IsProper m) where
-    module _ (a : CreateSessionResponse) (came : HasSent history Packet (Create_session_response a)) (told : (c : ℕ) → a.recovery ≡ Some c → old.known ≡ Some c) (at : HasPending old a.number) (fits : FitsSession at.pending a) (accepts : IsAccepting a.cause) (new : DescribesSession old fits.session a) where
+    module _ (a : CreateSessionResponse) (came : HasSent history Packet (Create_session_response a)) (told : (c : ℕ) → a.recovery ≡ Some c → old.known ≡ Some c) (at : HasPending old a.number) (fits : FitsCreateSession at.pending a) (accepts : IsAccepting a.cause) (new : DescribesSession old fits.session a) where
       q_sent : HasSent history Serving (Create_session_request fits.request)
       q_sent = subst (λ m. HasSent history Serving m) fits.asked (knows.pending a.number at.pending at.waits).sent
 
@@ -227,18 +227,18 @@ module _ (history : List Sent) (taken : Arrival → Message → Type 0) (serving
               (λ g. absurd (request_not_answer history serving_once fits.request g.answer q_sent g.answered g.user))
               was.origin
 
-    session_answered : (a : CreateSessionResponse) (e : Effect) → HasSent history Packet (Create_session_response a) → ((c : ℕ) → a.recovery ≡ Some c → old.known ≡ Some c) → SessionAnswered a old e → Took Serving history taken old e
-    session_answered a e came told (inl f) = drops Serving history taken old knows _ e f.1
-    session_answered a e came told (inr (at, inl f)) = drops Serving history taken old knows _ e f.1
-    session_answered a e came told (inr (at, inr (fits, inl f))) = ends Serving history taken old knows a.number at.pending _ e f.1
-    session_answered a e came told (inr (at, inr (fits, inr (accepts, inl f)))) = drops Serving history taken old knows _ e f.1
-    session_answered a e came told (inr (at, inr (fits, inr (accepts, inr (new, inl f))))) = ends Serving history taken old knows a.number at.pending _ e f.1
-    session_answered a e came told (inr (at, inr (fits, inr (accepts, inr (new, inr (both, r)))))) = opens a came told at fits accepts new e r
+    create_session_answered : (a : CreateSessionResponse) (e : Effect) → HasSent history Packet (Create_session_response a) → ((c : ℕ) → a.recovery ≡ Some c → old.known ≡ Some c) → CreateSessionAnswered a old e → Took Serving history taken old e
+    create_session_answered a e came told (inl f) = drops Serving history taken old knows _ e f.1
+    create_session_answered a e came told (inr (at, inl f)) = drops Serving history taken old knows _ e f.1
+    create_session_answered a e came told (inr (at, inr (fits, inl f))) = ends Serving history taken old knows a.number at.pending _ e f.1
+    create_session_answered a e came told (inr (at, inr (fits, inr (accepts, inl f)))) = drops Serving history taken old knows _ e f.1
+    create_session_answered a e came told (inr (at, inr (fits, inr (accepts, inr (new, inl f))))) = ends Serving history taken old knows a.number at.pending _ e f.1
+    create_session_answered a e came told (inr (at, inr (fits, inr (accepts, inr (new, inr (both, r)))))) = opens a came told at fits accepts new e r
 
-    deletion_answered : (d : DeleteSessionResponse) (e : Effect) → DeletionAnswered d old e → Took Serving history taken old e
-    deletion_answered d e (inl f) = drops Serving history taken old knows _ e f.1
-    deletion_answered d e (inr (at, inl f)) = drops Serving history taken old knows _ e f.1
-    deletion_answered d e (inr (at, inr (fits, gives))) = ends Serving history taken old knows d.number at.pending _ e gives
+    delete_session_answered : (d : DeleteSessionResponse) (e : Effect) → DeleteSessionAnswered d old e → Took Serving history taken old e
+    delete_session_answered d e (inl f) = drops Serving history taken old knows _ e f.1
+    delete_session_answered d e (inr (at, inl f)) = drops Serving history taken old knows _ e f.1
+    delete_session_answered d e (inr (at, inr (fits, gives))) = ends Serving history taken old knows d.number at.pending _ e gives
 
     makes : (unowned : NothingOwns history Serving old) (request : Arrival) (q : CreateBearerRequest) (at : HasSession old q.header) (e : Effect) → at.session.state ≡ Active → HasSent history Packet (Create_bearer_request q) → taken request (Create_bearer_request q) → MakesBearer request old q at.session e → Took Serving history taken old e
     makes unowned request q at e active came is_taken r =
@@ -330,38 +330,38 @@ module _ (history : List Sent) (taken : Arrival → Message → Type 0) (serving
         impossible : 73 < 64 → ⊥
         impossible h = omega arith
 
-    bearer_asked : (unowned : NothingOwns history Serving old) (request : Arrival) (q : CreateBearerRequest) (e : Effect) → HasSent history Packet (Create_bearer_request q) → taken request (Create_bearer_request q) → BearerAsked request q old e → Took Serving history taken old e
-    bearer_asked unowned request q e came is (inl f) = drops Serving history taken old knows _ e f.1
-    bearer_asked unowned request q e came is (inr (room, inl f)) = refuses request q 0 64 e f.1
-    bearer_asked unowned request q e came is (inr (room, inr (at, inl f))) = drops Serving history taken old knows _ e f.1
-    bearer_asked unowned request q e came is (inr (room, inr (at, inr (active, inl f)))) = refuses request q (written at.session.remote) 94 e f.1
-    bearer_asked unowned request q e came is (inr (room, inr (at, inr (active, inr (one, inl f))))) = refuses request q (written at.session.remote) 64 e f.1
-    bearer_asked unowned request q e came is (inr (room, inr (at, inr (active, inr (one, inr (linked, inl f)))))) = lacks request q (written at.session.remote) e f.1
-    bearer_asked unowned request q e came is (inr (room, inr (at, inr (active, inr (one, inr (linked, inr (free, r))))))) = makes unowned request q at e active came is r
+    create_bearer_asked : (unowned : NothingOwns history Serving old) (request : Arrival) (q : CreateBearerRequest) (e : Effect) → HasSent history Packet (Create_bearer_request q) → taken request (Create_bearer_request q) → CreateBearerAsked request q old e → Took Serving history taken old e
+    create_bearer_asked unowned request q e came is (inl f) = drops Serving history taken old knows _ e f.1
+    create_bearer_asked unowned request q e came is (inr (room, inl f)) = refuses request q 0 64 e f.1
+    create_bearer_asked unowned request q e came is (inr (room, inr (at, inl f))) = drops Serving history taken old knows _ e f.1
+    create_bearer_asked unowned request q e came is (inr (room, inr (at, inr (active, inl f)))) = refuses request q (written at.session.remote) 94 e f.1
+    create_bearer_asked unowned request q e came is (inr (room, inr (at, inr (active, inr (one, inl f))))) = refuses request q (written at.session.remote) 64 e f.1
+    create_bearer_asked unowned request q e came is (inr (room, inr (at, inr (active, inr (one, inr (linked, inl f)))))) = lacks request q (written at.session.remote) e f.1
+    create_bearer_asked unowned request q e came is (inr (room, inr (at, inr (active, inr (one, inr (linked, inr (free, r))))))) = makes unowned request q at e active came is r
 
     -- an answer to a Delete Bearer Request
     says_removed : (request : Arrival) (cause : ℕ) (new : Node) (d : DeleteBearerResponse) (e : Effect) → e ≡ answered request (Delete_bearer_response d) cause new → Shrunk old new → ((r : ℕ) → d.recovery ≡ Some r → r ≡ old.counter) → Took Serving history taken old e
     says_removed request cause new d e gives s told = gives_answer Serving history taken old knows request (Delete_bearer_response d) cause new e gives s tt (λ t none. none) told tt
 
-    removal_taken : (request : Arrival) (d : DeleteBearerRequest) (linked : Option ℕ) (s : Session) (e : Effect) → RemovalTaken request d linked old s e → Took Serving history taken old e
-    removal_taken request d (Some identity) s e (inl f) = says_removed request 64 old _ e f.1 (Shrunk-itself old) (λ c e. cc e)
-    removal_taken request d (Some identity) s e (inr (linked, gives)) = says_removed request 16 (without_session old d.header) _ e gives (Shrunk-without (λ t. eqb t d.header) (λ t. false) old) (λ c e. cc e)
-    removal_taken request d None s e (inl f) = says_removed request 94 old _ e f.1 (Shrunk-itself old) (λ c e. cc e)
-    removal_taken request d None s e (inr (few, r)) = says_removed request (removal_cause r.contexts) r.left _ e r.gives (removes_each d.header d.identities old r.contexts r.left r.removes) (λ c e. cc e)
+    delete_bearer_taken : (request : Arrival) (d : DeleteBearerRequest) (linked : Option ℕ) (s : Session) (e : Effect) → DeleteBearerTaken request d linked old s e → Took Serving history taken old e
+    delete_bearer_taken request d (Some identity) s e (inl f) = says_removed request 64 old _ e f.1 (Shrunk-itself old) (λ c e. cc e)
+    delete_bearer_taken request d (Some identity) s e (inr (linked, gives)) = says_removed request 16 (without_session old d.header) _ e gives (Shrunk-without (λ t. eqb t d.header) (λ t. false) old) (λ c e. cc e)
+    delete_bearer_taken request d None s e (inl f) = says_removed request 94 old _ e f.1 (Shrunk-itself old) (λ c e. cc e)
+    delete_bearer_taken request d None s e (inr (few, r)) = says_removed request (removal_cause r.contexts) r.left _ e r.gives (removes_each d.header d.identities old r.contexts r.left r.removes) (λ c e. cc e)
 
-    removal_asked : (request : Arrival) (d : DeleteBearerRequest) (e : Effect) → RemovalAsked request d old e → Took Serving history taken old e
-    removal_asked request d e (inl f) = drops Serving history taken old knows _ e f.1
-    removal_asked request d e (inr (room, inl f)) = says_removed request 64 old _ e f.1 (Shrunk-itself old) (λ c e. cc e)
-    removal_asked request d e (inr (room, inr (at, inl f))) = drops Serving history taken old knows _ e f.1
-    removal_asked request d e (inr (room, inr (at, inr (opened, r)))) = removal_taken request d d.linked at.session e r
+    delete_bearer_asked : (request : Arrival) (d : DeleteBearerRequest) (e : Effect) → DeleteBearerAsked request d old e → Took Serving history taken old e
+    delete_bearer_asked request d e (inl f) = drops Serving history taken old knows _ e f.1
+    delete_bearer_asked request d e (inr (room, inl f)) = says_removed request 64 old _ e f.1 (Shrunk-itself old) (λ c e. cc e)
+    delete_bearer_asked request d e (inr (room, inr (at, inl f))) = drops Serving history taken old knows _ e f.1
+    delete_bearer_asked request d e (inr (room, inr (at, inr (opened, r)))) = delete_bearer_taken request d d.linked at.session e r
 
     pub serving_taken : (unowned : NothingOwns history Serving old) (request : Arrival) (m : Message) (e : Effect) → HasSent history Packet m → taken request m → ((c : ℕ) → recovery_of m ≡ Some c → old.known ≡ Some c) → ServingTakes request m old e → Took Serving history taken old e
     serving_taken unowned request =
         by_serving (λ m. (e : Effect) → HasSent history Packet m → taken request m → ((c : ℕ) → recovery_of m ≡ Some c → old.known ≡ Some c) → ServingTakes request m old e → Took Serving history taken old e)
         (λ q e came is told r. takes_echo Serving history taken old knows request q e r)
         (λ a e came is told r. takes_echo_response Serving history taken old knows a e r)
-        (λ a e came is told r. session_answered a e came told r)
-        (λ d e came is told r. deletion_answered d e r)
-        (λ q e came is told r. bearer_asked unowned request q e came is r)
-        (λ d e came is told r. removal_asked request d e r)
+        (λ a e came is told r. create_session_answered a e came told r)
+        (λ d e came is told r. delete_session_answered d e r)
+        (λ q e came is told r. create_bearer_asked unowned request q e came is r)
+        (λ d e came is told r. delete_bearer_asked request d e r)
         (λ m dropped e came is told r. drops Serving history taken old knows _ e (dropped.only request old e r))

@@ -9,12 +9,12 @@ use Rattle.gtp_machine.specs.Node.{Role, Serving, Packet, State, Pending, Active
 use Rattle.gtp_machine.specs.Removal.{on, without, without_session, without_bearer, finished_about, finished, closing_session, closing_bearer, session_closing}
 use Rattle.gtp_machine.specs.Choice.{IsFree, IsIdentity, HasPending}
 use Rattle.gtp_machine.specs.Response.{Named}
-use Rattle.gtp_machine.specs.Serving.{FitsSession}
-use Rattle.gtp_machine.specs.Packet.{FitsBearer}
+use Rattle.gtp_machine.specs.Serving.{FitsCreateSession}
+use Rattle.gtp_machine.specs.Packet.{FitsCreateBearer}
 use Rattle.gtp_machine.specs.Sound.{At, IsInState, IsBearerOf, IsSoundSession, IsSoundBearer, AsksSession, AsksBearer, IsAbout, opened_by, AreSoundRequests, IsSound, IsWithin}
 use Rattle.gtp_machine.proofs.Basics.FiniteMaps.{found-remove, found-empty, found-kept, found-changed, get-changed_some, get-kept, Each-insert}
 use Rattle.gtp_machine.proofs.Basics.Counting.{len-insert_most, len-insert_same, len-remove_most, len-kept_most}
-use Rattle.gtp_machine.proofs.Sound.Parts.{default_dedicated, at_here, at_insert, there_insert, Follows, follows_all, no_deletion, requests_follow, requests_fewer, requests_add, opened_drawn, contexts_drawn, contexts_session, contexts_bearer, contexts_same}
+use Rattle.gtp_machine.proofs.Sound.Parts.{default_dedicated, at_here, at_insert, there_insert, Follows, follows_all, no_delete_session, requests_follow, requests_fewer, requests_add, opened_drawn, contexts_drawn, contexts_session, contexts_bearer, contexts_same}
 use Rattle.gtp_machine.proofs.Basics.Facts.{one_value, pending_active, pending_closing}
 
 module _ (role : Role) where
@@ -276,7 +276,7 @@ module _ (role : Role) where
         by : IsAbout role old.sessions old.bearers number p → (a : AsksSession role old.sessions old.bearers number p) × (a.request ≡ q)
         by (inl e) = absurd (cc (e.asked, asked))
         by (inr (inl a)) = (a, let same : a.request ≡ q = cc (a.asked, asked) in same)
-        by (inr (inr (inl d))) = absurd (no_deletion role number p.request q.control.teid d.asked opens)
+        by (inr (inr (inl d))) = absurd (no_delete_session role number p.request q.control.teid d.asked opens)
         by (inr (inr (inr (inl a)))) = absurd (cc (a.asked, asked))
         by (inr (inr (inr (inr d)))) = absurd (cc (d.asked, asked))
 
@@ -290,7 +290,7 @@ module _ (role : Role) where
         by : IsAbout role old.sessions old.bearers number p → (a : AsksBearer role old.sessions old.bearers number p) × (a.request ≡ r)
         by (inl e) = absurd (cc (e.asked, asked))
         by (inr (inl a)) = absurd (cc (a.asked, asked))
-        by (inr (inr (inl d))) = absurd (no_deletion role number p.request r.context.user.teid d.asked opens)
+        by (inr (inr (inl d))) = absurd (no_delete_session role number p.request r.context.user.teid d.asked opens)
         by (inr (inr (inr (inl a)))) = (a, let same : a.request ≡ r = cc (a.asked, asked) in same)
         by (inr (inr (inr (inr d)))) = absurd (cc (d.asked, asked))
 
@@ -363,8 +363,8 @@ module _ (role : Role) where
 
 -- A response that names what a sound node's request is about fits it: `about` needs no test.
 module _ (old : Node) where
-  pub fits_session : IsSound Serving old → (a : CreateSessionResponse) (at : HasPending old a.number) (q : CreateSessionRequest) → at.pending.request ≡ Create_session_request q → Named at.pending a.header a.cause → FitsSession at.pending a
+  pub fits_session : IsSound Serving old → (a : CreateSessionResponse) (at : HasPending old a.number) (q : CreateSessionRequest) → at.pending.request ≡ Create_session_request q → Named at.pending a.header a.cause → FitsCreateSession at.pending a
   fits_session sound a at q asked named = record { request = q; asked = asked; session = _; about = (is_session Serving old sound a.number at.pending q at.waits asked).0.session; named = named }
 
-  pub fits_bearer : IsSound Packet old → (x : CreateBearerResponse) (at : HasPending old x.number) (r : CreateBearerRequest) → at.pending.request ≡ Create_bearer_request r → Named at.pending x.header x.cause → FitsBearer at.pending x
+  pub fits_bearer : IsSound Packet old → (x : CreateBearerResponse) (at : HasPending old x.number) (r : CreateBearerRequest) → at.pending.request ≡ Create_bearer_request r → Named at.pending x.header x.cause → FitsCreateBearer at.pending x
   fits_bearer sound x at r asked named = let ask = (is_bearer Packet old sound x.number at.pending r at.waits asked).0 in record { request = r; asked = asked; session = ask.about; about = ask.session; bearer = ask.request.context.user.teid; about_bearer = ask.bearer; named = named }

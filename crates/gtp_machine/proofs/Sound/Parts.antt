@@ -46,9 +46,9 @@ follows_all S S' B B' p sessions bearers = record {
   ends = λ s u e b at. bearers u s Dedicated Closing (λ h. cc h) at;
 }
 
-pub no_deletion : (by : Role) (number : ℕ) (m : Message) (t : ℕ) → DeletesSession by number m → opened_by m ≡ Some t → ⊥
-no_deletion Serving number m t d o = let e = sym (ap opened_by d.1) ∙ o in cc e
-no_deletion Packet number m t d o = let e = sym (ap opened_by d.1) ∙ o in cc e
+pub no_delete_session : (by : Role) (number : ℕ) (m : Message) (t : ℕ) → DeletesSession by number m → opened_by m ≡ Some t → ⊥
+no_delete_session Serving number m t d o = let e = sym (ap opened_by d.1) ∙ o in cc e
+no_delete_session Packet number m t d o = let e = sym (ap opened_by d.1) ∙ o in cc e
 
 module _ (role : Role) where
   pub about_follows : (S S' : FiniteMap Session) (B B' : FiniteMap Bearer) (number : ℕ) (p : PendingRequest) → Follows S S' B B' p → IsAbout role S B number p → IsAbout role S' B' number p
@@ -95,7 +95,7 @@ module _ (role : Role) where
   pub opened_drawn : (drawn : List ℕ) (S : FiniteMap Session) (B : FiniteMap Bearer) (number : ℕ) (p : PendingRequest) (t : ℕ) → AreSoundContexts drawn S B → IsAbout role S B number p → opened_by p.request ≡ Some t → Among t drawn
   opened_drawn drawn S B number p t c (inl e) o = let n = sym (ap opened_by e.asked) ∙ o in absurd (cc n)
   opened_drawn drawn S B number p t c (inr (inl a)) o = let same : a.request.control.teid ≡ t = cc (sym (ap opened_by a.asked) ∙ o) in subst (λ k. Among k drawn) same (c.each_session a.request.control.teid a.waits.0 a.waits.1).own
-  opened_drawn drawn S B number p t c (inr (inr (inl d))) o = absurd (no_deletion role number p.request t d.asked o)
+  opened_drawn drawn S B number p t c (inr (inr (inl d))) o = absurd (no_delete_session role number p.request t d.asked o)
   opened_drawn drawn S B number p t c (inr (inr (inr (inl a)))) o =
       let same : a.request.context.user.teid ≡ t = cc (sym (ap opened_by a.asked) ∙ o) in
       subst (λ k. Among k drawn) same (⊎_elim (λ w. (c.each_bearer a.request.context.user.teid w.0 w.1).own) (λ w. (c.each_bearer a.request.context.user.teid w.0.0 w.0.1).own) a.wanted)

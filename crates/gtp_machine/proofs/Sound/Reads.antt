@@ -34,7 +34,7 @@ use Rattle.gtp_machine.specs.Node.{Arrival, written}
 use Rattle.gtp_machine.specs.Input.{Control_came, ControlReading, Control_message, MessageType, Defect, Too_short, Out_of_range}
 use Rattle.gtp_machine.specs.Decoded.{row_in, contexts_in, end_in, first_in, cause_at, row, values_in, groups_in, created, given, session_request_in, bearer_request_in, message_by, message_in, message_of}
 use Rattle.gtp_machine.specs.Reading.{control_fault, control_reading_of, control_reading, element_fault, defect_in, request_type, missing_in, DatagramReading, Alone, Both, announces, messages_read, datagram_fault, pair_reading_of, IsDatagramReadOf, taken_as}
-use Rattle.gtp_machine.specs.Sound.{IsWhole, IsWellFormed, ReadsWhole, PairReadsWhole, TakenWhole}
+use Rattle.gtp_machine.specs.Sound.{NamesItsEnds, IsWellFormed, ReadsWhole, PairReadsWhole, TakenWhole}
 use Rattle.gtp_machine.proofs.Octets.Datagrams.{datagram_by_grammar}
 use Rattle.gtp_machine.proofs.Octets.Readings.{typed_lines}
 use Rattle.gtp_machine.proofs.Basics.Types.{type_kind}
@@ -116,7 +116,7 @@ context_end others b es (ebi ∷ cause ∷ user ∷ rows) is are a =
     end_there 2 es user (needed 87 2 ((b && accepts ebi) && accepts cause) es user (and_from _ _ (and_from _ _ is (one_neutral 73 0 es ebi ebi_accepts are.0)) (accepted cause a)) are.1.1.0)
 
 -- a Create Session Response
-session_whole : (header number : ℕ) (es : List Element) (f : List Field) → LinesAre start create_session_response.lines es f → IsWhole (message_in 33 header number f)
+session_whole : (header number : ℕ) (es : List Element) (f : List Field) → LinesAre start create_session_response.lines es f → NamesItsEnds (message_in 33 header number f)
 unfolding row_in contexts_in
 session_whole header number es [] lines a = absurd lines
 session_whole header number es (cause ∷ []) lines a = absurd lines.1
@@ -163,7 +163,7 @@ session_whole header number es (Plain cause ∷ Plain control ∷ Plain paa ∷ 
         (its.0, ap (λ (k : CreatedBearer). teid_in k.user) found.same ∙ its.1)
 
 -- a Create Bearer Response
-bearer_whole : (header number : ℕ) (es : List Element) (f : List Field) → LinesAre start create_bearer_response.lines es f → IsWhole (message_in 96 header number f)
+bearer_whole : (header number : ℕ) (es : List Element) (f : List Field) → LinesAre start create_bearer_response.lines es f → NamesItsEnds (message_in 96 header number f)
 unfolding row_in contexts_in
 bearer_whole header number es [] lines a = absurd lines
 bearer_whole header number es (cause ∷ []) lines a = absurd lines.1
@@ -179,19 +179,19 @@ bearer_whole header number es (Plain cause ∷ Groups contexts ∷ rest) lines a
         let its = context_end (drop 3 bearer_response_context_rows) (accepts cause) found.is.0 found.x (accepted cause a) found.is.2 (subst (λ (k : GivenBearer). IsAccepting k.cause) found.same accepting) in
         (its.0, ap (λ (k : GivenBearer). teid_in k.serving_user) found.same ∙ its.1)
 
-session_request_whole : (header number : ℕ) (f : List Field) (contexts : List (List (List Value))) → IsWhole (session_request_in header number f contexts)
+session_request_whole : (header number : ℕ) (f : List Field) (contexts : List (List (List Value))) → NamesItsEnds (session_request_in header number f contexts)
 session_request_whole header number f [] = tt
 session_request_whole header number f (first ∷ further) = tt
 
-bearer_request_whole : (header number : ℕ) (f : List Field) (contexts : List (List (List Value))) → IsWhole (bearer_request_in header number f contexts)
+bearer_request_whole : (header number : ℕ) (f : List Field) (contexts : List (List (List Value))) → NamesItsEnds (bearer_request_in header number f contexts)
 bearer_request_whole header number f [] = tt
 bearer_request_whole header number f (first ∷ further) = tt
 
 -- what octets spell is whole
-fields_whole : (octets : List ℕ) (m : MessageValue) (f : List Field) → m.content ≡ Fields f → IsMessage octets m → IsWhole (message_in m.kind (written m.teid) m.seq f)
+fields_whole : (octets : List ℕ) (m : MessageValue) (f : List Field) → m.content ≡ Fields f → IsMessage octets m → NamesItsEnds (message_in m.kind (written m.teid) m.seq f)
 fields_whole octets m f says is = by (type_at m.kind) refl
   where
-    by : (t : Option MessageType) → type_at m.kind ≡ t → IsWhole (message_by t m.kind (written m.teid) m.seq f)
+    by : (t : Option MessageType) → type_at m.kind ≡ t → NamesItsEnds (message_by t m.kind (written m.teid) m.seq f)
     by (Some types.CreateSessionRequest) at = session_request_whole (written m.teid) m.seq f _
     by (Some types.CreateSessionResponse) at =
         let lines = typed_lines 33 create_session_response octets m f (λ h content kind c. subst (λ k. CarriesBy (table_of k) h content) kind c) (type_kind m.kind types.CreateSessionResponse at) says is in
@@ -202,12 +202,12 @@ fields_whole octets m f says is = by (type_at m.kind) refl
         bearer_whole (written m.teid) m.seq lines.0 f lines.1
     by t at = tt
 
-message_whole : (octets : List ℕ) (m : MessageValue) → IsMessage octets m → IsWhole (message_of m)
+message_whole : (octets : List ℕ) (m : MessageValue) → IsMessage octets m → NamesItsEnds (message_of m)
 message_whole octets m is = by_content m.content refl
   where
-    by_content : (content : Content) → m.content ≡ content → IsWhole (message_of m)
-    by_content (Fields f) says = subst (λ (k : Content). IsWhole (message_of (record m { content = k }))) (sym says) (fields_whole octets m f says is)
-    by_content (Raw rest) says = subst (λ (k : Content). IsWhole (message_of (record m { content = k }))) (sym says) tt
+    by_content : (content : Content) → m.content ≡ content → NamesItsEnds (message_of m)
+    by_content (Fields f) says = subst (λ (k : Content). NamesItsEnds (message_of (record m { content = k }))) (sym says) (fields_whole octets m f says is)
+    by_content (Raw rest) says = subst (λ (k : Content). NamesItsEnds (message_of (record m { content = k }))) (sym says) tt
 
 defect_read : (request : Arrival) (kind : Option MessageType) (head : Head) (defect : Defect) (element instance : ℕ) → IsWellFormed (Control_came request (defect_in kind head defect element instance))
 defect_read request None head defect element instance = tt
@@ -255,13 +255,13 @@ pair_reads_whole octets first second reads = by ((datagram_by_grammar octets (Bo
     never : (first second : Message) (reading : ControlReading) → Both first second ≡ Alone reading → ⊥
     never first second reading e = cc e
 
-    by : IsDatagramReadOf octets (Both first second) → IsWhole first × IsWhole second
+    by : IsDatagramReadOf octets (Both first second) → NamesItsEnds first × NamesItsEnds second
     by (inl (d, inl (m, is, same), as_d)) = absurd (never first second (Control_message (message_of m)) (as_d ∙ ap (λ (v : DatagramValue). messages_read v.first v.second) same))
     by (inl (d, inr (front, back, announced, (a, a_is, (b, b_is, same))), as_d)) =
         let both : Both first second ≡ Both (message_of a) (message_of b) = as_d ∙ ap (λ (v : DatagramValue). messages_read v.first v.second) same in
         let one : first ≡ message_of a = cc both in
         let other : second ≡ message_of b = cc both in
-        (subst IsWhole (sym one) (message_whole front a a_is), subst IsWhole (sym other) (message_whole back b b_is))
+        (subst NamesItsEnds (sym one) (message_whole front a a_is), subst NamesItsEnds (sym other) (message_whole back b b_is))
     by (inr (fault, fails, as_f)) = absurd (never first second (datagram_fault (announces octets) fault) as_f)
 
 pub taken_whole : TakenWhole

@@ -20,16 +20,16 @@ use Rattle.gtp_machine.specs.Recovery.{peer_restarted, Judges, Weighs, Hears}
 use Rattle.gtp_machine.specs.Move.{MoveStep}
 use Rattle.gtp_machine.specs.Response.{EchoAnswered}
 use Rattle.gtp_machine.specs.User.{UserTaken, UserStep, ended_bearer, default_among}
-use Rattle.gtp_machine.specs.Command.{asks, session_request, pending_session, pending_bearer, session_begun, BeginsSession, bearer_request, bearer_asked as begun_bearer, pending_dedicated, BeginsBearer, ClosesBearer, CommandStep}
+use Rattle.gtp_machine.specs.Command.{asks, session_request, pending_session, pending_bearer, session_begun, BeginsSession, bearer_request, create_bearer_asked as begun_bearer, pending_dedicated, BeginsBearer, ClosesBearer, CommandStep}
 use Rattle.gtp_machine.specs.Answer.{TakesReading, ControlStep}
 use Rattle.gtp_machine.specs.MessageType.{answers_type}
-use Rattle.gtp_machine.specs.Serving.{FitsSession, DescribesSession, opened_session, opened_bearer, OpensSession, SessionAnswered, DeletionAnswered, granted_bearer, BearerAsked, RemovesEach, RemovalTaken, RemovalAsked, ServingTakes}
+use Rattle.gtp_machine.specs.Serving.{FitsCreateSession, DescribesSession, opened_session, opened_bearer, OpensSession, CreateSessionAnswered, DeleteSessionAnswered, granted_bearer, CreateBearerAsked, RemovesEach, DeleteBearerTaken, DeleteBearerAsked, ServingTakes}
 use Rattle.gtp_machine.specs.Config.{control_end, template_for}
 use Rattle.gtp_machine.proofs.Basics.Templates.{goes}
-use Rattle.gtp_machine.specs.Packet.{session_cause, session_response, made_session, made_bearer, session_made, SessionAsked, DeletionAsked, FitsBearer, DescribesBearer, CanOpen, opened_dedicated, OpensBearer, BearerAnswered, RemovalAnswered, PacketTakes}
-use Rattle.gtp_machine.specs.Sound.{At, IsInState, IsBearerOf, DeletesSession, IsSound, IsWhole, IsWellFormed, AreWellFormed, StaysSound, ReachedIsSound}
+use Rattle.gtp_machine.specs.Packet.{session_cause, session_response, made_session, made_bearer, session_made, CreateSessionAsked, DeleteSessionAsked, FitsCreateBearer, DescribesBearer, CanOpen, opened_dedicated, OpensBearer, CreateBearerAnswered, DeleteBearerAnswered, PacketTakes}
+use Rattle.gtp_machine.specs.Sound.{At, IsInState, IsBearerOf, DeletesSession, IsSound, NamesItsEnds, IsWellFormed, AreWellFormed, StaysSound, ReachedIsSound}
 use Rattle.gtp_machine.proofs.Basics.FiniteMaps.{get-insert_same}
-use Rattle.gtp_machine.proofs.Sound.Parts.{at_here, no_deletion}
+use Rattle.gtp_machine.proofs.Sound.Parts.{at_here, no_delete_session}
 use Rattle.gtp_machine.proofs.Sound.Changes.{fresh, without_sound, without_session_sound, without_bearer_sound, finished_sound, holding_sound, known_sound, asks_sound, free_opened, session_comes, bearer_comes, bearer_changes, closing_sound, is_session, is_bearer, session_opens, bearer_opens}
 use Rattle.gtp_machine.proofs.Changes.Forgetting.{leaves}
 use Rattle.std.proofs.lemmas.Option.{same_Some as some_is}
@@ -86,7 +86,7 @@ module _ (old : Node) where
   closes : (role : Role) → IsSound role old → (session : ℕ) (at : Session) (number : ℕ) (request : Message) (e : Effect) → get old.sessions session ≡ Some at → at.state ≡ Active → len old.pending < 256 → IsFreeNumber old number → DeletesSession role number request → e ≡ asks old number (record { session = Some session; bearer = None; request = request }) (Some session) (session_closing old session at) → IsSound role e.node
   closes role sound session at number request e stands active few free deletes gives = by_row role e _ gives (asks_sound role old sound (session_closing old session at) number _ (closing_sound role old sound session at stands active) refl few free.small
       (inr (inr (inl (record { asked = deletes; about = session; session = refl; bearer = refl; closes = at_here old.sessions session (closing_session at) (IsInState Closing) session refl refl }))))
-      (λ m p t at o same. no_deletion role number request t deletes same))
+      (λ m p t at o same. no_delete_session role number request t deletes same))
 
   closes_bearer : IsSound Packet old → (session : ℕ) (at : Session) (identity bearer : ℕ) (b : Bearer) (e : Effect) → get old.bearers bearer ≡ Some b → b.state ≡ Active → b.session ≡ session → b.kind ≡ Dedicated → len old.pending < 256 → ClosesBearer old session at identity bearer b e → IsSound Packet e.node
   closes_bearer sound session at identity bearer b e stands active of dedicated few r = by_row Packet e _ r.gives (asks_sound Packet old sound (record old { bearers = insert old.bearers bearer (record b { state = Closing }) }) r.number _
@@ -194,7 +194,7 @@ module _ (old : Node) where
   echo_answered role sound a e (inr (at, inr (fits, gives))) = by_row role e _ gives (ends role sound a.number at)
 
   module _ (sound : IsSound Serving old) where
-    opens : (a : CreateSessionResponse) → IsWhole (Create_session_response a) → (at : HasPending old a.number) (fits : FitsSession at.pending a) → IsAccepting a.cause → (new : DescribesSession old fits.session a) → IsAccepting new.context.cause → (e : Effect) → OpensSession old a fits.request fits.session new.at.session new.address e → IsSound Serving e.node
+    opens : (a : CreateSessionResponse) → NamesItsEnds (Create_session_response a) → (at : HasPending old a.number) (fits : FitsCreateSession at.pending a) → IsAccepting a.cause → (new : DescribesSession old fits.session a) → IsAccepting new.context.cause → (e : Effect) → OpensSession old a fits.request fits.session new.at.session new.address e → IsSound Serving e.node
     opens a whole at fits accepts new both e r =
         let is = is_session Serving old sound a.number at.pending fits.request at.waits fits.asked in
         let ask = is.0 in
@@ -212,30 +212,30 @@ module _ (old : Node) where
         (ap (λ (k : Bearer). k.session) same) (ap (λ (k : Bearer). k.identity) same) (ap (λ (k : Bearer). k.kind) same) refl
         (context.0, ap first_created new.alone ∙ context.1))))
 
-    session_answered : (a : CreateSessionResponse) → IsWhole (Create_session_response a) → (e : Effect) → SessionAnswered a old e → IsSound Serving e.node
-    session_answered a whole e (inl f) = by_row Serving e _ f.1 sound
-    session_answered a whole e (inr (at, inl f)) = by_row Serving e _ f.1 sound
-    session_answered a whole e (inr (at, inr (fits, inl f))) = by_row Serving e _ f.1 (ends Serving sound a.number at)
-    session_answered a whole e (inr (at, inr (fits, inr (accepts, inl f)))) = by_row Serving e _ f.1 sound
-    session_answered a whole e (inr (at, inr (fits, inr (accepts, inr (new, inl f))))) = by_row Serving e _ f.1 (ends Serving sound a.number at)
-    session_answered a whole e (inr (at, inr (fits, inr (accepts, inr (new, inr (both, r)))))) = opens a whole at fits accepts new both e r
+    create_session_answered : (a : CreateSessionResponse) → NamesItsEnds (Create_session_response a) → (e : Effect) → CreateSessionAnswered a old e → IsSound Serving e.node
+    create_session_answered a whole e (inl f) = by_row Serving e _ f.1 sound
+    create_session_answered a whole e (inr (at, inl f)) = by_row Serving e _ f.1 sound
+    create_session_answered a whole e (inr (at, inr (fits, inl f))) = by_row Serving e _ f.1 (ends Serving sound a.number at)
+    create_session_answered a whole e (inr (at, inr (fits, inr (accepts, inl f)))) = by_row Serving e _ f.1 sound
+    create_session_answered a whole e (inr (at, inr (fits, inr (accepts, inr (new, inl f))))) = by_row Serving e _ f.1 (ends Serving sound a.number at)
+    create_session_answered a whole e (inr (at, inr (fits, inr (accepts, inr (new, inr (both, r)))))) = opens a whole at fits accepts new both e r
 
-    deletion_answered : (d : DeleteSessionResponse) (e : Effect) → DeletionAnswered d old e → IsSound Serving e.node
-    deletion_answered d e (inl f) = by_row Serving e _ f.1 sound
-    deletion_answered d e (inr (at, inl f)) = by_row Serving e _ f.1 sound
-    deletion_answered d e (inr (at, inr (fits, gives))) = by_row Serving e _ gives (ends Serving sound d.number at)
+    delete_session_answered : (d : DeleteSessionResponse) (e : Effect) → DeleteSessionAnswered d old e → IsSound Serving e.node
+    delete_session_answered d e (inl f) = by_row Serving e _ f.1 sound
+    delete_session_answered d e (inr (at, inl f)) = by_row Serving e _ f.1 sound
+    delete_session_answered d e (inr (at, inr (fits, gives))) = by_row Serving e _ gives (ends Serving sound d.number at)
 
     holds : (role : Role) → IsSound role old → (request : Arrival) (answer : List Message) → length old.held < 4096 → IsSound role (holding request answer old)
     holds role s request answer room = holding_sound role old s request answer room
 
-    bearer_asked : (request : Arrival) (q : CreateBearerRequest) (e : Effect) → BearerAsked request q old e → IsSound Serving e.node
-    bearer_asked request q e (inl f) = by_row Serving e _ f.1 sound
-    bearer_asked request q e (inr (room, inl f)) = by_row Serving e _ f.1 (holding_sound Serving old sound request _ room.few)
-    bearer_asked request q e (inr (room, inr (at, inl f))) = by_row Serving e _ f.1 sound
-    bearer_asked request q e (inr (room, inr (at, inr (active, inl f)))) = by_row Serving e _ f.1 (holding_sound Serving old sound request _ room.few)
-    bearer_asked request q e (inr (room, inr (at, inr (active, inr (one, inl f))))) = by_row Serving e _ f.1 (holding_sound Serving old sound request _ room.few)
-    bearer_asked request q e (inr (room, inr (at, inr (active, inr (one, inr (linked, inl f)))))) = by_row Serving e _ f.1 (holding_sound Serving old sound request _ room.few)
-    bearer_asked request q e (inr (room, inr (at, inr (active, inr (one, inr (linked, inr (free, r))))))) =
+    create_bearer_asked : (request : Arrival) (q : CreateBearerRequest) (e : Effect) → CreateBearerAsked request q old e → IsSound Serving e.node
+    create_bearer_asked request q e (inl f) = by_row Serving e _ f.1 sound
+    create_bearer_asked request q e (inr (room, inl f)) = by_row Serving e _ f.1 (holding_sound Serving old sound request _ room.few)
+    create_bearer_asked request q e (inr (room, inr (at, inl f))) = by_row Serving e _ f.1 sound
+    create_bearer_asked request q e (inr (room, inr (at, inr (active, inl f)))) = by_row Serving e _ f.1 (holding_sound Serving old sound request _ room.few)
+    create_bearer_asked request q e (inr (room, inr (at, inr (active, inr (one, inl f))))) = by_row Serving e _ f.1 (holding_sound Serving old sound request _ room.few)
+    create_bearer_asked request q e (inr (room, inr (at, inr (active, inr (one, inr (linked, inl f)))))) = by_row Serving e _ f.1 (holding_sound Serving old sound request _ room.few)
+    create_bearer_asked request q e (inr (room, inr (at, inr (active, inr (one, inr (linked, inr (free, r))))))) =
         by_row Serving e _ r.gives (holding_sound Serving (record old { drawn = r.user ∷ old.drawn; bearers = insert old.bearers r.user (granted_bearer q r.identity) })
         (bearer_comes Serving old sound r.user (granted_bearer q r.identity) r.user_free free.1.left
         (record { own = inl refl; of = (at.session, at.stands); named = λ a. (q.context.user.teid, refl); blank = λ w. absurd (cc w); range = λ i e. subst IsIdentity (some_is r.identity i e) r.identity_free.range })
@@ -248,41 +248,41 @@ module _ (old : Node) where
   removes_each session (identity ∷ rest) from contexts new s (others, inr (named, h)) = removes_each session rest (without_bearer from named.key) others new (without_bearer_sound Serving from s named.key named.at.bearer named.at.stands named.dedicated) h.1
 
   module _ (sound : IsSound Serving old) where
-    removal_taken : (request : Arrival) (d : DeleteBearerRequest) (linked : Option ℕ) (s : Session) (e : Effect) → length old.held < 4096 → RemovalTaken request d linked old s e → IsSound Serving e.node
-    removal_taken request d (Some identity) s e room (inl f) = by_row Serving e _ f.1 (holding_sound Serving old sound request _ room)
-    removal_taken request d (Some identity) s e room (inr (linked, gives)) = by_row Serving e _ gives (holding_sound Serving (without_session old d.header) (without_session_sound Serving old sound d.header) request _ room)
-    removal_taken request d None s e room (inl f) = by_row Serving e _ f.1 (holding_sound Serving old sound request _ room)
-    removal_taken request d None s e room (inr (few, r)) =
+    delete_bearer_taken : (request : Arrival) (d : DeleteBearerRequest) (linked : Option ℕ) (s : Session) (e : Effect) → length old.held < 4096 → DeleteBearerTaken request d linked old s e → IsSound Serving e.node
+    delete_bearer_taken request d (Some identity) s e room (inl f) = by_row Serving e _ f.1 (holding_sound Serving old sound request _ room)
+    delete_bearer_taken request d (Some identity) s e room (inr (linked, gives)) = by_row Serving e _ gives (holding_sound Serving (without_session old d.header) (without_session_sound Serving old sound d.header) request _ room)
+    delete_bearer_taken request d None s e room (inl f) = by_row Serving e _ f.1 (holding_sound Serving old sound request _ room)
+    delete_bearer_taken request d None s e room (inr (few, r)) =
         let left = removes_each d.header d.identities old r.contexts r.left sound r.removes in
         by_row Serving e _ r.gives (holding_sound Serving r.left left.0 request _ (subst (λ (h : List Held). length h < 4096) (sym left.1) room))
 
-    removal_asked : (request : Arrival) (d : DeleteBearerRequest) (e : Effect) → RemovalAsked request d old e → IsSound Serving e.node
-    removal_asked request d e (inl f) = by_row Serving e _ f.1 sound
-    removal_asked request d e (inr (room, inl f)) = by_row Serving e _ f.1 (holding_sound Serving old sound request _ room.few)
-    removal_asked request d e (inr (room, inr (at, inl f))) = by_row Serving e _ f.1 sound
-    removal_asked request d e (inr (room, inr (at, inr (opened, r)))) = removal_taken request d d.linked at.session e room.few r
+    delete_bearer_asked : (request : Arrival) (d : DeleteBearerRequest) (e : Effect) → DeleteBearerAsked request d old e → IsSound Serving e.node
+    delete_bearer_asked request d e (inl f) = by_row Serving e _ f.1 sound
+    delete_bearer_asked request d e (inr (room, inl f)) = by_row Serving e _ f.1 (holding_sound Serving old sound request _ room.few)
+    delete_bearer_asked request d e (inr (room, inr (at, inl f))) = by_row Serving e _ f.1 sound
+    delete_bearer_asked request d e (inr (room, inr (at, inr (opened, r)))) = delete_bearer_taken request d d.linked at.session e room.few r
 
-    serving_takes : (request : Arrival) (m : Message) → IsWhole m → (e : Effect) → ServingTakes request m old e → IsSound Serving e.node
+    serving_takes : (request : Arrival) (m : Message) → NamesItsEnds m → (e : Effect) → ServingTakes request m old e → IsSound Serving e.node
     serving_takes request =
-        by_serving (λ m. IsWhole m → (e : Effect) → ServingTakes request m old e → IsSound Serving e.node)
+        by_serving (λ m. NamesItsEnds m → (e : Effect) → ServingTakes request m old e → IsSound Serving e.node)
         (λ q whole e r. by_row Serving e _ r sound)
         (λ a whole e r. echo_answered Serving sound a e r)
-        (λ a whole e r. session_answered sound a whole e r)
-        (λ d whole e r. deletion_answered sound d e r)
-        (λ q whole e r. bearer_asked sound request q e r)
-        (λ d whole e r. removal_asked request d e r)
+        (λ a whole e r. create_session_answered sound a whole e r)
+        (λ d whole e r. delete_session_answered sound d e r)
+        (λ q whole e r. create_bearer_asked sound request q e r)
+        (λ d whole e r. delete_bearer_asked request d e r)
         (λ m drops whole e r. by_row Serving e _ (drops.only request old e r) sound)
 
   module _ (sound : IsSound Packet old) where
-    session_asked : (request : Arrival) (q : CreateSessionRequest) (e : Effect) → SessionAsked request q old e → IsSound Packet e.node
-    session_asked request q e (inl f) = by_row Packet e _ f.1 sound
-    session_asked request q e (inr (room, inl f)) = by_row Packet e _ f.1 (holding_sound Packet old sound request _ room.few)
-    session_asked request q e (inr (room, inr (one, inl f))) = by_row Packet e _ f.1 (holding_sound Packet old sound request _ room.few)
-    session_asked request q e (inr (room, inr (one, inr (identity, inl f)))) = by_row Packet e _ f.1 (holding_sound Packet old sound request _ room.few)
-    session_asked request q e (inr (room, inr (one, inr (identity, inr (configured, inl f))))) = by_row Packet e _ f.1 (holding_sound Packet old sound request _ room.few)
-    session_asked request q e (inr (room, inr (one, inr (identity, inr (configured, inr (served, inl f)))))) = by_row Packet e _ f.1 (holding_sound Packet old sound request _ room.few)
-    session_asked request q e (inr (room, inr (one, inr (identity, inr (configured, inr (served, inr (few, inl f))))))) = by_row Packet e _ f.1 (holding_sound Packet old sound request _ room.few)
-    session_asked request q e (inr (room, inr (one, inr (identity, inr (configured, inr (served, inr (few, inr (can, r)))))))) =
+    create_session_asked : (request : Arrival) (q : CreateSessionRequest) (e : Effect) → CreateSessionAsked request q old e → IsSound Packet e.node
+    create_session_asked request q e (inl f) = by_row Packet e _ f.1 sound
+    create_session_asked request q e (inr (room, inl f)) = by_row Packet e _ f.1 (holding_sound Packet old sound request _ room.few)
+    create_session_asked request q e (inr (room, inr (one, inl f))) = by_row Packet e _ f.1 (holding_sound Packet old sound request _ room.few)
+    create_session_asked request q e (inr (room, inr (one, inr (identity, inl f)))) = by_row Packet e _ f.1 (holding_sound Packet old sound request _ room.few)
+    create_session_asked request q e (inr (room, inr (one, inr (identity, inr (configured, inl f))))) = by_row Packet e _ f.1 (holding_sound Packet old sound request _ room.few)
+    create_session_asked request q e (inr (room, inr (one, inr (identity, inr (configured, inr (served, inl f)))))) = by_row Packet e _ f.1 (holding_sound Packet old sound request _ room.few)
+    create_session_asked request q e (inr (room, inr (one, inr (identity, inr (configured, inr (served, inr (few, inl f))))))) = by_row Packet e _ f.1 (holding_sound Packet old sound request _ room.few)
+    create_session_asked request q e (inr (room, inr (one, inr (identity, inr (configured, inr (served, inr (few, inr (can, r)))))))) =
         let made = session_made old q r.control r.user r.address in
         let made_sound : IsSound Packet made =
         session_comes Packet old sound r.control r.user (made_session q r.address) (made_bearer q r.control) r.control_free r.user_free refl few.0.few few.1.left
@@ -296,13 +296,13 @@ module _ (old : Node) where
         by_row Packet e _ x.adds.gives (holding_sound Packet begun.node (begins_bearer made made_sound r.control (made_session q r.address) x.template.tft x.template.qos begun (get-insert_same old.sessions r.control (made_session q r.address)) x.draws.left x.room.few (record { user = x.adds.user; number = x.adds.number; user_free = x.adds.user_free; number_free = x.adds.number_free; gives = refl })) request _ room.few))
         (goes request (session_response old q r.control r.user r.address) (session_cause q.pdn r.address) r.control (made_session q r.address) made e (template_for q.access_point old.config.templates) r.gives)
 
-    deletion_asked : (request : Arrival) (d : DeleteSessionRequest) (e : Effect) → DeletionAsked request d old e → IsSound Packet e.node
-    deletion_asked request d e (inl f) = by_row Packet e _ f.1 sound
-    deletion_asked request d e (inr (room, inl f)) = by_row Packet e _ f.1 (holding_sound Packet old sound request _ room.few)
-    deletion_asked request d e (inr (room, inr (at, inl f))) = by_row Packet e _ f.1 (holding_sound Packet old sound request _ room.few)
-    deletion_asked request d e (inr (room, inr (at, inr (linked, gives)))) = by_row Packet e _ gives (holding_sound Packet (without_session old d.header) (without_session_sound Packet old sound d.header) request _ room.few)
+    delete_session_asked : (request : Arrival) (d : DeleteSessionRequest) (e : Effect) → DeleteSessionAsked request d old e → IsSound Packet e.node
+    delete_session_asked request d e (inl f) = by_row Packet e _ f.1 sound
+    delete_session_asked request d e (inr (room, inl f)) = by_row Packet e _ f.1 (holding_sound Packet old sound request _ room.few)
+    delete_session_asked request d e (inr (room, inr (at, inl f))) = by_row Packet e _ f.1 (holding_sound Packet old sound request _ room.few)
+    delete_session_asked request d e (inr (room, inr (at, inr (linked, gives)))) = by_row Packet e _ gives (holding_sound Packet (without_session old d.header) (without_session_sound Packet old sound d.header) request _ room.few)
 
-    opens_bearer : (x : CreateBearerResponse) → IsWhole (Create_bearer_response x) → (at : HasPending old x.number) (fits : FitsBearer at.pending x) → IsAccepting x.cause → (new : DescribesBearer x) → IsAccepting new.context.cause → CanOpen old fits.session new.context.identity → (e : Effect) → OpensBearer old x fits.bearer e → IsSound Packet e.node
+    opens_bearer : (x : CreateBearerResponse) → NamesItsEnds (Create_bearer_response x) → (at : HasPending old x.number) (fits : FitsCreateBearer at.pending x) → IsAccepting x.cause → (new : DescribesBearer x) → IsAccepting new.context.cause → CanOpen old fits.session new.context.identity → (e : Effect) → OpensBearer old x fits.bearer e → IsSound Packet e.node
     opens_bearer x whole at fits accepts new both can e r =
         let is = is_bearer Packet old sound x.number at.pending fits.request at.waits fits.asked in
         let ask = is.0 in
@@ -323,30 +323,30 @@ module _ (old : Node) where
         (λ i e. subst IsIdentity (some_is new.context.identity i (sym identity ∙ e)) can.range)
         (λ t a i e of ia ib. can.unused t a e (of ∙ (ap (λ (k : Bearer). k.session) same ∙ (waits.2.of ∙ about))) (ia ∙ (sym ib ∙ identity)))))
 
-    bearer_answered : (x : CreateBearerResponse) → IsWhole (Create_bearer_response x) → (e : Effect) → BearerAnswered x old e → IsSound Packet e.node
-    bearer_answered x whole e (inl f) = by_row Packet e _ f.1 sound
-    bearer_answered x whole e (inr (at, inl f)) = by_row Packet e _ f.1 sound
-    bearer_answered x whole e (inr (at, inr (fits, inl f))) = by_row Packet e _ f.1 (ends Packet sound x.number at)
-    bearer_answered x whole e (inr (at, inr (fits, inr (accepts, inl f)))) = by_row Packet e _ f.1 sound
-    bearer_answered x whole e (inr (at, inr (fits, inr (accepts, inr (new, inl f))))) = by_row Packet e _ f.1 (ends Packet sound x.number at)
-    bearer_answered x whole e (inr (at, inr (fits, inr (accepts, inr (new, inr (both, inl f)))))) = by_row Packet e _ f.1 sound
-    bearer_answered x whole e (inr (at, inr (fits, inr (accepts, inr (new, inr (both, inr (returned, inl f))))))) = by_row Packet e _ f.1 (ends Packet sound x.number at)
-    bearer_answered x whole e (inr (at, inr (fits, inr (accepts, inr (new, inr (both, inr (returned, inr (can, r)))))))) = opens_bearer x whole at fits accepts new both can e r
+    create_bearer_answered : (x : CreateBearerResponse) → NamesItsEnds (Create_bearer_response x) → (e : Effect) → CreateBearerAnswered x old e → IsSound Packet e.node
+    create_bearer_answered x whole e (inl f) = by_row Packet e _ f.1 sound
+    create_bearer_answered x whole e (inr (at, inl f)) = by_row Packet e _ f.1 sound
+    create_bearer_answered x whole e (inr (at, inr (fits, inl f))) = by_row Packet e _ f.1 (ends Packet sound x.number at)
+    create_bearer_answered x whole e (inr (at, inr (fits, inr (accepts, inl f)))) = by_row Packet e _ f.1 sound
+    create_bearer_answered x whole e (inr (at, inr (fits, inr (accepts, inr (new, inl f))))) = by_row Packet e _ f.1 (ends Packet sound x.number at)
+    create_bearer_answered x whole e (inr (at, inr (fits, inr (accepts, inr (new, inr (both, inl f)))))) = by_row Packet e _ f.1 sound
+    create_bearer_answered x whole e (inr (at, inr (fits, inr (accepts, inr (new, inr (both, inr (returned, inl f))))))) = by_row Packet e _ f.1 (ends Packet sound x.number at)
+    create_bearer_answered x whole e (inr (at, inr (fits, inr (accepts, inr (new, inr (both, inr (returned, inr (can, r)))))))) = opens_bearer x whole at fits accepts new both can e r
 
-    removal_answered : (d : DeleteBearerResponse) (e : Effect) → RemovalAnswered d old e → IsSound Packet e.node
-    removal_answered d e (inl f) = by_row Packet e _ f.1 sound
-    removal_answered d e (inr (at, inl f)) = by_row Packet e _ f.1 sound
-    removal_answered d e (inr (at, inr (fits, gives))) = by_row Packet e _ gives (ends Packet sound d.number at)
+    delete_bearer_answered : (d : DeleteBearerResponse) (e : Effect) → DeleteBearerAnswered d old e → IsSound Packet e.node
+    delete_bearer_answered d e (inl f) = by_row Packet e _ f.1 sound
+    delete_bearer_answered d e (inr (at, inl f)) = by_row Packet e _ f.1 sound
+    delete_bearer_answered d e (inr (at, inr (fits, gives))) = by_row Packet e _ gives (ends Packet sound d.number at)
 
-    packet_takes : (request : Arrival) (m : Message) → IsWhole m → (e : Effect) → PacketTakes request m old e → IsSound Packet e.node
+    packet_takes : (request : Arrival) (m : Message) → NamesItsEnds m → (e : Effect) → PacketTakes request m old e → IsSound Packet e.node
     packet_takes request =
-        by_packet (λ m. IsWhole m → (e : Effect) → PacketTakes request m old e → IsSound Packet e.node)
+        by_packet (λ m. NamesItsEnds m → (e : Effect) → PacketTakes request m old e → IsSound Packet e.node)
         (λ q whole e r. by_row Packet e _ r sound)
         (λ a whole e r. echo_answered Packet sound a e r)
-        (λ q whole e r. session_asked request q e r)
-        (λ d whole e r. deletion_asked request d e r)
-        (λ x whole e r. bearer_answered x whole e r)
-        (λ d whole e r. removal_answered d e r)
+        (λ q whole e r. create_session_asked request q e r)
+        (λ d whole e r. delete_session_asked request d e r)
+        (λ x whole e r. create_bearer_answered x whole e r)
+        (λ d whole e r. delete_bearer_answered d e r)
         (λ m drops whole e r. by_row Packet e _ (drops.only request old e r) sound)
 
 -- a counter is heard, and then the message is taken
@@ -366,7 +366,7 @@ module _ (role : Role) (Takes : Node → Effect → Type 0) (takes : (node : Nod
 
 -- and so does what was read, at either gateway
 module _ (role : Role) (Takes : Arrival → Message → Node → Effect → Type 0)
-    (rows : (node : Node) → IsSound role node → (request : Arrival) (m : Message) → IsWhole m → (e : Effect) → Takes request m node e → IsSound role e.node) (old : Node) (sound : IsSound role old) (request : Arrival) where
+    (rows : (node : Node) → IsSound role node → (request : Arrival) (m : Message) → NamesItsEnds m → (e : Effect) → Takes request m node e → IsSound role e.node) (old : Node) (sound : IsSound role old) (request : Arrival) where
   reads : (reading : ControlReading) → IsWellFormed (Control_came request reading) → (e : Effect) → TakesReading role Takes reading request old e → IsSound role e.node
   reads (Control_message m) whole e (inl f) = by_row role e _ f.1 sound
   reads (Control_message m) whole e (inr (taken, r)) = hears role (Takes request m) (λ node s. rows node s request m whole) old sound (recovery_of m) e r

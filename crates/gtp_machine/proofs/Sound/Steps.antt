@@ -21,9 +21,9 @@ use Rattle.gtp_machine.specs.User.{UserTaken, UserRead}
 use Rattle.gtp_machine.specs.Command.{NamesBearer, CommandStep}
 use Rattle.gtp_machine.specs.Answer.{IsNew, Faulted, TakesReading, ControlStep}
 use Rattle.gtp_machine.specs.MessageType.{answers_type}
-use Rattle.gtp_machine.specs.Serving.{SessionAnswered, BearerAsked, RemovesEach, RemovalTaken, RemovalAsked, ServingTakes}
+use Rattle.gtp_machine.specs.Serving.{CreateSessionAnswered, CreateBearerAsked, RemovesEach, DeleteBearerTaken, DeleteBearerAsked, ServingTakes}
 use Rattle.gtp_machine.specs.Config.{Template, template_for}
-use Rattle.gtp_machine.specs.Packet.{AnswersWith, SessionAsked, BearerAnswered, PacketTakes}
+use Rattle.gtp_machine.specs.Packet.{AnswersWith, CreateSessionAsked, CreateBearerAnswered, PacketTakes}
 use Rattle.gtp_machine.specs.Sound.{IsSound, CanMove, IsNotEmpty, AlwaysSteps}
 use Rattle.gtp_machine.proofs.Sound.Changes.{known_sound, is_session, is_bearer}
 use Rattle.gtp_machine.proofs.Sound.Rows.{restarted_sound}
@@ -106,22 +106,22 @@ module _ (old : Node) where
   user_read role sound source Extension_needed = gives _
   user_read role sound source (User_fault fault) = gives _
 
-  session_answered : IsSound Serving old → (a : CreateSessionResponse) → IsNotEmpty (λ e. SessionAnswered a old e)
-  session_answered sound a =
+  create_session_answered : IsSound Serving old → (a : CreateSessionResponse) → IsNotEmpty (λ e. CreateSessionAnswered a old e)
+  create_session_answered sound a =
       tries _ _ _ (gives _) (λ at. tries _ _ _ (gives _) (λ fits. tries _ _ _ (gives _) (λ accepts. tries _ _ _ (gives _) (λ new. tries _ _ _ (gives _) (λ both none.
       let ask = is_session Serving old sound a.number at.pending fits.request at.waits fits.asked in
       none _ (record { default = record { bearer = ask.0.default.0; stands = ap (λ (k : CreateSessionRequest). get old.bearers k.context.user.teid) (sym ask.1) ∙ ask.0.default.1 }; gives = refl }))))))
 
-  bearer_answered : IsSound Packet old → (x : CreateBearerResponse) → IsNotEmpty (λ e. BearerAnswered x old e)
-  bearer_answered sound x =
+  create_bearer_answered : IsSound Packet old → (x : CreateBearerResponse) → IsNotEmpty (λ e. CreateBearerAnswered x old e)
+  create_bearer_answered sound x =
       tries _ _ _ (gives _) (λ at. tries _ _ _ (gives _) (λ fits. tries _ _ _ (gives _) (λ accepts. tries _ _ _ (gives _) (λ new. tries _ _ _ (gives _) (λ both. tries _ _ _ (gives _) (λ returned. tries _ _ _ (gives _) (λ can none.
       let ask = (is_bearer Packet old sound x.number at.pending fits.request at.waits fits.asked).0 in
       let key : fits.bearer ≡ ask.request.context.user.teid = some_is fits.bearer ask.request.context.user.teid (sym fits.about_bearer ∙ ask.bearer) in
       let there : HasBearer old ask.request.context.user.teid = ⊎_elim (λ w. record { bearer = w.0; stands = w.1 }) (λ w. record { bearer = w.0.0; stands = w.0.1 }) ask.wanted in
       none _ (record { at = record { bearer = there.bearer; stands = ap (λ k. get old.bearers k) key ∙ there.stands }; gives = refl }))))))))
 
-  bearer_asked : (request : Arrival) (q : CreateBearerRequest) → IsNotEmpty (λ e. BearerAsked request q old e)
-  bearer_asked request q =
+  create_bearer_asked : (request : Arrival) (q : CreateBearerRequest) → IsNotEmpty (λ e. CreateBearerAsked request q old e)
+  create_bearer_asked request q =
       tries _ _ _ (gives _) (λ room. tries _ _ _ (gives _) (λ at. tries _ _ _ (gives _) (λ active. tries _ _ _ (gives _) (λ one. tries _ _ _ (gives _) (λ linked. tries _ _ _ (gives _) (λ free none.
       let t = one_free old free.1.left in
       none _ (record { user = t.0; identity = free.0.identity; user_free = t.1; identity_free = free.0.free; gives = refl })))))))
@@ -148,8 +148,8 @@ module _ (old : Node) where
       let t = one_free made can.0.left in
       none _ (record { user = t.0; number = n.0; user_free = t.1; number_free = n.1; gives = refl }))
 
-  session_asked : (request : Arrival) (q : CreateSessionRequest) → IsNotEmpty (λ e. SessionAsked request q old e)
-  session_asked request q =
+  create_session_asked : (request : Arrival) (q : CreateSessionRequest) → IsNotEmpty (λ e. CreateSessionAsked request q old e)
+  create_session_asked request q =
       tries _ _ _ (gives _) (λ room. tries _ _ _ (gives _) (λ one. tries _ _ _ (gives _) (λ identity. tries _ _ _ (gives _) (λ configured. tries _ _ _ (gives _) (λ served. tries _ _ _ (gives _) (λ few. tries _ _ _ (gives _) (λ can none.
       let t = two_free old few.1.left in
       part_given q.pdn V4 (λ v4 v4_given. part_given q.pdn V6 (λ v6 v6_given.
@@ -163,12 +163,12 @@ removes_each session (identity ∷ rest) from none =
     removes_each session rest from (λ contexts new r. none _ new (contexts, inl (fails, (refl, r))))
 
 module _ (old : Node) where
-  removal_taken : (request : Arrival) (d : DeleteBearerRequest) (linked : Option ℕ) (s : Session) → IsNotEmpty (λ e. RemovalTaken request d linked old s e)
-  removal_taken request d (Some identity) s = tries _ _ _ (gives _) (λ linked. gives _)
-  removal_taken request d None s = tries _ _ _ (gives _) (λ few none. removes_each d.header d.identities old (λ contexts left r. none _ (record { contexts = contexts; left = left; removes = r; gives = refl })))
+  delete_bearer_taken : (request : Arrival) (d : DeleteBearerRequest) (linked : Option ℕ) (s : Session) → IsNotEmpty (λ e. DeleteBearerTaken request d linked old s e)
+  delete_bearer_taken request d (Some identity) s = tries _ _ _ (gives _) (λ linked. gives _)
+  delete_bearer_taken request d None s = tries _ _ _ (gives _) (λ few none. removes_each d.header d.identities old (λ contexts left r. none _ (record { contexts = contexts; left = left; removes = r; gives = refl })))
 
-  removal_asked : (request : Arrival) (d : DeleteBearerRequest) → IsNotEmpty (λ e. RemovalAsked request d old e)
-  removal_asked request d = tries _ _ _ (gives _) (λ room. tries _ _ _ (gives _) (λ at. tries _ _ _ (gives _) (λ opened. removal_taken request d d.linked at.session)))
+  delete_bearer_asked : (request : Arrival) (d : DeleteBearerRequest) → IsNotEmpty (λ e. DeleteBearerAsked request d old e)
+  delete_bearer_asked request d = tries _ _ _ (gives _) (λ room. tries _ _ _ (gives _) (λ at. tries _ _ _ (gives _) (λ opened. delete_bearer_taken request d d.linked at.session)))
 
   echo_answered : (a : Echo) → IsNotEmpty (λ e. EchoAnswered a old e)
   echo_answered a = tries _ _ _ (gives _) (λ at. tries _ _ _ (gives _) (λ fits. gives _))
@@ -178,10 +178,10 @@ module _ (old : Node) where
       by_serving (λ m. IsNotEmpty (λ e. ServingTakes request m old e))
       (λ q. gives _)
       echo_answered
-      (session_answered old sound)
+      (create_session_answered old sound)
       (λ d. tries _ _ _ (gives _) (λ at. tries _ _ _ (gives _) (λ fits. gives _)))
-      (bearer_asked old request)
-      (removal_asked request)
+      (create_bearer_asked old request)
+      (delete_bearer_asked request)
       (λ m drops none. none _ (drops.so request old _ refl))
 
   packet_takes : IsSound Packet old → (request : Arrival) (m : Message) → IsNotEmpty (λ e. PacketTakes request m old e)
@@ -189,9 +189,9 @@ module _ (old : Node) where
       by_packet (λ m. IsNotEmpty (λ e. PacketTakes request m old e))
       (λ q. gives _)
       echo_answered
-      (session_asked old request)
+      (create_session_asked old request)
       (λ d. tries _ _ _ (gives _) (λ room. tries _ _ _ (gives _) (λ at. tries _ _ _ (gives _) (λ linked. gives _))))
-      (bearer_answered old sound)
+      (create_bearer_answered old sound)
       (λ d. tries _ _ _ (gives _) (λ at. tries _ _ _ (gives _) (λ fits. gives _)))
       (λ m drops none. none _ (drops.so request old _ refl))
 

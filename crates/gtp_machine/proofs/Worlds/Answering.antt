@@ -18,10 +18,10 @@ use Rattle.gtp_machine.specs.Tick.{ticked}
 use Rattle.gtp_machine.specs.Step.{Step}
 use Rattle.gtp_machine.specs.Reading.{user_cut_fault}
 use Rattle.gtp_machine.specs.Spelling.{spelled, announcing, datagram_plane, spelled_all}
-use Rattle.gtp_machine.specs.Serving.{granted_bearer, BearerAsked}
+use Rattle.gtp_machine.specs.Serving.{granted_bearer, CreateBearerAsked}
 use Rattle.gtp_machine.specs.Command.{pending_dedicated}
-use Rattle.gtp_machine.specs.Packet.{session_cause, session_response, made_session, made_bearer, session_made, session_refused, SessionAsked}
-use Rattle.gtp_machine.specs.World.{World, SentDatagram, other, side_of, signed, with_side, with_steps, noted, Note, Moves, MovesTwice, TicksOn, Delivers, late_once, come_from, arrival, first_came, second_came, fault_of_cut, delivered_on, cut_on, restarted, Event, Does, Tick, Deliver, Cut, Restart, Happens, Run, start}
+use Rattle.gtp_machine.specs.Packet.{session_cause, session_response, made_session, made_bearer, session_made, session_refused, CreateSessionAsked}
+use Rattle.gtp_machine.specs.World.{World, SentDatagram, other, side_of, signed, with_side, with_steps, noted, Note, Moves, MovesTwice, TicksOn, Delivers, marked_late, come_from, arrival, first_came, second_came, fault_of_cut, delivered_on, cut_on, restarted, Event, Does, Tick, Deliver, Cut, Restart, Happens, Run, start}
 use Rattle.gtp_machine.specs.Laws.{OfEachRun, Moment, ComesLast, IssuedAnswer, BringsOctets, AnswersRequest, IsMadeFor, IsGrantedFor, AnswersSessionRequest, AnswersBearerRequest, EachResponseAnswers}
 use Rattle.gtp_machine.proofs.Basics.FiniteMaps.{get-insert_same, get-insert_other, Among-one_more, among_at}
 use Rattle.gtp_machine.proofs.Basics.Datagrams.{IsFew}
@@ -53,15 +53,15 @@ took : (old : World) (role : Role) (input : Input) (new : World) → Moves old r
 took old Serving input new m = record { effect = m.effect; step = m.step; grown = record { list = ap (λ (w : World). w.datagrams) m.becomes; node = ap (λ (w : World). w.serving.node) m.becomes; elsewhere = ap (λ (w : World). w.packet.node) m.becomes } }
 took old Packet input new m = record { effect = m.effect; step = m.step; grown = record { list = ap (λ (w : World). w.datagrams) m.becomes; node = ap (λ (w : World). w.packet.node) m.becomes; elsewhere = ap (λ (w : World). w.serving.node) m.becomes } }
 
-took_late : (old : World) (role : Role) (request : Arrival) (input : Input) (new : World) → Moves (late_once old role request) role input new → Took old role input new
+took_late : (old : World) (role : Role) (request : Arrival) (input : Input) (new : World) → Moves (marked_late old role request) role input new → Took old role input new
 took_late old Serving request input new m = record { effect = m.effect; step = m.step; grown = record { list = ap (λ (w : World). w.datagrams) m.becomes; node = ap (λ (w : World). w.serving.node) m.becomes; elsewhere = ap (λ (w : World). w.packet.node) m.becomes } }
 took_late old Packet request input new m = record { effect = m.effect; step = m.step; grown = record { list = ap (λ (w : World). w.datagrams) m.becomes; node = ap (λ (w : World). w.packet.node) m.becomes; elsewhere = ap (λ (w : World). w.serving.node) m.becomes } }
 
 -- a datagram of one message comes
 took_datagram : (old : World) (sender : Role) (m : Message) (new : World) → Delivers old sender (m ∷ []) new → Took old (other sender) (delivered_on (plane_of m) (side_of old sender).node.config.own (m ∷ [])) new
 took_datagram old sender m new (inl d) = took old (other sender) _ new (alone_comes old (other sender) _ new m d.1)
-took_datagram old Serving m new (inr d) = took_late old Packet _ _ new (alone_comes (late_once old Packet (arrival old.serving.node.config.own m)) Packet _ new m d.1)
-took_datagram old Packet m new (inr d) = took_late old Serving _ _ new (alone_comes (late_once old Serving (arrival old.packet.node.config.own m)) Serving _ new m d.1)
+took_datagram old Serving m new (inr d) = took_late old Packet _ _ new (alone_comes (marked_late old Packet (arrival old.serving.node.config.own m)) Packet _ new m d.1)
+took_datagram old Packet m new (inr d) = took_late old Serving _ _ new (alone_comes (marked_late old Serving (arrival old.packet.node.config.own m)) Serving _ new m d.1)
 
 -- the serving gateway takes the messages of a pair, one after the other
 record TookBoth (old : World) (a : CreateSessionResponse) (r : CreateBearerRequest) (new : World) : Type 0 where
@@ -76,7 +76,7 @@ record TookBoth (old : World) (a : CreateSessionResponse) (r : CreateBearerReque
 took_both : (old : World) (a : CreateSessionResponse) (r : CreateBearerRequest) (new : World) → MovesTwice old Serving (first_came old.packet.node.config.own (Create_session_response a)) (second_came old.packet.node.config.own (Create_bearer_request r)) new → TookBoth old a r new
 took_both old a r new m = record { effect = m.effect; step = m.step; next = m.next; follows = m.follows; list = ap (λ (w : World). w.datagrams) m.becomes; node = ap (λ (w : World). w.serving.node) m.becomes; elsewhere = ap (λ (w : World). w.packet.node) m.becomes }
 
-took_both_late : (old : World) (request : Arrival) (a : CreateSessionResponse) (r : CreateBearerRequest) (new : World) → MovesTwice (late_once old Serving request) Serving (first_came old.packet.node.config.own (Create_session_response a)) (second_came old.packet.node.config.own (Create_bearer_request r)) new → TookBoth old a r new
+took_both_late : (old : World) (request : Arrival) (a : CreateSessionResponse) (r : CreateBearerRequest) (new : World) → MovesTwice (marked_late old Serving request) Serving (first_came old.packet.node.config.own (Create_session_response a)) (second_came old.packet.node.config.own (Create_bearer_request r)) new → TookBoth old a r new
 took_both_late old request a r new m = record { effect = m.effect; step = m.step; next = m.next; follows = m.follows; list = ap (λ (w : World). w.datagrams) m.becomes; node = ap (λ (w : World). w.serving.node) m.becomes; elsewhere = ap (λ (w : World). w.packet.node) m.becomes }
 
 -- a pair comes as a whole
@@ -85,11 +85,11 @@ TookWhole old role a r new = Took old role (Control_came (come_from (side_of old
 
 pair_to_serving : (old : World) (a : CreateSessionResponse) (r : CreateBearerRequest) (new : World) → Delivers old Packet (Create_session_response a ∷ Create_bearer_request r ∷ []) new → TookWhole old Serving a r new ⊎ TookBoth old a r new
 pair_to_serving old a r new (inl d) = ⊎_elim (λ whole. inl (took old Serving _ new whole)) (λ apart. inr (took_both old a r new apart.moves)) (pair_comes old Serving old.packet.node.config.own new a r d.1)
-pair_to_serving old a r new (inr d) = let x = arrival old.packet.node.config.own (Create_bearer_request r) in ⊎_elim (λ whole. inl (took_late old Serving x _ new whole)) (λ apart. inr (took_both_late old x a r new apart.moves)) (pair_comes (late_once old Serving x) Serving old.packet.node.config.own new a r d.1)
+pair_to_serving old a r new (inr d) = let x = arrival old.packet.node.config.own (Create_bearer_request r) in ⊎_elim (λ whole. inl (took_late old Serving x _ new whole)) (λ apart. inr (took_both_late old x a r new apart.moves)) (pair_comes (marked_late old Serving x) Serving old.packet.node.config.own new a r d.1)
 
 pair_to_packet : (own : Addresses) (old : World) (a : CreateSessionResponse) (r : CreateBearerRequest) (new : World) → Delivers old Serving (Create_session_response a ∷ Create_bearer_request r ∷ []) new → TookWhole old Packet a r new
 pair_to_packet own old a r new (inl d) = took old Packet _ new (to_packet own old old.serving.node.config.own a r new d.1)
-pair_to_packet own old a r new (inr d) = let x = arrival old.serving.node.config.own (Create_bearer_request r) in took_late old Packet x _ new (to_packet own (late_once old Packet x) old.serving.node.config.own a r new d.1)
+pair_to_packet own old a r new (inr d) = let x = arrival old.serving.node.config.own (Create_bearer_request r) in took_late old Packet x _ new (to_packet own (marked_late old Packet x) old.serving.node.config.own a r new d.1)
 
 ticks_grown : (old : World) (role : Role) (new : World) (t : TicksOn old role new) → Grown old role (ticked t.out t.after) new
 ticks_grown old Serving new t = record { list = ap (λ (w : World). w.datagrams) t.becomes; node = ap (λ (w : World). w.serving.node) t.becomes; elsewhere = ap (λ (w : World). w.packet.node) t.becomes }
@@ -449,7 +449,7 @@ module _ (request : Arrival) (r : CreateBearerRequest) (e : Effect) (x : CreateB
   refusal : (y : CreateBearerResponse) (f : Effect) → e ≡ f → datagrams f.out.sent ≡ (Create_bearer_response y ∷ []) ∷ [] → f.out.made ≡ [] → 64 ≤ y.cause.value → y.number ≡ r.number → ((t : ℕ) → first_returned y.contexts ≡ Some t → t ≡ r.context.user.teid) → NamesBearer request r e x
   refusal y f gives said none high number returned = named y f gives said (record { number = number; returned = returned; made = λ accepts. absurd (refuses y.cause high accepts); accepted = λ accepts. absurd (refuses y.cause high accepts); refused = λ no. none })
 
-  bearer_named : (old : Node) → BearerAsked request r old e → NamesBearer request r e x
+  bearer_named : (old : Node) → CreateBearerAsked request r old e → NamesBearer request r e x
   bearer_named old (inl f) = silent _ f.1 refl
   bearer_named old (inr (a, inl f)) = refusal _ _ f.1 refl refl (omega arith) refl (λ t none. absurd (none_some t none))
   bearer_named old (inr (a, inr (b, inl f))) = silent _ f.1 refl
@@ -474,7 +474,7 @@ module _ (request : Arrival) (q : CreateSessionRequest) (a : CreateSessionRespon
   refused_session : (old : Node) (e : Effect) (cause : Cause) → datagrams e.out.sent ≡ (Create_session_response a ∷ more) ∷ [] → e ≡ session_refused request q cause old → 64 ≤ cause.value → NamesSession request q e a
   refused_session old e cause says gives high = named_session e (session_refused request q cause old) _ _ says gives refl (record { number = refl; header = refl; made = λ accepts. absurd (refuses cause high accepts); accepted = λ accepts. absurd (refuses cause high accepts); refused = λ no. refl })
 
-  session_named : (old : Node) (e : Effect) → datagrams e.out.sent ≡ (Create_session_response a ∷ more) ∷ [] → SessionAsked request q old e → NamesSession request q e a
+  session_named : (old : Node) (e : Effect) → datagrams e.out.sent ≡ (Create_session_response a ∷ more) ∷ [] → CreateSessionAsked request q old e → NamesSession request q e a
   session_named old e says (inl f) = silent_session e _ says f.1 refl
   session_named old e says (inr (b, inl f)) = refused_session old e (cause_of 94) says f.1 (omega arith)
   session_named old e says (inr (b, inr (c, inl f))) = refused_session old e (cause_at 69 73 0) says f.1 (omega arith)
@@ -525,12 +525,12 @@ module _ (request : Arrival) (q : CreateSessionRequest) (a : CreateSessionRespon
       bearer_stands : get (insert old.bearers r.user (made_bearer q r.control)) r.user ≡ Some (made_bearer q r.control)
       bearer_stands = get-insert_same old.bearers r.user (made_bearer q r.control)
 
-  judged : (old : Node) (c : ℕ) (age : Age) (e : Effect) → datagrams e.out.sent ≡ (Create_session_response a ∷ more) ∷ [] → Judges (SessionAsked request q) old c age e → NamesSession request q e a
+  judged : (old : Node) (c : ℕ) (age : Age) (e : Effect) → datagrams e.out.sent ≡ (Create_session_response a ∷ more) ∷ [] → Judges (CreateSessionAsked request q) old c age e → NamesSession request q e a
   judged old c Same e says r = session_named old e says r
   judged old c Later e says r = session_named (peer_restarted old c) e says r
   judged old c Earlier e says r = silent_session e _ says r refl
 
-  weighed : (old : Node) (c : ℕ) (known : Option ℕ) (e : Effect) → datagrams e.out.sent ≡ (Create_session_response a ∷ more) ∷ [] → Weighs (SessionAsked request q) old c known e → NamesSession request q e a
+  weighed : (old : Node) (c : ℕ) (known : Option ℕ) (e : Effect) → datagrams e.out.sent ≡ (Create_session_response a ∷ more) ∷ [] → Weighs (CreateSessionAsked request q) old c known e → NamesSession request q e a
   weighed old c None e says r = session_named (record old { known = Some c }) e says r
   weighed old c (Some k) e says r = judged old c (age_of k c) e says r
 
@@ -538,7 +538,7 @@ module _ (request : Arrival) (q : CreateSessionRequest) (a : CreateSessionRespon
   with_heard : (taken : Effect) (h learned : Option ℕ) → NamesSession request q taken a → NamesSession request q (record taken { out = record taken.out { heard = h; learned = learned } }) a
   with_heard taken h learned n = record { number = n.number; header = n.header; made = n.made; accepted = n.accepted; refused = n.refused }
 
-  heard : (old : Node) (o : Option ℕ) (e : Effect) → datagrams e.out.sent ≡ (Create_session_response a ∷ more) ∷ [] → Hears (SessionAsked request q) old o e → NamesSession request q e a
+  heard : (old : Node) (o : Option ℕ) (e : Effect) → datagrams e.out.sent ≡ (Create_session_response a ∷ more) ∷ [] → Hears (CreateSessionAsked request q) old o e → NamesSession request q e a
   heard old None e says r = session_named old e says r
   heard old (Some c) e says r = subst (λ k. NamesSession request q k a) (sym r.2) (with_heard r.0 _ _ (weighed old c old.known r.0 (sym (ap (λ (k : Effect). datagrams k.out.sent) r.2) ∙ says) r.1))
 

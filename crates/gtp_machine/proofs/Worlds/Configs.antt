@@ -10,7 +10,7 @@ use Rattle.gtp_values.specs.FiniteMap.{Among}
 use Rattle.gtp_machine.specs.Spelling.{datagram_plane}
 use Rattle.gtp_machine.specs.Tick.{ticked}
 use Rattle.gtp_machine.specs.Step.{Done}
-use Rattle.gtp_machine.specs.World.{World, Note, Event, Does, Tick, Deliver, Cut, Restart, HasSent, Happens, Delivers, ComesTo, first_came, second_came, note_of_both, Moves, Run, other, side_of, with_side, with_steps, noted, moved, logged, late_once, arrival, restarted, start, quiet_note, next_counter, No_such_datagram, Cut_too_long, Restarts_used, Restarted}
+use Rattle.gtp_machine.specs.World.{World, Note, Event, Does, Tick, Deliver, Cut, Restart, HasSent, Happens, Delivers, ComesTo, first_came, second_came, note_of_both, Moves, Run, other, side_of, with_side, with_steps, noted, moved, logged, marked_late, arrival, restarted, start, quiet_note, next_counter, No_such_datagram, Cut_too_long, Restarts_used, Restarted}
 use Rattle.gtp_machine.proofs.Basics.Datagrams.{IsFew}
 use Rattle.gtp_machine.proofs.Worlds.Coming.{by_few, alone_comes, pair_comes}
 use Rattle.gtp_machine.proofs.Exchange.Held.{tick_config}
@@ -31,7 +31,7 @@ same_noted : (w : World) (note : Note) → SetUpAs w (noted w note)
 same_noted w note Serving = refl
 same_noted w note Packet = refl
 
-same_late : (w : World) (role : Role) (a : Arrival) → SetUpAs w (late_once w role a)
+same_late : (w : World) (role : Role) (a : Arrival) → SetUpAs w (marked_late w role a)
 same_late w Serving a Serving = refl
 same_late w Serving a Packet = refl
 same_late w Packet a Serving = refl
@@ -59,12 +59,12 @@ module _ (own : Addresses) where
   delivers w inv Packet m sent new (inr d) =
       let a = arrival w.packet.node.config.own m in
       let late = run.late_keeps own w inv Serving a in
-      after w (late_once w Serving a) new (same_late w Serving a) (moves (late_once w Serving a) late Serving _ (run.serving_carried own (late_once w Serving a) late (plane_of m) m sent) new (alone_comes (late_once w Serving a) Serving w.packet.node.config.own new m d.1))
+      after w (marked_late w Serving a) new (same_late w Serving a) (moves (marked_late w Serving a) late Serving _ (run.serving_carried own (marked_late w Serving a) late (plane_of m) m sent) new (alone_comes (marked_late w Serving a) Serving w.packet.node.config.own new m d.1))
   delivers w inv Serving m sent new (inl d) = moves w inv Packet _ (run.packet_carried own w inv (plane_of m) m sent) new (alone_comes w Packet w.serving.node.config.own new m d.1)
   delivers w inv Serving m sent new (inr d) =
       let a = arrival w.serving.node.config.own m in
       let late = run.late_keeps own w inv Packet a in
-      after w (late_once w Packet a) new (same_late w Packet a) (moves (late_once w Packet a) late Packet _ (run.packet_carried own (late_once w Packet a) late (plane_of m) m sent) new (alone_comes (late_once w Packet a) Packet w.serving.node.config.own new m d.1))
+      after w (marked_late w Packet a) new (same_late w Packet a) (moves (marked_late w Packet a) late Packet _ (run.packet_carried own (marked_late w Packet a) late (plane_of m) m sent) new (alone_comes (marked_late w Packet a) Packet w.serving.node.config.own new m d.1))
 
   -- a pair comes, as a whole or message by message
   whole : (w : World) → run.Invariant own w → (role : Role) (request : Arrival) (new : World) → Moves w role (Control_came request (Control_message (Other_control 0))) new → SetUpAs w new
@@ -89,11 +89,11 @@ module _ (own : Addresses) where
   delivers_pair w inv Packet a r a_sent r_sent new (inl d) = to_serving w inv a r a_sent r_sent new d.1
   delivers_pair w inv Packet a r a_sent r_sent new (inr d) =
       let x = arrival w.packet.node.config.own (Create_bearer_request r) in
-      after w (late_once w Serving x) new (same_late w Serving x) (to_serving (late_once w Serving x) (run.late_keeps own w inv Serving x) a r a_sent r_sent new d.1)
+      after w (marked_late w Serving x) new (same_late w Serving x) (to_serving (marked_late w Serving x) (run.late_keeps own w inv Serving x) a r a_sent r_sent new d.1)
   delivers_pair w inv Serving a r a_sent r_sent new (inl d) = whole w inv Packet _ new (run.to_packet own w w.serving.node.config.own a r new d.1)
   delivers_pair w inv Serving a r a_sent r_sent new (inr d) =
       let x = arrival w.serving.node.config.own (Create_bearer_request r) in
-      after w (late_once w Packet x) new (same_late w Packet x) (whole (late_once w Packet x) (run.late_keeps own w inv Packet x) Packet _ new (run.to_packet own (late_once w Packet x) w.serving.node.config.own a r new d.1))
+      after w (marked_late w Packet x) new (same_late w Packet x) (whole (marked_late w Packet x) (run.late_keeps own w inv Packet x) Packet _ new (run.to_packet own (marked_late w Packet x) w.serving.node.config.own a r new d.1))
 
   delivers_few : (w : World) → run.Invariant own w → (sender : Role) (datagram : List Message) → IsFew datagram → ((m : Message) → Among m datagram → HasSent w.history sender m) → (new : World) → Delivers w sender datagram new → SetUpAs w new
   delivers_few w inv sender =

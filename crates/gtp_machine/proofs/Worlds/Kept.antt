@@ -140,15 +140,15 @@ module _ (history : List Sent) (key : Message → Arrival) (side : Side) (taken 
 -- each context that was made since the start has its answer held or given up, and was made once unless its request came late
 pub record Making (side : Side) : Type 0 where
   pub kept : (a : Arrival) → Among a side.made → ((answer : List Message) × Among (record { request = a; answer = answer }) side.node.held) ⊎ Among a side.forgotten
-  pub once : (a : Arrival) → (Among a side.came_late → ⊥) → AtMostOnce a side.made
+  pub once : (a : Arrival) → (Among a side.late_requests → ⊥) → AtMostOnce a side.made
 
-module _ (history : List Sent) (role : Role) (side : Side) (taken : Arrival → Message → Type 0) (e : Effect) (m : Making side) (logs : Logs history role taken side.node e) (is_new : (a : Arrival) (n : Message) → taken a n → IsNew side.node a) (marked : (a : Arrival) (n : Message) → creates role n ≡ true → taken a n → Among a side.forgotten → Among a side.came_late) where
+module _ (history : List Sent) (role : Role) (side : Side) (taken : Arrival → Message → Type 0) (e : Effect) (m : Making side) (logs : Logs history role taken side.node e) (is_new : (a : Arrival) (n : Message) → taken a n → IsNew side.node a) (marked : (a : Arrival) (n : Message) → creates role n ≡ true → taken a n → Among a side.forgotten → Among a side.late_requests) where
   still : (a : Arrival) → ((answer : List Message) × Among (record { request = a; answer = answer }) side.node.held) ⊎ Among a side.forgotten → ((answer : List Message) × Among (record { request = a; answer = answer }) e.node.held) ⊎ Among a (side.forgotten ++ e.out.forgot)
   still a (inl held) = ⊎_elim (λ stays. inl (held.0, stays)) (λ gone. inr (Among-right a side.forgotten e.out.forgot gone)) (logs.held_stays (record { request = a; answer = held.0 }) held.1)
   still a (inr gone) = inr (Among-left a side.forgotten e.out.forgot gone)
 
   -- a context that is made now was not made before, unless its request comes late
-  first_made : (a : Arrival) (n : Message) → creates role n ≡ true → taken a n → (Among a side.came_late → ⊥) → Among a side.made → ⊥
+  first_made : (a : Arrival) (n : Message) → creates role n ≡ true → taken a n → (Among a side.late_requests → ⊥) → Among a side.made → ⊥
   first_made a n create came on_time before = ⊎_elim
       (λ held. is_new a n came (record { request = a; answer = held.0 }) held.1 refl)
       (λ gone. on_time (marked a n create came gone))
@@ -169,7 +169,7 @@ module _ (history : List Sent) (role : Role) (side : Side) (taken : Arrival → 
       newly : MakesFor role taken e.out.made e.node → Making (stepped side e)
       newly x = record {
         kept = λ a among. kept a (subst (λ (l : List Arrival). Among a (l ++ side.made)) x.is among);
-        once = λ a on_time. subst (λ (l : List Arrival). AtMostOnce a (l ++ side.made)) (sym x.is) (λ same before. first_made x.arrival x.message x.creates x.came (λ late. on_time (subst (λ k. Among k side.came_late) same late)) (subst (λ k. Among k side.made) (sym same) before), m.once a on_time);
+        once = λ a on_time. subst (λ (l : List Arrival). AtMostOnce a (l ++ side.made)) (sym x.is) (λ same before. first_made x.arrival x.message x.creates x.came (λ late. on_time (subst (λ k. Among k side.late_requests) same late)) (subst (λ k. Among k side.made) (sym same) before), m.once a on_time);
       }
         where
           kept : (a : Arrival) → Among a (x.arrival ∷ side.made) → ((answer : List Message) × Among (record { request = a; answer = answer }) e.node.held) ⊎ Among a (side.forgotten ++ e.out.forgot)
@@ -180,5 +180,5 @@ pub Making-fresh : (side : Side) → Making (restarted side)
 Making-fresh side = record { kept = λ a none. absurd none; once = λ a on_time. tt }
 
 -- one more late delivery
-pub Making-late : (side : Side) (a : Arrival) → Making side → Making (record side { came_late = a ∷ side.came_late })
+pub Making-late : (side : Side) (a : Arrival) → Making side → Making (record side { late_requests = a ∷ side.late_requests })
 Making-late side a m = record { kept = m.kept; once = λ b on_time. m.once b (λ late. on_time (inr late)) }

@@ -10,7 +10,7 @@ use Rattle.gtp_machine.specs.Tick.{TickStep, ticked}
 use Rattle.gtp_machine.specs.Step.{Step, Done, Steps, tick_steps}
 use Rattle.gtp_machine.specs.Once.{Makes, TookRequest}
 use Rattle.gtp_machine.specs.Spelling.{datagram_plane, spelled_all}
-use Rattle.gtp_machine.specs.World.{World, Side, Note, Event, Does, Tick, Deliver, Cut, Restart, Happens, Delivers, Moves, ComesTo, come_from, first_came, second_came, note_of_both, Run, other, side_of, with_side, steps_of, with_steps, logged, stepped, moved, noted, late_once, arrival, delivered_on, IsLateOn, HasSent, restarted, begun, start, quiet_note, No_such_datagram, Cut_too_long, Restarts_used}
+use Rattle.gtp_machine.specs.World.{World, Side, Note, Event, Does, Tick, Deliver, Cut, Restart, Happens, Delivers, Moves, ComesTo, come_from, first_came, second_came, note_of_both, Run, other, side_of, with_side, steps_of, with_steps, logged, stepped, moved, noted, marked_late, arrival, delivered_on, IsLateOn, HasSent, restarted, begun, start, quiet_note, No_such_datagram, Cut_too_long, Restarts_used}
 use Rattle.gtp_machine.specs.Laws.{Always, StepsAreKept, EachRequestActsOnce}
 use Rattle.gtp_machine.proofs.Basics.FiniteMaps.{Among-left, Among-right, Among-one_more}
 use Rattle.gtp_machine.proofs.Requests.ActsOnce.{acts_once_from, acts_once_in_time}
@@ -54,9 +54,9 @@ pub record AreStepsOf (role : Role) (side : Side) (steps : List Done) : Type 0 w
   pub same : side.node.config ≡ config
   pub reach : Steps role (fresh_node config ((side.first + side.restarts) % 256)) steps side.node
   pub forgets : (done : Done) (a : Arrival) → Among done steps → Among a done.effect.out.forgot → Among a side.forgotten
-  pub late : (front back : List Done) (done earlier : Done) (request : Arrival) (message : Message) → creates role message ≡ true → steps ≡ front ++ (done ∷ back) → TookRequest done request message → Among earlier front → Among request earlier.effect.out.forgot → Among request side.came_late
+  pub late : (front back : List Done) (done earlier : Done) (request : Arrival) (message : Message) → creates role message ≡ true → steps ≡ front ++ (done ∷ back) → TookRequest done request message → Among earlier front → Among request earlier.effect.out.forgot → Among request side.late_requests
 
-pushed : (role : Role) (side : Side) (steps : List Done) → AreStepsOf role side steps → (done : Done) → done.before ≡ side.node → done.effect.node.config ≡ side.node.config → Step role side.node done.input done.effect → ((a : Arrival) (m : Message) → creates role m ≡ true → done.input ≡ Control_came a (Control_message m) → Among a side.forgotten → Among a side.came_late) → AreStepsOf role (stepped side done.effect) (steps ++ (done ∷ []))
+pushed : (role : Role) (side : Side) (steps : List Done) → AreStepsOf role side steps → (done : Done) → done.before ≡ side.node → done.effect.node.config ≡ side.node.config → Step role side.node done.input done.effect → ((a : Arrival) (m : Message) → creates role m ≡ true → done.input ≡ Control_came a (Control_message m) → Among a side.forgotten → Among a side.late_requests) → AreStepsOf role (stepped side done.effect) (steps ++ (done ∷ []))
 pushed role side steps are done before stays step marked = record {
   config = are.config;
   same = stays ∙ are.same;
@@ -69,7 +69,7 @@ pushed role side steps are done before stays step marked = record {
 }
 
 -- one more late delivery
-with_late : (role : Role) (side : Side) (steps : List Done) (a : Arrival) → AreStepsOf role side steps → AreStepsOf role (record side { came_late = a ∷ side.came_late }) steps
+with_late : (role : Role) (side : Side) (steps : List Done) (a : Arrival) → AreStepsOf role side steps → AreStepsOf role (record side { late_requests = a ∷ side.late_requests }) steps
 with_late role side steps a are = record { config = are.config; same = are.same; reach = are.reach; forgets = are.forgets; late = λ front back d earlier request message create split takes among gone. inr (are.late front back d earlier request message create split takes among gone) }
 
 fresh_steps : (role : Role) (side : Side) → AreStepsOf role (restarted side) []
@@ -107,7 +107,7 @@ noted_steps : (w : World) (note : Note) → EachSteps w → EachSteps (noted w n
 noted_steps w note each Serving = each Serving
 noted_steps w note each Packet = each Packet
 
-late_steps : (w : World) (role : Role) (a : Arrival) → EachSteps w → EachSteps (late_once w role a)
+late_steps : (w : World) (role : Role) (a : Arrival) → EachSteps w → EachSteps (marked_late w role a)
 late_steps w Serving a each Serving = with_late Serving w.serving w.serving_steps a (each Serving)
 late_steps w Serving a each Packet = each Packet
 late_steps w Packet a each Serving = each Serving
@@ -140,22 +140,22 @@ module _ (own : Addresses) where
   comes w inv each role m sent new timely d = moves_steps w inv role _ new each (run.carried own w inv role (plane_of m) m sent) (timely_marked own role (side_of w role) _ (plane_of m) m timely) d
 
   -- it comes late
-  late_comes : (w : World) → run.Invariant own w → EachSteps w → (role : Role) (p : Plane) (m : Message) → HasSent w.history (other role) m → (new : World) → IsLateOn p (side_of w (other role)).node.config.own (side_of w role) (m ∷ []) → Moves (late_once w role (arrival (side_of w (other role)).node.config.own m)) role (delivered_on p (side_of w (other role)).node.config.own (m ∷ [])) new → EachSteps new
+  late_comes : (w : World) → run.Invariant own w → EachSteps w → (role : Role) (p : Plane) (m : Message) → HasSent w.history (other role) m → (new : World) → IsLateOn p (side_of w (other role)).node.config.own (side_of w role) (m ∷ []) → Moves (marked_late w role (arrival (side_of w (other role)).node.config.own m)) role (delivered_on p (side_of w (other role)).node.config.own (m ∷ [])) new → EachSteps new
   late_comes w inv each Serving Control m sent new late d =
       let a = arrival w.packet.node.config.own m in
       let still = run.late_keeps own w inv Serving a in
-      moves_steps (late_once w Serving a) still Serving _ new (late_steps w Serving a each) (run.carried own (late_once w Serving a) still Serving Control m sent) (lately_marked own Serving w.serving w.packet.node.config.own m) d
+      moves_steps (marked_late w Serving a) still Serving _ new (late_steps w Serving a each) (run.carried own (marked_late w Serving a) still Serving Control m sent) (lately_marked own Serving w.serving w.packet.node.config.own m) d
   late_comes w inv each Packet Control m sent new late d =
       let a = arrival w.serving.node.config.own m in
       let still = run.late_keeps own w inv Packet a in
-      moves_steps (late_once w Packet a) still Packet _ new (late_steps w Packet a each) (run.carried own (late_once w Packet a) still Packet Control m sent) (lately_marked own Packet w.packet w.serving.node.config.own m) d
+      moves_steps (marked_late w Packet a) still Packet _ new (late_steps w Packet a each) (run.carried own (marked_late w Packet a) still Packet Control m sent) (lately_marked own Packet w.packet w.serving.node.config.own m) d
   late_comes w inv each role User m sent new late d = absurd late
 
   delivers : (w : World) → run.Invariant own w → EachSteps w → (sender : Role) (m : Message) → HasSent w.history sender m → (new : World) → Delivers w sender (m ∷ []) new → EachSteps new
   delivers w inv each Packet m sent new (inl d) = comes w inv each Serving m sent new d.0 (alone_comes w Serving w.packet.node.config.own new m d.1)
-  delivers w inv each Packet m sent new (inr d) = late_comes w inv each Serving (plane_of m) m sent new d.0 (alone_comes (late_once w Serving (arrival w.packet.node.config.own m)) Serving w.packet.node.config.own new m d.1)
+  delivers w inv each Packet m sent new (inr d) = late_comes w inv each Serving (plane_of m) m sent new d.0 (alone_comes (marked_late w Serving (arrival w.packet.node.config.own m)) Serving w.packet.node.config.own new m d.1)
   delivers w inv each Serving m sent new (inl d) = comes w inv each Packet m sent new d.0 (alone_comes w Packet w.serving.node.config.own new m d.1)
-  delivers w inv each Serving m sent new (inr d) = late_comes w inv each Packet (plane_of m) m sent new d.0 (alone_comes (late_once w Packet (arrival w.serving.node.config.own m)) Packet w.serving.node.config.own new m d.1)
+  delivers w inv each Serving m sent new (inr d) = late_comes w inv each Packet (plane_of m) m sent new d.0 (alone_comes (marked_late w Packet (arrival w.serving.node.config.own m)) Packet w.serving.node.config.own new m d.1)
 
   -- two steps of one delivery
   two_steps : (w : World) (first second : Input) (e next : Effect) (note : Note) → EachSteps w → IsMarked own Serving w.serving first → e.node.config ≡ w.serving.node.config → Step Serving w.serving.node first e → IsMarked own Serving (stepped w.serving e) second → next.node.config ≡ e.node.config → Step Serving e.node second next
@@ -169,7 +169,7 @@ module _ (own : Addresses) where
       (pushed Serving (stepped w.serving e) (w.serving_steps ++ (done ∷ [])) once after refl stays_next follows marked_next)
 
   -- a pair comes to the serving gateway
-  pair_steps : (w : World) (inv : run.Invariant own w) → EachSteps w → (a : CreateSessionResponse) (r : CreateBearerRequest) → HasSent w.history Packet (Create_session_response a) → HasSent w.history Packet (Create_bearer_request r) → (Among (arrival w.packet.node.config.own (Create_bearer_request r)) w.serving.forgotten → Among (arrival w.packet.node.config.own (Create_bearer_request r)) w.serving.came_late) → (new : World)
+  pair_steps : (w : World) (inv : run.Invariant own w) → EachSteps w → (a : CreateSessionResponse) (r : CreateBearerRequest) → HasSent w.history Packet (Create_session_response a) → HasSent w.history Packet (Create_bearer_request r) → (Among (arrival w.packet.node.config.own (Create_bearer_request r)) w.serving.forgotten → Among (arrival w.packet.node.config.own (Create_bearer_request r)) w.serving.late_requests) → (new : World)
       → ComesTo w Serving w.packet.node.config.own (Create_session_response a ∷ Create_bearer_request r ∷ []) new → EachSteps new
   pair_steps w inv each a r a_sent r_sent marked new c = ⊎_elim
       (λ whole. moves_steps w inv Serving _ new each (foreign_carried own Serving w.history w.serving.node (come_from w.packet.node.config.own (spelled_all (Create_session_response a ∷ Create_bearer_request r ∷ [])))) (lesser_marked own Serving w.serving _ (Other_control 0) refl) whole)
@@ -187,11 +187,11 @@ module _ (own : Addresses) where
   delivers_pair w inv each Packet a r a_sent r_sent new (inl d) = pair_steps w inv each a r a_sent r_sent (λ gone. absurd (d.0 gone)) new d.1
   delivers_pair w inv each Packet a r a_sent r_sent new (inr d) =
       let x = arrival w.packet.node.config.own (Create_bearer_request r) in
-      pair_steps (late_once w Serving x) (run.late_keeps own w inv Serving x) (late_steps w Serving x each) a r a_sent r_sent (λ gone. inl refl) new d.1
+      pair_steps (marked_late w Serving x) (run.late_keeps own w inv Serving x) (late_steps w Serving x each) a r a_sent r_sent (λ gone. inl refl) new d.1
   delivers_pair w inv each Serving a r a_sent r_sent new (inl d) = moves_steps w inv Packet _ new each (foreign_carried own Packet w.history w.packet.node (come_from w.serving.node.config.own (spelled_all (Create_session_response a ∷ Create_bearer_request r ∷ [])))) (lesser_marked own Packet w.packet _ (Other_control 0) refl) (to_packet own w w.serving.node.config.own a r new d.1)
   delivers_pair w inv each Serving a r a_sent r_sent new (inr d) =
       let x = arrival w.serving.node.config.own (Create_bearer_request r) in
-      let w1 = late_once w Packet x in
+      let w1 = marked_late w Packet x in
       moves_steps w1 (run.late_keeps own w inv Packet x) Packet _ new (late_steps w Packet x each) (foreign_carried own Packet w.history w.packet.node (come_from w.serving.node.config.own (spelled_all (Create_session_response a ∷ Create_bearer_request r ∷ [])))) (lesser_marked own Packet w1.packet _ (Other_control 0) refl) (to_packet own w1 w.serving.node.config.own a r new d.1)
 
   delivers_few : (w : World) → run.Invariant own w → EachSteps w → (sender : Role) (datagram : List Message) → IsFew datagram → ((m : Message) → Among m datagram → HasSent w.history sender m) → (new : World) → Delivers w sender datagram new → EachSteps new

@@ -8,7 +8,7 @@ use Rattle.gtp_machine.specs.Node.{Role, Serving, Packet, Arrival, Node, fresh_n
 use Rattle.gtp_machine.specs.Input.{Move, Input, Commanded, Control_came, Moves_on, Control_message, Entry, Out, Effect, messages, datagrams}
 use Rattle.gtp_machine.specs.Answer.{IsNew}
 use Rattle.gtp_machine.specs.Spelling.{datagram_plane}
-use Rattle.gtp_machine.specs.World.{with_steps, steps_of, logged, World, other, Side, By, HasBy, Sent, SentDatagram, HasSent, signed, flat, side_of, with_side, stepped, moved, Note, noted, Moves, Event, Does, Tick, Deliver, Cut, Restart, Happens, Delivers, ComesTo, arrival, first_came, second_came, late_once, delivered_on, cut_on, IsLateOn, restarted, Run, begun, start}
+use Rattle.gtp_machine.specs.World.{with_steps, steps_of, logged, World, other, Side, By, HasBy, Sent, SentDatagram, HasSent, signed, flat, side_of, with_side, stepped, moved, Note, noted, Moves, Event, Does, Tick, Deliver, Cut, Restart, Happens, Delivers, ComesTo, arrival, first_came, second_came, marked_late, delivered_on, cut_on, IsLateOn, restarted, Run, begun, start}
 use Rattle.gtp_machine.specs.Tick.{TickStep, ticked}
 use Rattle.gtp_machine.specs.Laws.{EachNamedTeidWasDrawn}
 use Rattle.gtp_machine.specs.Safety.{EachOwed}
@@ -55,7 +55,7 @@ pub record Invariant (own : Addresses) (w : World) : Type 0 where
   pub few : EachFew w.datagrams
 
 -- what a step of one gateway leaves of it
-side_step : (history : List Sent) (role : Role) (side peer : Side) (taken : Arrival → Message → Type 0) (e : Effect) → SideInvariant history role side peer → Drawing peer (other role) history → After role history taken side.node e → ((a : Arrival) (n : Message) → taken a n → IsNew side.node a) → ((a : Arrival) (n : Message) → creates role n ≡ true → taken a n → Among a side.forgotten → Among a side.came_late) → SideInvariant (history ++ signed role (messages e.out.sent)) role (stepped side e) peer
+side_step : (history : List Sent) (role : Role) (side peer : Side) (taken : Arrival → Message → Type 0) (e : Effect) → SideInvariant history role side peer → Drawing peer (other role) history → After role history taken side.node e → ((a : Arrival) (n : Message) → taken a n → IsNew side.node a) → ((a : Arrival) (n : Message) → creates role n ≡ true → taken a n → Among a side.forgotten → Among a side.late_requests) → SideInvariant (history ++ signed role (messages e.out.sent)) role (stepped side e) peer
 side_step history role side peer taken e inv there after is_new marked = record {
   draws = Drawing-step side role history inv.draws e after.draws;
   knows = after.knows;
@@ -103,7 +103,7 @@ same_is history role side peer inv there m came k c tells known age_is = same_co
 module _ (own : Addresses) where
   -- a create request that comes late is marked so
   abbrev pub IsMarked : Role → Side → Input → Type 0
-  IsMarked role side input = (a : Arrival) (m : Message) → creates role m ≡ true → input ≡ Control_came a (Control_message m) → Among a side.forgotten → Among a side.came_late
+  IsMarked role side input = (a : Arrival) (m : Message) → creates role m ≡ true → input ≡ Control_came a (Control_message m) → Among a side.forgotten → Among a side.late_requests
 
   -- a create request comes as the packet gateway sends it, and where nothing is late its answer was not given up
   pub record Comes (w : World) (input : Input) : Type 0 where
@@ -154,10 +154,10 @@ module _ (own : Addresses) where
   config_stays w inv Packet input e carried step = (step_after w.history inv.serving.draws.once inv.packet.draws.once w.packet.node Packet (unowned w.packet Packet w.history inv.packet.draws) inv.serving.draws.dated inv.serving.draws.proper inv.packet.knows input e carried step).draws.config
 
   -- one more late delivery leaves the rest as it is
-  pub late_keeps : (w : World) → Invariant own w → (role : Role) (a : Arrival) → Invariant own (late_once w role a)
+  pub late_keeps : (w : World) → Invariant own w → (role : Role) (a : Arrival) → Invariant own (marked_late w role a)
   late_keeps w inv Serving a = record {
     serving = record { draws = marked_draws; knows = inv.serving.knows; hearing = inv.serving.hearing; making = Making-late w.serving a inv.serving.making };
-    packet = record { draws = inv.packet.draws; knows = inv.packet.knows; hearing = Hearing-peer w.serving (record w.serving { came_late = a ∷ w.serving.came_late }) refl (omega arith) w.packet.node.known w.packet.seen inv.packet.hearing; making = inv.packet.making };
+    packet = record { draws = inv.packet.draws; knows = inv.packet.knows; hearing = Hearing-peer w.serving (record w.serving { late_requests = a ∷ w.serving.late_requests }) refl (omega arith) w.packet.node.known w.packet.seen inv.packet.hearing; making = inv.packet.making };
     own_is = inv.own_is;
     remembers = λ x t has gives. let i = inv.remembers x t has gives in record { request = i.request; sent = i.sent; echoed = i.echoed; where_now = ⊎_elim (λ here. inl here) (λ earlier. inr (record { start = earlier.start; before = earlier.before; is = earlier.is })) i.where_now };
     once = λ z. absurd (one_more w.late z);
@@ -168,10 +168,10 @@ module _ (own : Addresses) where
     few = inv.few;
   }
     where
-      marked_draws : Drawing (record w.serving { came_late = a ∷ w.serving.came_late }) Serving w.history
+      marked_draws : Drawing (record w.serving { late_requests = a ∷ w.serving.late_requests }) Serving w.history
       marked_draws = Drawing-marked w.serving Serving w.history inv.serving.draws a
   late_keeps w inv Packet a = record {
-    serving = record { draws = inv.serving.draws; knows = inv.serving.knows; hearing = Hearing-peer w.packet (record w.packet { came_late = a ∷ w.packet.came_late }) refl (omega arith) w.serving.node.known w.serving.seen inv.serving.hearing; making = inv.serving.making };
+    serving = record { draws = inv.serving.draws; knows = inv.serving.knows; hearing = Hearing-peer w.packet (record w.packet { late_requests = a ∷ w.packet.late_requests }) refl (omega arith) w.serving.node.known w.serving.seen inv.serving.hearing; making = inv.serving.making };
     packet = record { draws = Drawing-marked w.packet Packet w.history inv.packet.draws a; knows = inv.packet.knows; hearing = inv.packet.hearing; making = Making-late w.packet a inv.packet.making };
     own_is = inv.own_is;
     remembers = inv.remembers;
@@ -273,25 +273,25 @@ module _ (own : Addresses) where
   timely_marked role side from User m on_time a n create is gone = absurd (subst IsQuiet is tt)
 
   -- late: it is counted and marked
-  lately : (w : World) → Invariant own w → (m : Message) → Comes (late_once w Serving (arrival w.packet.node.config.own m)) (Control_came (arrival w.packet.node.config.own m) (Control_message m))
+  lately : (w : World) → Invariant own w → (m : Message) → Comes (marked_late w Serving (arrival w.packet.node.config.own m)) (Control_came (arrival w.packet.node.config.own m) (Control_message m))
   lately w inv m = record { keyed = λ a n create is. keyed_so w.packet.node.config.own m inv.own_is a n is; on_time = λ a n create is z. absurd (one_more w.late z) }
 
-  pub lately_marked : (role : Role) (side : Side) (from : Addresses) (m : Message) → IsMarked role (record side { came_late = arrival from m ∷ side.came_late }) (Control_came (arrival from m) (Control_message m))
+  pub lately_marked : (role : Role) (side : Side) (from : Addresses) (m : Message) → IsMarked role (record side { late_requests = arrival from m ∷ side.late_requests }) (Control_came (arrival from m) (Control_message m))
   lately_marked role side from m a n create is gone = inl (came_so from m a n is)
 
   moved_new : (w : World) (role : Role) (e : Effect) (note : Note) (steps : List Done) (new : World) → new ≡ logged (noted (moved w role e) note) role steps → Invariant own (moved w role e) → Invariant own new
   moved_new w role e note steps new is inv = subst (λ k. Invariant own k) (sym is) (noted_logged (moved w role e) note role steps inv)
 
-  late_to_serving : (w : World) → Invariant own w → (p : Plane) (m : Message) → HasSent w.history Packet m → IsLateOn p w.packet.node.config.own w.serving (m ∷ []) → (new : World) → Moves (late_once w Serving (arrival w.packet.node.config.own m)) Serving (delivered_on p w.packet.node.config.own (m ∷ [])) new → Invariant own new
+  late_to_serving : (w : World) → Invariant own w → (p : Plane) (m : Message) → HasSent w.history Packet m → IsLateOn p w.packet.node.config.own w.serving (m ∷ []) → (new : World) → Moves (marked_late w Serving (arrival w.packet.node.config.own m)) Serving (delivered_on p w.packet.node.config.own (m ∷ [])) new → Invariant own new
   late_to_serving w inv Control m came late new d =
-      let w1 = late_once w Serving (arrival w.packet.node.config.own m) in
+      let w1 = marked_late w Serving (arrival w.packet.node.config.own m) in
       let inv1 = late_keeps w inv Serving (arrival w.packet.node.config.own m) in
       moved_new w1 Serving d.effect _ _ new d.becomes (serving_moves w1 inv1 _ d.effect (carried w1 inv1 Serving Control m came) (lately w inv m) (lately_marked Serving w.serving w.packet.node.config.own m) d.step)
   late_to_serving w inv User m came late new d = absurd late
 
-  late_to_packet : (w : World) → Invariant own w → (p : Plane) (m : Message) → HasSent w.history Serving m → IsLateOn p w.serving.node.config.own w.packet (m ∷ []) → (new : World) → Moves (late_once w Packet (arrival w.serving.node.config.own m)) Packet (delivered_on p w.serving.node.config.own (m ∷ [])) new → Invariant own new
+  late_to_packet : (w : World) → Invariant own w → (p : Plane) (m : Message) → HasSent w.history Serving m → IsLateOn p w.serving.node.config.own w.packet (m ∷ []) → (new : World) → Moves (marked_late w Packet (arrival w.serving.node.config.own m)) Packet (delivered_on p w.serving.node.config.own (m ∷ [])) new → Invariant own new
   late_to_packet w inv Control m came late new d =
-      let w1 = late_once w Packet (arrival w.serving.node.config.own m) in
+      let w1 = marked_late w Packet (arrival w.serving.node.config.own m) in
       let inv1 = late_keeps w inv Packet (arrival w.serving.node.config.own m) in
       moved_new w1 Packet d.effect _ _ new d.becomes (packet_moves w1 inv1 _ d.effect (carried w1 inv1 Packet Control m came) (lately_marked Packet w.packet w.serving.node.config.own m) d.step)
   late_to_packet w inv User m came late new d = absurd late
@@ -301,11 +301,11 @@ module _ (own : Addresses) where
   delivers w inv Packet m came new (inl d) =
       let c = alone_comes w Serving w.packet.node.config.own new m d.1 in
       moved_new w Serving c.effect _ _ new c.becomes (serving_moves w inv _ c.effect (carried w inv Serving (plane_of m) m came) (timely w inv (plane_of m) m d.0) (timely_marked Serving w.serving w.packet.node.config.own (plane_of m) m d.0) c.step)
-  delivers w inv Packet m came new (inr d) = late_to_serving w inv (plane_of m) m came d.0 new (alone_comes (late_once w Serving (arrival w.packet.node.config.own m)) Serving w.packet.node.config.own new m d.1)
+  delivers w inv Packet m came new (inr d) = late_to_serving w inv (plane_of m) m came d.0 new (alone_comes (marked_late w Serving (arrival w.packet.node.config.own m)) Serving w.packet.node.config.own new m d.1)
   delivers w inv Serving m came new (inl d) =
       let c = alone_comes w Packet w.serving.node.config.own new m d.1 in
       moved_new w Packet c.effect _ _ new c.becomes (packet_moves w inv _ c.effect (carried w inv Packet (plane_of m) m came) (timely_marked Packet w.packet w.serving.node.config.own (plane_of m) m d.0) c.step)
-  delivers w inv Serving m came new (inr d) = late_to_packet w inv (plane_of m) m came d.0 new (alone_comes (late_once w Packet (arrival w.serving.node.config.own m)) Packet w.serving.node.config.own new m d.1)
+  delivers w inv Serving m came new (inr d) = late_to_packet w inv (plane_of m) m came d.0 new (alone_comes (marked_late w Packet (arrival w.serving.node.config.own m)) Packet w.serving.node.config.own new m d.1)
 
   -- a pair comes as a whole: as a message of a type that no gateway takes
   pub foreign_carried : (role : Role) (history : List Sent) (node : Node) (request : Arrival) → Carried role history node (Control_came request (Control_message (Other_control 0)))
@@ -337,10 +337,10 @@ module _ (own : Addresses) where
       pub still_forgotten : (x : Arrival) → Among x (moved w Serving e).serving.forgotten → Among x w.serving.forgotten
       still_forgotten x gone = ⊎_elim (λ was. was) (λ now. absurd (subst (Among x) (none_forgotten w.serving.node _ e (opening _ a w.serving.node e step)) now)) (Among-cases x w.serving.forgotten e.out.forgot gone)
 
-      pub second_marked : (Among key w.serving.forgotten → Among key w.serving.came_late) → IsMarked Serving (moved w Serving e).serving (second_came w.packet.node.config.own (Create_bearer_request r))
+      pub second_marked : (Among key w.serving.forgotten → Among key w.serving.late_requests) → IsMarked Serving (moved w Serving e).serving (second_came w.packet.node.config.own (Create_bearer_request r))
       second_marked marked x n create is gone =
           let same = came_so w.packet.node.config.own (Create_bearer_request r) x n is in
-          subst (λ k. Among k w.serving.came_late) (sym same) (marked (subst (λ k. Among k w.serving.forgotten) same (still_forgotten x gone)))
+          subst (λ k. Among k w.serving.late_requests) (sym same) (marked (subst (λ k. Among k w.serving.forgotten) same (still_forgotten x gone)))
 
       second_comes : (w.late ≡ 0 → Among key w.serving.forgotten → ⊥) → Comes (moved w Serving e) (second_came w.packet.node.config.own (Create_bearer_request r))
       second_comes on_time = record {
@@ -348,7 +348,7 @@ module _ (own : Addresses) where
         on_time = λ x n create is z gone. on_time z (subst (λ k. Among k w.serving.forgotten) (came_so w.packet.node.config.own (Create_bearer_request r) x n is) (still_forgotten x gone));
       }
 
-    apart_comes : (w.late ≡ 0 → Among key w.serving.forgotten → ⊥) → (Among key w.serving.forgotten → Among key w.serving.came_late) → (new : World) → ComesTo w Serving w.packet.node.config.own (Create_session_response a ∷ Create_bearer_request r ∷ []) new → Invariant own new
+    apart_comes : (w.late ≡ 0 → Among key w.serving.forgotten → ⊥) → (Among key w.serving.forgotten → Among key w.serving.late_requests) → (new : World) → ComesTo w Serving w.packet.node.config.own (Create_session_response a ∷ Create_bearer_request r ∷ []) new → Invariant own new
     apart_comes on_time marked new c = ⊎_elim
         (λ whole. whole_comes w inv Serving _ new whole)
         (λ apart.
@@ -365,11 +365,11 @@ module _ (own : Addresses) where
   delivers_pair w inv Packet a r a_sent r_sent new (inl d) = apart_comes w inv a r a_sent r_sent (λ z gone. d.0 gone) (λ gone. absurd (d.0 gone)) new d.1
   delivers_pair w inv Packet a r a_sent r_sent new (inr d) =
       let x = arrival w.packet.node.config.own (Create_bearer_request r) in
-      apart_comes (late_once w Serving x) (late_keeps w inv Serving x) a r a_sent r_sent (λ z gone. absurd (one_more w.late z)) (λ gone. inl refl) new d.1
+      apart_comes (marked_late w Serving x) (late_keeps w inv Serving x) a r a_sent r_sent (λ z gone. absurd (one_more w.late z)) (λ gone. inl refl) new d.1
   delivers_pair w inv Serving a r a_sent r_sent new (inl d) = whole_comes w inv Packet _ new (to_packet w w.serving.node.config.own a r new d.1)
   delivers_pair w inv Serving a r a_sent r_sent new (inr d) =
       let x = arrival w.serving.node.config.own (Create_bearer_request r) in
-      whole_comes (late_once w Packet x) (late_keeps w inv Packet x) Packet _ new (to_packet (late_once w Packet x) w.serving.node.config.own a r new d.1)
+      whole_comes (marked_late w Packet x) (late_keeps w inv Packet x) Packet _ new (to_packet (marked_late w Packet x) w.serving.node.config.own a r new d.1)
 
   -- a datagram comes, of one message or of a pair
   delivers_few : (w : World) → Invariant own w → (sender : Role) (datagram : List Message) → IsFew datagram → ((m : Message) → Among m datagram → HasSent w.history sender m) → (new : World) → Delivers w sender datagram new → Invariant own new

@@ -9,7 +9,7 @@ use Rattle.gtp_machine.specs.Message.{CreateSessionRequest, CreateSessionRespons
 use Rattle.gtp_machine.specs.Node.{Serving, Packet, Session, Bearer, Arrival, Held, Node}
 use Rattle.gtp_machine.specs.Input.{Specification, Create_session, Commanded, Opened, Repeated, Effect, nothing, says_all}
 use Rattle.gtp_machine.specs.Choice.{IsGiven, CanGive, IsFreeIdentity, IsUnused}
-use Rattle.gtp_machine.specs.Command.{session_request, asks, session_begun, pending_session, pending_bearer, bearer_request, bearer_asked, pending_dedicated}
+use Rattle.gtp_machine.specs.Command.{session_request, asks, session_begun, pending_session, pending_bearer, bearer_request, create_bearer_asked, pending_dedicated}
 use Rattle.gtp_machine.specs.Answer.{making, IsNew}
 use Rattle.gtp_machine.specs.Serving.{opened_session, opened_bearer, bearer_response, granted_bearer}
 use Rattle.gtp_machine.specs.Packet.{session_response, made_session, made_bearer, session_made, opened_dedicated, CanOpen}
@@ -70,7 +70,7 @@ abbrev both : List Message
 both = Create_session_response a ∷ Create_bearer_request r ∷ []
 
 abbrev e2 : Effect
-e2 = making asked both 16 (bearer_asked made control r dedicated)
+e2 = making asked both 16 (create_bearer_asked made control r dedicated)
 
 abbrev w2 : World
 w2 = after w1 Packet (from_serving (Create_session_request q)) (heard e2)

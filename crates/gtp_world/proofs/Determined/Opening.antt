@@ -9,7 +9,7 @@ use Rattle.gtp_machine.specs.Node.{Arrival, Bearer, PendingRequest, Node}
 use Rattle.gtp_machine.specs.Input.{Control_came, Control_message, Effect}
 use Rattle.gtp_machine.specs.Recovery.{peer_restarted, Judges, Weighs, Hears}
 use Rattle.gtp_machine.specs.Removal.{finished, is_opened}
-use Rattle.gtp_machine.specs.Serving.{opened_bearer, SessionAnswered, ServingTakes}
+use Rattle.gtp_machine.specs.Serving.{opened_bearer, CreateSessionAnswered, ServingTakes}
 use Rattle.gtp_machine.specs.Step.{Step}
 use Rattle.gtp_machine.specs.declared.role.Role.TheVariants.{Serving}
 use Rattle.gtp_machine.proofs.Basics.FiniteMaps.{found-insert}
@@ -31,7 +31,7 @@ to old e f is from = subst (λ (k : Effect). BearersFrom old k.node) (sym is) fr
 finished_from : (old : Node) (number : ℕ) (p : PendingRequest) → BearersFrom old (finished old number p)
 finished_from old number p = shrunk_from old (finished old number p) (Shrunk-finished old number p.session p.bearer)
 
-answered : (a : CreateSessionResponse) (old : Node) (e : Effect) → SessionAnswered a old e → BearersFrom old e.node
+answered : (a : CreateSessionResponse) (old : Node) (e : Effect) → CreateSessionAnswered a old e → BearersFrom old e.node
 answered a old e (inl f) = to old e _ f.1 (itself old)
 answered a old e (inr (b, inl f)) = to old e _ f.1 (itself old)
 answered a old e (inr (b, inr (c, inl f))) = to old e _ f.1 (finished_from old a.number b.pending)

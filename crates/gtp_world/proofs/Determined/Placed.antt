@@ -24,10 +24,10 @@ use Rattle.gtp_machine.specs.Removal.{finished, without_session, session_closing
 use Rattle.gtp_machine.specs.Move.{MoveStep}
 use Rattle.gtp_machine.specs.Response.{EchoAnswered}
 use Rattle.gtp_machine.specs.Recovery.{peer_restarted, Judges, Weighs, Hears}
-use Rattle.gtp_machine.specs.Command.{session_request, pending_session, pending_bearer, pending_dedicated, bearer_request, bearer_asked as node_asked, BeginsSession, ClosesSession, ReleasesSession, BeginsBearer, NamesBearer, ClosesBearer, SendsEcho, SendsPacket, CommandStep}
+use Rattle.gtp_machine.specs.Command.{session_request, pending_session, pending_bearer, pending_dedicated, bearer_request, create_bearer_asked as node_asked, BeginsSession, ClosesSession, ReleasesSession, BeginsBearer, NamesBearer, ClosesBearer, SendsEcho, SendsPacket, CommandStep}
 use Rattle.gtp_machine.specs.Answer.{TakesReading, ControlStep}
-use Rattle.gtp_machine.specs.Serving.{opened_session, opened_bearer, OpensSession, SessionAnswered, DeletionAnswered, granted_bearer, MakesBearer, BearerAsked, RemovesBearers, RemovalTaken, RemovalAsked, ServingTakes}
-use Rattle.gtp_machine.specs.Packet.{made_session, made_bearer, AnswersWith, MakesSession, SessionAsked, DeletionAsked, FitsBearer, DescribesBearer, CanOpen, opened_dedicated, OpensBearer, BearerAnswered, RemovalAnswered, PacketTakes}
+use Rattle.gtp_machine.specs.Serving.{opened_session, opened_bearer, OpensSession, CreateSessionAnswered, DeleteSessionAnswered, granted_bearer, MakesBearer, CreateBearerAsked, RemovesBearers, DeleteBearerTaken, DeleteBearerAsked, ServingTakes}
+use Rattle.gtp_machine.specs.Packet.{made_session, made_bearer, AnswersWith, MakesSession, CreateSessionAsked, DeleteSessionAsked, FitsCreateBearer, DescribesBearer, CanOpen, opened_dedicated, OpensBearer, CreateBearerAnswered, DeleteBearerAnswered, PacketTakes}
 use Rattle.gtp_machine.specs.User.{Accepts, ended_bearer, default_among, EndCame, UserTaken, UserRead, UserStep}
 use Rattle.gtp_machine.specs.Sound.{AreApart}
 use Rattle.gtp_machine.specs.Step.{Step, Done, Steps}
@@ -344,8 +344,8 @@ module _ (old : Node) (p : IsPlaced old) where
       (λ number w about waits names is. (p.pending number w waits).of about key b names is r.default.stands)
       (session_placed old session (opened_session at.session a address) (p.sessions session at.session at.stands) p))) e r.gives
 
-  session_answered : (a : CreateSessionResponse) → Leaves (SessionAnswered a old)
-  session_answered a =
+  create_session_answered : (a : CreateSessionResponse) → Leaves (CreateSessionAnswered a old)
+  create_session_answered a =
       unless (says p) (λ at.
       unless (says p) (λ fits.
       unless (says (finished_placed a.number at.pending)) (λ accepts.
@@ -353,13 +353,13 @@ module _ (old : Node) (p : IsPlaced old) where
       unless (says (finished_placed a.number at.pending)) (λ both.
       opens_session a fits.request fits.session new.at new.address)))))
 
-  deletion_answered : (d : DeleteSessionResponse) → Leaves (DeletionAnswered d old)
-  deletion_answered d = unless (says p) (λ at. unless (says p) (λ fits. says (finished_placed d.number at.pending)))
+  delete_session_answered : (d : DeleteSessionResponse) → Leaves (DeleteSessionAnswered d old)
+  delete_session_answered d = unless (says p) (λ at. unless (says p) (λ fits. says (finished_placed d.number at.pending)))
 
-  removal_answered : (d : DeleteBearerResponse) → Leaves (RemovalAnswered d old)
-  removal_answered d = unless (says p) (λ at. unless (says p) (λ fits. says (finished_placed d.number at.pending)))
+  delete_bearer_answered : (d : DeleteBearerResponse) → Leaves (DeleteBearerAnswered d old)
+  delete_bearer_answered d = unless (says p) (λ at. unless (says p) (λ fits. says (finished_placed d.number at.pending)))
 
-  opens_bearer : (x : CreateBearerResponse) (at : HasPending old x.number) (fits : FitsBearer at.pending x) (new : DescribesBearer x) → CanOpen old fits.session new.context.identity → Leaves (OpensBearer old x fits.bearer)
+  opens_bearer : (x : CreateBearerResponse) (at : HasPending old x.number) (fits : FitsCreateBearer at.pending x) (new : DescribesBearer x) → CanOpen old fits.session new.context.identity → Leaves (OpensBearer old x fits.bearer)
   opens_bearer x at fits new can e r =
       let b = r.at.bearer in
       let drawn = p.bearers fits.bearer b r.at.stands in
@@ -372,8 +372,8 @@ module _ (old : Node) (p : IsPlaced old) where
       (λ number w about waits names is. (p.pending number w waits).of about fits.bearer b names is r.at.stands)
       p)) e r.gives
 
-  bearer_answered : (x : CreateBearerResponse) → Leaves (BearerAnswered x old)
-  bearer_answered x =
+  create_bearer_answered : (x : CreateBearerResponse) → Leaves (CreateBearerAnswered x old)
+  create_bearer_answered x =
       unless (says p) (λ at.
       unless (says p) (λ fits.
       unless (says (finished_placed x.number at.pending)) (λ accepts.
@@ -391,8 +391,8 @@ module _ (old : Node) (p : IsPlaced old) where
         says (held_placed _ _ (bearer_comes old r.user (granted_bearer q r.identity) r.user_free (p.sessions q.header at.session at.stands)
         (λ t a identity stands same has also. r.identity_free.unused t a stands same (has ∙ sym also)) p)) e r.gives
 
-    bearer_asked : (q : CreateBearerRequest) → Leaves (BearerAsked request q old)
-    bearer_asked q =
+    create_bearer_asked : (q : CreateBearerRequest) → Leaves (CreateBearerAsked request q old)
+    create_bearer_asked q =
         unless (says p) (λ room.
         unless (says (held_placed old _ p)) (λ at.
         unless (says p) (λ active.
@@ -407,12 +407,12 @@ module _ (old : Node) (p : IsPlaced old) where
     removes_bearers : (d : DeleteBearerRequest) (s : Session) → Leaves (RemovesBearers request d old s)
     removes_bearers d s e r = says (held_placed r.left _ (shrunk_placed old r.left (removes_each d.header d.identities old r.contexts r.left r.removes) p)) e r.gives
 
-    removal_taken : (d : DeleteBearerRequest) (linked : Option ℕ) (s : Session) → Leaves (RemovalTaken request d linked old s)
-    removal_taken d (Some identity) s = unless (says (held_placed old _ p)) (λ linked. says (held_placed _ _ (without_placed d.header)))
-    removal_taken d None s = unless (says (held_placed old _ p)) (λ few. removes_bearers d s)
+    delete_bearer_taken : (d : DeleteBearerRequest) (linked : Option ℕ) (s : Session) → Leaves (DeleteBearerTaken request d linked old s)
+    delete_bearer_taken d (Some identity) s = unless (says (held_placed old _ p)) (λ linked. says (held_placed _ _ (without_placed d.header)))
+    delete_bearer_taken d None s = unless (says (held_placed old _ p)) (λ few. removes_bearers d s)
 
-    removal_asked : (d : DeleteBearerRequest) → Leaves (RemovalAsked request d old)
-    removal_asked d = unless (says p) (λ room. unless (says (held_placed old _ p)) (λ at. unless (says p) (λ opened. removal_taken d d.linked at.session)))
+    delete_bearer_asked : (d : DeleteBearerRequest) → Leaves (DeleteBearerAsked request d old)
+    delete_bearer_asked d = unless (says p) (λ room. unless (says (held_placed old _ p)) (λ at. unless (says p) (λ opened. delete_bearer_taken d d.linked at.session)))
 
     -- the answer to a session that is made, alone or with the request for the template's bearer
     answers_with : (template : Option Template) (a : CreateSessionResponse) (cause session : ℕ) (s : Session) (made : Node) → Among session made.drawn → IsPlaced made → Leaves (AnswersWith template request a cause session s made)
@@ -425,8 +425,8 @@ module _ (old : Node) (p : IsPlaced old) where
         answers_with (template_for q.access_point old.config.templates) _ _ r.control _ _ (inr (inl refl))
         (session_comes old r.control r.user (made_session q r.address) (made_bearer q r.control) r.control_free r.user_free refl p) e r.gives
 
-    session_asked : (q : CreateSessionRequest) → Leaves (SessionAsked request q old)
-    session_asked q =
+    create_session_asked : (q : CreateSessionRequest) → Leaves (CreateSessionAsked request q old)
+    create_session_asked q =
         unless (says p) (λ room.
         unless (says (held_placed old _ p)) (λ one.
         unless (says (held_placed old _ p)) (λ identity.
@@ -436,25 +436,25 @@ module _ (old : Node) (p : IsPlaced old) where
         unless (says (held_placed old _ p)) (λ address.
         makes_session q)))))))
 
-    deletion_asked : (d : DeleteSessionRequest) → Leaves (DeletionAsked request d old)
-    deletion_asked d = unless (says p) (λ room. unless (says (held_placed old _ p)) (λ at. unless (says (held_placed old _ p)) (λ linked. says (held_placed _ _ (without_placed d.header)))))
+    delete_session_asked : (d : DeleteSessionRequest) → Leaves (DeleteSessionAsked request d old)
+    delete_session_asked d = unless (says p) (λ room. unless (says (held_placed old _ p)) (λ at. unless (says (held_placed old _ p)) (λ linked. says (held_placed _ _ (without_placed d.header)))))
 
     serving_takes : (m : Message) → Leaves (ServingTakes request m old)
     serving_takes (Echo_request q) = says p
     serving_takes (Echo_response a) = echo_answered a
-    serving_takes (Create_session_response a) = session_answered a
-    serving_takes (Delete_session_response d) = deletion_answered d
-    serving_takes (Create_bearer_request q) = bearer_asked q
-    serving_takes (Delete_bearer_request d) = removal_asked d
+    serving_takes (Create_session_response a) = create_session_answered a
+    serving_takes (Delete_session_response d) = delete_session_answered d
+    serving_takes (Create_bearer_request q) = create_bearer_asked q
+    serving_takes (Delete_bearer_request d) = delete_bearer_asked d
     serving_takes m = says p
 
     packet_takes : (m : Message) → Leaves (PacketTakes request m old)
     packet_takes (Echo_request q) = says p
     packet_takes (Echo_response a) = echo_answered a
-    packet_takes (Create_session_request q) = session_asked q
-    packet_takes (Delete_session_request d) = deletion_asked d
-    packet_takes (Create_bearer_response x) = bearer_answered x
-    packet_takes (Delete_bearer_response d) = removal_answered d
+    packet_takes (Create_session_request q) = create_session_asked q
+    packet_takes (Delete_session_request d) = delete_session_asked d
+    packet_takes (Create_bearer_response x) = create_bearer_answered x
+    packet_takes (Delete_bearer_response d) = delete_bearer_answered d
     packet_takes m = says p
 
 -- ---- the peer's counter

@@ -10,7 +10,7 @@ use Rattle.gtp_gateway.specs.GatewayState.{state_of}
 use Rattle.gtp_gateway.specs.command.Request.{AsksFor}
 use Rattle.gtp_gateway.proofs.Columns.{yes, no, Told, deletes_on, stops, goes, goes_session}
 use Rattle.gtp_gateway.proofs.Commands.{done_by}
-use Rattle.gtp_gateway.proofs.Refusals.{deletion_goes_on}
+use Rattle.gtp_gateway.proofs.Refusals.{delete_session_goes_on}
 use Rattle.gtp_gateway.proofs.RequestsToSend.{to_send_goes_on, in_place}
 use Rattle.gtp_gateway.proofs.parts.Parts.delete_session.Goals as goal
 
@@ -31,7 +31,7 @@ returns-clause-refused c = λ why.
     subst (λ (role : Role). Told r why ↔ SessionDeleted role session node (refused node why)) (sym c.in-Serving.is)
     (goes_session node r (deletes_on session node (refused node why)) session c.in-Some.at NoSuchContext why (sym c.get.ensures ∙ c.in-Some.is)
     (goes node r NotActive why (yes c.is_session_active.ensures c.if-not-is_session_active.false) (λ active.
-    in_place {A = λ few. AsksFor to_send node (refused node why)} {B = λ few. ClosesSession node session c.in-Some.at (refused node why)} (λ few. to_send_goes_on to_send node why) (λ few. deletion_goes_on node session c.in-Some.at why) (c.send_request.ensures.refused why))))
+    in_place {A = λ few. AsksFor to_send node (refused node why)} {B = λ few. ClosesSession node session c.in-Some.at (refused node why)} (λ few. to_send_goes_on to_send node why) (λ few. delete_session_goes_on node session c.in-Some.at why) (c.send_request.ensures.refused why))))
 
 pub returns-clause-done : goal.returns-clause-done
 returns-clause-done c =

@@ -4,9 +4,9 @@ use Rattle.gtp_v2.specs.Viewed.{always_has}
 use Rattle.gtp_machine.specs.Answer.{echoed}
 use Rattle.gtp_machine.specs.Message.{recovery_of}
 use Rattle.gtp_machine.specs.Decoded.{message_of}
-use Rattle.gtp_machine.specs.Packet.{SessionAsked, DeletionAsked, BearerAnswered, RemovalAnswered}
+use Rattle.gtp_machine.specs.Packet.{CreateSessionAsked, DeleteSessionAsked, CreateBearerAnswered, DeleteBearerAnswered}
 use Rattle.gtp_machine.specs.Response.{EchoAnswered}
-use Rattle.gtp_machine.specs.Serving.{BearerAsked, SessionAnswered, DeletionAnswered, RemovalAsked}
+use Rattle.gtp_machine.specs.Serving.{CreateBearerAsked, CreateSessionAnswered, DeleteSessionAnswered, DeleteBearerAsked}
 use Rattle.gtp_machine.specs.declared.message_type.MessageType.{MessageType}
 use Rattle.gtp_machine.specs.declared.message_type.MessageType.TheVariants as types
 use Rattle.gtp_machine.proofs.Basics.Types.{type_kind}
@@ -24,7 +24,7 @@ use Rattle.gtp_gateway.proofs.CreateBearerRequests.{has_context, create_bearer_i
 use Rattle.gtp_gateway.proofs.CreateBearerResponses.{takes_bearer_response}
 use Rattle.gtp_gateway.proofs.Rows.{as_row}
 use Rattle.gtp_gateway.proofs.CreateSessionResponses.{takes_session_response}
-use Rattle.gtp_gateway.proofs.Allocations.{on_err, needs_echo, needs_session, needs_deletion, needs_bearer, needs_removal, needs_session_response, needs_bearer_response}
+use Rattle.gtp_gateway.proofs.Allocations.{on_err, needs_echo, needs_session, needs_delete_session, needs_bearer, needs_delete_bearer, needs_session_response, needs_bearer_response}
 use Rattle.gtp_gateway.specs.receive.Allocations.{AlwaysSendsOrOpens}
 use Rattle.gtp_machine.specs.Node.{Node}
 use Rattle.gtp_gateway.proofs.parts.Parts.dispatch.Goals as goal
@@ -63,7 +63,7 @@ returns-in-DeleteSessionRequest-clause-taken c =
     let m = c.args.view.now.message in
     let request = arrival_of c.args.source c.args.octets.now in
     let is = deletion_request_is c.args.octets.now m c.delete_request_in-request.result c.requires.spelled (c.requires.of ∙ ap (λ (p : MessageType). Some p) c.in-DeleteSessionRequest.is) c.delete_request_in-request.ensures in
-    IfOk-weaker c.take_delete_session_request.result _ _ (λ step taken. as_row (DeletionAsked request (delete_session_by c.delete_request_in-request.result)) (TakesBy old.role request (message_of m)) request old.role old.role (node_heard c.args.heard old.node) old.node step (state_of c.take_delete_session_request.new.self) refl (unheard c.args.heard (message_of m) old c.requires.weighed (ap recovery_of is))
+    IfOk-weaker c.take_delete_session_request.result _ _ (λ step taken. as_row (DeleteSessionAsked request (delete_session_by c.delete_request_in-request.result)) (TakesBy old.role request (message_of m)) request old.role old.role (node_heard c.args.heard old.node) old.node step (state_of c.take_delete_session_request.new.self) refl (unheard c.args.heard (message_of m) old c.requires.weighed (ap recovery_of is))
     (takes_deletion_request old.role request _ (message_of m) (subst (λ (p : MessageType). takes_type old.role p ≡ true) c.in-DeleteSessionRequest.is c.requires.has) is)
     taken)
     c.take_delete_session_request.ensures.taken
@@ -76,7 +76,7 @@ returns-in-DeleteSessionResponse-clause-taken c =
     let r = c.response_in-response in
     let says = deletion_response_is c.args.octets.now m r.result.cause c.requires.spelled (c.requires.of ∙ ap (λ (p : MessageType). Some p) c.in-DeleteSessionResponse.is) r.ensures.cause in
     let heard = state_of c.hear-in-DeleteSessionResponse.new.self in
-    as_row (DeletionAnswered says.response) (TakesBy old.role request (message_of m)) request old.role heard.role (node_heard c.args.heard old.node) heard.node _ (state_of c.take_delete_session_response.new.self) c.hear-in-DeleteSessionResponse.ensures.role c.hear-in-DeleteSessionResponse.ensures.node
+    as_row (DeleteSessionAnswered says.response) (TakesBy old.role request (message_of m)) request old.role heard.role (node_heard c.args.heard old.node) heard.node _ (state_of c.take_delete_session_response.new.self) c.hear-in-DeleteSessionResponse.ensures.role c.hear-in-DeleteSessionResponse.ensures.node
     (takes_deletion_response old.role request says.response (message_of m) (subst (λ (p : MessageType). takes_type old.role p ≡ true) c.in-DeleteSessionResponse.is c.requires.has) says.is)
     (c.take_delete_session_response.ensures.taken request says.response (says.header ∙ sym r.ensures.header) (says.number ∙ sym r.ensures.seq) says.cause)
 
@@ -88,7 +88,7 @@ returns-in-DeleteBearerResponse-clause-taken c =
     let r = c.response_in-response-in-DeleteBearerResponse in
     let says = removal_response_is c.args.octets.now m r.result.cause c.requires.spelled (c.requires.of ∙ ap (λ (p : MessageType). Some p) c.in-DeleteBearerResponse.is) r.ensures.cause in
     let heard = state_of c.hear-in-DeleteBearerResponse.new.self in
-    as_row (RemovalAnswered says.response) (TakesBy old.role request (message_of m)) request old.role heard.role (node_heard c.args.heard old.node) heard.node _ (state_of c.take_delete_bearer_response.new.self) c.hear-in-DeleteBearerResponse.ensures.role c.hear-in-DeleteBearerResponse.ensures.node
+    as_row (DeleteBearerAnswered says.response) (TakesBy old.role request (message_of m)) request old.role heard.role (node_heard c.args.heard old.node) heard.node _ (state_of c.take_delete_bearer_response.new.self) c.hear-in-DeleteBearerResponse.ensures.role c.hear-in-DeleteBearerResponse.ensures.node
     (takes_removal_response old.role request says.response (message_of m) (subst (λ (p : MessageType). takes_type old.role p ≡ true) c.in-DeleteBearerResponse.is c.requires.has) says.is)
     (c.take_delete_bearer_response.ensures.taken request says.response (says.header ∙ sym r.ensures.header) (says.number ∙ sym r.ensures.seq) says.cause)
 
@@ -101,7 +101,7 @@ returns-in-CreateSessionRequest-clause-taken c =
     let m = c.args.view.now.message in
     let request = arrival_of c.args.source c.args.octets.now in
     let q = c.create_session_request_in-request.ensures in
-    IfOk-weaker c.take_create_session_request.result _ _ (λ step taken. as_row (SessionAsked request q.0) (TakesBy old.role request (message_of m)) request old.role old.role (node_heard c.args.heard old.node) (node_heard c.args.heard old.node) step (state_of c.take_create_session_request.new.self) refl refl
+    IfOk-weaker c.take_create_session_request.result _ _ (λ step taken. as_row (CreateSessionAsked request q.0) (TakesBy old.role request (message_of m)) request old.role old.role (node_heard c.args.heard old.node) (node_heard c.args.heard old.node) step (state_of c.take_create_session_request.new.self) refl refl
     (takes_session_request old.role request q.0 (message_of m) (subst (λ (p : MessageType). takes_type old.role p ≡ true) c.in-CreateSessionRequest.is c.requires.has) q.1)
     (taken q.0 q.2))
     c.take_create_session_request.ensures.taken
@@ -115,7 +115,7 @@ returns-in-CreateBearerRequest-clause-taken c =
     let m = c.args.view.now.message in
     let request = arrival_of c.args.source c.args.octets.now in
     let says = create_bearer_is c.args.octets.now m c.create_bearer_request_in-request.result c.requires.spelled (c.requires.of ∙ ap (λ (p : MessageType). Some p) c.in-CreateBearerRequest.is) c.create_bearer_request_in-request.ensures in
-    IfOk-weaker c.take_create_bearer_request.result _ _ (λ step taken. as_row (BearerAsked request says.request) (TakesBy old.role request (message_of m)) request old.role old.role (node_heard c.args.heard old.node) old.node step (state_of c.take_create_bearer_request.new.self) refl (unheard c.args.heard (message_of m) old c.requires.weighed (ap recovery_of says.is))
+    IfOk-weaker c.take_create_bearer_request.result _ _ (λ step taken. as_row (CreateBearerAsked request says.request) (TakesBy old.role request (message_of m)) request old.role old.role (node_heard c.args.heard old.node) old.node step (state_of c.take_create_bearer_request.new.self) refl (unheard c.args.heard (message_of m) old c.requires.weighed (ap recovery_of says.is))
     (takes_bearer_request old.role request says.request (message_of m) (subst (λ (p : MessageType). takes_type old.role p ≡ true) c.in-CreateBearerRequest.is c.requires.has) says.is)
     (taken says.request says.says))
     c.take_create_bearer_request.ensures.taken
@@ -132,7 +132,7 @@ returns-in-CreateSessionResponse-clause-taken c =
     let m = c.args.view.now.message in
     let request = arrival_of c.args.source c.args.octets.now in
     let reads = c.create_session_response_in-answer.ensures in
-    IfOk-weaker c.take_create_session_response.result _ _ (λ step taken. as_row (SessionAnswered reads.response) (TakesBy old.role request (message_of m)) request old.role old.role (node_heard c.args.heard old.node) (node_heard c.args.heard old.node) step (state_of c.take_create_session_response.new.self) refl refl
+    IfOk-weaker c.take_create_session_response.result _ _ (λ step taken. as_row (CreateSessionAnswered reads.response) (TakesBy old.role request (message_of m)) request old.role old.role (node_heard c.args.heard old.node) (node_heard c.args.heard old.node) step (state_of c.take_create_session_response.new.self) refl refl
     (takes_session_response old.role request reads.response (message_of m) (subst (λ (p : MessageType). takes_type old.role p ≡ true) c.in-CreateSessionResponse.is c.requires.has) reads.is)
     (taken request reads.response reads.says))
     c.take_create_session_response.ensures.taken
@@ -146,7 +146,7 @@ returns-in-DeleteBearerRequest-clause-taken c =
     let m = c.args.view.now.message in
     let request = arrival_of c.args.source c.args.octets.now in
     let says = delete_bearer_is c.args.octets.now m c.delete_request_in-request-in-DeleteBearerRequest.result c.requires.spelled (c.requires.of ∙ ap (λ (p : MessageType). Some p) c.in-DeleteBearerRequest.is) c.delete_request_in-request-in-DeleteBearerRequest.ensures in
-    IfOk-weaker c.take_delete_bearer_request.result _ _ (λ step taken. as_row (RemovalAsked request says.request) (TakesBy old.role request (message_of m)) request old.role old.role (node_heard c.args.heard old.node) old.node step (state_of c.take_delete_bearer_request.new.self) refl (unheard c.args.heard (message_of m) old c.requires.weighed (ap recovery_of says.is))
+    IfOk-weaker c.take_delete_bearer_request.result _ _ (λ step taken. as_row (DeleteBearerAsked request says.request) (TakesBy old.role request (message_of m)) request old.role old.role (node_heard c.args.heard old.node) old.node step (state_of c.take_delete_bearer_request.new.self) refl (unheard c.args.heard (message_of m) old c.requires.weighed (ap recovery_of says.is))
     (takes_removal_request old.role request says.request (message_of m) (subst (λ (p : MessageType). takes_type old.role p ≡ true) c.in-DeleteBearerRequest.is c.requires.has) says.is)
     (taken says.request says.says says.reads))
     c.take_delete_bearer_request.ensures.taken
@@ -157,7 +157,7 @@ returns-in-CreateBearerResponse-clause-taken c =
     let m = c.args.view.now.message in
     let request = arrival_of c.args.source c.args.octets.now in
     let reads = c.create_bearer_response_in-answer.ensures in
-    IfOk-weaker c.take_create_bearer_response.result _ _ (λ step taken. as_row (BearerAnswered reads.response) (TakesBy old.role request (message_of m)) request old.role old.role (node_heard c.args.heard old.node) (node_heard c.args.heard old.node) step (state_of c.take_create_bearer_response.new.self) refl refl
+    IfOk-weaker c.take_create_bearer_response.result _ _ (λ step taken. as_row (CreateBearerAnswered reads.response) (TakesBy old.role request (message_of m)) request old.role old.role (node_heard c.args.heard old.node) (node_heard c.args.heard old.node) step (state_of c.take_create_bearer_response.new.self) refl refl
     (takes_bearer_response old.role request reads.response (message_of m) (subst (λ (p : MessageType). takes_type old.role p ≡ true) c.in-CreateBearerResponse.is c.requires.has) reads.is)
     (taken request reads.response reads.says))
     c.take_create_bearer_response.ensures.taken
@@ -199,7 +199,7 @@ returns-in-DeleteSessionRequest-clause-memory c =
     let request = arrival_of c.args.source c.args.octets.now in
     let is = deletion_request_is c.args.octets.now m c.delete_request_in-request.result c.requires.spelled (c.requires.of ∙ ap (λ (p : MessageType). Some p) c.in-DeleteSessionRequest.is) c.delete_request_in-request.ensures in
     on_err_weaker c.take_delete_session_request.result (λ needs. subst (λ (n : Node). AlwaysSendsOrOpens (TakesBy old.role request (message_of m)) n) (unheard c.args.heard (message_of m) old c.requires.weighed (ap recovery_of is))
-    (needs_deletion old.role request (message_of m) old.node _ (subst (λ (p : MessageType). takes_type old.role p ≡ true) c.in-DeleteSessionRequest.is c.requires.has) is (needs request)))
+    (needs_delete_session old.role request (message_of m) old.node _ (subst (λ (p : MessageType). takes_type old.role p ≡ true) c.in-DeleteSessionRequest.is c.requires.has) is (needs request)))
     c.take_delete_session_request.ensures.memory
 
 pub returns-in-CreateBearerRequest-clause-memory : goal.returns-in-CreateBearerRequest-clause-memory
@@ -219,7 +219,7 @@ returns-in-DeleteBearerRequest-clause-memory c =
     let request = arrival_of c.args.source c.args.octets.now in
     let says = delete_bearer_is c.args.octets.now m c.delete_request_in-request-in-DeleteBearerRequest.result c.requires.spelled (c.requires.of ∙ ap (λ (p : MessageType). Some p) c.in-DeleteBearerRequest.is) c.delete_request_in-request-in-DeleteBearerRequest.ensures in
     on_err_weaker c.take_delete_bearer_request.result (λ needs. subst (λ (n : Node). AlwaysSendsOrOpens (TakesBy old.role request (message_of m)) n) (unheard c.args.heard (message_of m) old c.requires.weighed (ap recovery_of says.is))
-    (needs_removal old.role request (message_of m) old.node says.request (subst (λ (p : MessageType). takes_type old.role p ≡ true) c.in-DeleteBearerRequest.is c.requires.has) says.is (needs request says.request says.says)))
+    (needs_delete_bearer old.role request (message_of m) old.node says.request (subst (λ (p : MessageType). takes_type old.role p ≡ true) c.in-DeleteBearerRequest.is c.requires.has) says.is (needs request says.request says.says)))
     c.take_delete_bearer_request.ensures.memory
 
 pub returns-in-CreateSessionResponse-clause-memory : goal.returns-in-CreateSessionResponse-clause-memory

@@ -3,7 +3,7 @@ use Rattle.std.proofs.lemmas.Result.{IfOk-weaker}
 use Rattle.gtp_ie.specs.declared.value.ebi.EbiValue.{EbiValue}
 use Rattle.gtp_machine.specs.Choice.{HasHeldRoom}
 use Rattle.gtp_machine.specs.Input.{Effect}
-use Rattle.gtp_machine.specs.Serving.{RemovalJudged, RemovalAsked}
+use Rattle.gtp_machine.specs.Serving.{DeleteBearerJudged, DeleteBearerAsked}
 use Rattle.gtp_gateway.specs.declared.tables.change.Change.TheVariants.{Stays}
 use Rattle.gtp_gateway.specs.declared.receive.delete_bearer_request.DeleteBearerAnswer.{DeleteBearerAnswer}
 use Rattle.gtp_gateway.specs.receive.DeleteBearerRequest.{ReadsIdentities, delete_bearer_effect}
@@ -31,8 +31,8 @@ returns-then-has_too_many-clause-taken c =
     let many : 11 < length ids = omega (arith, yes c.has_too_many.ensures c.if-has_too_many.true, count_is octets c.args.view.now c.requires.spelled.0 c.requires.spelled.1 c.requires.kind ids listed.1) in
     IfOk-weaker c.answer_delete_bearer.result _ _
     (λ step taken. λ d says reads.
-    row_as (λ n e. e ≡ delete_bearer_effect request d a n) (RemovalAsked request d) request old.role old.node step new
-    (λ e is. inr (room, subst (λ (x : Effect). RemovalJudged request d old.node x) (sym is) (many_judged request r d old.node c.args.header ids says (reads ids listed.1) c.requires.asked many)))
+    row_as (λ n e. e ≡ delete_bearer_effect request d a n) (DeleteBearerAsked request d) request old.role old.node step new
+    (λ e is. inr (room, subst (λ (x : Effect). DeleteBearerJudged request d old.node x) (sym is) (many_judged request r d old.node c.args.header ids says (reads ids listed.1) c.requires.asked many)))
     (taken d says.number))
     c.answer_delete_bearer.ensures.taken
 
@@ -49,7 +49,7 @@ returns-clause-taken c =
     let room : HasHeldRoom old.node = record { few = held_few c.args.self.now.held.pairs (λ many. omega (arith, many, c.requires.few)) } in
     IfOk-weaker c.end_named.result _ _
     (λ step ends. λ d says reads.
-    row_as (RemovalJudged request d) (RemovalAsked request d) request old.role old.node step new (λ e judged. inr (room, judged))
+    row_as (DeleteBearerJudged request d) (DeleteBearerAsked request d) request old.role old.node step new (λ e judged. inr (room, judged))
     (ends d says (reads ids (subst (λ (l : List EbiValue). ReadsIdentities m l) (sym c.as_slice.ensures.value) c.in_ok-identities.ensures))))
     c.end_named.ensures.taken
 

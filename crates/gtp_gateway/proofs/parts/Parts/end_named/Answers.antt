@@ -5,7 +5,7 @@ use Rattle.gtp_machine.specs.Element.{cause_of}
 use Rattle.gtp_machine.specs.Message.{Message, Control, Delete_bearer_response}
 use Rattle.gtp_machine.specs.Node.{holding}
 use Rattle.gtp_machine.specs.Reading.{control_message}
-use Rattle.gtp_machine.specs.Serving.{RemovalJudged, removal_cause}
+use Rattle.gtp_machine.specs.Serving.{DeleteBearerJudged, removal_cause}
 use Rattle.gtp_machine.specs.Spelling.{spelled}
 use Rattle.gtp_gateway.specs.declared.receive.delete_bearer_request.identities.NamedBearer.{NamedBearer}
 use Rattle.gtp_gateway.specs.receive.DeleteBearerRequest.{NamesEach, identity_named, number_in, removed_by, without_each}
@@ -35,12 +35,12 @@ returns-clause-taken c = λ d says listed.
     let ready = c.in_ok-ready.ensures in
     let config = ap (λ s. s.config) c.end_each.ensures.config ∙ ap (λ (s : GatewayState). s.node.config) c.ready_answer.ensures.same in
     let left = c.end_each.ensures.node ∙ ap (λ (s : GatewayState). without_each ns s.node) c.ready_answer.ensures.same in
-    answers (RemovalJudged request d) request old (state_of c.send_answer.new.self) c.sent.result c.send_answer.result m c.cause_of_all.result (without_each ns old.node) c.sent.ensures
+    answers (DeleteBearerJudged request d) request old (state_of c.send_answer.new.self) c.sent.result c.send_answer.result m c.cause_of_all.result (without_each ns old.node) c.sent.ensures
     (c.send_answer.ensures.sent ∙ (λ i. record { plane = Control; from = control_end (config i).own.control; to = c.args.source; octets = (ready.octets ∙ ap spelled said) i }))
     (subst (λ m. ReadsBack (m ∷ [])) said ready.back)
     (c.send_answer.ensures.node ∙ (λ i. holding (arrival_of c.args.source (ready.request i)) ((ready.read ∙ ap (λ m. m ∷ []) said) i) (left i)))
     (c.send_answer.ensures.role ∙ (c.end_each.ensures.role ∙ ap (λ (s : GatewayState). s.role) c.ready_answer.ensures.same))
-    (subst (λ (cause : ℕ). RemovalJudged request d old.node (answered request m cause (without_each ns old.node))) (sym c.cause_of_all.ensures)
+    (subst (λ (cause : ℕ). DeleteBearerJudged request d old.node (answered request m cause (without_each ns old.node))) (sym c.cause_of_all.ensures)
     (ends_judged request r d old.node header ids ns says listed c.requires.asked c.requires.short same names))
 
 pub returns-clause-goes : goal.returns-clause-goes

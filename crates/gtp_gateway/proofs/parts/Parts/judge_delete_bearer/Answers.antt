@@ -4,7 +4,7 @@ use Rattle.gtp_machine.specs.Answer.{answered}
 use Rattle.gtp_machine.specs.Element.{cause_of}
 use Rattle.gtp_machine.specs.Message.{Delete_bearer_response}
 use Rattle.gtp_machine.specs.Removal.{without_session}
-use Rattle.gtp_machine.specs.Serving.{RemovalTaken}
+use Rattle.gtp_machine.specs.Serving.{DeleteBearerTaken}
 use Rattle.gtp_gateway.specs.declared.tables.change.Change.TheVariants.{Stays, RemovesSession}
 use Rattle.gtp_gateway.specs.receive.DeleteBearerRequest.{delete_bearer_effect}
 use Rattle.gtp_gateway.specs.Parts.{node_of}
@@ -27,7 +27,7 @@ returns-then-not-is_default c = record {
         record { session = c.in-Some.session; stands = ap (get old.sessions) says.header ∙ (sym c.get.ensures ∙ c.in-Some.is) },
         inr (
           no c.is_session_pending.ensures c.if-is_session_pending.false,
-          subst (λ (o : Option ℕ). RemovalTaken request d o old c.in-Some.session (delete_bearer_effect request d (record { header = c.written_teid-header.result; cause = 64; linked = None; change = Stays }) old)) (sym (says.linked ∙ c.in-Some-linked.is))
+          subst (λ (o : Option ℕ). DeleteBearerTaken request d o old c.in-Some.session (delete_bearer_effect request d (record { header = c.written_teid-header.result; cause = 64; linked = None; change = Stays }) old)) (sym (says.linked ∙ c.in-Some-linked.is))
               (inl (
                 no c.is_default.ensures c.if-not-is_default.true,
                 λ i. answered request (Delete_bearer_response (record { header = c.written_teid-header.ensures i; number = d.number; cause = cause_of 64; linked = None; contexts = []; recovery = Some old.counter })) 64 old,
@@ -45,7 +45,7 @@ returns c = record {
         record { session = c.in-Some.session; stands = ap (get old.sessions) says.header ∙ (sym c.get.ensures ∙ c.in-Some.is) },
         inr (
           no c.is_session_pending.ensures c.if-is_session_pending.false,
-          subst (λ (o : Option ℕ). RemovalTaken request d o old c.in-Some.session (delete_bearer_effect request d (record { header = c.written_teid-header.result; cause = 16; linked = Some c.in-Some-linked.linked; change = RemovesSession c.args.request.now.header }) old)) (sym (says.linked ∙ c.in-Some-linked.is))
+          subst (λ (o : Option ℕ). DeleteBearerTaken request d o old c.in-Some.session (delete_bearer_effect request d (record { header = c.written_teid-header.result; cause = 16; linked = Some c.in-Some-linked.linked; change = RemovesSession c.args.request.now.header }) old)) (sym (says.linked ∙ c.in-Some-linked.is))
               (inr (
                 yes c.is_default.ensures c.if-not-is_default.false,
                 λ i. answered request (Delete_bearer_response (record { header = c.written_teid-header.ensures i; number = d.number; cause = cause_of 16; linked = Some c.in-Some-linked.linked; contexts = []; recovery = Some old.counter })) 16 (without_session old (sym says.header i)),

@@ -5,7 +5,7 @@ use Rattle.gtp_machine.specs.Choice.{HasHeldRoom}
 use Rattle.gtp_machine.specs.Input.{Effect}
 use Rattle.gtp_machine.specs.Message.{Message}
 use Rattle.gtp_machine.specs.Node.{Held, Node}
-use Rattle.gtp_machine.specs.Packet.{SessionJudged, SessionAsked, session_cause}
+use Rattle.gtp_machine.specs.Packet.{SessionJudged, CreateSessionAsked, session_cause}
 use Rattle.gtp_machine.specs.declared.outcome.DropReason.TheVariants.{HeldFull}
 use Rattle.gtp_machine.specs.declared.outcome.Outcome.TheVariants.{Dropped}
 use Rattle.gtp_gateway.specs.declared.receive.create_session_request.judge.CreateSessionVerdict.{CreateSessionVerdict}
@@ -17,7 +17,7 @@ use Rattle.gtp_gateway.proofs.Answers.{held_few, held_many}
 use Rattle.gtp_gateway.proofs.CreateSessionAnswered.{answered_so, refusal_same, grant_same, made_same, both_same, begun_same}
 use Rattle.gtp_gateway.proofs.Columns.{yes, no}
 use Rattle.gtp_gateway.proofs.Rows.{ends}
-use Rattle.gtp_gateway.proofs.Allocations.{on_err, session_asked}
+use Rattle.gtp_gateway.proofs.Allocations.{on_err, create_session_asked}
 use Rattle.gtp_gateway.proofs.Choosings.{unmade, lowest_session}
 use Rattle.gtp_gateway.specs.declared.step.ControlStep.{ControlStep}
 use Rattle.gtp_gateway.proofs.parts.Parts.take_create_session_request.Goals as goal
@@ -28,7 +28,7 @@ returns-then-is_full-clause-taken c = λ q says.
     let old = c.args.self.now in
     let left = node_heard c.args.heard (node_of old) in
     let request = arrival_of c.args.source c.args.octets.now in
-    ends (SessionAsked request q) request (record (state_of old) { node = left }) (state_of c.hear.new.self) c.dropped.result (Dropped HeldFull) left c.dropped.ensures c.hear.ensures.node c.hear.ensures.role
+    ends (CreateSessionAsked request q) request (record (state_of old) { node = left }) (state_of c.hear.new.self) c.dropped.result (Dropped HeldFull) left c.dropped.ensures c.hear.ensures.node c.hear.ensures.role
     (inl (λ room. held_many old.held.pairs (yes c.is_full.ensures.full c.if-is_full.true) (subst (λ (held : List Held). length held < 4096) (held_stays c.args.heard (node_of old)) room.few), refl))
 
 pub returns-in-Refused-clause-taken : goal.returns-in-Refused-clause-taken
@@ -40,7 +40,7 @@ returns-in-Refused-clause-taken c =
     let cause = c.in-Refused.cause in
     let room : HasHeldRoom left = record { few = subst (λ (held : List Held). length held < 4096) (sym (held_stays c.args.heard old.node)) (held_few c.args.self.now.held.pairs (no c.is_full.ensures.full c.if-is_full.false)) } in
     IfOk-weaker c.refuse_session.result _ _ (λ step a q says.
-    answered_so (SessionAsked request q) c.args.source c.args.octets.now _ cause.value false left left old step (state_of c.refuse_session.new.self) (config_stays c.args.heard old.node) a
+    answered_so (CreateSessionAsked request q) c.args.source c.args.octets.now _ cause.value false left left old step (state_of c.refuse_session.new.self) (config_stays c.args.heard old.node) a
     (inr (
       room,
       subst (λ (m : Message). SessionJudged request q left (answered request m cause.value left)) (sym (refusal_same r q says c.args.heard old.node cause))
@@ -58,7 +58,7 @@ returns-in-Granted-clause-taken c =
     let room : HasHeldRoom left = record { few = subst (λ (held : List Held). length held < 4096) (sym (held_stays c.args.heard old.node)) (held_few c.args.self.now.held.pairs (no c.is_full.ensures.full c.if-is_full.false)) } in
     let chosen = subst (λ (v : CreateSessionVerdict). IsVerdict r.default.identity r.pdn.0 v c.args.heard old) c.in-Granted.is c.judge_create_session.ensures.is in
     IfOk-weaker c.grant_session.result _ _ (λ step a q says.
-    answered_so (SessionAsked request q) c.args.source c.args.octets.now _ (session_cause r.pdn.0 g.address) true _ left old step (state_of c.grant_session.new.self) (config_stays c.args.heard old.node) a
+    answered_so (CreateSessionAsked request q) c.args.source c.args.octets.now _ (session_cause r.pdn.0 g.address) true _ left old step (state_of c.grant_session.new.self) (config_stays c.args.heard old.node) a
     (inr (
       room,
       subst (λ (e : Effect). SessionJudged request q left e) (λ i. making request (sym (grant_same r q says c.args.heard old.node g chosen.identity_is) i ∷ []) (session_cause (says.pdn i) g.address) (sym (made_same r q says c.args.heard old.node g chosen.identity_is) i))
@@ -77,7 +77,7 @@ returns-in-GrantedWith-clause-taken c =
     let room : HasHeldRoom left = record { few = subst (λ (held : List Held). length held < 4096) (sym (held_stays c.args.heard old.node)) (held_few c.args.self.now.held.pairs (no c.is_full.ensures.full c.if-is_full.false)) } in
     let chosen = subst (λ (v : CreateSessionVerdict). IsVerdict r.default.identity r.pdn.0 v c.args.heard old) c.in-GrantedWith.is c.judge_create_session.ensures.is in
     IfOk-weaker c.grant_with.result _ _ (λ step a q says.
-    answered_so (SessionAsked request q) c.args.source c.args.octets.now _ (session_cause r.pdn.0 g.address) true _ left old step (state_of c.grant_with.new.self) (config_stays c.args.heard old.node) a
+    answered_so (CreateSessionAsked request q) c.args.source c.args.octets.now _ (session_cause r.pdn.0 g.address) true _ left old step (state_of c.grant_with.new.self) (config_stays c.args.heard old.node) a
     (inr (
       room,
       subst (λ (e : Effect). SessionJudged request q left e) (λ i. making request (sym (both_same r q says c.args.heard old.node g chosen.0.identity_is x) i) (session_cause (says.pdn i) g.address) (sym (begun_same r q says c.args.heard old.node g chosen.0.identity_is x) i))
@@ -89,7 +89,7 @@ pub returns-in-GrantedWith-clause-memory : goal.returns-in-GrantedWith-clause-me
 returns-in-GrantedWith-clause-memory c =
     let old = state_of c.args.self.now in
     let left = node_heard c.args.heard old.node in
-    on_err c.grant_with.result (λ arrival q. session_asked arrival q left (record { few = subst (λ (held : List Held). length held < 4096) (sym (held_stays c.args.heard old.node)) (held_few c.args.self.now.held.pairs (no c.is_full.ensures.full c.if-is_full.false)) }))
+    on_err c.grant_with.result (λ arrival q. create_session_asked arrival q left (record { few = subst (λ (held : List Held). length held < 4096) (sym (held_stays c.args.heard old.node)) (held_few c.args.self.now.held.pairs (no c.is_full.ensures.full c.if-is_full.false)) }))
 
 pub returns-in-GrantedWith-clause-choices : goal.returns-in-GrantedWith-clause-choices
 returns-in-GrantedWith-clause-choices c =
@@ -102,13 +102,13 @@ pub returns-in-Refused-clause-memory : goal.returns-in-Refused-clause-memory
 returns-in-Refused-clause-memory c =
     let old = state_of c.args.self.now in
     let left = node_heard c.args.heard old.node in
-    on_err c.refuse_session.result (λ arrival q. session_asked arrival q left (record { few = subst (λ (held : List Held). length held < 4096) (sym (held_stays c.args.heard old.node)) (held_few c.args.self.now.held.pairs (no c.is_full.ensures.full c.if-is_full.false)) }))
+    on_err c.refuse_session.result (λ arrival q. create_session_asked arrival q left (record { few = subst (λ (held : List Held). length held < 4096) (sym (held_stays c.args.heard old.node)) (held_few c.args.self.now.held.pairs (no c.is_full.ensures.full c.if-is_full.false)) }))
 
 pub returns-in-Granted-clause-memory : goal.returns-in-Granted-clause-memory
 returns-in-Granted-clause-memory c =
     let old = state_of c.args.self.now in
     let left = node_heard c.args.heard old.node in
-    on_err c.grant_session.result (λ arrival q. session_asked arrival q left (record { few = subst (λ (held : List Held). length held < 4096) (sym (held_stays c.args.heard old.node)) (held_few c.args.self.now.held.pairs (no c.is_full.ensures.full c.if-is_full.false)) }))
+    on_err c.grant_session.result (λ arrival q. create_session_asked arrival q left (record { few = subst (λ (held : List Held). length held < 4096) (sym (held_stays c.args.heard old.node)) (held_few c.args.self.now.held.pairs (no c.is_full.ensures.full c.if-is_full.false)) }))
 
 pub returns-in-Refused-clause-choices : goal.returns-in-Refused-clause-choices
 returns-in-Refused-clause-choices c = IfOk-weaker c.refuse_session.result _ _ (λ step a. unmade step.report.made (ap (λ (s : ControlStep). s.report.made) a.is)) c.refuse_session.ensures.refused

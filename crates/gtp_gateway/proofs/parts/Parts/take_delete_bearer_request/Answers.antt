@@ -4,7 +4,7 @@ use Rattle.std.proofs.lemmas.Result.{IfOk-weaker}
 use Rattle.gtp_machine.specs.Choice.{HasHeldRoom}
 use Rattle.gtp_machine.specs.Input.{Effect}
 use Rattle.gtp_machine.specs.Node.{Pending, Session}
-use Rattle.gtp_machine.specs.Serving.{RemovalJudged, RemovalAsked}
+use Rattle.gtp_machine.specs.Serving.{DeleteBearerJudged, DeleteBearerAsked}
 use Rattle.gtp_machine.specs.declared.outcome.DropReason.TheVariants.{HeldFull, ContextNotActive}
 use Rattle.gtp_machine.proofs.Basics.Facts.{one_value}
 use Rattle.gtp_gateway.specs.receive.DeleteBearerRequest.{delete_bearer_effect}
@@ -14,20 +14,20 @@ use Rattle.gtp_gateway.proofs.Answers.{held_few, held_many}
 use Rattle.gtp_gateway.proofs.Columns.{yes, no}
 use Rattle.gtp_gateway.proofs.DeleteBearerRequests.{row_as}
 use Rattle.gtp_gateway.proofs.Rows.{drops}
-use Rattle.gtp_gateway.proofs.Allocations.{on_err, removal_opened, removal_asked}
+use Rattle.gtp_gateway.proofs.Allocations.{on_err, delete_bearer_opened, delete_bearer_asked}
 use Rattle.gtp_gateway.proofs.parts.Parts.take_delete_bearer_request.Goals as goal
 
 pub returns-then-is_full-clause-taken : goal.returns-then-is_full-clause-taken
 returns-then-is_full-clause-taken c = λ d says reads.
     let old = c.args.self.now in
     let request = arrival_of c.args.source c.args.octets.now in
-    drops (RemovalAsked request d) request (state_of old) c.dropped.result HeldFull c.dropped.ensures (inl (λ room. held_many old.held.pairs (yes c.is_full.ensures.full c.if-is_full.true) room.few, refl))
+    drops (DeleteBearerAsked request d) request (state_of old) c.dropped.result HeldFull c.dropped.ensures (inl (λ room. held_many old.held.pairs (yes c.is_full.ensures.full c.if-is_full.true) room.few, refl))
 
 pub returns-in-NotOpened-clause-taken : goal.returns-in-NotOpened-clause-taken
 returns-in-NotOpened-clause-taken c = λ d says reads.
     let old = c.args.self.now in
     let request = arrival_of c.args.source c.args.octets.now in
-    drops (RemovalAsked request d) request (state_of old) c.dropped-in-NotOpened.result ContextNotActive c.dropped-in-NotOpened.ensures
+    drops (DeleteBearerAsked request d) request (state_of old) c.dropped-in-NotOpened.result ContextNotActive c.dropped-in-NotOpened.ensures
     (inr (record { few = held_few old.held.pairs (no c.is_full.ensures.full c.if-is_full.false) }, c.in-NotOpened.ensures request d says))
 
 pub returns-in-Answered-clause-taken : goal.returns-in-Answered-clause-taken
@@ -43,19 +43,19 @@ returns-in-Answered-clause-taken c =
     let room : HasHeldRoom old.node = record { few = held_few c.args.self.now.held.pairs (no c.is_full.ensures.full c.if-is_full.false) } in
     IfOk-weaker c.answer_delete_bearer.result _ _
     (λ step taken. λ d says reads.
-    row_as (λ n e. e ≡ delete_bearer_effect request d a n) (RemovalAsked request d) request old.role old.node step new
-    (λ e is. inr (room, subst (λ (x : Effect). RemovalJudged request d old.node x) (sym is) (c.in-Answered.ensures.judged request d says)))
+    row_as (λ n e. e ≡ delete_bearer_effect request d a n) (DeleteBearerAsked request d) request old.role old.node step new
+    (λ e is. inr (room, subst (λ (x : Effect). DeleteBearerJudged request d old.node x) (sym is) (c.in-Answered.ensures.judged request d says)))
     (taken d says.number))
     c.answer_delete_bearer.ensures.taken
 
 pub returns-in-Answered-clause-memory : goal.returns-in-Answered-clause-memory
 returns-in-Answered-clause-memory c = on_err c.answer_delete_bearer.result (λ arrival d says.
     let node = node_of c.args.self.now in
-    removal_asked arrival d node (record { few = held_few c.args.self.now.held.pairs (no c.is_full.ensures.full c.if-is_full.false) }) (removal_opened arrival d node _ _ _ (c.in-Answered.ensures.judged arrival d says)))
+    delete_bearer_asked arrival d node (record { few = held_few c.args.self.now.held.pairs (no c.is_full.ensures.full c.if-is_full.false) }) (delete_bearer_opened arrival d node _ _ _ (c.in-Answered.ensures.judged arrival d says)))
 
 pub returns-in-Bearers-clause-memory : goal.returns-in-Bearers-clause-memory
 returns-in-Bearers-clause-memory c = on_err c.end_listed.result (λ arrival d says.
     let node = node_of c.args.self.now in
     let asked = c.in-Bearers.ensures in
-    removal_asked arrival d node (record { few = held_few c.args.self.now.held.pairs (no c.is_full.ensures.full c.if-is_full.false) })
+    delete_bearer_asked arrival d node (record { few = held_few c.args.self.now.held.pairs (no c.is_full.ensures.full c.if-is_full.false) })
     (λ at. subst (λ (s : Session). s.state ≡ Pending → ⊥) (one_value (get node.sessions d.header) asked.session at.session (ap (get node.sessions) says.header ∙ asked.stands) at.stands) asked.opened))

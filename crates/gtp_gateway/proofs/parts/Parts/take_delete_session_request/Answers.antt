@@ -2,7 +2,7 @@ use Rattle.std.proofs.Common.{◌≡◌, Some, inl, inr, refl, sym, ◌∙◌, s
 use Rattle.gtp_machine.specs.Answer.{answered}
 use Rattle.gtp_machine.specs.Element.{cause_of}
 use Rattle.gtp_machine.specs.Message.{Message, Delete_session_response}
-use Rattle.gtp_machine.specs.Packet.{DeletionJudged, DeletionAsked}
+use Rattle.gtp_machine.specs.Packet.{DeleteSessionJudged, DeleteSessionAsked}
 use Rattle.gtp_machine.specs.Reading.{control_message}
 use Rattle.gtp_machine.specs.declared.outcome.DropReason.TheVariants.{HeldFull}
 use Rattle.gtp_gateway.specs.receive.DeleteSessionRequest.{delete_session_by}
@@ -11,7 +11,7 @@ use Rattle.gtp_gateway.specs.Parts.{arrival_of, node_of}
 use Rattle.gtp_gateway.specs.GatewayState.{state_of}
 use Rattle.gtp_gateway.proofs.Answers.{held_few, held_many}
 use Rattle.gtp_gateway.proofs.Columns.{yes, no}
-use Rattle.gtp_gateway.proofs.Allocations.{on_err, deletion_asked}
+use Rattle.gtp_gateway.proofs.Allocations.{on_err, delete_session_asked}
 use Rattle.gtp_gateway.proofs.Rows.{drops, answers}
 use Rattle.gtp_gateway.proofs.parts.Parts.take_delete_session_request.Goals as goal
 
@@ -20,7 +20,7 @@ returns-then-is_full-clause-taken c =
     let old = c.args.self.now in
     let d = delete_session_by c.args.request.now in
     let request = arrival_of c.args.source c.args.octets.now in
-    drops (DeletionAsked request d) request (state_of old) c.dropped.result HeldFull c.dropped.ensures (inl (λ room. held_many old.held.pairs (yes c.is_full.ensures.full c.if-is_full.true) room.few, refl))
+    drops (DeleteSessionAsked request d) request (state_of old) c.dropped.result HeldFull c.dropped.ensures (inl (λ room. held_many old.held.pairs (yes c.is_full.ensures.full c.if-is_full.true) room.few, refl))
 
 pub returns-clause-taken : goal.returns-clause-taken
 returns-clause-taken c =
@@ -31,11 +31,11 @@ returns-clause-taken c =
     let v = c.judge_delete_session-verdict.result in
     let m : Message = Delete_session_response (record { header = v.header.0; number = d.number; cause = cause_of v.cause; recovery = Some node.counter }) in
     let said : control_message c.delete_session_response-message.result ≡ m = c.delete_session_response-message.ensures.says ∙ (λ i. Delete_session_response (record { header = v.header.0; number = d.number; cause = cause_of v.cause; recovery = Some (c.counter.ensures i) })) in
-    answers (DeletionAsked request d) request (state_of old) (state_of c.answer.new.self) c.sent.result c.in_ok-out.out (control_message c.delete_session_response-message.result) v.cause (changed_by v.change node) c.sent.ensures c.in_ok-out.ensures.sent c.in_ok-out.ensures.back c.in_ok-out.ensures.node c.in_ok-out.ensures.role
+    answers (DeleteSessionAsked request d) request (state_of old) (state_of c.answer.new.self) c.sent.result c.in_ok-out.out (control_message c.delete_session_response-message.result) v.cause (changed_by v.change node) c.sent.ensures c.in_ok-out.ensures.sent c.in_ok-out.ensures.back c.in_ok-out.ensures.node c.in_ok-out.ensures.role
     (inr (
       record { few = held_few old.held.pairs (no c.is_full.ensures.full c.if-is_full.false) },
-      subst (λ (k : Message). DeletionJudged request d node (answered request k v.cause (changed_by v.change node))) (sym said) (c.judge_delete_session-verdict.ensures.judged request),
+      subst (λ (k : Message). DeleteSessionJudged request d node (answered request k v.cause (changed_by v.change node))) (sym said) (c.judge_delete_session-verdict.ensures.judged request),
     ))
 
 pub returns-in_err-out-clause-memory : goal.returns-in_err-out-clause-memory
-returns-in_err-out-clause-memory c = on_err c.from_residual.result (λ arrival. deletion_asked arrival (delete_session_by c.args.request.now) (node_of c.args.self.now) (record { few = held_few c.args.self.now.held.pairs (no c.is_full.ensures.full c.if-is_full.false) }))
+returns-in_err-out-clause-memory c = on_err c.from_residual.result (λ arrival. delete_session_asked arrival (delete_session_by c.args.request.now) (node_of c.args.self.now) (record { few = held_few c.args.self.now.held.pairs (no c.is_full.ensures.full c.if-is_full.false) }))

@@ -5,7 +5,7 @@ use Rattle.gtp_machine.specs.declared.message_type.MessageType.TheVariants as ty
 use Rattle.gtp_machine.proofs.Basics.Types.{type_kind}
 use Rattle.gtp_gateway.proofs.CreateBearerResponses.{given_others, given_contexts, given_only}
 use Rattle.gtp_gateway.proofs.ByProcedure.{cause_is}
-use Rattle.gtp_gateway.proofs.InPlace.{reads_so, row_so, bearer_answered}
+use Rattle.gtp_gateway.proofs.InPlace.{reads_so, row_so, create_bearer_answered}
 use Rattle.gtp_gateway.proofs.receive.create_bearer_response.create_bearer_response_in.Goals as goal
 
 pub response_in-requires : goal.response_in-requires
@@ -18,7 +18,7 @@ pub returns : goal.returns
 unfolding row_in contexts_in
 returns c =
     let m = c.args.view.now.message in
-    let a = bearer_answered c.requires.spelled.0 m (type_kind m.kind types.CreateBearerResponse c.requires.of) c.requires.spelled.1 in
+    let a = create_bearer_answered c.requires.spelled.0 m (type_kind m.kind types.CreateBearerResponse c.requires.of) c.requires.spelled.1 in
     let r = c.response_in in
     record {
       response = _;

@@ -5,7 +5,7 @@ use Rattle.gtp_v2.specs.Viewed.{always_has}
 use Rattle.gtp_machine.specs.declared.message_type.MessageType.TheVariants as types
 use Rattle.gtp_machine.proofs.Basics.Types.{type_kind}
 use Rattle.gtp_gateway.proofs.ByProcedure.{cause_is}
-use Rattle.gtp_gateway.proofs.InPlace.{reads_so, row_so, session_answered}
+use Rattle.gtp_gateway.proofs.InPlace.{reads_so, row_so, create_session_answered}
 use Rattle.gtp_gateway.proofs.CreateSessionResponses.{created_others, created_contexts, created_only, end_is, paa_is}
 use Rattle.gtp_gateway.proofs.receive.create_session_response.create_session_response_in.Goals as goal
 
@@ -19,7 +19,7 @@ pub returns : goal.returns
 unfolding row_in contexts_in
 returns c =
     let m = c.args.view.now.message in
-    let a = session_answered c.requires.spelled.0 m (type_kind m.kind types.CreateSessionResponse c.requires.of) c.requires.spelled.1 in
+    let a = create_session_answered c.requires.spelled.0 m (type_kind m.kind types.CreateSessionResponse c.requires.of) c.requires.spelled.1 in
     let r = c.response_in in
     record {
       response = _;

@@ -1,0 +1,10 @@
+pub mod Rows
+pub mod Echo
+pub mod CreateSessionRequest
+pub mod CreateSessionResponse
+pub mod DeleteSessionRequest
+pub mod DeleteSessionResponse
+pub mod CreateBearerRequest
+pub mod CreateBearerResponse
+pub mod DeleteBearerRequest
+pub mod DeleteBearerResponse
