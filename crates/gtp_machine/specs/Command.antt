@@ -5,6 +5,7 @@ use Rattle.std.specs.FinMap.{insert}
 use Rattle.gtp_values.specs.declared.paa.Paa.{Paa}
 use Rattle.gtp_values.specs.declared.paa.Paa.TheVariants as paas
 use Rattle.gtp_values.specs.declared.qos.Qos.{Qos}
+use Rattle.gtp_machine.specs.declared.interface_types.TheConstants.{S5S8_SGW_GTP_U, S5S8_PGW_GTP_U, S5S8_SGW_GTP_C}
 use Rattle.gtp_machine.specs.Ordered.{Unless}
 use Rattle.gtp_machine.specs.Config.{control_end, user_end}
 use Rattle.gtp_machine.specs.Element.{tunnel_end}
@@ -45,13 +46,13 @@ session_request node spec control user number =
       imsi = spec.subscriber.imsi;
       rat = spec.rat;
       network = Some spec.network;
-      control = tunnel_end 6 control node.config.own.control;
+      control = tunnel_end S5S8_SGW_GTP_C control node.config.own.control;
       access_point = spec.subscriber.access_point;
       selection = Some spec.selection;
       pdn = spec.pdn;
       address = Some (asked_allocation spec.pdn);
       ambr = Some spec.ambr;
-      context = record { identity = spec.subscriber.identity; qos = spec.qos; user = tunnel_end 4 user node.config.own.user };
+      context = record { identity = spec.subscriber.identity; qos = spec.qos; user = tunnel_end S5S8_SGW_GTP_U user node.config.own.user };
       further = [];
       recovery = Some node.counter;
     }
@@ -118,7 +119,7 @@ bearer_request node s tft qos user number =
       number = number;
       transaction = None;
       linked = s.subscriber.identity;
-      context = record { identity = 0; tft = tft; user = tunnel_end 5 user node.config.own.user; qos = qos; charging = Some user };
+      context = record { identity = 0; tft = tft; user = tunnel_end S5S8_PGW_GTP_U user node.config.own.user; qos = qos; charging = Some user };
       further = [];
     }
 

@@ -8,6 +8,7 @@ use Rattle.gtp_machine.specs.declared.causes.TheConstants.{REQUEST_ACCEPTED, NEW
 use Rattle.gtp_machine.specs.declared.causes.TheConstants.{MANDATORY_IE_INCORRECT, NO_RESOURCES_AVAILABLE, MISSING_OR_UNKNOWN_APN}
 use Rattle.gtp_machine.specs.declared.causes.TheConstants.{PREFERRED_PDN_TYPE_NOT_SUPPORTED, ALL_DYNAMIC_ADDRESSES_ARE_OCCUPIED}
 use Rattle.gtp_machine.specs.declared.causes.TheConstants.{REQUEST_REJECTED}
+use Rattle.gtp_machine.specs.declared.interface_types.TheConstants.{S5S8_PGW_GTP_U, S5S8_PGW_GTP_C}
 use Rattle.gtp_machine.specs.declared.message_type.MessageType.TheVariants as types
 use Rattle.gtp_machine.specs.Ordered.{Unless}
 use Rattle.gtp_machine.specs.Config.{Template, template_for}
@@ -40,13 +41,13 @@ session_response node q control user address =
       header = q.control.teid;
       number = q.number;
       cause = cause_of (session_cause q.pdn address);
-      control = Some (tunnel_end 7 control node.config.own.control);
+      control = Some (tunnel_end S5S8_PGW_GTP_C control node.config.own.control);
       address = Some (allocation 64 address);
       ambr = q.ambr;
       contexts = record {
         identity = q.context.identity;
         cause = cause_of REQUEST_ACCEPTED;
-        user = Some (tunnel_end 5 user node.config.own.user);
+        user = Some (tunnel_end S5S8_PGW_GTP_U user node.config.own.user);
         qos = Some q.context.qos;
         charging = Some user;
       } ∷ [];

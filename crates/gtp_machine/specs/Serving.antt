@@ -1,6 +1,7 @@
 -- The control plane of the serving gateway.
 use Rattle.std.specs.Prelude.{◌≡◌, ◌≢◌, ℕ, ◌≤◌, ◌==◌, ◌&&◌, ◌||◌, List, [], ◌∷◌, Option, Some, None, Bool, true, false, length, if◌then◌else◌}
 use Rattle.std.specs.FinMap.{insert, remove}
+use Rattle.gtp_machine.specs.declared.interface_types.TheConstants.{S5S8_SGW_GTP_U}
 use Rattle.gtp_machine.specs.declared.causes.TheConstants.{REQUEST_ACCEPTED, REQUEST_ACCEPTED_PARTIALLY, CONTEXT_NOT_FOUND}
 use Rattle.gtp_machine.specs.declared.causes.TheConstants.{NO_RESOURCES_AVAILABLE, REQUEST_REJECTED}
 use Rattle.gtp_machine.specs.declared.message_type.MessageType.TheVariants as types
@@ -92,7 +93,7 @@ bearer_response node r s user identity =
       contexts = record {
         identity = identity;
         cause = cause_of REQUEST_ACCEPTED;
-        serving_user = Some (tunnel_end 4 user node.config.own.user);
+        serving_user = Some (tunnel_end S5S8_SGW_GTP_U user node.config.own.user);
         packet_user = Some r.context.user;
       } ∷ [];
       recovery = Some node.counter;

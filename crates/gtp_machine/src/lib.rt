@@ -2,6 +2,7 @@
 #![tactic(auto)]
 
 pub mod causes;
+pub mod interface_types;
 pub mod laws;
 mod message_type;
 mod outcome;

@@ -12,16 +12,6 @@ use indexmap::IndexSet;
 use std::alloc::Global;
 use std::marker::Model;
 
-/// The other gateway.
-pub fn other_than(node: Role) -> Role
-    ensures { result ≡ other node }
-{
-    match node {
-        Role::Serving => Role::Packet,
-        Role::Packet => Role::Serving,
-    }
-}
-
 /// A packet that is handed in, and the entry that it has where the other gateway accepts it.
 /// Contracts see the packet, and the gateway where it is handed in.
 #[derive(Drop)]
@@ -59,7 +49,7 @@ impl HandedIn {
         ensures { IfOk result (λ packet. packet ≡ entry_by entry) }
     {
         let expected = Entry {
-            node: other_than(entry.node),
+            node: entry.node.other(),
             teid: entry.teid,
             payload: Vec::from_slice(alloc, entry.payload.as_slice())?,
             imsi: entry.imsi,

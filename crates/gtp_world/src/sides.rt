@@ -13,7 +13,6 @@ ghost use Rattle.gtp_world.specs.Stepped.{Comes, Takes, AsksFor, BringsFirst, Ti
 
 use crate::config::WorldConfig;
 use crate::event::{Event, EventOutcome};
-use crate::handed::other_than;
 use crate::last::last_message;
 use crate::records::Records;
 use crate::side::Side;
@@ -74,7 +73,7 @@ impl Sides {
     {
         let index = self.records.find(number)?;
         let datagram = &self.records.datagrams[index];
-        let receiver = self.side(other_than(datagram.node));
+        let receiver = self.side(datagram.node.other());
         let sent = &datagram.sent;
         let request = last_message(sent.octets.as_slice());
         Some(receiver.contexts_made(sent.from, request))
@@ -115,7 +114,7 @@ impl Sides {
         ensures err { OnErr result (kept_of self.new ≡ kept_of self.old) }
     {
         let datagram = &self.records.datagrams[index];
-        let node = other_than(datagram.node);
+        let node = datagram.node.other();
         let sent = &datagram.sent;
         let octets = match sent.octets.as_slice().get(..count) {
             Some(front) => front,

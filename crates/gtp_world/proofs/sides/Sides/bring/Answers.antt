@@ -27,12 +27,12 @@ reads c = elim c.match-get.branch [
 ]
 
 -- a gateway takes it
-taken : (c : goal.After-settle) → TakesOn (kept_of c.args.self.now) c.other_than-node.result c.index-datagram.result.now.sent.plane c.index-datagram.result.now.sent.from c.match-get.octets.now c.if-whole.late (kept_of record c.match-node-2.self { records = c.settle.new.self })
+taken : (c : goal.After-settle) → TakesOn (kept_of c.args.self.now) c.other-node.result c.index-datagram.result.now.sent.plane c.index-datagram.result.now.sent.from c.match-get.octets.now c.if-whole.late (kept_of record c.match-node-2.self { records = c.settle.new.self })
 taken c =
     let old = c.args.self.now in
     let mid = c.match-node-2.self in
     let sent = c.index-datagram.result.now.sent in
-    let node = c.other_than-node.result in
+    let node = c.other-node.result in
     let octets = c.match-get.octets.now in
     elim c.match-node-2.branch [
       | in-Serving-node+in_ok-came-in-Serving-node w ↦
@@ -54,7 +54,7 @@ never_late : (whole late : Bool) (P : Type 0) → whole ≡ false → late ≡ f
 never_late whole late P part is = ((λ yes. let e : false ≡ true = sym is ∙ yes in absurd (cc e)), (λ both. let e : false ≡ true = sym part ∙ both.0 in absurd (cc e)))
 
 -- it is late where all of it comes and its answer was given up
-judged : (c : goal.After-settle) → IsTrue c.if-whole.late ↔ IsTrue c.args.whole × IsGivenUp (half_in (kept_of c.args.self.now) c.other_than-node.result) c.index-datagram.result.now.sent.plane (arrival_of c.index-datagram.result.now.sent.from c.last_message-last.result.now)
+judged : (c : goal.After-settle) → IsTrue c.if-whole.late ↔ IsTrue c.args.whole × IsGivenUp (half_in (kept_of c.args.self.now) c.other-node.result) c.index-datagram.result.now.sent.plane (arrival_of c.index-datagram.result.now.sent.from c.last_message-last.result.now)
 judged c =
     let old = kept_of c.args.self.now in
     let sent = c.index-datagram.result.now.sent in
@@ -69,7 +69,7 @@ pub returns-clause-brings : goal.returns-clause-brings
 returns-clause-brings c = λ found.
     let old = c.args.self.now in
     let d = c.index-datagram.result.now in
-    let node = c.other_than-node.result in
+    let node = c.other-node.result in
     let at = slice_get_read old.records.datagrams.items _ c.args.index d refl c.requires.there c.index-datagram.ensures in
     let is = subst (λ o. IsTrue c.if-whole.late ↔ IsTrue c.args.whole × IsGivenUp (half_in (kept_of old) node) d.sent.plane (arrival_of d.sent.from o)) c.last_message-last.ensures (judged c) in
-    brought (kept_of old) c.if-whole.late c.args.whole _ c.args.count node c.match-get.octets.now old.records.datagrams.items c.args.index d found at c.other_than-node.ensures (reads c) is (taken c)
+    brought (kept_of old) c.if-whole.late c.args.whole _ c.args.count node c.match-get.octets.now old.records.datagrams.items c.args.index d found at c.other-node.ensures (reads c) is (taken c)

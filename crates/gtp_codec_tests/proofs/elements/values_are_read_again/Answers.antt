@@ -2,7 +2,7 @@ use Rattle.std.proofs.Common.{ℕ, true, false, [], ◌∷◌, Some, refl, sym, 
 use Rattle.gtp_values.specs.declared.cause.Cause.{Cause}
 use Rattle.gtp_ie.specs.Free.{SaysTheSame}
 use Rattle.gtp_ie.specs.Value.{OfEbi, OfCause, encoding_of}
-use Rattle.gtp_unit_tests.proofs.elements.values_are_read_again.Goals as goal
+use Rattle.gtp_codec_tests.proofs.elements.values_are_read_again.Goals as goal
 
 pub read_again-requires : goal.read_again-requires
 unfolding encoding_of

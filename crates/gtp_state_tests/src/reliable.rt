@@ -4,7 +4,6 @@ ghost use Rattle.std.specs.Prelude.{◌≡◌, ◌==◌, filter, not};
 
 mod listed;
 
-use crate::values::is_told;
 use gtp_reliable::{Endpoint, Held, Pending, ReliableFault, Request, Resend, Seq};
 use gtp_values::Ip;
 use listed::{Draws, ListedAnswers, ListedRequests};
@@ -378,7 +377,8 @@ const FAULTS: &[(ReliableFault, &str)] = &[
 #[test]
 fn faults_in_words(rt: HostRuntime) -> Result<(), Fail> {
     for (fault, words) in FAULTS {
-        is_told(&rt, rt.alloc(), fault, words)?;
+        let told = fault.to_string(rt.alloc())?;
+        assert!(rt; told.as_str() == *words, "{told}");
     }
     Ok(())
 }

@@ -20,7 +20,7 @@ use std::process::Abort;
 use std::test::Fail;
 
 /// The requests and answers of one session with a dedicated bearer.
-use gtp_unit_tests::datagrams::{
+use gtp_codec_tests::datagrams::{
     BEARER_REQUEST, BEARER_RESPONSE, SESSION_REQUEST, SESSION_RESPONSE,
 };
 
